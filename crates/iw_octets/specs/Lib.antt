@@ -1,1 +1,8 @@
 pub mod Stag
+pub mod Octets
+pub mod Head
+pub mod Payload
+pub mod Segment
+pub mod Shown
+pub mod ShownSegment
+pub mod Laws

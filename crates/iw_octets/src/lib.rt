@@ -1,6 +1,20 @@
-//! The shared vocabulary of the endpoint: octets, STags, messages, headers and the CRC.
+//! The shared vocabulary of the endpoint: octets, STags, messages, headers, faults and the CRC.
 #![tactic(auto)]
 
+mod fault;
+mod head;
+mod laws;
+mod message;
+mod octets;
+mod payload;
+mod segment;
 mod stag;
 
+pub use fault::Fault;
+pub use head::{Short, TaggedHead, UntaggedHead, is_tagged};
+pub use laws::reads_again;
+pub use message::Message;
+pub use octets::Octets;
+pub use payload::{ReadRequest, TerminateWord};
+pub use segment::Segment;
 pub use stag::Stag;

@@ -1,0 +1,64 @@
+ghost use Rattle.std.specs.Prelude.{◌≡◌, ◌+◌, ◌≤◌, ◌↔◌, [], length, IsTrue};
+ghost use Rattle.iw_octets.specs.Octets.{splice};
+
+use std::alloc::{Allocator, Global};
+use std::marker::Model;
+
+/// Octets as a value: contracts see their list alone, not where they lie nor the room behind them.
+#[derive(Drop)]
+#[derive_where(Debug)]
+pub struct Octets<A: Allocator = Global> {
+    items: Vec<u8, A>,
+}
+
+impl<A: Allocator> Model for Octets<A> {
+    ghost use Rattle.std.specs.Prelude.{List, ℕ};
+
+    ghost Value = { List ℕ };
+
+    ghost view = { λ octets. octets.items.items };
+}
+
+impl<A: Allocator> Octets<A> {
+    /// Takes the vector over; nothing is copied.
+    pub fn from_vec(items: Vec<u8, A>) -> Octets<A>
+        ensures { result ≡ items.items }
+    {
+        Octets { items }
+    }
+
+    /// Gives the vector back; nothing is copied.
+    pub fn into_vec(self) -> Vec<u8, A>
+        ensures { result.items ≡ self }
+    {
+        self.items
+    }
+
+    pub fn as_slice(&self) -> &[u8]
+        ensures { result.now ≡ self.now }
+    {
+        self.items.as_slice()
+    }
+
+    pub fn len(&self) -> usize
+        ensures { result ≡ length self.now }
+    {
+        self.items.len()
+    }
+
+    pub fn is_empty(&self) -> bool
+        ensures { IsTrue result ↔ (self.now ≡ []) }
+    {
+        self.items.is_empty()
+    }
+
+    /// Writes octets over those that stand from a place on; the length stays.
+    pub fn write_at(&mut self, at: usize, octets: &[u8])
+        requires { at + length octets.now ≤ length self.old }
+        ensures { self.new ≡ splice self.old at octets.now }
+    {
+        let _room = self.items.len() - at;
+        let end = at + octets.len();
+        self.items.slice_mut(at..end).copy_from_slice(octets);
+    }
+}

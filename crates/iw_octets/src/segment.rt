@@ -1,0 +1,32 @@
+ghost use Rattle.std.specs.Prelude.{◌≡◌};
+ghost use Rattle.iw_octets.specs.Segment.{read_segment};
+ghost use Rattle.iw_octets.specs.ShownSegment.{shown_segment};
+
+use crate::head::{Short, TaggedHead, UntaggedHead, is_tagged};
+
+/// A header with the payload behind it: what one FPDU carries (RFC 5041 4).
+#[derive(Clone, Copy, Debug, PartialEq)]
+pub enum Segment<P> {
+    Tagged(TaggedHead, P),
+    Untagged(UntaggedHead, P),
+}
+
+impl<'a> Segment<&'a [u8]> {
+    /// The segment that these octets are; its payload is lent.
+    /// `Short` where there are none, fewer than 14 with the tagged flag set, or fewer than 18 without it.
+    #[tactic(auto, unfolding(crate::specs::Segment::read_segment))]
+    pub fn read(octets: &'a [u8]) -> Result<Segment<&'a [u8]>, Short>
+        ensures { shown_segment result ≡ read_segment octets.now }
+    {
+        if octets.is_empty() {
+            return Err(Short);
+        }
+        if is_tagged(octets[0]) {
+            let (head, payload) = TaggedHead::read(octets)?;
+            Ok(Segment::Tagged(head, payload))
+        } else {
+            let (head, payload) = UntaggedHead::read(octets)?;
+            Ok(Segment::Untagged(head, payload))
+        }
+    }
+}
