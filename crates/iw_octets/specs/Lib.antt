@@ -6,3 +6,4 @@ pub mod Segment
 pub mod Shown
 pub mod ShownSegment
 pub mod Laws
+pub mod Pieces

@@ -7,6 +7,7 @@ mod laws;
 mod message;
 mod octets;
 mod payload;
+mod pieces;
 mod segment;
 mod stag;
 
@@ -16,5 +17,6 @@ pub use laws::reads_again;
 pub use message::Message;
 pub use octets::Octets;
 pub use payload::{ReadRequest, TerminateWord};
+pub use pieces::{InPieces, copy_in_pieces, gather};
 pub use segment::Segment;
 pub use stag::Stag;
