@@ -1,3 +1,4 @@
 pub mod Spelled
 pub mod Segments
 pub mod Runs
+pub mod Front

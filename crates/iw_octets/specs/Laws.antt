@@ -1,4 +1,4 @@
--- Reading undoes writing, whatever stands behind.
+-- Reading undoes writing, whatever stands behind; and what is read is read off the octets at the front.
 use Rattle.std.specs.Prelude.{ℕ, ◌≡◌, List, ◌++◌, Some}
 use Rattle.iw_octets.specs.declared.head.TaggedHead.{TaggedHead}
 use Rattle.iw_octets.specs.declared.head.UntaggedHead.{UntaggedHead}
@@ -7,7 +7,7 @@ use Rattle.iw_octets.specs.declared.payload.TerminateWord.{TerminateWord}
 use Rattle.iw_octets.specs.declared.segment.Segment.{Segment}
 use Rattle.iw_octets.specs.Head.{tagged_octets, untagged_octets, read_tagged, read_untagged, FitsTagged, FitsUntagged}
 use Rattle.iw_octets.specs.Payload.{request_octets, read_request, word_octets, read_word, FitsRequest, FitsWord}
-use Rattle.iw_octets.specs.Segment.{segment_octets, read_segment, FitsSegment}
+use Rattle.iw_octets.specs.Segment.{segment_octets, read_segment, FitsSegment, with_behind}
 
 pub record ReadsAgain : Type 0 where
   pub tagged : (head : TaggedHead) (rest : List ℕ) → FitsTagged head → read_tagged (tagged_octets head ++ rest) ≡ Some (head, rest)
@@ -15,3 +15,4 @@ pub record ReadsAgain : Type 0 where
   pub request : (request : ReadRequest) (rest : List ℕ) → FitsRequest request → read_request (request_octets request ++ rest) ≡ Some (request, rest)
   pub word : (word : TerminateWord) (rest : List ℕ) → FitsWord word → read_word (word_octets word ++ rest) ≡ Some (word, rest)
   pub segment : (segment : Segment (List ℕ)) → FitsSegment segment → read_segment (segment_octets segment) ≡ Some segment
+  pub behind : (octets more : List ℕ) (segment : Segment (List ℕ)) → read_segment octets ≡ Some segment → read_segment (octets ++ more) ≡ Some (with_behind segment more)

@@ -1,5 +1,6 @@
 use Rattle.iw_octets.proofs.Spelled.{read_tagged-spelled, read_untagged-spelled, read_request-spelled, read_word-spelled}
 use Rattle.iw_octets.proofs.Segments.{read_segment-spelled}
+use Rattle.iw_octets.proofs.Front.{read_segment-append}
 use Rattle.iw_octets.proofs.laws.reads_again.Goals as goal
 
 pub returns : goal.returns
@@ -9,4 +10,5 @@ returns c = record {
   request = read_request-spelled;
   word = read_word-spelled;
   segment = read_segment-spelled;
+  behind = read_segment-append;
 }
