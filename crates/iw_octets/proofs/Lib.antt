@@ -2,3 +2,5 @@ pub mod Spelled
 pub mod Segments
 pub mod Runs
 pub mod Front
+pub mod Linear
+pub mod TableRules

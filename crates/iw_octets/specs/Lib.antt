@@ -7,3 +7,4 @@ pub mod Shown
 pub mod ShownSegment
 pub mod Laws
 pub mod Pieces
+pub mod Crc

@@ -1,6 +1,7 @@
 //! The shared vocabulary of the endpoint: octets, STags, messages, headers, faults and the CRC.
 #![tactic(auto)]
 
+mod crc;
 mod fault;
 mod head;
 mod laws;
@@ -10,7 +11,9 @@ mod payload;
 mod pieces;
 mod segment;
 mod stag;
+mod tables;
 
+pub use crc::{Crc, crc32c};
 pub use fault::Fault;
 pub use head::{Short, TaggedHead, UntaggedHead, is_tagged};
 pub use laws::reads_again;
