@@ -1,0 +1,38 @@
+-- Lists under a map that changes at one place.
+use Rattle.iw_memory.specs.Region.{overlay}
+use Rattle.std.proofs.Common.{◌≡◌, ◌≢◌, ℕ, zero, suc, ◌<◌, List, [], ◌∷◌, ◌++◌, map, length, get_or, set, replicate, refl, ap, ◌∙◌, arith, length-append, length-drop}
+use Rattle.std.proofs.lemmas.List.{length-take}
+
+pub map-replicate : {A B : Type 0} (f : A → B) (n : ℕ) (x : A) → map f (replicate n x) ≡ replicate n (f x)
+map-replicate f zero x = refl
+map-replicate f (suc n) x = ap (λ xs. f x ∷ xs) (map-replicate f n x)
+
+-- two functions that agree on the elements have one map
+pub map-same : {A B : Type 0} (f g : A → B) (l : List A) (d : A) → ((j : ℕ) → j < length l → g (get_or l j d) ≡ f (get_or l j d)) → map g l ≡ map f l
+map-same f g [] d h = refl
+map-same f g (x ∷ xs) d h =
+    ap (λ ys. g x ∷ ys) (map-same f g xs d (λ j l. h (suc j) (omega arith))) ∙ ap (λ y. y ∷ map f xs) (h 0 (omega arith))
+
+-- one element is replaced, and the functions agree on the others
+pub map-set_others : {A B : Type 0} (f g : A → B) (l : List A) (i : ℕ) (v d : A) → ((j : ℕ) → j < length l → j ≢ i → g (get_or l j d) ≡ f (get_or l j d)) → map g (set l i v) ≡ set (map f l) i (g v)
+map-set_others f g [] i v d h = refl
+map-set_others f g (x ∷ xs) zero v d h = ap (λ ys. g v ∷ ys) (map-same f g xs d (λ j l. h (suc j) (omega arith) (λ e. absurd (omega arith))))
+map-set_others f g (x ∷ xs) (suc i) v d h =
+    ap (λ ys. g x ∷ ys) (map-set_others f g xs i v d (λ j l ne. h (suc j) (omega arith) (λ e. ne (omega arith))))
+    ∙ ap (λ y. y ∷ set (map f xs) i (g v)) (h 0 (omega arith) (λ e. absurd (omega arith)))
+
+pub set-set : {A : Type 0} (l : List A) (i : ℕ) (x y : A) → set (set l i x) i y ≡ set l i y
+set-set [] i x y = refl
+set-set (z ∷ zs) zero x y = refl
+set-set (z ∷ zs) (suc i) x y = ap (λ ys. z ∷ ys) (set-set zs i x y)
+
+-- one more of the default reads the same
+pub get_or-push_default : {A : Type 0} (xs : List A) (d : A) (m : ℕ) → get_or (xs ++ d ∷ []) m d ≡ get_or xs m d
+get_or-push_default [] d zero = refl
+get_or-push_default [] d (suc m) = refl
+get_or-push_default (x ∷ xs) d zero = refl
+get_or-push_default (x ∷ xs) d (suc m) = get_or-push_default xs d m
+
+-- what is written over is as long as before
+pub length-overlay : (octets : List ℕ) (at : ℕ) (new : List ℕ) → length (overlay octets at new) ≡ length octets
+length-overlay octets at new = grind (arith, length-take, length-append, length-drop)

@@ -1,0 +1,72 @@
+-- The slots of a domain, in the vectors.
+use Rattle.std.proofs.Common.{◌≡◌, ℕ, suc, ◌+◌, ◌<◌, ◌≤◌, true, false, cond, not, nat_lt, Bool, List, [], ◌∷◌, ◌++◌, map, length, get_or, Option, Some, None, Vec, is_some, IsTrue, refl, sym, ap, subst, ◌∙◌, arith, inl, inr, length-append}
+use Rattle.iw_memory.proofs.ListLemmas.{get_or-push_default}
+use Rattle.std.proofs.lemmas.List.{get_or_past, get_or_default}
+use Rattle.std.proofs.lemmas.Bool.{cases_lt, lt-ltb, le-ltb}
+use Rattle.std.specs.List.{position_or_len, position}
+use Rattle.std.specs.Option.{option_map, unwrap_or}
+use Rattle.iw_memory.specs.declared.slots.Slot.{Slot}
+use Rattle.iw_memory.specs.Inside.{Slots, slots_in, free, with_room_at}
+
+abbrev pub items_of : {A : Type 0} → Option (Vec Slot A) → List Slot
+items_of {A} o = unwrap_or (option_map (λ v. v.items) o) []
+
+pub domain_of_slot : {A : Type 0} (domains : Slots A) (d i : ℕ) → i < length (slots_in domains d) → d < length domains
+domain_of_slot {A} domains d i l = elim (cases_lt d (length domains)) [
+  | inl within ↦ within
+  | inr past ↦ let none : length (slots_in domains d) ≡ 0 = ap (λ o. length (items_of o)) (get_or_past domains d None past) in absurd (omega arith)
+]
+
+not_none : {A : Type 0} (o : Option (Vec Slot A)) → o ≡ None → IsTrue (is_some o) → ⊥
+not_none {A} None e t = cc
+not_none {A} (Some v) e t = cc
+
+pub domain_added : {A : Type 0} (domains : Slots A) (d : ℕ) → IsTrue (is_some (get_or domains d None)) → d < length domains
+domain_added {A} domains d added = elim (cases_lt d (length domains)) [
+  | inl within ↦ within
+  | inr past ↦ absurd (not_none _ (get_or_past domains d None past) added)
+]
+
+-- what is read at a domain's place are its slots
+pub slots_known : {A : Type 0} (domains : Slots A) (d : ℕ) (o : Option (Vec Slot A)) (v : Vec Slot A) → d < length domains → o ≡ get_or domains d o → o ≡ Some v → v.items ≡ slots_in domains d
+slots_known {A} domains d o v within read is = ap items_of (sym is ∙ read ∙ get_or_default domains d o None within)
+
+pub first_within : {X : Type 0} (p : X → Bool) (xs : List X) → position_or_len p xs ≤ length xs
+first_within p [] = omega arith
+first_within p (x ∷ xs) = elim (not (p x)) as (λ b. cond b (1 + position_or_len p xs) 0 ≤ length (x ∷ xs)) [ true ↦ omega (arith, first_within p xs) | false ↦ omega arith ]
+
+-- a map that the test sees through
+pub position_or_len-map : {A B : Type 0} (f : A → B) (p : A → Bool) (q : B → Bool) (xs : List A) (d : A) → ((j : ℕ) → j < length xs → q (f (get_or xs j d)) ≡ p (get_or xs j d)) → position_or_len q (map f xs) ≡ position_or_len p xs
+position_or_len-map f p q [] d h = refl
+position_or_len-map f p q (x ∷ xs) d h =
+    ap (λ b. cond (not b) (1 + position_or_len q (map f xs)) 0) (h 0 (omega arith))
+    ∙ ap (λ n. cond (not (p x)) (1 + n) 0) (position_or_len-map f p q xs d (λ j l. h (suc j) (omega arith)))
+
+-- the slots with room for a slot that is there, and for the one past the last
+pub with_room-there : (slots : List Slot) (i : ℕ) → i < length slots → slots ≡ with_room_at slots i
+with_room-there slots i l = sym (ap (λ b. cond b slots (slots ++ free ∷ [])) (lt-ltb i (length slots) l))
+
+pub with_room-past : (slots : List Slot) (i : ℕ) → length slots ≤ i → slots ++ free ∷ [] ≡ with_room_at slots i
+with_room-past slots i l = sym (ap (λ b. cond b slots (slots ++ free ∷ [])) (le-ltb i (length slots) l))
+
+-- `position`, or the length
+pub position_or_length : {X : Type 0} (p : X → Bool) (xs : List X) → unwrap_or (position p xs) (length xs) ≡ position_or_len p xs
+position_or_length p xs = elim (cases_lt (position_or_len p xs) (length xs)) [
+  | inl found ↦ ap (λ b. unwrap_or (cond b (Some (position_or_len p xs)) None) (length xs)) (lt-ltb _ _ found)
+  | inr past ↦ ap (λ b. unwrap_or (cond b (Some (position_or_len p xs)) None) (length xs)) (le-ltb _ _ past) ∙ (let e : length xs ≡ position_or_len p xs = omega (arith, first_within p xs) in e)
+]
+
+pub link_with_room : (slots : List Slot) (i m : ℕ) → get_or (with_room_at slots i) m free ≡ get_or slots m free
+link_with_room slots i m = elim (nat_lt i (length slots)) as (λ b. get_or (cond b slots (slots ++ free ∷ [])) m free ≡ get_or slots m free) [ true ↦ refl | false ↦ get_or-push_default slots free m ]
+
+pub within_room : (slots : List Slot) (i : ℕ) → i ≤ length slots → i < length (with_room_at slots i)
+within_room slots i l = elim (cases_lt i (length slots)) [
+  | inl there ↦ subst (λ (ss : List Slot). i < length ss) (with_room-there slots i there) there
+  | inr past ↦ subst (λ (ss : List Slot). i < length ss) (with_room-past slots i past) (omega (arith, length-append slots (free ∷ [])))
+]
+
+pub small_room : (slots : List Slot) (i : ℕ) → i ≤ length slots → i < 1024 → length slots ≤ 1024 → length (with_room_at slots i) ≤ 1024
+small_room slots i l bound few = elim (cases_lt i (length slots)) [
+  | inl there ↦ subst (λ (ss : List Slot). length ss ≤ 1024) (with_room-there slots i there) few
+  | inr past ↦ subst (λ (ss : List Slot). length ss ≤ 1024) (with_room-past slots i past) (omega (arith, length-append slots (free ∷ [])))
+]

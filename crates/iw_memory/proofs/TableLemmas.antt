@@ -1,0 +1,473 @@
+-- What the fields of a memory mean as a table, and how that changes with them.
+use Rattle.std.proofs.Common.{subst, IfSome, ◌≤◌, ◌≡◌, ◌≢◌, ℕ, zero, suc, ◌+◌, ◌%◌, ◌-◌, ◌<◌, ◌^◌, ◌==◌, nat_lt, nat_le, not, if◌then◌else◌, Bool, true, false, cond, List, [], ◌∷◌, ◌++◌, map, length, get_or, set, replicate, take, Option, Some, None, is_some, is_none, Vec, refl, sym, ap, ◌∙◌, arith, inl, inr, get_or-set_other, get_or-set_same}
+use Rattle.std.proofs.Math.ListN.{get_or-map}
+use Rattle.std.proofs.lemmas.List.{set-get_or, get_or_past, take-append-drop, length-set, map-set, length-map, map-append}
+use Rattle.std.proofs.Math.Seq.{take-length}
+use Rattle.std.proofs.lemmas.Option.{none-some, same_Some}
+use Rattle.std.proofs.lemmas.Bool.{cases_lt, eqb-true}
+use Rattle.std.proofs.lemmas.Bool.Decides.{eqb_tells}
+use Rattle.std.specs.List.{position_or_len}
+use Rattle.std.specs.Option.{option_copied, option_map, option_map_or, unwrap_or}
+use Rattle.std.specs.Borrow.{Bor}
+use Rattle.slab.specs.Slab.{Slab, get, with_value, Updates}
+use Rattle.iw_octets.specs.declared.stag.Stag.{Stag}
+use Rattle.iw_memory.specs.declared.slots.Slot.{Slot}
+use Rattle.iw_memory.specs.declared.refusal.RegisterRefusal.{RegisterRefusal}
+use Rattle.iw_memory.specs.declared.refusal.RegisterRefusal.TheVariants.{NoDomain, DomainFull, TooLong, BaseWrap}
+use Rattle.iw_memory.specs.Region.{Region, IsWithinLimits, overlay, region_with}
+use Rattle.iw_memory.specs.Held.{Held}
+use Rattle.iw_memory.specs.Part.{SlotState, unused, under_key, own_slot, free_slot, with_room}
+use Rattle.iw_memory.specs.Table.{Table, empty, part_of, with_part, slots_of, region_at, with_slot, with_region, put, register_refusal, is_added, added, registered, deregistered}
+use Rattle.iw_memory.specs.Laws.{HoldsLimits}
+use Rattle.iw_memory.specs.TableLending.{written}
+use Rattle.iw_memory.specs.Inside.{Slots, table_of, states_of, state_of, region_in, slots_in, link_at, link_of, free, IsHeldFor, IsSound, Keeps, SetsSlots, is_free, with_room_at}
+use Rattle.iw_memory.proofs.ListLemmas.{map-replicate, map-same, map-set_others, set-set}
+use Rattle.iw_memory.proofs.SlotLemmas.{items_of, domain_of_slot, position_or_len-map}
+
+pub table_of-empty : (A : Type 0) (regions : Slab Held) → table_of {A = A} (replicate 256 None) regions ≡ empty
+unfolding empty
+table_of-empty A regions = map-replicate (states_of {A = A} regions) 256 None
+
+none_in : (A : Type 0) (n d : ℕ) → slots_in {A = A} (replicate n None) d ≡ []
+none_in A zero d = refl
+none_in A (suc n) zero = refl
+none_in A (suc n) (suc d) = none_in A n d
+
+pub Keeps-empty : {A : Type 0} (domains : Slots A) (regions : Slab Held) (nothing : List ℕ) → domains ≡ replicate 256 None → nothing ≡ [] → Keeps domains regions nothing
+Keeps-empty {A} domains regions nothing none empty = record {
+  sound = record {
+    all_numbers = ap length none;
+    linked = λ d i k link. absurd (none-some k (sym (ap (λ (ss : List Slot). (get_or ss i free).at) (ap (λ ds. slots_in ds d) none ∙ none_in A 256 d)) ∙ link));
+    few = λ d. subst (λ (ss : List Slot). length ss ≤ 1024) (sym (ap (λ ds. slots_in ds d) none ∙ none_in A 256 d)) (omega arith);
+  };
+  no_octets = ap length empty;
+}
+
+unwrap-states : {A : Type 0} (regions : Slab Held) (o : Option (Vec Slot A)) → unwrap_or (states_of regions o) [] ≡ map (state_of regions) (unwrap_or (option_map (λ v. v.items) o) [])
+unwrap-states {A} regions None = refl
+unwrap-states {A} regions (Some v) = refl
+
+pub slots_of-table_of : {A : Type 0} (domains : Slots A) (regions : Slab Held) (d : ℕ) → slots_of (table_of domains regions) d ≡ map (state_of regions) (slots_in domains d)
+slots_of-table_of {A} domains regions d =
+    ap (λ o. unwrap_or o []) (get_or-map (states_of regions) domains d None) ∙ unwrap-states regions (get_or domains d None)
+
+under_key-state : (regions : Slab Held) (s : Slot) (key : ℕ) → under_key (state_of regions s) key ≡ region_in regions (cond (s.key == key) s.at None)
+under_key-state regions s key = elim (s.key == key) as (λ b. cond b (region_in regions s.at) None ≡ region_in regions (cond b s.at None)) [ true ↦ refl | false ↦ refl ]
+
+pub region_at-table_of : {A : Type 0} (domains : Slots A) (regions : Slab Held) (stag : Stag) → region_at (table_of domains regions) stag ≡ region_in regions (link_of domains stag)
+region_at-table_of {A} domains regions stag =
+    ap (λ ss. under_key (get_or ss stag.slot unused) stag.key) (slots_of-table_of domains regions stag.domain)
+    ∙ ap (λ s. under_key s stag.key) (get_or-map (state_of regions) (slots_in domains stag.domain) stag.slot free)
+    ∙ under_key-state regions (get_or (slots_in domains stag.domain) stag.slot free) stag.key
+
+-- the slab has the same under each key that a slot other than slot i of domain d has
+abbrev pub SameElsewhere : {A : Type 0} → Slots A → Slab Held → Slab Held → ℕ → ℕ → Type 0
+SameElsewhere {A} domains old new d i =
+    (j m k : ℕ) → ((j ≡ d) → (m ≡ i) → ⊥) → link_at domains j m ≡ Some k → get new k ≡ get old k
+
+same_region : (old new : Slab Held) (at : Option ℕ) → ((k : ℕ) → at ≡ Some k → get new k ≡ get old k) → region_in new at ≡ region_in old at
+same_region old new None h = refl
+same_region old new (Some k) h = ap (option_map (λ x. x.region)) (h k refl)
+
+same_state : (old new : Slab Held) (s : Slot) → ((k : ℕ) → s.at ≡ Some k → get new k ≡ get old k) → state_of new s ≡ state_of old s
+same_state old new s h = ap (λ r. record { key = s.key; region = r }) (same_region old new s.at h)
+
+same_states : {A : Type 0} (old new : Slab Held) (o : Option (Vec Slot A)) → ((m k : ℕ) → (get_or (unwrap_or (option_map (λ v. v.items) o) []) m free).at ≡ Some k → get new k ≡ get old k) → states_of new o ≡ states_of old o
+same_states {A} old new None h = refl
+same_states {A} old new (Some v) h = ap Some (map-same (state_of old) (state_of new) v.items free (λ m l. same_state old new (get_or v.items m free) (h m)))
+
+-- one slot is changed, and what the slab has for the others stays
+pub table_of-changed : {A : Type 0} (domains : Slots A) (old new : Slab Held) (d i : ℕ) (v : Vec Slot A) (s : Slot) → v.items ≡ set (slots_in domains d) i s → SameElsewhere domains old new d i → table_of (set domains d (Some v)) new ≡ with_slot (table_of domains old) d i (state_of new s)
+table_of-changed {A} domains old new d i v s items same =
+    map-set_others (states_of old) (states_of new) domains d (Some v) None (λ j l ne. same_states old new (get_or domains j None) (λ m k e. same j m k (λ p q. ne p) e))
+    ∙ ap (λ ss. set (table_of domains old) d (Some ss))
+    (ap (map (state_of new)) items
+    ∙ map-set_others (state_of old) (state_of new) (slots_in domains d) i s free (λ m l ne. same_state old new (get_or (slots_in domains d) m free) (λ k e. same d m k (λ p q. ne q) e))
+    ∙ ap (λ ss. set ss i (state_of new s)) (sym (slots_of-table_of domains old d)))
+
+-- ---- a stored region is changed in place
+
+held_bound : (regions : Slab Held) (k : ℕ) (h : Held) → get regions k ≡ Some h → k < length regions.slots
+held_bound regions k h e = elim (cases_lt k (length regions.slots)) [
+  | inl within ↦ within
+  | inr past ↦ absurd (none-some h (sym (get_or_past regions.slots k None past) ∙ e))
+]
+
+pub get-with_value_same : (regions : Slab Held) (k : ℕ) (h new : Held) → get regions k ≡ Some h → get (with_value regions k new) k ≡ Some new
+get-with_value_same regions k h new e = get_or-set_same regions.slots k (Some new) None (held_bound regions k h e)
+
+pub get-with_value_other : (regions : Slab Held) (k j : ℕ) (new : Held) → j ≢ k → get (with_value regions k new) j ≡ get regions j
+get-with_value_other regions k j new ne = get_or-set_other regions.slots k j (Some new) None ne
+
+-- a stored region belongs to one slot
+pub link_unique : {A : Type 0} {domains : Slots A} {regions : Slab Held} → IsSound domains regions → (d i j m k : ℕ) → link_at domains d i ≡ Some k → link_at domains j m ≡ Some k → (j ≡ d) × (m ≡ i)
+link_unique {A} sound d i j m k a b =
+    let x = sound.linked d i k a in let y = sound.linked j m k b in
+    let e : record { domain = j; slot = m; region = y.region } ≡ record { domain = d; slot = i; region = x.region } = same_Some _ _ (sym y.held ∙ x.held) in
+    (ap (λ (h : Held). h.domain) e, ap (λ (h : Held). h.slot) e)
+
+cond_at : (b : Bool) (o : Option ℕ) (k : ℕ) → cond b o None ≡ Some k → (b ≡ true) × (o ≡ Some k)
+cond_at true o k e = (refl, e)
+cond_at false o k e = absurd (none-some k e)
+
+-- what an STag that names a region says of its slot
+pub link_of_slot : {A : Type 0} (domains : Slots A) (stag : Stag) (k : ℕ) → link_of domains stag ≡ Some k → ((get_or (slots_in domains stag.domain) stag.slot free).key == stag.key ≡ true) × (link_at domains stag.domain stag.slot ≡ Some k)
+link_of_slot {A} domains stag k e = cond_at _ _ k e
+
+same_outside : {A : Type 0} {domains : Slots A} {regions : Slab Held} → IsSound domains regions → (d i k : ℕ) (new : Held) → link_at domains d i ≡ Some k → SameElsewhere domains regions (with_value regions k new) d i
+same_outside {A} {domains} {regions} sound d i k new at j m l elsewhere e =
+    get-with_value_other regions k l new (λ (same : l ≡ k). let two = link_unique sound d i j m k at (e ∙ ap Some same) in elsewhere two.0 two.1)
+
+-- the region that an STag names is changed, and its slot stays
+pub table_of-with_value : {A : Type 0} {domains : Slots A} {regions : Slab Held} → IsSound domains regions → (stag : Stag) (k : ℕ) (h new : Held) → link_of domains stag ≡ Some k → get regions k ≡ Some h →
+    table_of domains (with_value regions k new) ≡ with_slot (table_of domains regions) stag.domain stag.slot (record { key = stag.key; region = Some new.region })
+table_of-with_value {A} {domains} {regions} sound stag k h new link held =
+    let slot = link_of_slot domains stag k link in
+    let s = get_or (slots_in domains stag.domain) stag.slot free in
+    elim (get_or domains stag.domain None) as (λ o. get_or domains stag.domain None ≡ o → table_of domains (with_value regions k new) ≡ with_slot (table_of domains regions) stag.domain stag.slot (record { key = stag.key; region = Some new.region })) [
+      | None ↦ λ e. absurd (none-some k (sym (ap (λ (o : Option (Vec Slot A)). (get_or (unwrap_or (option_map (λ v. v.items) o) []) stag.slot free).at) e) ∙ slot.1))
+      | Some v ↦ λ e.
+          let items : v.items ≡ slots_in domains stag.domain = ap (λ (o : Option (Vec Slot A)). unwrap_or (option_map (λ v. v.items) o) []) (sym e) in
+          let whole : set domains stag.domain (Some v) ≡ domains = ap (set domains stag.domain) (sym e) ∙ set-get_or domains stag.domain None in
+          let same : state_of (with_value regions k new) s ≡ record { key = stag.key; region = Some new.region } =
+          λ i. record { key = eqb-true s.key stag.key slot.0 i; region = (ap (region_in (with_value regions k new)) slot.1 ∙ ap (option_map (λ h. h.region)) (get-with_value_same regions k h new held)) i } in
+          ap (λ ds. table_of ds (with_value regions k new)) (sym whole)
+          ∙ table_of-changed domains regions (with_value regions k new) stag.domain stag.slot v s (items ∙ sym (set-get_or (slots_in domains stag.domain) stag.slot free)) (same_outside sound stag.domain stag.slot k new slot.1)
+          ∙ ap (with_slot (table_of domains regions) stag.domain stag.slot) same
+    ] refl
+
+-- what an STag names is what is stored for it
+pub region_at-held : {A : Type 0} (domains : Slots A) (regions : Slab Held) (stag : Stag) (k : ℕ) (h : Held) → link_of domains stag ≡ Some k → get regions k ≡ Some h → region_at (table_of domains regions) stag ≡ Some h.region
+region_at-held {A} domains regions stag k h link held =
+    region_at-table_of domains regions stag ∙ ap (region_in regions) link ∙ ap (option_map (λ x. x.region)) held
+
+-- the region that is found is changed
+pub with_region-found : (table : Table) (stag : Stag) (change : Region → Region) (r : Region) → region_at table stag ≡ Some r →
+    with_region table stag change ≡ with_slot table stag.domain stag.slot (record { key = stag.key; region = Some (change r) })
+with_region-found table stag change r found =
+    let part = part_of table stag.domain in
+    ap (λ o. with_part table stag.domain (option_map_or (λ r. own_slot part stag.slot (record { key = stag.key; region = Some (change r) })) o part)) found
+
+pub table_of-change : {A : Type 0} {domains : Slots A} {regions : Slab Held} → IsSound domains regions → (stag : Stag) (k : ℕ) (h new : Held) (change : Region → Region) → link_of domains stag ≡ Some k → get regions k ≡ Some h → new.region ≡ change h.region →
+    table_of domains (with_value regions k new) ≡ with_region (table_of domains regions) stag change
+table_of-change {A} {domains} {regions} sound stag k h new change link held is =
+    table_of-with_value sound stag k h new link held
+    ∙ ap (λ r. with_slot (table_of domains regions) stag.domain stag.slot (record { key = stag.key; region = Some r })) is
+    ∙ sym (with_region-found (table_of domains regions) stag change h.region (region_at-held domains regions stag k h link held))
+
+kept_limits : {a b m n : ℕ} → IsWithinLimits a m → b ≡ a → n ≡ m → IsWithinLimits b n
+kept_limits {a} {b} {m} {n} limits base len = subst (λ x. IsWithinLimits x n) (sym base) (subst (λ x. IsWithinLimits a x) (sym len) limits)
+
+-- a stored region that still belongs to its slot, and has as many octets from the same base on
+pub IsSound-with_value : {A : Type 0} {domains : Slots A} {regions : Slab Held} → IsSound domains regions → (k : ℕ) (h new : Held) → get regions k ≡ Some h → new.domain ≡ h.domain → new.slot ≡ h.slot →
+    new.region.base ≡ h.region.base → length new.region.octets ≡ length h.region.octets → IsSound domains (with_value regions k new)
+IsSound-with_value {A} {domains} {regions} sound k h new held domain slot base len = record {
+  all_numbers = sound.all_numbers;
+  linked = λ d i j link.
+      let old = sound.linked d i j link in
+      elim (eqb_tells j k) [
+        | inl same ↦
+            let e : h ≡ record { domain = d; slot = i; region = old.region } = same_Some _ _ (sym held ∙ ap (get regions) (sym same.1) ∙ old.held) in
+            record {
+              region = new.region;
+              held = ap (get (with_value regions k new)) same.1 ∙ get-with_value_same regions k h new held ∙ ap Some (λ t. record { domain = (domain ∙ ap (λ (x : Held). x.domain) e) t; slot = (slot ∙ ap (λ (x : Held). x.slot) e) t; region = new.region });
+              limits = kept_limits old.limits (base ∙ ap (λ (x : Held). x.region.base) e) (len ∙ ap (λ (x : Held). length x.region.octets) e);
+            }
+        | inr other ↦ record { region = old.region; held = get-with_value_other regions k j new other.1 ∙ old.held; limits = old.limits }
+      ];
+  few = sound.few;
+}
+
+-- ---- a part of no octets
+
+overlay-nothing : (xs : List ℕ) (at : ℕ) → overlay xs at [] ≡ xs
+overlay-nothing xs at = ap (take (length xs)) (take-append-drop at xs) ∙ take-length xs
+
+pub nothing_under : (b : Bool) (r : Region) → cond b None None ≡ Some r → ⊥
+nothing_under true r e = none-some r e
+nothing_under false r e = none-some r e
+
+-- a domain that has a region was added
+pub slots_are : (o : Option (List SlotState)) (i key : ℕ) (r : Region) → under_key (get_or (unwrap_or o []) i unused) key ≡ Some r → o ≡ Some (unwrap_or o [])
+slots_are None i key r e = absurd (nothing_under (0 == key) r e)
+slots_are (Some ss) i key r e = refl
+
+pub cond_region : (b : Bool) (o : Option Region) (r : Region) → cond b o None ≡ Some r → (b ≡ true) × (o ≡ Some r)
+cond_region true o r e = (refl, e)
+cond_region false o r e = absurd (none-some r e)
+
+-- a region written back as it is
+pub with_slot-same : (table : Table) (stag : Stag) (r : Region) → region_at table stag ≡ Some r → with_slot table stag.domain stag.slot (record { key = stag.key; region = Some r }) ≡ table
+with_slot-same table stag r found =
+    let s = get_or (slots_of table stag.domain) stag.slot unused in
+    let named = cond_region (s.key == stag.key) s.region r found in
+    let same : record { key = stag.key; region = Some r } ≡ s = λ i. record { key = sym (eqb-true s.key stag.key named.0) i; region = sym named.1 i } in
+    ap (λ t. set table stag.domain (Some (set (slots_of table stag.domain) stag.slot t))) same
+    ∙ ap (λ ss. set table stag.domain (Some ss)) (set-get_or (slots_of table stag.domain) stag.slot unused)
+    ∙ ap (set table stag.domain) (sym (slots_are (get_or table stag.domain None) stag.slot stag.key r found))
+    ∙ set-get_or table stag.domain None
+
+-- a domain's part put back as it is
+pub with_part-same : (table : Table) (domain : ℕ) → with_part table domain (part_of table domain) ≡ table
+with_part-same table domain = set-get_or table domain None
+
+-- where the STag names none, the table stays
+pub with_region-none : (table : Table) (stag : Stag) (change : Region → Region) → region_at table stag ≡ None → with_region table stag change ≡ table
+with_region-none table stag change none =
+    let part = part_of table stag.domain in
+    ap (λ o. with_part table stag.domain (option_map_or (λ r. own_slot part stag.slot (record { key = stag.key; region = Some (change r) })) o part)) none
+    ∙ with_part-same table stag.domain
+
+pub deregistered-none : (table : Table) (stag : Stag) → region_at table stag ≡ None → deregistered table stag ≡ table
+deregistered-none table stag none =
+    let part = part_of table stag.domain in
+    ap (λ o. with_part table stag.domain (option_map_or (λ r. own_slot part stag.slot (record { key = (stag.key + 1) % 256; region = None })) o part)) none
+    ∙ with_part-same table stag.domain
+
+pub deregistered-found : (table : Table) (stag : Stag) (r : Region) → region_at table stag ≡ Some r → deregistered table stag ≡ with_slot table stag.domain stag.slot (record { key = (stag.key + 1) % 256; region = None })
+deregistered-found table stag r found =
+    let part = part_of table stag.domain in
+    ap (λ o. with_part table stag.domain (option_map_or (λ r. own_slot part stag.slot (record { key = (stag.key + 1) % 256; region = None })) o part)) found
+
+with_region-same : (table : Table) (stag : Stag) (change : Region → Region) (o : Option Region) → region_at table stag ≡ o → ((r : Region) → change r ≡ r) → with_region table stag change ≡ table
+with_region-same table stag change None found same = with_region-none table stag change found
+with_region-same table stag change (Some r) found same =
+    with_region-found table stag change r found
+    ∙ ap (λ x. with_slot table stag.domain stag.slot (record { key = stag.key; region = Some x })) (same r) ∙ with_slot-same table stag r found
+
+-- with no octets it is the table itself, whatever the STag
+pub put-nothing : (table : Table) (stag : Stag) (to : ℕ) → put table stag to [] ≡ table
+put-nothing table stag to =
+    with_region-same table stag (λ r. region_with r to []) (region_at table stag) refl
+    (λ r. ap (λ xs. record r { octets = xs }) (overlay-nothing r.octets (to - r.base)))
+
+no_octets : (xs : List ℕ) → length xs ≡ 0 → xs ≡ []
+no_octets [] e = refl
+no_octets (x ∷ xs) e = absurd (omega arith)
+
+-- a part that was left with as many octets as it had
+pub written-put : (table : Table) (stag : Stag) (to n : ℕ) (octets : List ℕ) → length octets ≡ n → written table stag to n octets ≡ put table stag to octets
+written-put table stag to n octets len =
+    elim (eqb_tells n 0) [
+      | inl nothing ↦ ap (λ b. cond b table (put table stag to octets)) nothing.0 ∙ sym (ap (put table stag to) (no_octets octets (omega arith)) ∙ put-nothing table stag to)
+      | inr some ↦ ap (λ b. cond b table (put table stag to octets)) some.0
+    ]
+
+-- ---- slots and the slab change together
+
+pub held_at : {A : Type 0} {domains : Slots A} {regions : Slab Held} → IsSound domains regions → (stag : Stag) (k : ℕ) → link_of domains stag ≡ Some k → IsHeldFor regions k stag.domain stag.slot
+held_at {A} {domains} {regions} sound stag k link = sound.linked stag.domain stag.slot k (link_of_slot domains stag k link).1
+
+-- the slab has the same values
+pub IsSound-same_get : {A : Type 0} {domains : Slots A} {old new : Slab Held} → IsSound domains old → ((k : ℕ) → get new k ≡ get old k) → IsSound domains new
+IsSound-same_get {A} sound same = record {
+  all_numbers = sound.all_numbers;
+  linked = λ d i k link. let old = sound.linked d i k link in record { region = old.region; held = same k ∙ old.held; limits = old.limits };
+  few = sound.few;
+}
+
+pub table_of-same_get : {A : Type 0} (domains : Slots A) (old new : Slab Held) → ((k : ℕ) → get new k ≡ get old k) → table_of domains new ≡ table_of domains old
+table_of-same_get {A} domains old new same =
+    map-same (states_of old) (states_of new) domains None (λ j l. same_states old new (get_or domains j None) (λ m k e. same k))
+
+slots_in-set_same : {A : Type 0} (domains : Slots A) (d : ℕ) (v : Vec Slot A) → d < length domains → slots_in (set domains d (Some v)) d ≡ v.items
+slots_in-set_same {A} domains d v within = ap items_of (get_or-set_same domains d (Some v) None within)
+
+slots_in-set_other : {A : Type 0} (domains : Slots A) (d j : ℕ) (v : Vec Slot A) → j ≢ d → slots_in (set domains d (Some v)) j ≡ slots_in domains j
+slots_in-set_other {A} domains d j v ne = ap items_of (get_or-set_other domains d j (Some v) None ne)
+
+-- the slots of each domain after a change of one domain's
+pub slots_in-sets : {A : Type 0} {old new : Slots A} {d : ℕ} {items : List Slot} → SetsSlots old new d items → d < length old → slots_in new d ≡ items
+slots_in-sets {A} {old} {new} {d} sets within = ap (λ ds. slots_in ds d) sets.after ∙ slots_in-set_same old d sets.slots within ∙ sets.are
+
+pub slots_in-sets_other : {A : Type 0} {old new : Slots A} {d : ℕ} {items : List Slot} → SetsSlots old new d items → (j : ℕ) → j ≢ d → slots_in new j ≡ slots_in old j
+slots_in-sets_other {A} {old} {new} {d} sets j ne = ap (λ ds. slots_in ds j) sets.after ∙ slots_in-set_other old d j sets.slots ne
+
+few_sets : {A : Type 0} {old new : Slots A} {d : ℕ} {items : List Slot} → ((j : ℕ) → length (slots_in old j) ≤ 1024) → d < length old → SetsSlots old new d items → length items ≤ 1024 → (j : ℕ) → length (slots_in new j) ≤ 1024
+few_sets {A} {old} {new} {d} {items} few within sets small j = elim (eqb_tells j d) [
+  | inl here ↦ subst (λ (ss : List Slot). length ss ≤ 1024) (sym (ap (slots_in new) here.1 ∙ slots_in-sets sets within)) small
+  | inr other ↦ subst (λ (ss : List Slot). length ss ≤ 1024) (sym (slots_in-sets_other sets j other.1)) (few j)
+]
+
+length-sets : {A : Type 0} {old new : Slots A} {d : ℕ} {items : List Slot} → SetsSlots old new d items → length new ≡ length old
+length-sets {A} {old} {new} {d} sets = ap length sets.after ∙ length-set old d (Some sets.slots)
+
+-- a slot is set: its region is in the slab, and the regions of the others stay
+pub IsSound-set_slot : {A : Type 0} {old new : Slots A} {regions after : Slab Held} → IsSound old regions → (d i : ℕ) (s : Slot) → SetsSlots old new d (set (slots_in old d) i s) → i < length (slots_in old d) → SameElsewhere old regions after d i → ((k : ℕ) → s.at ≡ Some k → IsHeldFor after k d i) → IsSound new after
+IsSound-set_slot {A} {old} {new} {regions} {after} sound d i s sets within same held =
+    let moved = λ (j m k : ℕ) (ne : (j ≡ d) → (m ≡ i) → ⊥) (link : link_at old j m ≡ Some k). let r = sound.linked j m k link in let p : IsHeldFor after k j m = record { region = r.region; held = same j m k ne link ∙ r.held; limits = r.limits } in p in
+    record {
+      all_numbers = length-sets sets ∙ sound.all_numbers;
+      linked = λ j m k link. elim (eqb_tells j d) [
+        | inr other ↦ moved j m k (λ e _. other.1 e) (ap (λ (ss : List Slot). (get_or ss m free).at) (sym (slots_in-sets_other sets j other.1)) ∙ link)
+        | inl here ↦
+            let now : (get_or (set (slots_in old d) i s) m free).at ≡ Some k =
+            ap (λ (ss : List Slot). (get_or ss m free).at) (sym (slots_in-sets sets (domain_of_slot old d i within))) ∙ ap (λ j. link_at new j m) (sym here.1) ∙ link in
+            elim (eqb_tells m i) [
+              | inl at ↦
+                  let is : s.at ≡ Some k = ap (λ (t : Slot). t.at) (sym (get_or-set_same (slots_in old d) i s free within)) ∙ ap (λ m. (get_or (set (slots_in old d) i s) m free).at) (sym at.1) ∙ now in
+                  let h = held k is in
+                  record { region = h.region; held = h.held ∙ ap Some (λ t. record { domain = sym here.1 t; slot = sym at.1 t; region = h.region }); limits = h.limits }
+              | inr off ↦ moved j m k (λ _ e. off.1 e) (ap (λ j. link_at old j m) here.1 ∙ ap (λ (t : Slot). t.at) (sym (get_or-set_other (slots_in old d) i m s free off.1)) ∙ now)
+            ]
+      ];
+      few = few_sets sound.few (domain_of_slot old d i within) sets (subst (λ (n : ℕ). n ≤ 1024) (sym (length-set (slots_in old d) i s)) (sound.few d));
+    }
+
+-- a slot is set, as the table tells it
+pub table_of-set_slot : {A : Type 0} (old new : Slots A) (regions after : Slab Held) (d i : ℕ) (s : Slot) → SetsSlots old new d (set (slots_in old d) i s) → SameElsewhere old regions after d i → table_of new after ≡ with_slot (table_of old regions) d i (state_of after s)
+table_of-set_slot {A} old new regions after d i s sets same =
+    ap (λ ds. table_of ds after) sets.after ∙ table_of-changed old regions after d i sets.slots s sets.are same
+
+-- the slab without the region that the STag names has the others
+pub same_after_removal : {A : Type 0} {domains : Slots A} {regions after : Slab Held} → IsSound domains regions → (stag : Stag) (k : ℕ) → link_of domains stag ≡ Some k → Updates regions after k None → SameElsewhere domains regions after stag.domain stag.slot
+same_after_removal {A} {domains} sound stag k link updates j m l elsewhere e =
+    updates.others l (λ (same : l ≡ k). let two = link_unique sound stag.domain stag.slot j m k (link_of_slot domains stag k link).1 (e ∙ ap Some same) in elsewhere two.0 two.1)
+
+-- a slot that an STag names is there
+pub slot_within : {A : Type 0} (domains : Slots A) (stag : Stag) (k : ℕ) → link_of domains stag ≡ Some k → stag.slot < length (slots_in domains stag.domain)
+slot_within {A} domains stag k link = elim (cases_lt stag.slot (length (slots_in domains stag.domain))) [
+  | inl within ↦ within
+  | inr past ↦ absurd (none-some k (sym (ap (λ (s : Slot). s.at) (get_or_past (slots_in domains stag.domain) stag.slot free past)) ∙ (link_of_slot domains stag k link).1))
+]
+
+-- ---- a domain is added, and a region
+
+-- a free slot of the code is one of the table
+free-state : {A : Type 0} {domains : Slots A} {regions : Slab Held} → IsSound domains regions → (d i : ℕ) → is_none (state_of regions (get_or (slots_in domains d) i free)).region ≡ is_free (get_or (slots_in domains d) i free)
+free-state {A} {domains} {regions} sound d i = go (link_at domains d i) refl
+  where
+    go : (o : Option ℕ) → link_at domains d i ≡ o → is_none (region_in regions o) ≡ is_none o
+    go None e = refl
+    go (Some k) e = ap (λ (h : Option Held). is_none (option_map (λ x. x.region) h)) (sound.linked d i k e).held
+
+pub free_slot-table_of : {A : Type 0} {domains : Slots A} {regions : Slab Held} → IsSound domains regions → (d : ℕ) → free_slot (slots_of (table_of domains regions) d) ≡ position_or_len is_free (slots_in domains d)
+free_slot-table_of {A} {domains} {regions} sound d =
+    ap free_slot (slots_of-table_of domains regions d)
+    ∙ position_or_len-map (state_of regions) is_free (λ s. is_none s.region) (slots_in domains d) free (λ j l. free-state sound d j)
+
+is_some-states : {A : Type 0} (regions : Slab Held) (o : Option (Vec Slot A)) → is_some (states_of regions o) ≡ is_some o
+is_some-states {A} regions None = refl
+is_some-states {A} regions (Some v) = refl
+
+pub is_added-table_of : {A : Type 0} (domains : Slots A) (regions : Slab Held) (d : ℕ) → is_added (table_of domains regions) d ≡ is_some (get_or domains d None)
+is_added-table_of {A} domains regions d = ap is_some (get_or-map (states_of regions) domains d None) ∙ is_some-states regions (get_or domains d None)
+
+-- a domain gets an empty list of slots
+pub table_of-added : {A : Type 0} (domains : Slots A) (regions : Slab Held) (d : ℕ) (v : Vec Slot A) → v.items ≡ [] → table_of (set domains d (Some v)) regions ≡ added (table_of domains regions) d
+table_of-added {A} domains regions d v none =
+    map-set (states_of regions) domains d (Some v) ∙ ap (λ ss. set (table_of domains regions) d (Some (map (state_of regions) ss))) none
+
+-- what the code finds of a domain's lowest free slot
+free_known : {A : Type 0} (o : Option (Vec Slot A)) (slot : ℕ) → option_map (λ v. position_or_len is_free v.items) o ≡ Some slot → (is_some o ≡ true) × (position_or_len is_free (items_of o) ≡ slot)
+free_known {A} None slot e = absurd (none-some slot e)
+free_known {A} (Some v) slot e = (refl, same_Some _ _ e)
+
+pub place_known : {A : Type 0} {domains : Slots A} {regions : Slab Held} → IsSound domains regions → (d slot : ℕ) → option_map (λ v. position_or_len is_free v.items) (get_or domains d None) ≡ Some slot →
+    (is_added (table_of domains regions) d ≡ true) × (free_slot (slots_of (table_of domains regions) d) ≡ slot)
+place_known {A} {domains} {regions} sound d slot e =
+    let known = free_known (get_or domains d None) slot e in
+    (is_added-table_of domains regions d ∙ known.0, free_slot-table_of sound d ∙ known.1)
+
+-- the refusals behind the first
+abbrev pub refusal_at : ℕ → ℕ → ℕ → Option RegisterRefusal
+refusal_at slot base len =
+    if nat_le 1024 slot then Some DomainFull else
+    (if nat_lt 16777216 len then Some TooLong else
+    (if nat_lt (2 ^ 64) (base + len) then Some BaseWrap else None))
+
+pub register_refusal-known : (table : Table) (d base len slot : ℕ) → is_added table d ≡ true → free_slot (slots_of table d) ≡ slot → register_refusal table d base len ≡ refusal_at slot base len
+register_refusal-known table d base len slot there first =
+    ap (λ b. if not b then Some NoDomain else refusal_at (free_slot (slots_of table d)) base len) there ∙ ap (λ i. refusal_at i base len) first
+
+pub register_refusal-absent : (table : Table) (d base len : ℕ) → is_added table d ≡ false → register_refusal table d base len ≡ Some NoDomain
+register_refusal-absent table d base len absent = ap (λ b. if not b then Some NoDomain else refusal_at (free_slot (slots_of table d)) base len) absent
+
+-- the links stay
+pub IsSound-same_links : {A : Type 0} {old new : Slots A} {regions : Slab Held} → IsSound old regions → (d : ℕ) (items : List Slot) → d < length old → SetsSlots old new d items → length items ≤ 1024 → ((m : ℕ) → get_or items m free ≡ get_or (slots_in old d) m free) → IsSound new regions
+IsSound-same_links {A} {old} {new} {regions} sound d items within sets small same = record {
+  all_numbers = length-sets sets ∙ sound.all_numbers;
+  linked = λ j m k link. elim (eqb_tells j d) [
+    | inr other ↦ sound.linked j m k (ap (λ (ss : List Slot). (get_or ss m free).at) (sym (slots_in-sets_other sets j other.1)) ∙ link)
+    | inl here ↦
+        let now : link_at old d m ≡ Some k = ap (λ (t : Slot). t.at) (sym (same m)) ∙ ap (λ (ss : List Slot). (get_or ss m free).at) (sym (slots_in-sets sets within)) ∙ ap (λ j. link_at new j m) (sym here.1) ∙ link in
+        sound.linked j m k (ap (λ j. link_at old j m) here.1 ∙ now)
+  ];
+  few = few_sets sound.few within sets small;
+}
+
+pub table_of-sets : {A : Type 0} (old new : Slots A) (regions : Slab Held) (d : ℕ) (items : List Slot) → SetsSlots old new d items → table_of new regions ≡ set (table_of old regions) d (Some (map (state_of regions) items))
+table_of-sets {A} old new regions d items sets =
+    ap (λ ds. table_of ds regions) sets.after ∙ map-set (states_of regions) old d (Some sets.slots) ∙ ap (λ ss. set (table_of old regions) d (Some (map (state_of regions) ss))) sets.are
+
+some_slots : (o : Option (List SlotState)) → is_some o ≡ true → Some (unwrap_or o []) ≡ o
+some_slots None e = cc
+some_slots (Some ss) e = refl
+
+-- the slots are set to what they are
+pub table_of-sets_same : {A : Type 0} (old new : Slots A) (regions : Slab Held) (d : ℕ) → SetsSlots old new d (slots_in old d) → is_added (table_of old regions) d ≡ true → table_of new regions ≡ table_of old regions
+table_of-sets_same {A} old new regions d sets there =
+    table_of-sets old new regions d (slots_in old d) sets
+    ∙ ap (λ ss. set (table_of old regions) d (Some ss)) (sym (slots_of-table_of old regions d))
+    ∙ ap (set (table_of old regions) d) (some_slots (get_or (table_of old regions) d None) there)
+    ∙ set-get_or (table_of old regions) d None
+
+-- room among the slots is room among the table's
+states-with_room : (regions : Slab Held) (slots : List Slot) (i : ℕ) → free_slot (map (state_of regions) slots) ≡ i → map (state_of regions) (with_room_at slots i) ≡ with_room (map (state_of regions) slots)
+states-with_room regions slots i first =
+    elim (nat_lt i (length slots)) as (λ b. map (state_of regions) (cond b slots (slots ++ free ∷ [])) ≡ cond b (map (state_of regions) slots) (map (state_of regions) slots ++ unused ∷ [])) [ true ↦ refl | false ↦ map-append (state_of regions) slots (free ∷ []) ]
+    ∙ ap (λ n. cond (nat_lt i n) (map (state_of regions) slots) (map (state_of regions) slots ++ unused ∷ [])) (sym (length-map slots (state_of regions)))
+    ∙ ap (λ n. cond (nat_lt n (length (map (state_of regions) slots))) (map (state_of regions) slots) (map (state_of regions) slots ++ unused ∷ [])) (sym first)
+
+-- a region is stored where no slot links to, and a free slot gets it
+pub table_of-registered : {A : Type 0} (old mid new : Slots A) (before after : Slab Held) (d i k key : ℕ) (h : Held) → IsSound old before → d < length old → free_slot (slots_of (table_of old before) d) ≡ i →
+    SetsSlots old mid d (with_room_at (slots_in old d) i) → SetsSlots mid new d (set (slots_in mid d) i (record { key = key; at = Some k })) →
+    SameElsewhere mid before after d i → get after k ≡ Some h → key ≡ (get_or (slots_in old d) i free).key →
+    table_of new after ≡ registered (table_of old before) d h.region
+table_of-registered {A} old mid new before after d i k key h sound within first room sets same held is =
+    let table = table_of old before in
+    let seen : free_slot (map (state_of before) (slots_in old d)) ≡ i = ap free_slot (sym (slots_of-table_of old before d)) ∙ first in
+    let middle : table_of mid before ≡ set table d (Some (map (state_of before) (with_room_at (slots_in old d) i))) = table_of-sets old mid before d (with_room_at (slots_in old d) i) room in
+    let slots : slots_of (table_of mid before) d ≡ with_room (slots_of table d) =
+    slots_of-table_of mid before d ∙ ap (map (state_of before)) (slots_in-sets room within)
+    ∙ states-with_room before (slots_in old d) i seen
+    ∙ ap with_room (sym (slots_of-table_of old before d)) in
+    let name : key ≡ (get_or (slots_of table d) i unused).key =
+    is ∙ ap (λ (s : SlotState). s.key) (sym (get_or-map (state_of before) (slots_in old d) i free)) ∙ ap (λ (ss : List SlotState). (get_or ss i unused).key) (sym (slots_of-table_of old before d)) in
+    let stored : state_of after (record { key = key; at = Some k }) ≡ record { key = (get_or (slots_of table d) i unused).key; region = Some h.region } =
+    λ t. record { key = name t; region = ap (option_map (λ x. x.region)) held t } in
+    table_of-set_slot mid new before after d i (record { key = key; at = Some k }) sets same
+    ∙ ap (with_slot (table_of mid before) d i) stored
+    ∙ ap (λ ss. set (table_of mid before) d (Some (set ss i (record { key = (get_or (slots_of table d) i unused).key; region = Some h.region })))) slots
+    ∙ ap (λ t. set t d (Some (set (with_room (slots_of table d)) i (record { key = (get_or (slots_of table d) i unused).key; region = Some h.region })))) middle
+    ∙ set-set table d _ _
+    ∙ ap (λ n. set table d (Some (set (with_room (slots_of table d)) n (record { key = (get_or (slots_of table d) n unused).key; region = Some h.region })))) (sym first)
+
+-- no slot links to a vacant key
+pub same_after_insert : {A : Type 0} {domains : Slots A} {regions after : Slab Held} → IsSound domains regions → (k d i : ℕ) (h : Held) → get regions k ≡ None → Updates regions after k (Some h) → SameElsewhere domains regions after d i
+same_after_insert {A} {domains} {regions} sound k d i h vacant updates j m l elsewhere link =
+    updates.others l (λ (same : l ≡ k). let r = sound.linked j m l link in none-some _ (sym vacant ∙ ap (get regions) (sym same) ∙ r.held))
+
+-- ---- limits
+
+limits_in : {A : Type 0} {domains : Slots A} {regions : Slab Held} → IsSound domains regions → (d i : ℕ) (o : Option ℕ) → link_at domains d i ≡ o → IfSome (region_in regions o) (λ r. IsWithinLimits r.base (length r.octets))
+limits_in {A} sound d i None e = tt
+limits_in {A} {domains} {regions} sound d i (Some k) e =
+    let h = sound.linked d i k e in
+    subst (λ (o : Option Held). IfSome (option_map (λ x. x.region) o) (λ r. IsWithinLimits r.base (length r.octets))) (sym h.held) h.limits
+
+limits_under : {A : Type 0} {domains : Slots A} {regions : Slab Held} → IsSound domains regions → (d i : ℕ) (b : Bool) → IfSome (region_in regions (cond b (link_at domains d i) None)) (λ r. IsWithinLimits r.base (length r.octets))
+limits_under {A} sound d i true = limits_in sound d i _ refl
+limits_under {A} sound d i false = tt
+
+pub HoldsLimits-table_of : {A : Type 0} {domains : Slots A} {regions : Slab Held} → IsSound domains regions → HoldsLimits (table_of domains regions)
+HoldsLimits-table_of {A} {domains} {regions} sound = record {
+  domains = length-map domains (states_of regions) ∙ sound.all_numbers;
+  slots = λ d. subst (λ (n : ℕ). n ≤ 1024) (sym (ap length (slots_of-table_of domains regions d) ∙ length-map (slots_in domains d) (state_of regions))) (sound.few d);
+  regions = λ stag. subst (λ (o : Option Region). IfSome o (λ r. IsWithinLimits r.base (length r.octets))) (sym (region_at-table_of domains regions stag))
+      (limits_under sound stag.domain stag.slot ((get_or (slots_in domains stag.domain) stag.slot free).key == stag.key));
+}
+
+pub limits_seen : (o : Option (Bor Held)) (h : Held) → option_copied o ≡ Some h → IsWithinLimits h.region.base (length h.region.octets) → IfSome o (λ s. IsWithinLimits s.now.region.base (length s.now.region.octets))
+limits_seen None h is limits = tt
+limits_seen (Some s) h is limits = subst (λ (x : Held). IsWithinLimits x.region.base (length x.region.octets)) (sym (same_Some _ _ is)) limits

@@ -1,0 +1,9 @@
+pub mod Region
+pub mod RightsText
+pub mod Part
+pub mod Table
+pub mod Laws
+pub mod Held
+pub mod Lending
+pub mod Inside
+pub mod TableLending

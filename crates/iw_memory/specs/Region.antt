@@ -1,0 +1,58 @@
+-- A region, and what its owner and a peer may do with it.
+use Rattle.std.specs.Prelude.{ℕ, ◌+◌, ◌-◌, ◌≤◌, ◌^◌, ◌||◌, nat_lt, not, if◌then◌else◌, Option, Some, None, Bool, false, List, length, take, drop, ◌++◌}
+use Rattle.iw_memory.specs.declared.rights.Rights.{Rights}
+use Rattle.iw_memory.specs.declared.region.Facts.{Facts}
+use Rattle.iw_memory.specs.declared.refusal.Deny.{Deny}
+use Rattle.iw_memory.specs.declared.refusal.Deny.TheVariants.{Invalid, ToWrap, Bounds, Rights as NoRights}
+use Rattle.iw_memory.specs.declared.rights.Right.{Right}
+use Rattle.iw_memory.specs.declared.rights.Right.TheVariants.{Write, Read, Sink}
+
+-- a region: its tagged offsets go from base on, one for each octet
+pub record Region : Type 0 where
+  pub base : ℕ
+  pub octets : List ℕ
+  pub rights : Rights
+  pub valid : Bool
+
+-- what is told of a region
+abbrev pub facts_of : Region → Facts
+facts_of r = record { base = r.base; len = length r.octets; rights = r.rights; valid = r.valid }
+
+abbrev pub grants : Rights → Right → Bool
+grants rights Write = rights.write
+grants rights Read = rights.read
+grants rights Sink = rights.sink
+
+-- the octets with new ones written over those from place `at` on: as many as before
+abbrev pub overlay : List ℕ → ℕ → List ℕ → List ℕ
+overlay octets at new = take (length octets) (take at octets ++ (new ++ drop (length new) (drop at octets)))
+
+-- the region with these octets from tagged offset `to` on
+abbrev pub region_with : Region → ℕ → List ℕ → Region
+region_with r to octets = record r { octets = overlay r.octets (to - r.base) octets }
+
+-- the region, which peers may no longer use
+abbrev pub made_invalid : Region → Region
+made_invalid r = record r { valid = false }
+
+-- the region has the n tagged offsets from `to` on
+pub record Spans (r : Region) (to n : ℕ) : Type 0 where
+  pub from_base : r.base ≤ to
+  pub to_end : to + n ≤ r.base + length r.octets
+
+-- the n octets from tagged offset `to` on
+abbrev pub octets_from : Region → ℕ → ℕ → List ℕ
+octets_from r to n = take n (drop (to - r.base) r.octets)
+
+-- the first reason why a region may not be used so, from `to` on for n octets
+abbrev pub region_denial : Region → ℕ → ℕ → Right → Option Deny
+region_denial r to n right =
+    if not r.valid then Some Invalid else
+    (if nat_lt (2 ^ 64) (to + n) then Some ToWrap else
+    (if nat_lt to r.base || nat_lt (r.base + length r.octets) (to + n) then Some Bounds else
+    (if not (grants r.rights right) then Some NoRights else None)))
+
+-- how many octets a region may have, and where it may end
+pub record IsWithinLimits (base len : ℕ) : Type 0 where
+  pub small : len ≤ 16777216
+  pub no_wrap : base + len ≤ 2 ^ 64
