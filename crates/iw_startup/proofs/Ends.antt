@@ -1,0 +1,60 @@
+-- Where the peer's frame ends is told by its first 20 octets, and does not change once they are there.
+use Rattle.std.proofs.Common.{◌≡◌, ℕ, ◌+◌, ◌<◌, ◌≤◌, ◌++◌, List, Bool, true, false, length, take, drop, get_or, refl, ap, sym, ◌∙◌, arith, cond, is_some, nat_lt, nat_eq, inl, inr, length-append}
+use Rattle.std.specs.List.{starts_with}
+use Rattle.std.proofs.lemmas.Bool.{cases_lt}
+use Rattle.std.proofs.lemmas.Bool.Decides.{nat_tests}
+use Rattle.std.proofs.lemmas.List.{take-append-le, get_or_append_left, length-take-le, take_all, take-append-drop}
+use Rattle.iw_startup.specs.declared.side.Side.{Side}
+use Rattle.iw_startup.specs.declared.side.Side.TheVariants.{Initiator, Responder}
+use Rattle.iw_startup.specs.Frame.{private_len}
+use Rattle.iw_startup.specs.Peer.{peer_key, fixed_fault, frame_end, frame_part}
+
+pub key_length : (side : Side) → length (peer_key side) ≡ 16
+key_length Initiator = refl
+key_length (Responder _) = refl
+
+key-append : (side : Side) (xs ys : List ℕ) → 20 ≤ length xs → starts_with nat_eq (xs ++ ys) (peer_key side) ≡ starts_with nat_eq xs (peer_key side)
+key-append side xs ys h =
+    let key_le : length (peer_key side) ≤ length xs = omega (arith, key_length side) in
+    rw (take-append-le (length (peer_key side)) xs ys key_le) refl
+
+pub fixed_fault-append : (side : Side) (xs ys : List ℕ) → 20 ≤ length xs → fixed_fault side (xs ++ ys) ≡ fixed_fault side xs
+unfolding fixed_fault
+fixed_fault-append side xs ys h =
+    let rev : 17 < length xs = omega arith in
+    let high : 18 < length xs = omega arith in
+    let low : 19 < length xs = omega arith in
+    rw (key-append side xs ys h, get_or_append_left xs ys 0 17 rev, get_or_append_left xs ys 0 18 high, get_or_append_left xs ys 0 19 low) refl
+
+pub frame_end-short : (side : Side) (xs : List ℕ) → length xs < 20 → frame_end side xs ≡ 20
+unfolding frame_end
+frame_end-short side xs h = let short : nat_lt (length xs) 20 ≡ true = grind (arith, nat_tests) in rw short refl
+
+pub frame_end-append : (side : Side) (xs ys : List ℕ) → 20 ≤ length xs → frame_end side (xs ++ ys) ≡ frame_end side xs
+unfolding frame_end
+frame_end-append side xs ys h =
+    let long : nat_lt (length xs) 20 ≡ false = grind (arith, nat_tests) in
+    let longer : nat_lt (length (xs ++ ys)) 20 ≡ false = grind (arith, nat_tests, length-append xs ys) in
+    let high : 18 < length xs = omega arith in
+    let low : 19 < length xs = omega arith in
+    rw (long, longer, fixed_fault-append side xs ys h, get_or_append_left xs ys 0 18 high, get_or_append_left xs ys 0 19 low) refl
+
+pub least_end : (side : Side) (xs : List ℕ) → 20 ≤ frame_end side xs
+unfolding frame_end
+least_end side xs = grind arith
+
+-- what is taken has its end where all the octets have it
+pub frame_end-frame_part : (side : Side) (xs : List ℕ) → frame_end side (frame_part side xs) ≡ frame_end side xs
+unfolding frame_part
+frame_end-frame_part side xs = elim (cases_lt (length xs) 20) [
+  | inl short ↦ ap (frame_end side) (take_all (frame_end side xs) xs (omega (arith, least_end side xs)))
+  | inr long ↦ of_long long
+]
+  where
+    of_long : 20 ≤ length xs → frame_end side (take (frame_end side xs) xs) ≡ frame_end side xs
+    of_long long =
+        let front : 20 ≤ length (take (frame_end side xs) xs) = elim (cases_lt (length xs) (frame_end side xs)) [
+          | inl less ↦ rw (take_all (frame_end side xs) xs (omega arith)) long
+          | inr enough ↦ omega (arith, length-take-le (frame_end side xs) xs enough, least_end side xs)
+        ] in
+        sym (frame_end-append side (take (frame_end side xs) xs) (drop (frame_end side xs) xs) front) ∙ ap (frame_end side) (take-append-drop (frame_end side xs) xs)

@@ -1,0 +1,4 @@
+pub mod Answered
+pub mod Ends
+pub mod Pieces
+pub mod Reached

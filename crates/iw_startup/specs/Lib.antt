@@ -1,0 +1,4 @@
+pub mod Frame
+pub mod Laws
+pub mod Peer
+pub mod State

@@ -1,0 +1,93 @@
+-- One end's start-up: what callers see of it, and what each call makes of it.
+use Rattle.std.specs.Prelude.{◌≡◌, ℕ, ◌-◌, ◌≤◌, ◌&&◌, ◌||◌, Bool, true, false, IsTrue, List, [], ◌++◌, length, drop, min, Option, Some, None, is_none, is_some, if◌then◌else◌}
+use Rattle.iw_startup.specs.declared.config.Agreed.{Agreed}
+use Rattle.iw_startup.specs.declared.config.Config.{Config}
+use Rattle.iw_startup.specs.declared.progress.Progress.{Progress}
+use Rattle.iw_startup.specs.declared.progress.Progress.TheVariants as answer
+use Rattle.iw_startup.specs.declared.side.Reply.{Reply}
+use Rattle.iw_startup.specs.declared.side.Reply.TheVariants.{Accept, Reject}
+use Rattle.iw_startup.specs.declared.side.Side.{Side}
+use Rattle.iw_startup.specs.declared.side.Side.TheVariants.{Initiator, Responder}
+use Rattle.iw_startup.specs.Frame.{request_key, reply_key, flags, start_frame, asks_markers, asks_crc}
+use Rattle.iw_startup.specs.Peer.{frame_end, frame_part, is_whole, progress_of}
+
+pub record StartupState : Type 0 where
+  pub config : Config
+  pub side : Side
+  -- the octets of the peer's frame that were taken so far
+  pub octets : List ℕ
+
+-- an end that has taken nothing
+abbrev pub begun : Side → Config → StartupState
+begun side config = record { config = config; side = side; octets = [] }
+
+abbrev pub progress : StartupState → Progress
+progress s = progress_of s.side s.octets
+
+-- how many of the octets that come next the peer's frame still needs
+unfoldable pub used : StartupState → List ℕ → ℕ
+used s octets = min (frame_end s.side (s.octets ++ octets) - length s.octets) (length octets)
+
+unfoldable pub pushed : StartupState → List ℕ → StartupState
+pushed s octets = record s { octets = frame_part s.side (s.octets ++ octets) }
+
+-- the peer's private data, nothing before its frame is whole
+unfoldable pub private_of : StartupState → List ℕ
+private_of s = if is_whole s.side s.octets then drop 20 s.octets else []
+
+abbrev pub is_unanswered : Side → Bool
+is_unanswered Initiator = false
+is_unanswered (Responder reply) = is_none reply
+
+abbrev pub is_asked : Progress → Bool
+is_asked answer.Asked = true
+is_asked _ = false
+
+-- a responder's user may answer: the Request is whole, and there is no answer yet
+abbrev pub awaits_answer : StartupState → Bool
+awaits_answer s = is_unanswered s.side && is_asked (progress s)
+
+abbrev pub answered : StartupState → Reply → StartupState
+answered s reply = record s { side = Responder (Some reply) }
+
+-- the Reply: it carries M, C and the private data whether it accepts or rejects
+abbrev pub reply_frame : Config → Reply → List ℕ
+reply_frame config (Accept private) = start_frame reply_key (flags config.markers config.crc false) private.items
+reply_frame config (Reject private) = start_frame reply_key (flags config.markers config.crc true) private.items
+
+-- the frame that this end sends, nothing at a responder without an answer
+abbrev pub own_frame : Config → Side → List ℕ
+own_frame config Initiator = start_frame request_key (flags config.markers config.crc false) config.private.items
+own_frame config (Responder None) = []
+own_frame config (Responder (Some reply)) = reply_frame config reply
+
+abbrev pub frame_of : StartupState → List ℕ
+frame_of s = own_frame s.config s.side
+
+-- markers in each direction as the other end's frame asks, CRCs where either frame asks
+abbrev pub agreement : Config → List ℕ → Agreed
+agreement config octets = record {
+  send_markers = asks_markers octets;
+  expect_markers = config.markers;
+  crc = config.crc || asks_crc octets;
+}
+
+-- an initiator agrees by the peer's Reply, a responder by its own
+abbrev pub has_agreed : Side → Progress → Bool
+has_agreed Initiator answer.Agreed = true
+has_agreed (Responder (Some (Accept _))) answer.Asked = true
+has_agreed _ _ = false
+
+unfoldable pub agreed_of : StartupState → Option Agreed
+agreed_of s = if has_agreed s.side (progress s) then Some (agreement s.config s.octets) else None
+
+abbrev pub is_answered : Side → Bool
+is_answered Initiator = false
+is_answered (Responder reply) = is_some reply
+
+-- what holds of every start-up
+pub record IsReached (s : StartupState) : Type 0 where
+  -- nothing behind the peer's frame was taken
+  pub within : length s.octets ≤ frame_end s.side s.octets
+  -- only a whole Request was answered
+  pub asked : IsTrue (is_answered s.side) → progress s ≡ answer.Asked

@@ -1,0 +1,162 @@
+//! Start-up frames as octets: this end's own spelled, the peer's read as far as it has come.
+ghost use Rattle.std.specs.Prelude.{◌≡◌, ◌≢◌, ◌+◌, ◌-◌, ◌≤◌, ◌++◌, IfNone, min, [], length, take, drop, if◌then◌else◌};
+ghost use Rattle.arrayvec.specs.ArrayVec.{array_vec_len};
+ghost use Rattle.iw_startup.specs.Frame.{flags, start_frame, has_flag, private_len};
+ghost use Rattle.iw_startup.specs.Peer.{fixed_fault, frame_end, is_whole, progress_of};
+ghost use Rattle.iw_startup.specs.State.{agreement};
+
+use crate::config::{Agreed, Config, FIXED_OCTETS, MAX_FRAME, MAX_PRIVATE, PrivateData};
+use crate::progress::{Progress, StartupFault};
+use crate::side::Side;
+use arrayvec::ArrayVec;
+
+const MARKERS: u8 = 0x80;
+
+const CRC: u8 = 0x40;
+
+const REJECTED: u8 = 0x20;
+
+const REVISION: u8 = 1;
+
+fn flags_octet(markers: bool, crc: bool, rejected: bool) -> u8
+    ensures { result ≡ flags markers crc rejected }
+{
+    let mut octet = 0;
+    if markers {
+        octet += MARKERS;
+    }
+    if crc {
+        octet += CRC;
+    }
+    if rejected {
+        octet += REJECTED;
+    }
+    octet
+}
+
+fn append(frame: &mut ArrayVec<u8, MAX_FRAME>, octets: &[u8])
+    requires { array_vec_len frame.old + length octets.now ≤ MAX_FRAME }
+    ensures { frame.new.items ≡ frame.old.items ++ octets.now }
+{
+    let _ = frame.try_extend_from_slice(octets);
+}
+
+// The frame with this key that asks for what `config` does. The private data need not be `config`'s.
+#[tactic(auto, unfolding(crate::specs::Frame::start_frame))]
+pub(crate) fn written(
+    key: &[u8; 16],
+    config: &Config,
+    rejected: bool,
+    private: &PrivateData,
+) -> ArrayVec<u8, MAX_FRAME>
+    ensures { result.items ≡ start_frame key.now (flags config.now.markers config.now.crc rejected) private.now.items }
+{
+    let flags = flags_octet(config.markers, config.crc, rejected);
+    let private = private.as_slice();
+    let len = private.len();
+    let mut frame = ArrayVec::new();
+    append(&mut frame, key);
+    append(
+        &mut frame,
+        &[flags, REVISION, (len / 256) as u8, (len % 256) as u8],
+    );
+    append(&mut frame, private);
+    frame
+}
+
+// Takes the next octets as far as `end`, and tells how many.
+pub(crate) fn take_up_to(end: usize, taken: &mut ArrayVec<u8, MAX_FRAME>, octets: &[u8]) -> usize
+    requires { end ≤ MAX_FRAME }
+    ensures used { result ≡ min (end - array_vec_len taken.old) (length octets.now) }
+    ensures items { taken.new.items ≡ taken.old.items ++ take result octets.now }
+{
+    let used = end.saturating_sub(taken.len()).min(octets.len());
+    append(taken, &octets[..used]);
+    used
+}
+
+fn flag_is_set(flag: u8, octets: &[u8]) -> bool
+    requires { FIXED_OCTETS ≤ length octets.now }
+    ensures { result ≡ has_flag flag octets.now }
+{
+    octets[16] & flag != 0
+}
+
+fn private_len_in(octets: &[u8]) -> usize
+    requires { FIXED_OCTETS ≤ length octets.now }
+    ensures { result ≡ private_len octets.now }
+{
+    usize::from(octets[18]) * 256 + usize::from(octets[19])
+}
+
+#[tactic(auto, unfolding(crate::specs::Peer::fixed_fault))]
+fn fault_in_fixed(side: &Side, octets: &[u8]) -> Option<StartupFault>
+    requires { FIXED_OCTETS ≤ length octets.now }
+    ensures fault { result ≡ fixed_fault side.now octets.now }
+    ensures fits { IfNone result (private_len octets.now ≤ MAX_PRIVATE) }
+{
+    if !octets.starts_with(side.peer_key()) {
+        return Some(StartupFault::BadKey);
+    }
+    if octets[17] != REVISION {
+        return Some(StartupFault::BadRev);
+    }
+    if private_len_in(octets) > MAX_PRIVATE {
+        return Some(StartupFault::BadLength);
+    }
+    None
+}
+
+#[tactic(auto, unfolding(crate::specs::Peer::frame_end))]
+pub(crate) fn end_of_frame(side: &Side, octets: &[u8]) -> usize
+    ensures end { result ≡ frame_end side.now octets.now }
+    ensures fixed { FIXED_OCTETS ≤ result }
+    ensures fits { result ≤ MAX_FRAME }
+{
+    if octets.len() < FIXED_OCTETS || fault_in_fixed(side, octets).is_some() {
+        return FIXED_OCTETS;
+    }
+    FIXED_OCTETS + private_len_in(octets)
+}
+
+#[tactic(auto, unfolding(crate::specs::Peer::progress_of))]
+pub(crate) fn progress_in(side: &Side, octets: &[u8]) -> Progress
+    ensures progress { result ≡ progress_of side.now octets.now }
+    ensures fixed { result ≢ Progress.More → FIXED_OCTETS ≤ length octets.now }
+{
+    if octets.len() < end_of_frame(side, octets) {
+        return Progress::More;
+    }
+    if let Some(fault) = fault_in_fixed(side, octets) {
+        return Progress::Faulted(fault);
+    }
+    match side {
+        Side::Responder(_) => Progress::Asked,
+        Side::Initiator if flag_is_set(REJECTED, octets) => {
+            Progress::Faulted(StartupFault::Rejected)
+        }
+        Side::Initiator => Progress::Agreed,
+    }
+}
+
+// The private data, empty before the frame is whole.
+pub(crate) fn private_in<'a>(side: &Side, octets: &'a [u8]) -> &'a [u8]
+    ensures { result.now ≡ (if is_whole side.now octets.now then drop 20 octets.now else []) }
+{
+    if octets.len() < end_of_frame(side, octets) {
+        return &[];
+    }
+    &octets[FIXED_OCTETS..]
+}
+
+// What this end's frame and the peer's agree on.
+pub(crate) fn agreement_with(config: &Config, octets: &[u8]) -> Agreed
+    requires { FIXED_OCTETS ≤ length octets.now }
+    ensures { result ≡ agreement config.now octets.now }
+{
+    Agreed {
+        send_markers: flag_is_set(MARKERS, octets),
+        expect_markers: config.markers,
+        crc: config.crc || flag_is_set(CRC, octets),
+    }
+}

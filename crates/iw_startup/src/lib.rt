@@ -1,0 +1,16 @@
+//! The start-up of an MPA connection: the Request and Reply frames, and what they agree on (RFC 5044 7.1).
+//!
+//! An initiator sends a Request, a responder answers with a Reply. A [`Startup`] is one end of this: it takes the peer's octets
+//! in whatever pieces they come, spells this end's own frame, and tells what was agreed. It takes no memory.
+#![tactic(auto)]
+
+mod config;
+mod frame;
+mod progress;
+mod side;
+mod startup;
+
+pub use config::{Agreed, Config, FIXED_OCTETS, MAX_FRAME, MAX_PRIVATE, PrivateData};
+pub use progress::{Progress, StartupFault};
+pub use side::{Reply, Side};
+pub use startup::{NotAsked, Startup};

@@ -1,0 +1,37 @@
+ghost use Rattle.std.specs.Prelude.{◌≡◌};
+ghost use Rattle.iw_startup.specs.Frame.{request_key, reply_key};
+ghost use Rattle.iw_startup.specs.Peer.{peer_key};
+
+use crate::config::PrivateData;
+
+pub(crate) const REQUEST_KEY: &[u8; 16] = b"MPA ID Req Frame";
+
+pub(crate) const REPLY_KEY: &[u8; 16] = b"MPA ID Rep Frame";
+
+/// Which end of the connection this is, and what a responder answered.
+#[derive(Debug, Drop)]
+pub enum Side {
+    /// It sends the Request and receives the Reply.
+    Initiator,
+    /// It receives the Request, and sends the Reply once its user has answered.
+    Responder(Option<Reply>),
+}
+
+/// What a responder's user answered to a Request, with the private data of the Reply.
+#[derive(Debug, Drop)]
+pub enum Reply {
+    Accept(PrivateData),
+    Reject(PrivateData),
+}
+
+impl Side {
+    // The key of the frame that the other end sends.
+    pub(crate) fn peer_key(&self) -> &'static [u8]
+        ensures { result.now ≡ peer_key self.now }
+    {
+        match self {
+            Side::Initiator => REPLY_KEY,
+            Side::Responder(_) => REQUEST_KEY,
+        }
+    }
+}

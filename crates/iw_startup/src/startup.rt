@@ -1,0 +1,151 @@
+ghost use Rattle.std.specs.Prelude.{◌≡◌, ◌≤◌, length, IsTrue, is_ok, OnOk, OnErr, IfOk, Some, None};
+ghost use Rattle.iw_startup.specs.State.{begun, pushed, used, progress, private_of, frame_of, agreed_of, awaits_answer, answered, IsReached};
+
+use crate::config::{Agreed, Config, FIXED_OCTETS, MAX_FRAME, PrivateData};
+use crate::frame;
+use crate::progress::Progress;
+use crate::side::{REPLY_KEY, REQUEST_KEY, Reply, Side};
+use arrayvec::ArrayVec;
+use std::marker::Model;
+
+/// Nobody waits for an answer: this end is an initiator, the Request is not whole or faulty, or it was answered before.
+#[derive(Clone, Copy, Debug, PartialEq, Eq)]
+pub struct NotAsked;
+
+/// One end's part in the start-up of a connection.
+#[derive(Drop)]
+pub struct Startup {
+    config: Config,
+    side: Side,
+    // The peer's octets.
+    octets: ArrayVec<u8, MAX_FRAME>,
+}
+
+impl Model for Startup {
+    ghost use Rattle.iw_startup.specs.State.{StartupState, IsReached};
+
+    ghost Value = { StartupState };
+
+    ghost view = { λ a. record { config = a.config; side = a.side; octets = a.octets.items } };
+
+    ghost invariant = { λ a. IsReached (record { config = a.config; side = a.side; octets = a.octets.items }) };
+}
+
+impl Startup {
+    /// The end that sends the Request, before anything came from the peer.
+    pub fn initiator(config: Config) -> Startup
+        ensures { result ≡ begun Side.Initiator config }
+    {
+        Startup {
+            config,
+            side: Side::Initiator,
+            octets: ArrayVec::new(),
+        }
+    }
+
+    /// The end that waits for the Request, before anything came from the peer.
+    pub fn responder(config: Config) -> Startup
+        ensures { result ≡ begun (Side.Responder None) config }
+    {
+        Startup {
+            config,
+            side: Side::Responder(None),
+            octets: ArrayVec::new(),
+        }
+    }
+
+    /// Takes the next octets from the peer as far as its frame goes. It tells how many octets were used, and how far the frame has come.
+    ///
+    /// After any answer but [`Progress::More`] it uses none and answers the same.
+    pub fn push(&mut self, octets: &[u8]) -> (usize, Progress)
+        ensures used { result.0 ≡ used self.old octets.now }
+        ensures after { self.new ≡ pushed self.old octets.now }
+        ensures progress { result.1 ≡ progress self.new }
+    {
+        let fixed = frame::take_up_to(FIXED_OCTETS, &mut self.octets, octets);
+        let end = frame::end_of_frame(&self.side, self.octets.as_slice());
+        let private = frame::take_up_to(end, &mut self.octets, &octets[fixed..]);
+        let progress = frame::progress_in(&self.side, self.octets.as_slice());
+        (fixed + private, progress)
+    }
+
+    /// Answers the Request: the connection is to be. The Reply carries this private data. An `Err` changes nothing.
+    pub fn accept(&mut self, private: PrivateData) -> Result<Agreed, NotAsked>
+        ensures refused { is_ok result ≡ awaits_answer self.old }
+        ensures ok { OnOk result (self.new ≡ answered self.old (Reply.Accept private)) }
+        ensures err { OnErr result (self.new ≡ self.old) }
+        ensures agreed { IfOk result (λ agreed. agreed_of self.new ≡ Some agreed) }
+    {
+        if !self.awaits_answer() {
+            return Err(NotAsked);
+        }
+        self.side = Side::Responder(Some(Reply::Accept(private)));
+        Ok(frame::agreement_with(&self.config, self.octets.as_slice()))
+    }
+
+    /// Answers the Request: the connection is not to be. The Reply carries this private data. An `Err` changes nothing.
+    pub fn reject(&mut self, private: PrivateData) -> Result<(), NotAsked>
+        ensures refused { is_ok result ≡ awaits_answer self.old }
+        ensures ok { OnOk result (self.new ≡ answered self.old (Reply.Reject private)) }
+        ensures err { OnErr result (self.new ≡ self.old) }
+    {
+        if !self.awaits_answer() {
+            return Err(NotAsked);
+        }
+        self.side = Side::Responder(Some(Reply::Reject(private)));
+        Ok(())
+    }
+
+    /// The frame that this end sends: an initiator's Request, a responder's Reply. It is empty at a responder without an answer.
+    pub fn frame(&self) -> ArrayVec<u8, MAX_FRAME>
+        ensures { result.items ≡ frame_of self.now }
+    {
+        let config = &self.config;
+        match &self.side {
+            Side::Initiator => frame::written(REQUEST_KEY, config, false, &config.private),
+            Side::Responder(None) => ArrayVec::new(),
+            Side::Responder(Some(Reply::Accept(private))) => {
+                frame::written(REPLY_KEY, config, false, private)
+            }
+            Side::Responder(Some(Reply::Reject(private))) => {
+                frame::written(REPLY_KEY, config, true, private)
+            }
+        }
+    }
+
+    /// The peer's private data, empty before its frame is whole.
+    #[tactic(auto, unfolding(crate::specs::State::private_of))]
+    pub fn private(&self) -> &[u8]
+        ensures { result.now ≡ private_of self.now }
+    {
+        frame::private_in(&self.side, self.octets.as_slice())
+    }
+
+    /// What both frames agree on: at an initiator once the Reply accepts, at a responder once its user did.
+    #[tactic(auto, unfolding(crate::specs::State::agreed_of))]
+    pub fn agreed(&self) -> Option<Agreed>
+        ensures { result ≡ agreed_of self.now }
+    {
+        let octets = self.octets.as_slice();
+        match (&self.side, frame::progress_in(&self.side, octets)) {
+            (Side::Initiator, Progress::Agreed)
+            | (Side::Responder(Some(Reply::Accept(_))), Progress::Asked) => {
+                Some(frame::agreement_with(&self.config, octets))
+            }
+            _ => None,
+        }
+    }
+
+    // The Request is whole, and its user gave no answer yet.
+    fn awaits_answer(&self) -> bool
+        ensures awaits { result ≡ awaits_answer self.now }
+        ensures fixed { IsTrue result → FIXED_OCTETS ≤ length self.now.octets }
+    {
+        match self.side {
+            Side::Responder(None) => {
+                frame::progress_in(&self.side, self.octets.as_slice()) == Progress::Asked
+            }
+            _ => false,
+        }
+    }
+}
