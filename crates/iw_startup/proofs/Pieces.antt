@@ -1,7 +1,7 @@
 -- What comes in pieces is taken as what comes at once.
 use Rattle.std.proofs.Common.{◌≡◌, ℕ, ◌+◌, ◌-◌, ◌<◌, ◌≤◌, ◌++◌, List, length, take, drop, min, refl, ap, sym, ◌∙◌, arith, inl, inr, length-append, append_assoc, length-drop}
 use Rattle.std.proofs.lemmas.Bool.{cases_lt}
-use Rattle.std.proofs.lemmas.List.{append-nil, take_rest, take_all, take-append-drop, take_min, length-take-le, length-take}
+use Rattle.std.proofs.lemmas.List.{append-nil, take_rest, take_all, take-append-drop, take_min, length-take-le, length-take, take-append-le}
 use Rattle.std.proofs.Math.Seq.{take-append-add, take-add}
 use Rattle.iw_startup.specs.declared.side.Side.{Side}
 use Rattle.iw_startup.specs.Peer.{frame_end, frame_part}
@@ -76,3 +76,16 @@ in_two_steps side xs ys first second end fixed all within is fixed_is end_is sec
     let both : first + second ≡ min (frame_end side (xs ++ ys) - length xs) (length ys) = used_in_steps side xs ys first second within is next in
     let put : all ≡ (xs ++ take first ys) ++ take second (drop first ys) = cc in
     (both, put ∙ taken_in_steps side xs ys first second within both)
+
+-- octets behind the frame's part of the octets are octets behind these
+pub frame_part-frame_part : (side : Side) (xs ys : List ℕ) → frame_part side (frame_part side xs ++ ys) ≡ frame_part side (xs ++ ys)
+unfolding frame_part
+frame_part-frame_part side xs ys = elim (cases_lt (length xs) (frame_end side xs)) [
+  | inl less ↦ ap (λ zs. frame_part side (zs ++ ys)) (take_all (frame_end side xs) xs (omega arith))
+  | inr enough ↦
+      let there : 20 ≤ length xs = omega (arith, least_end side xs) in
+      let whole : frame_end side (frame_part side xs) ≤ length (frame_part side xs)
+      = omega (arith, frame_end-frame_part side xs, length-take-le (frame_end side xs) xs enough) in
+      frame_part-whole side (frame_part side xs) ys (part_within side xs) whole
+      ∙ sym (ap (λ n. take n (xs ++ ys)) (frame_end-append side xs ys there) ∙ take-append-le (frame_end side xs) xs ys enough)
+]

@@ -1,5 +1,6 @@
 -- One end's start-up: what callers see of it, and what each call makes of it.
 use Rattle.std.specs.Prelude.{◌≡◌, ℕ, ◌-◌, ◌≤◌, ◌&&◌, ◌||◌, Bool, true, false, IsTrue, List, [], ◌++◌, length, drop, min, Option, Some, None, is_none, is_some, if◌then◌else◌}
+use Rattle.arrayvec.specs.ArrayVec.{ArrayVec}
 use Rattle.iw_startup.specs.declared.config.Agreed.{Agreed}
 use Rattle.iw_startup.specs.declared.config.Config.{Config}
 use Rattle.iw_startup.specs.declared.progress.Progress.{Progress}
@@ -49,6 +50,11 @@ awaits_answer s = is_unanswered s.side && is_asked (progress s)
 
 abbrev pub answered : StartupState → Reply → StartupState
 answered s reply = record s { side = Responder (Some reply) }
+
+-- the private data of an answer
+abbrev pub private_in : Reply → ArrayVec ℕ
+private_in (Accept private) = private
+private_in (Reject private) = private
 
 -- the Reply: it carries M, C and the private data whether it accepts or rejects
 abbrev pub reply_frame : Config → Reply → List ℕ

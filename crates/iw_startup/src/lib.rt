@@ -6,11 +6,13 @@
 
 mod config;
 mod frame;
+mod laws;
 mod progress;
 mod side;
 mod startup;
 
 pub use config::{Agreed, Config, FIXED_OCTETS, MAX_FRAME, MAX_PRIVATE, PrivateData};
+pub use laws::{accepted_ends_agree, cuts_do_not_matter, rejections_are_told, requests_are_asked};
 pub use progress::{Progress, StartupFault};
 pub use side::{Reply, Side};
 pub use startup::{NotAsked, Startup};
