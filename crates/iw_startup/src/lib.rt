@@ -16,3 +16,6 @@ pub use laws::{accepted_ends_agree, cuts_do_not_matter, rejections_are_told, req
 pub use progress::{Progress, StartupFault};
 pub use side::{Reply, Side};
 pub use startup::{NotAsked, Startup};
+
+#[cfg(test)]
+mod tests;
