@@ -1,0 +1,116 @@
+use crate::call::{End, Role};
+use iw_memory::{DomainRefusal, NoRegion, RegisterRefusal, Right, Rights};
+use iw_octets::{Fault, Message, Stag};
+use iw_stream::{Delivery, Kind, PostRefusal, RecvRefusal};
+
+/// Why a stream is not opened: the first reason that holds.
+#[derive(Clone, Copy, Debug, PartialEq, Eq)]
+pub enum OpenRefusal {
+    /// The number was opened before.
+    NumberTaken,
+    /// No stream has this number.
+    BadNumber,
+    /// The domain was not added.
+    NoDomain,
+    NoMemory,
+}
+
+/// What a call to emit gave, with its octets.
+#[derive(Debug, PartialEq, Drop)]
+pub enum Shown<O> {
+    /// A frame, whose first octet has the stream place `from`.
+    Frame { from: u64, octets: O },
+    /// Nothing was due.
+    Nothing,
+}
+
+/// What a step of work did, with the octets that it placed or handed out.
+#[derive(Debug, PartialEq, Drop)]
+pub enum Seen<O> {
+    /// The oldest posted message is finished.
+    Done(Kind),
+    /// A tagged segment was placed: the octets now stand in the region from tagged offset `to` on.
+    Placed {
+        right: Right,
+        stag: Stag,
+        to: u64,
+        octets: O,
+    },
+    /// A Send's segment of `len` octets was placed in the buffer that its message sequence number names, from offset `mo` on.
+    Buffered {
+        msn: u32,
+        mo: u32,
+        len: usize,
+    },
+    /// A frame had its turn, and there is nothing more to say of it.
+    Passed,
+    /// A Send is complete: its octets, whether it was solicited, and the STag that it invalidated.
+    Received {
+        octets: O,
+        solicited: bool,
+        invalidate: Option<Stag>,
+    },
+    /// The stream has ended by this fault.
+    Fault(Fault),
+    /// There is nothing to do.
+    Idle,
+}
+
+/// A call of a stream with its answer. Where a call may be refused, `refused: None` says that it was not.
+#[derive(Debug, PartialEq, Drop)]
+pub enum StreamAct<O> {
+    Recv {
+        len: u32,
+        refused: Option<RecvRefusal>,
+    },
+    Post {
+        message: Message<O>,
+        refused: Option<PostRefusal>,
+    },
+    Emit(Shown<O>),
+    /// The octets are those that were delivered, also where they were dropped.
+    Deliver {
+        from: u64,
+        octets: O,
+        delivery: Delivery,
+    },
+    Work(Seen<O>),
+}
+
+/// A call with its answer.
+#[derive(Debug, PartialEq, Drop)]
+pub enum Act<O> {
+    Domain {
+        pd: u8,
+        refused: Option<DomainRefusal>,
+    },
+    Register {
+        pd: u8,
+        base: u64,
+        rights: Rights,
+        octets: O,
+        answer: Result<Stag, RegisterRefusal>,
+    },
+    Deregister {
+        stag: Stag,
+        answer: Result<O, NoRegion>,
+    },
+    Open {
+        stream: u8,
+        pd: u8,
+        role: Role,
+        private: O,
+        refused: Option<OpenRefusal>,
+    },
+    Stream {
+        stream: u8,
+        act: StreamAct<O>,
+    },
+}
+
+/// A call at one of the ends, with its answer.
+#[derive(Debug, PartialEq, Drop)]
+pub struct Entry<O> {
+    pub end: End,
+    pub act: Act<O>,
+}

@@ -1,0 +1,70 @@
+use iw_memory::Rights;
+use iw_octets::{Message, Stag};
+
+/// One of the two ends. Stream n of one is connected to stream n of the other.
+#[derive(Clone, Copy, Debug, PartialEq, Eq)]
+pub enum End {
+    A,
+    B,
+}
+
+/// What a stream does before its first frame.
+#[derive(Clone, Copy, Debug, PartialEq, Eq)]
+pub enum Role {
+    /// It is open at once, with no start-up frames.
+    Preset,
+}
+
+/// A call of a stream.
+#[derive(Debug, PartialEq, Drop)]
+pub enum StreamCall<O> {
+    /// Posts a receive buffer of `len` zero octets.
+    Recv { len: u32 },
+    /// Posts a Write or a Send.
+    Post { message: Message<O> },
+    /// Emits one frame.
+    Emit,
+    /// Delivers `len` octets that the other end emitted, the first of them at the stream place `from`.
+    Deliver { from: u64, len: u64 },
+    /// Does one step of work.
+    Work,
+}
+
+/// A call at an end: of its memory, an opening, or a call of one of its streams.
+#[derive(Debug, PartialEq, Drop)]
+pub enum Call<O> {
+    /// Adds a protection domain.
+    Domain {
+        pd: u8,
+    },
+    /// Registers octets as a region of a domain, the first of them at tagged offset `base`.
+    Register {
+        pd: u8,
+        base: u64,
+        rights: Rights,
+        octets: O,
+    },
+    /// Takes a region out, with its octets.
+    Deregister {
+        stag: Stag,
+    },
+    /// Opens a stream in a domain. The private data is not used for the role `Preset`.
+    Open {
+        stream: u8,
+        pd: u8,
+        role: Role,
+        private: O,
+    },
+    /// Calls a stream.
+    Stream {
+        stream: u8,
+        call: StreamCall<O>,
+    },
+}
+
+/// A call at one of the ends.
+#[derive(Debug, PartialEq, Drop)]
+pub struct Event<O> {
+    pub end: End,
+    pub call: Call<O>,
+}

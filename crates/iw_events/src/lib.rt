@@ -1,0 +1,11 @@
+//! What can happen at the two ends of a connection, and what each of them answers.
+//!
+//! An event is a call at one end. An entry is the same call together with its answer; a trace is a list of entries.
+//! The type of the octets in them is the parameter.
+#![tactic(auto)]
+
+mod act;
+mod call;
+
+pub use act::{Act, Entry, OpenRefusal, Seen, Shown, StreamAct};
+pub use call::{Call, End, Event, Role, StreamCall};

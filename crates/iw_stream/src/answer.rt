@@ -1,0 +1,79 @@
+use iw_memory::Right;
+use iw_octets::{Fault, Stag};
+
+/// What a posted message is.
+#[derive(Clone, Copy, Debug, PartialEq, Eq)]
+pub enum Kind {
+    Write,
+    Send,
+}
+
+/// Why a message is not posted: the first reason that holds, in the order `NotOpen`, `Full`, `TooLong`, `NoMemory`.
+#[derive(Clone, Copy, Debug, PartialEq, Eq)]
+pub enum PostRefusal {
+    /// 256 messages are posted and not yet handed out.
+    Full,
+    /// The message has too many octets.
+    TooLong,
+    /// The stream has ended.
+    NotOpen,
+    NoMemory,
+}
+
+/// Why a receive buffer is not posted: the first reason that holds, in the order `Ended`, `Full`, `NoMemory`.
+#[derive(Clone, Copy, Debug, PartialEq, Eq)]
+pub enum RecvRefusal {
+    /// 256 buffers are posted and not yet handed back.
+    Full,
+    NoMemory,
+    Ended,
+}
+
+/// What becomes of octets that came.
+#[derive(Clone, Copy, Debug, PartialEq, Eq)]
+pub enum Delivery {
+    Kept,
+    Dropped,
+}
+
+/// What a call to emit appended.
+#[derive(Clone, Copy, Debug, PartialEq, Eq)]
+pub enum Emission {
+    /// A frame of `len` octets, the first of which has the stream place `from`.
+    Frame { from: u64, len: usize },
+    /// Nothing is due.
+    Nothing,
+}
+
+/// What one step of work did. The buffer's type is the parameter.
+#[derive(Debug, PartialEq, Drop)]
+pub enum Step<O> {
+    /// The oldest posted message is finished.
+    Done(Kind),
+    /// A tagged segment's `len` octets were placed from tagged offset `to` on.
+    Placed {
+        right: Right,
+        stag: Stag,
+        to: u64,
+        len: usize,
+    },
+    /// A Send's segment of `len` octets was placed in the buffer that its message sequence number names, from offset `mo` on.
+    Buffered {
+        msn: u32,
+        mo: u32,
+        len: usize,
+    },
+    /// A frame had its turn, and there is nothing more to say of it.
+    Passed,
+    /// A Send is complete: its buffer, of which the first `len` octets are the message.
+    Received {
+        buffer: O,
+        len: usize,
+        solicited: bool,
+        invalidate: Option<Stag>,
+    },
+    /// The stream has ended by this fault.
+    Fault(Fault),
+    /// There is nothing to do.
+    Idle,
+}
