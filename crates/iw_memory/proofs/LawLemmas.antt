@@ -1,15 +1,15 @@
 -- A change of one slot leaves all else as it is.
-use Rattle.std.proofs.Common.{◌≡◌, ◌≢◌, ℕ, suc, ◌+◌, ◌%◌, ◌<◌, ◌==◌, not, is_none, nat_lt, Bool, true, false, cond, List, [], ◌∷◌, ◌++◌, length, get_or, set, Option, Some, None, refl, sym, ap, subst, ◌∙◌, arith, inl, inr, get_or-set_same, get_or-set_other, length-append}
+use Rattle.std.proofs.Common.{◌≡◌, ◌≢◌, ℕ, suc, ◌+◌, ◌-◌, ◌%◌, ◌⊎◌, ◌<◌, ◌==◌, not, is_none, nat_lt, Bool, true, false, cond, List, [], ◌∷◌, ◌++◌, length, get_or, set, Option, Some, None, refl, sym, ap, subst, ◌∙◌, arith, inl, inr, get_or-set_same, get_or-set_other, length-append}
 use Rattle.std.proofs.lemmas.List.{get_or_past}
 use Rattle.std.proofs.lemmas.Option.{none-some}
 use Rattle.std.proofs.lemmas.Bool.{cases_lt, eq-eqb, eqb-true, lt-ltb, le-ltb}
 use Rattle.std.proofs.lemmas.Bool.Decides.{eqb_tells}
 use Rattle.std.specs.Option.{option_map}
 use Rattle.iw_octets.specs.declared.stag.Stag.{Stag}
-use Rattle.iw_memory.specs.Region.{Region, region_with}
+use Rattle.iw_memory.specs.Region.{Region, facts_of, region_with}
 use Rattle.iw_memory.specs.Part.{SlotState, unused, under_key, own_slots, free_slot, with_room}
 use Rattle.iw_memory.specs.Table.{Table, part_of, with_part, slots_of, region_at, with_slot, with_region, put, deregistered, registered, next_stag}
-use Rattle.iw_memory.specs.Laws.{ChangesOneStag, PutsAt}
+use Rattle.iw_memory.specs.Laws.{ChangesOneStag, PutsAt, RegistersAt}
 use Rattle.iw_memory.proofs.ListLemmas.{get_or-push_default, length-overlay}
 use Rattle.iw_memory.proofs.SlotLemmas.{first_within}
 use Rattle.iw_memory.proofs.TableLemmas.{cond_region, slots_are, nothing_under, with_region-found, with_region-none, deregistered-found, deregistered-none}
@@ -127,37 +127,47 @@ room_within slots = elim (cases_lt (free_slot slots) (length slots)) [
 room_reads : (slots : List SlotState) (m : ℕ) → get_or (with_room slots) m unused ≡ get_or slots m unused
 room_reads slots m = elim (nat_lt (free_slot slots) (length slots)) as (λ b. get_or (cond b slots (slots ++ unused ∷ [])) m unused ≡ get_or slots m unused) [ true ↦ refl | false ↦ get_or-push_default slots unused m ]
 
-pub registered-changes : (table : Table) (pd : ℕ) (region : Region) → pd < length table → ChangesOneStag table (registered table pd region) (next_stag table pd) (Some region)
+pub registered-changes : (table : Table) (pd : ℕ) (region : Region) → pd < length table → RegistersAt table pd region
 registered-changes table pd region there =
     let slots = slots_of table pd in let stag = next_stag table pd in
     let s : SlotState = record { key = stag.key; region = Some region } in
-    subst (λ o. ChangesOneStag table (registered table pd region) stag o) (ap (λ b. cond b (Some region) None) (eq-eqb stag.key stag.key refl))
-    (slot_changes table stag (with_room slots) s there (room_within slots) (room_reads slots)
-    (λ key ne. other_key s stag.key key refl ne ∙ sym (no_region (get_or slots stag.slot unused) key (free_none slots))))
+    let was = no_region (get_or slots stag.slot unused) in record {
+      was_free = was stag.key (free_none slots);
+      named =
+          subst (λ o. ChangesOneStag table (registered table pd region) stag o) (ap (λ b. cond b (Some region) None) (eq-eqb stag.key stag.key refl))
+          (slot_changes table stag (with_room slots) s there (room_within slots) (room_reads slots)
+            (λ key ne. other_key s stag.key key refl ne ∙ sym (was key (free_none slots))));
+    }
 
--- ---- lengths
+-- ---- what is put keeps each region's facts
 
-length_with : (r : Option Region) (to : ℕ) (octets : List ℕ) → option_map (λ (x : Region). length x.octets) (option_map (λ x. region_with x to octets) r) ≡ option_map (λ (x : Region). length x.octets) r
-length_with None to octets = refl
-length_with (Some r) to octets = ap Some (length-overlay r.octets _ octets)
+-- two STags are the same, or not
+pub stag_cases : (a b : Stag) → (a ≡ b) ⊎ (a ≢ b)
+stag_cases a b = elim (eqb_tells a.domain b.domain) [
+  | inr off ↦ inr (λ e. off.1 (ap (λ (s : Stag). s.domain) e))
+  | inl domain ↦ elim (eqb_tells a.slot b.slot) [
+    | inr off ↦ inr (λ e. off.1 (ap (λ (s : Stag). s.slot) e))
+    | inl slot ↦ elim (eqb_tells a.key b.key) [
+      | inr off ↦ inr (λ e. off.1 (ap (λ (s : Stag). s.key) e))
+      | inl key ↦ inl (λ t. record { domain = domain.1 t; slot = slot.1 t; key = key.1 t })
+    ]
+  ]
+]
+
+facts_with : (r : Option Region) (to : ℕ) (octets : List ℕ) → option_map facts_of (option_map (λ x. region_with x to octets) r) ≡ option_map facts_of r
+facts_with None to octets = refl
+facts_with (Some r) to octets = ap (λ n. Some (record { base = r.base; len = n; rights = r.rights; valid = r.valid })) (length-overlay r.octets (to - r.base) octets)
 
 pub put-changes : (table : Table) (stag : Stag) (to : ℕ) (octets : List ℕ) → PutsAt table stag to octets
 put-changes table stag to octets =
     let one = with_region-changes table stag (λ r. region_with r to octets) in record {
-      region = one;
-      lengths = λ other. elim (eqb_tells other.domain stag.domain) [
-        | inr off ↦ ap (option_map (λ (r : Region). length r.octets)) (one.others other (λ e. off.1 (ap (λ (s : Stag). s.domain) e)))
-        | inl domain ↦ elim (eqb_tells other.slot stag.slot) [
-          | inr off ↦ ap (option_map (λ (r : Region). length r.octets)) (one.others other (λ e. off.1 (ap (λ (s : Stag). s.slot) e)))
-          | inl slot ↦ elim (eqb_tells other.key stag.key) [
-            | inr off ↦ ap (option_map (λ (r : Region). length r.octets)) (one.others other (λ e. off.1 (ap (λ (s : Stag). s.key) e)))
-            | inl key ↦
-                let same : other ≡ stag = λ t. record { domain = domain.1 t; slot = slot.1 t; key = key.1 t } in
-                ap (λ (s : Stag). option_map (λ (r : Region). length r.octets) (region_at (put table stag to octets) s)) same
-                ∙ ap (option_map (λ (r : Region). length r.octets)) one.changed
-                ∙ length_with (region_at table stag) to octets
-                ∙ ap (λ (s : Stag). option_map (λ (r : Region). length r.octets) (region_at table s)) (sym same)
-          ]
-        ]
+      changed = one;
+      facts = λ other. elim (stag_cases other stag) [
+        | inr off ↦ ap (option_map facts_of) (one.others other off)
+        | inl same ↦
+            ap (λ (s : Stag). option_map facts_of (region_at (put table stag to octets) s)) same
+            ∙ ap (option_map facts_of) one.changed
+            ∙ facts_with (region_at table stag) to octets
+            ∙ ap (λ (s : Stag). option_map facts_of (region_at table s)) (sym same)
       ];
     }

@@ -1,7 +1,8 @@
 -- Lists under a map that changes at one place.
 use Rattle.iw_memory.specs.Region.{overlay}
-use Rattle.std.proofs.Common.{◌≡◌, ◌≢◌, ℕ, zero, suc, ◌<◌, List, [], ◌∷◌, ◌++◌, map, length, get_or, set, replicate, refl, ap, ◌∙◌, arith, length-append, length-drop}
-use Rattle.std.proofs.lemmas.List.{length-take}
+use Rattle.std.proofs.Common.{◌≡◌, ◌≢◌, ℕ, zero, suc, ◌+◌, ◌<◌, ◌≤◌, take, drop, sym, List, [], ◌∷◌, ◌++◌, map, length, get_or, set, replicate, refl, ap, ◌∙◌, arith, length-append, length-drop}
+use Rattle.std.proofs.lemmas.List.{length-take, take_all}
+use Rattle.std.proofs.Math.Seq.{drop-append_seam, take-append_seam}
 
 pub map-replicate : {A B : Type 0} (f : A → B) (n : ℕ) (x : A) → map f (replicate n x) ≡ replicate n (f x)
 map-replicate f zero x = refl
@@ -36,3 +37,19 @@ get_or-push_default (x ∷ xs) d (suc m) = get_or-push_default xs d m
 -- what is written over is as long as before
 pub length-overlay : (octets : List ℕ) (at : ℕ) (new : List ℕ) → length (overlay octets at new) ≡ length octets
 length-overlay octets at new = grind (arith, length-take, length-append, length-drop)
+
+-- what fits is written between what stands before and behind it
+pub overlay-fits : (octets : List ℕ) (at : ℕ) (new : List ℕ) → at + length new ≤ length octets → overlay octets at new ≡ take at octets ++ (new ++ drop (length new) (drop at octets))
+overlay-fits octets at new fits =
+    take_all (length octets) (take at octets ++ (new ++ drop (length new) (drop at octets)))
+    (grind (arith, length-take, length-append, length-drop))
+
+-- what fits is read again
+pub overlay-read : (octets : List ℕ) (at : ℕ) (new : List ℕ) → at + length new ≤ length octets → take (length new) (drop at (overlay octets at new)) ≡ new
+overlay-read octets at new fits =
+    let rest = new ++ drop (length new) (drop at octets) in
+    let before : length (take at octets) ≡ at = grind (arith, length-take) in
+    ap (λ xs. take (length new) (drop at xs)) (overlay-fits octets at new fits)
+    ∙ ap (λ n. take (length new) (drop n (take at octets ++ rest))) (sym before)
+    ∙ ap (take (length new)) (drop-append_seam (take at octets) rest)
+    ∙ take-append_seam new (drop (length new) (drop at octets))

@@ -17,7 +17,7 @@ domain_of_slot {A} domains d i l = elim (cases_lt d (length domains)) [
   | inr past ↦ let none : length (slots_in domains d) ≡ 0 = ap (λ o. length (items_of o)) (get_or_past domains d None past) in absurd (omega arith)
 ]
 
-not_none : {A : Type 0} (o : Option (Vec Slot A)) → o ≡ None → IsTrue (is_some o) → ⊥
+pub not_none : {A : Type 0} (o : Option (Vec Slot A)) → o ≡ None → IsTrue (is_some o) → ⊥
 not_none {A} None e t = cc
 not_none {A} (Some v) e t = cc
 

@@ -1,5 +1,5 @@
 -- What the fields of a memory mean as a table, and how that changes with them.
-use Rattle.std.proofs.Common.{subst, IfSome, ◌≤◌, ◌≡◌, ◌≢◌, ℕ, zero, suc, ◌+◌, ◌%◌, ◌-◌, ◌<◌, ◌^◌, ◌==◌, nat_lt, nat_le, not, if◌then◌else◌, Bool, true, false, cond, List, [], ◌∷◌, ◌++◌, map, length, get_or, set, replicate, take, Option, Some, None, is_some, is_none, Vec, refl, sym, ap, ◌∙◌, arith, inl, inr, get_or-set_other, get_or-set_same}
+use Rattle.std.proofs.Common.{IsTrue, subst, IfSome, ◌≤◌, ◌≡◌, ◌≢◌, ℕ, zero, suc, ◌+◌, ◌%◌, ◌-◌, ◌<◌, ◌^◌, ◌==◌, nat_lt, nat_le, not, if◌then◌else◌, Bool, true, false, cond, List, [], ◌∷◌, ◌++◌, map, length, get_or, set, replicate, take, Option, Some, None, is_some, is_none, Vec, refl, sym, ap, ◌∙◌, arith, inl, inr, get_or-set_other, get_or-set_same}
 use Rattle.std.proofs.Math.ListN.{get_or-map}
 use Rattle.std.proofs.lemmas.List.{set-get_or, get_or_past, take-append-drop, length-set, map-set, length-map, map-append}
 use Rattle.std.proofs.Math.Seq.{take-length}
@@ -19,10 +19,9 @@ use Rattle.iw_memory.specs.Held.{Held}
 use Rattle.iw_memory.specs.Part.{SlotState, unused, under_key, own_slot, free_slot, with_room}
 use Rattle.iw_memory.specs.Table.{Table, empty, part_of, with_part, slots_of, region_at, with_slot, with_region, put, register_refusal, is_added, added, registered, deregistered}
 use Rattle.iw_memory.specs.Laws.{HoldsLimits}
-use Rattle.iw_memory.specs.TableLending.{written}
 use Rattle.iw_memory.specs.Inside.{Slots, table_of, states_of, state_of, region_in, slots_in, link_at, link_of, free, IsHeldFor, IsSound, Keeps, SetsSlots, is_free, with_room_at}
 use Rattle.iw_memory.proofs.ListLemmas.{map-replicate, map-same, map-set_others, set-set}
-use Rattle.iw_memory.proofs.SlotLemmas.{items_of, domain_of_slot, position_or_len-map}
+use Rattle.iw_memory.proofs.SlotLemmas.{items_of, domain_of_slot, domain_added, not_none, position_or_len-map}
 
 pub table_of-empty : (A : Type 0) (regions : Slab Held) → table_of {A = A} (replicate 256 None) regions ≡ empty
 unfolding empty
@@ -37,6 +36,7 @@ pub Keeps-empty : {A : Type 0} (domains : Slots A) (regions : Slab Held) (nothin
 Keeps-empty {A} domains regions nothing none empty = record {
   sound = record {
     all_numbers = ap length none;
+    no_zero = ap (λ ds. get_or ds 0 None) none;
     linked = λ d i k link. absurd (none-some k (sym (ap (λ (ss : List Slot). (get_or ss i free).at) (ap (λ ds. slots_in ds d) none ∙ none_in A 256 d)) ∙ link));
     few = λ d. subst (λ (ss : List Slot). length ss ≤ 1024) (sym (ap (λ ds. slots_in ds d) none ∙ none_in A 256 d)) (omega arith);
   };
@@ -163,6 +163,7 @@ pub IsSound-with_value : {A : Type 0} {domains : Slots A} {regions : Slab Held} 
     new.region.base ≡ h.region.base → length new.region.octets ≡ length h.region.octets → IsSound domains (with_value regions k new)
 IsSound-with_value {A} {domains} {regions} sound k h new held domain slot base len = record {
   all_numbers = sound.all_numbers;
+  no_zero = sound.no_zero;
   linked = λ d i j link.
       let old = sound.linked d i j link in
       elim (eqb_tells j k) [
@@ -241,18 +242,6 @@ put-nothing table stag to =
     with_region-same table stag (λ r. region_with r to []) (region_at table stag) refl
     (λ r. ap (λ xs. record r { octets = xs }) (overlay-nothing r.octets (to - r.base)))
 
-no_octets : (xs : List ℕ) → length xs ≡ 0 → xs ≡ []
-no_octets [] e = refl
-no_octets (x ∷ xs) e = absurd (omega arith)
-
--- a part that was left with as many octets as it had
-pub written-put : (table : Table) (stag : Stag) (to n : ℕ) (octets : List ℕ) → length octets ≡ n → written table stag to n octets ≡ put table stag to octets
-written-put table stag to n octets len =
-    elim (eqb_tells n 0) [
-      | inl nothing ↦ ap (λ b. cond b table (put table stag to octets)) nothing.0 ∙ sym (ap (put table stag to) (no_octets octets (omega arith)) ∙ put-nothing table stag to)
-      | inr some ↦ ap (λ b. cond b table (put table stag to octets)) some.0
-    ]
-
 -- ---- slots and the slab change together
 
 pub held_at : {A : Type 0} {domains : Slots A} {regions : Slab Held} → IsSound domains regions → (stag : Stag) (k : ℕ) → link_of domains stag ≡ Some k → IsHeldFor regions k stag.domain stag.slot
@@ -262,6 +251,7 @@ held_at {A} {domains} {regions} sound stag k link = sound.linked stag.domain sta
 pub IsSound-same_get : {A : Type 0} {domains : Slots A} {old new : Slab Held} → IsSound domains old → ((k : ℕ) → get new k ≡ get old k) → IsSound domains new
 IsSound-same_get {A} sound same = record {
   all_numbers = sound.all_numbers;
+  no_zero = sound.no_zero;
   linked = λ d i k link. let old = sound.linked d i k link in record { region = old.region; held = same k ∙ old.held; limits = old.limits };
   few = sound.few;
 }
@@ -292,12 +282,19 @@ few_sets {A} {old} {new} {d} {items} few within sets small j = elim (eqb_tells j
 length-sets : {A : Type 0} {old new : Slots A} {d : ℕ} {items : List Slot} → SetsSlots old new d items → length new ≡ length old
 length-sets {A} {old} {new} {d} sets = ap length sets.after ∙ length-set old d (Some sets.slots)
 
+no_zero-sets : {A : Type 0} {old new : Slots A} {d : ℕ} {items : List Slot} → get_or old 0 None ≡ None → SetsSlots old new d items → 0 ≢ d → get_or new 0 None ≡ None
+no_zero-sets {A} {old} {new} {d} none sets ne = ap (λ ds. get_or ds 0 None) sets.after ∙ get_or-set_other old d 0 (Some sets.slots) None ne ∙ none
+
+no_slots : {n i : ℕ} → n ≡ 0 → i < n → ⊥
+no_slots none within = omega (arith, none, within)
+
 -- a slot is set: its region is in the slab, and the regions of the others stay
 pub IsSound-set_slot : {A : Type 0} {old new : Slots A} {regions after : Slab Held} → IsSound old regions → (d i : ℕ) (s : Slot) → SetsSlots old new d (set (slots_in old d) i s) → i < length (slots_in old d) → SameElsewhere old regions after d i → ((k : ℕ) → s.at ≡ Some k → IsHeldFor after k d i) → IsSound new after
 IsSound-set_slot {A} {old} {new} {regions} {after} sound d i s sets within same held =
     let moved = λ (j m k : ℕ) (ne : (j ≡ d) → (m ≡ i) → ⊥) (link : link_at old j m ≡ Some k). let r = sound.linked j m k link in let p : IsHeldFor after k j m = record { region = r.region; held = same j m k ne link ∙ r.held; limits = r.limits } in p in
     record {
       all_numbers = length-sets sets ∙ sound.all_numbers;
+      no_zero = no_zero-sets sound.no_zero sets (λ e. no_slots (ap (λ d. length (slots_in old d)) (sym e) ∙ ap (λ o. length (items_of o)) sound.no_zero) within);
       linked = λ j m k link. elim (eqb_tells j d) [
         | inr other ↦ moved j m k (λ e _. other.1 e) (ap (λ (ss : List Slot). (get_or ss m free).at) (sym (slots_in-sets_other sets j other.1)) ∙ link)
         | inl here ↦
@@ -384,9 +381,10 @@ pub register_refusal-absent : (table : Table) (d base len : ℕ) → is_added ta
 register_refusal-absent table d base len absent = ap (λ b. if not b then Some NoDomain else refusal_at (free_slot (slots_of table d)) base len) absent
 
 -- the links stay
-pub IsSound-same_links : {A : Type 0} {old new : Slots A} {regions : Slab Held} → IsSound old regions → (d : ℕ) (items : List Slot) → d < length old → SetsSlots old new d items → length items ≤ 1024 → ((m : ℕ) → get_or items m free ≡ get_or (slots_in old d) m free) → IsSound new regions
-IsSound-same_links {A} {old} {new} {regions} sound d items within sets small same = record {
+pub IsSound-same_links : {A : Type 0} {old new : Slots A} {regions : Slab Held} → IsSound old regions → (d : ℕ) (items : List Slot) → IsTrue (is_some (get_or old d None)) → SetsSlots old new d items → length items ≤ 1024 → ((m : ℕ) → get_or items m free ≡ get_or (slots_in old d) m free) → IsSound new regions
+IsSound-same_links {A} {old} {new} {regions} sound d items there sets small same = let within = domain_added old d there in record {
   all_numbers = length-sets sets ∙ sound.all_numbers;
+  no_zero = no_zero-sets sound.no_zero sets (λ e. not_none (get_or old d None) (ap (λ d. get_or old d None) (sym e) ∙ sound.no_zero) there);
   linked = λ j m k link. elim (eqb_tells j d) [
     | inr other ↦ sound.linked j m k (ap (λ (ss : List Slot). (get_or ss m free).at) (sym (slots_in-sets_other sets j other.1)) ∙ link)
     | inl here ↦
@@ -463,6 +461,7 @@ limits_under {A} sound d i false = tt
 pub HoldsLimits-table_of : {A : Type 0} {domains : Slots A} {regions : Slab Held} → IsSound domains regions → HoldsLimits (table_of domains regions)
 HoldsLimits-table_of {A} {domains} {regions} sound = record {
   domains = length-map domains (states_of regions) ∙ sound.all_numbers;
+  no_zero = get_or-map (states_of regions) domains 0 None ∙ ap (states_of regions) sound.no_zero;
   slots = λ d. subst (λ (n : ℕ). n ≤ 1024) (sym (ap length (slots_of-table_of domains regions d) ∙ length-map (slots_in domains d) (state_of regions))) (sound.few d);
   regions = λ stag. subst (λ (o : Option Region). IfSome o (λ r. IsWithinLimits r.base (length r.octets))) (sym (region_at-table_of domains regions stag))
       (limits_under sound stag.domain stag.slot ((get_or (slots_in domains stag.domain) stag.slot free).key == stag.key));

@@ -48,6 +48,7 @@ pub record IsHeldFor (regions : Slab Held) (k d i : ℕ) : Type 0 where
 
 pub record IsSound {A : Type 0} (domains : Slots A) (regions : Slab Held) : Type 0 where
   pub all_numbers : length domains ≡ 256
+  pub no_zero : slice_index_or domains 0 None ≡ None
   pub linked : (d i k : ℕ) → link_at domains d i ≡ Some k → IsHeldFor regions k d i
   pub few : (d : ℕ) → length (slots_in domains d) ≤ 1024
 

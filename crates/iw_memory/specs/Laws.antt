@@ -3,7 +3,7 @@ use Rattle.std.specs.Prelude.{◌≡◌, ◌≢◌, ◌↔◌, ◌⊎◌, ℕ, �
 use Rattle.std.specs.Option.{option_map}
 use Rattle.iw_octets.specs.declared.stag.Stag.{Stag}
 use Rattle.iw_memory.specs.declared.rights.Right.{Right}
-use Rattle.iw_memory.specs.Region.{Region, grants, Spans, region_with, made_invalid, IsWithinLimits}
+use Rattle.iw_memory.specs.Region.{Region, facts_of, grants, Spans, region_with, made_invalid, IsWithinLimits}
 use Rattle.iw_memory.specs.Part.{Part, own_denial, own_invalidate_denial, own_domain_refusal, own_store_refusal, own_register_refusal, own_next_stag, own_region, own_changed, own_put, own_invalidated, own_deregistered, own_added, own_registered}
 use Rattle.iw_memory.specs.Table.{Table, part_of, slots_of, region_at, denial, invalidate_denial, domain_refusal, store_refusal, register_refusal, next_stag, with_region, put, invalidated, deregistered, added, registered}
 
@@ -35,13 +35,13 @@ pub record ChangesOneStag (old new : Table) (stag : Stag) (region : Option Regio
   pub others : (other : Stag) → other ≢ stag → region_at new other ≡ region_at old other
   pub domains : (d : ℕ) → d ≢ stag.domain → part_of new d ≡ part_of old d
 
--- each region has as many octets as it had
-abbrev pub KeepsLengths : Table → Table → Type 0
-KeepsLengths old new = (stag : Stag) → option_map (λ r. length r.octets) (region_at new stag) ≡ option_map (λ r. length r.octets) (region_at old stag)
+-- each region has the base, the length, the rights and the validity that it had
+abbrev pub KeepsFacts : Table → Table → Type 0
+KeepsFacts old new = (stag : Stag) → option_map facts_of (region_at new stag) ≡ option_map facts_of (region_at old stag)
 
 pub record PutsAt (table : Table) (stag : Stag) (to : ℕ) (octets : List ℕ) : Type 0 where
-  pub region : ChangesOneStag table (put table stag to octets) stag (option_map (λ r. region_with r to octets) (region_at table stag))
-  pub lengths : KeepsLengths table (put table stag to octets)
+  pub changed : ChangesOneStag table (put table stag to octets) stag (option_map (λ r. region_with r to octets) (region_at table stag))
+  pub facts : KeepsFacts table (put table stag to octets)
 
 abbrev pub PutChangesOneRegion : Type 0
 PutChangesOneRegion = (table : Table) (stag : Stag) (to : ℕ) (octets : List ℕ) → PutsAt table stag to octets
@@ -56,9 +56,13 @@ InvalidateChangesOneRegion = (table : Table) (stag : Stag) →
 abbrev pub DeregisterChangesOneStag : Type 0
 DeregisterChangesOneStag = (table : Table) (stag : Stag) → ChangesOneStag table (deregistered table stag) stag None
 
+-- the STag that is given out named nothing before, and names the new region
+pub record RegistersAt (table : Table) (pd : ℕ) (region : Region) : Type 0 where
+  pub was_free : region_at table (next_stag table pd) ≡ None
+  pub named : ChangesOneStag table (registered table pd region) (next_stag table pd) (Some region)
+
 abbrev pub RegisterChangesOneStag : Type 0
-RegisterChangesOneStag = (table : Table) (pd : ℕ) (region : Region) → pd < length table →
-    ChangesOneStag table (registered table pd region) (next_stag table pd) (Some region)
+RegisterChangesOneStag = (table : Table) (pd : ℕ) (region : Region) → pd < length table → RegistersAt table pd region
 
 -- ---- domains
 
@@ -88,8 +92,9 @@ DomainsAreApart = (table : Table) (domain : ℕ) → domain < length table → O
 
 -- ---- limits
 
--- 256 domain numbers, at most 1,024 regions in a domain, and each region within its own limits
+-- domains 1 to 255 and no other, at most 1,024 regions in a domain, and each region within its own limits
 pub record HoldsLimits (table : Table) : Type 0 where
   pub domains : length table ≡ 256
+  pub no_zero : part_of table 0 ≡ None
   pub slots : (d : ℕ) → length (slots_of table d) ≤ 1024
   pub regions : (stag : Stag) → IfSome (region_at table stag) (λ r. IsWithinLimits r.base (length r.octets))

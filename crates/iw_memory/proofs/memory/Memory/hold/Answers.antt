@@ -27,7 +27,7 @@ invariant_of-self-in-Err g c =
     let ds = c.self.inside.domains.items in let pd = c.args.pd in
     let there : is_some (get_or ds pd None) ≡ true = sym (is_added-table_of ds c.self.inside.regions pd) ∙ ap (λ t. is_added t pd) c.self.view_is ∙ c.requires.added in
     record {
-      sound = IsSound-same_links (IsSound-same_get c.self.invariant.sound (λ k. ap (λ s. get s k) c.reserve.ensures.rest_kept)) pd (slots_in ds pd) (domain_added ds pd there) c.in-Err.ensures.err (c.self.invariant.sound.few pd) (λ m. refl);
+      sound = IsSound-same_links (IsSound-same_get c.self.invariant.sound (λ k. ap (λ s. get s k) c.reserve.ensures.rest_kept)) pd (slots_in ds pd) there c.in-Err.ensures.err (c.self.invariant.sound.few pd) (λ m. refl);
       no_octets = c.self.invariant.no_octets;
     }
 
@@ -53,7 +53,7 @@ invariant_of-self-2 g c =
     let first : position_or_len is_free (slots_in ds pd) ≡ c.args.slot = sym (free_slot-table_of c.self.invariant.sound pd) ∙ ap (λ t. free_slot (slots_of t pd)) c.self.view_is ∙ sym c.requires.slot in
     let small : c.args.slot ≤ length (slots_in ds pd) = omega (arith, first_within is_free (slots_in ds pd)) in
     let within : c.args.slot < length (slots_in c.make_room.new.domains.items pd) = rw (slots_in-sets c.in-Ok.ensures.ok (domain_added ds pd there)) (within_room (slots_in ds pd) c.args.slot small) in
-    let middle : IsSound c.make_room.new.domains.items c.reserve.new.self = IsSound-same_links (IsSound-same_get c.self.invariant.sound (λ k. ap (λ s. get s k) c.reserve.ensures.rest_kept)) pd (with_room_at (slots_in ds pd) c.args.slot) (domain_added ds pd there) c.in-Ok.ensures.ok (small_room (slots_in ds pd) c.args.slot small c.requires.small (c.self.invariant.sound.few pd)) (link_with_room (slots_in ds pd) c.args.slot) in
+    let middle : IsSound c.make_room.new.domains.items c.reserve.new.self = IsSound-same_links (IsSound-same_get c.self.invariant.sound (λ k. ap (λ s. get s k) c.reserve.ensures.rest_kept)) pd (with_room_at (slots_in ds pd) c.args.slot) there c.in-Ok.ensures.ok (small_room (slots_in ds pd) c.args.slot small c.requires.small (c.self.invariant.sound.few pd)) (link_with_room (slots_in ds pd) c.args.slot) in
     record {
       sound = IsSound-set_slot middle pd c.args.slot _ c.set_slot.ensures within (same_after_insert middle c.insert_reserved-at.result pd c.args.slot _ c.insert_reserved-at.ensures.was_vacant c.insert_reserved-at.ensures.updates) (λ k e. record { region = _; held = ap (get c.insert_reserved-at.new.self) (sym (same_Some _ _ e)) ∙ c.insert_reserved-at.ensures.updates.changed; limits = c.requires.limits });
       no_octets = c.self.invariant.no_octets;
@@ -66,7 +66,7 @@ returns-clause-ok g c =
     let first : position_or_len is_free (slots_in ds pd) ≡ c.args.slot = sym (free_slot-table_of c.self.invariant.sound pd) ∙ ap (λ t. free_slot (slots_of t pd)) c.self.view_is ∙ sym c.requires.slot in
     let small : c.args.slot ≤ length (slots_in ds pd) = omega (arith, first_within is_free (slots_in ds pd)) in
     let kept = λ (k : ℕ). let e : get c.reserve.new.self k ≡ get rs k = ap (λ s. get s k) c.reserve.ensures.rest_kept in e in
-    let middle : IsSound c.make_room.new.domains.items c.reserve.new.self = IsSound-same_links (IsSound-same_get c.self.invariant.sound kept) pd (with_room_at (slots_in ds pd) c.args.slot) (domain_added ds pd there) c.in-Ok.ensures.ok (small_room (slots_in ds pd) c.args.slot small c.requires.small (c.self.invariant.sound.few pd)) (link_with_room (slots_in ds pd) c.args.slot) in
+    let middle : IsSound c.make_room.new.domains.items c.reserve.new.self = IsSound-same_links (IsSound-same_get c.self.invariant.sound kept) pd (with_room_at (slots_in ds pd) c.args.slot) there c.in-Ok.ensures.ok (small_room (slots_in ds pd) c.args.slot small c.requires.small (c.self.invariant.sound.few pd)) (link_with_room (slots_in ds pd) c.args.slot) in
     table_of-registered ds c.make_room.new.domains.items c.set_slot.new.domains.items c.reserve.new.self c.insert_reserved-at.new.self pd c.args.slot c.insert_reserved-at.result c.in-Ok.key _
     (IsSound-same_get c.self.invariant.sound kept) (domain_added ds pd there)
     (ap (λ t. free_slot (slots_of t pd)) (table_of-same_get ds rs c.reserve.new.self kept ∙ c.self.view_is) ∙ sym c.requires.slot)

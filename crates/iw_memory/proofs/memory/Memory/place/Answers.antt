@@ -1,7 +1,7 @@
 -- A part that was filled is put.
 use Rattle.std.proofs.Common.{length, ap, ◌∙◌}
 use Rattle.iw_memory.specs.Table.{put}
-use Rattle.iw_memory.proofs.TableLemmas.{written-put}
+use Rattle.iw_memory.proofs.Callers.{written-put}
 use Rattle.iw_memory.proofs.memory.Memory.place.Goals as goal
 
 pub returns-clause-ok : goal.returns-clause-ok
