@@ -136,7 +136,7 @@ registered-changes table pd region there =
       named =
           subst (λ o. ChangesOneStag table (registered table pd region) stag o) (ap (λ b. cond b (Some region) None) (eq-eqb stag.key stag.key refl))
           (slot_changes table stag (with_room slots) s there (room_within slots) (room_reads slots)
-            (λ key ne. other_key s stag.key key refl ne ∙ sym (was key (free_none slots))));
+          (λ key ne. other_key s stag.key key refl ne ∙ sym (was key (free_none slots))));
     }
 
 -- ---- what is put keeps each region's facts

@@ -1,5 +1,5 @@
 -- A region, and what its owner and a peer may do with it.
-use Rattle.std.specs.Prelude.{ℕ, ◌+◌, ◌-◌, ◌≤◌, ◌^◌, ◌||◌, nat_lt, not, if◌then◌else◌, Option, Some, None, Bool, false, List, length, take, drop, ◌++◌}
+use Rattle.std.specs.Prelude.{ℕ, ◌+◌, ◌-◌, ◌≤◌, ◌^◌, ◌||◌, nat_lt, not, if◌then◌else◌, Option, Some, None, Bool, true, false, List, length, take, drop, ◌++◌}
 use Rattle.iw_memory.specs.declared.rights.Rights.{Rights}
 use Rattle.iw_memory.specs.declared.region.Facts.{Facts}
 use Rattle.iw_memory.specs.declared.refusal.Deny.{Deny}
@@ -13,6 +13,10 @@ pub record Region : Type 0 where
   pub octets : List ℕ
   pub rights : Rights
   pub valid : Bool
+
+-- a region as it is registered
+abbrev pub new_region : ℕ → List ℕ → Rights → Region
+new_region base octets rights = record { base = base; octets = octets; rights = rights; valid = true }
 
 -- what is told of a region
 abbrev pub facts_of : Region → Facts

@@ -20,7 +20,8 @@ const MAX_SLOTS: usize = 1024;
 // How many octets a region may have.
 const MAX_OCTETS: usize = 16_777_216;
 
-/// The registered regions of an endpoint, by domain. An STag names one: by its domain, its slot there, and a key that tells the uses of the slot apart.
+/// The registered regions of an endpoint, by domain. An STag names a region by its domain, its slot there, and a key
+/// that tells the uses of the slot apart.
 #[derive(Drop)]
 pub struct Memory<A: Allocator = Global> {
     domains: Vec<Option<Vec<Slot, A>>, A>,
@@ -42,7 +43,7 @@ impl<A: Allocator> Model for Memory<A> {
 }
 
 impl<A: Allocator> Memory<A> {
-    ghost use Rattle.iw_memory.specs.Region.{facts_of, IsWithinLimits};
+    ghost use Rattle.iw_memory.specs.Region.{facts_of, new_region, IsWithinLimits};
     ghost use Rattle.iw_memory.specs.Part.{free_slot};
     ghost use Rattle.iw_memory.specs.Table.{region_at, slots_of, is_added, empty, denial, octets_at, put, domain_refusal, added, register_refusal, next_stag, registered, deregistered, invalidated, invalidate_denial, store_refusal};
     ghost use Rattle.iw_memory.specs.Laws.{IsWithin, HoldsLimits};
@@ -84,8 +85,8 @@ impl<A: Allocator> Memory<A> {
         Ok(())
     }
 
-    /// Registers octets as a valid region whose tagged offsets go from `base` on, in the domain's lowest free slot, and tells its STag.
-    /// The key is 0 at the slot's first use, and one more, modulo 256, at each later one.
+    /// Registers octets as a valid region whose tagged offsets go from `base` on, in the domain's lowest free slot,
+    /// and tells its STag. The key is 0 at the slot's first use, and one more, modulo 256, at each later one.
     /// `NoMemory` comes only where no other refusal applies. An `Err` changes nothing, and has the octets.
     pub fn register(
         &mut self,
@@ -95,13 +96,13 @@ impl<A: Allocator> Memory<A> {
         rights: Rights,
     ) -> Result<Stag, (RegisterRefusal, Vec<u8, A>)>
         // The refusal, where one applies, and otherwise want of memory alone.
-        ensures refused { IfSome (register_refusal self.old pd base (vec_len octets)) (λ refusal. IfErr result (λ e. e.0 ≡ refusal) × IsErr result) }
-        ensures memory { IfNone (register_refusal self.old pd base (vec_len octets)) (IfErr result (λ e. e.0 ≡ RegisterRefusal.NoMemory)) }
+        ensures refused { IfSome (register_refusal self.old pd base (length octets.items)) (λ refusal. IfErr result (λ e. e.0 ≡ refusal) × IsErr result) }
+        ensures memory { IfNone (register_refusal self.old pd base (length octets.items)) (IfErr result (λ e. e.0 ≡ RegisterRefusal.NoMemory)) }
         ensures back { IfErr result (λ e. e.1 ≡ octets) }
         ensures err { OnErr result (self.new ≡ self.old) }
 
         ensures stag { IfOk result (λ stag. stag ≡ next_stag self.old pd) }
-        ensures ok { OnOk result (self.new ≡ registered self.old pd (record { base = base; octets = octets.items; rights = rights; valid = true })) }
+        ensures ok { OnOk result (self.new ≡ registered self.old pd (new_region base octets.items rights)) }
     {
         match self.place_for(pd, base, octets.len()) {
             Err(refusal) => Err((refusal, octets)),
@@ -152,7 +153,7 @@ impl<A: Allocator> Memory<A> {
         requires small { slot < 1024 }
         requires limits { IsWithinLimits base (length octets.items) }
         ensures key { IfOk result (λ key. key ≡ (next_stag self.old pd).key) }
-        ensures ok { OnOk result (self.new ≡ registered self.old pd (record { base = base; octets = octets.items; rights = rights; valid = true })) }
+        ensures ok { OnOk result (self.new ≡ registered self.old pd (new_region base octets.items rights)) }
         ensures back { IfErr result (λ e. e ≡ octets) }
         ensures err { OnErr result (self.new ≡ self.old) }
     {
@@ -196,7 +197,7 @@ impl<A: Allocator> Memory<A> {
         Ok(octets)
     }
 
-    /// Ends the use of a region by peers. It stays registered, and keeps its slot. An invalid region stays as it is.
+    /// Ends the use of a region by peers. It stays registered, and keeps its slot; an invalid region stays as it is.
     /// An `Err` changes nothing.
     pub fn invalidate(&mut self, stag: Stag) -> Result<(), NoRegion>
         ensures found { is_ok result ≡ is_some (region_at self.old stag) }
@@ -211,7 +212,8 @@ impl<A: Allocator> Memory<A> {
         Ok(())
     }
 
-    /// Invalidates a region where a peer in domain `pd` asks for it (RFC 5040, Send with Invalidate). An `Err` changes nothing.
+    /// Invalidates a region where a peer in domain `pd` asks for it, by a Send with Invalidate (RFC 5040).
+    /// An `Err` changes nothing.
     pub fn invalidate_remote(&mut self, pd: u8, stag: Stag) -> Result<(), InvalidateDeny>
         ensures denied { result_err result ≡ invalidate_denial self.old pd stag }
         ensures ok { OnOk result (self.new ≡ invalidated self.old stag) }
@@ -311,8 +313,8 @@ impl<A: Allocator> Memory<A> {
         Ok(&stored.octets[at..at + n])
     }
 
-    /// Whether a peer in domain `pd` may use the `n` octets of the region from tagged offset `to` on so. With `n` = 0 nothing is checked.
-    /// It takes constant time.
+    /// Whether a peer in domain `pd` may use the `n` octets of the region from tagged offset `to` on so.
+    /// With `n` = 0 nothing is checked. It takes constant time.
     pub fn check(&self, pd: u8, stag: Stag, to: u64, n: usize, right: Right) -> Result<(), Deny>
         ensures { result_err result ≡ denial self.now pd stag to n right }
     {
@@ -347,8 +349,8 @@ impl<A: Allocator> Memory<A> {
         Ok((stored, at))
     }
 
-    /// The `n` octets of the region from tagged offset `to` on for writing. `check` must have answered `Ok` to the same arguments, as it does to any
-    /// with `n` = 0. What is left in the part is put into the region. It takes constant time.
+    /// The `n` octets of the region from tagged offset `to` on for writing. `check` must have answered `Ok` to the same
+    /// arguments, as it does to any with `n` = 0. What is left in the part is put there. It takes constant time.
     pub fn part_mut(&mut self, pd: u8, stag: Stag, to: u64, n: usize, right: Right) -> &mut [u8]
         requires { denial self.old pd stag to n right ≡ None }
         ensures* lends { sem 𝓛 (LendsPart A.row A.Allocator self.entry stag to n result) }

@@ -237,3 +237,17 @@ fn an_owner_sees_an_invalid_region(rt: HostRuntime) -> Result<(), Fail> {
     memory.limits();
     Ok(())
 }
+
+#[test]
+fn rights_print_as_letters(rt: HostRuntime) -> Result<(), Fail> {
+    let rights = Rights {
+        read: true,
+        invalidate: true,
+        ..NONE
+    };
+    assert_eq!(rt; format!(in rt.alloc(); "{rights}")?.as_str(), "ri");
+    assert_eq!(rt; format!(in rt.alloc(); "{NONE}")?.as_str(), "-");
+    assert!(rt; rights.grant(Right::Read));
+    assert!(rt; !rights.grant(Right::Sink));
+    Ok(())
+}

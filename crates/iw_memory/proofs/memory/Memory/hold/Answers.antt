@@ -4,6 +4,7 @@ use Rattle.std.proofs.lemmas.Option.{same_Some}
 use Rattle.std.specs.List.{position_or_len}
 use Rattle.slab.specs.Slab.{get}
 use Rattle.iw_memory.specs.Inside.{is_free, slots_in, with_room_at, IsSound}
+use Rattle.iw_memory.specs.Region.{new_region}
 use Rattle.iw_memory.specs.Table.{slots_of, is_added, registered}
 use Rattle.iw_memory.specs.Part.{free_slot}
 use Rattle.iw_memory.proofs.SlotLemmas.{domain_added, first_within, link_with_room, within_room, small_room}
@@ -73,4 +74,4 @@ returns-clause-ok g c =
     c.in-Ok.ensures.ok c.set_slot.ensures
     (same_after_insert middle c.insert_reserved-at.result pd c.args.slot _ c.insert_reserved-at.ensures.was_vacant c.insert_reserved-at.ensures.updates)
     c.insert_reserved-at.ensures.updates.changed c.in-Ok.ensures.key
-    ∙ ap (λ t. registered t pd (record { base = c.args.base; octets = c.args.octets.items; rights = c.args.rights; valid = true })) (table_of-same_get ds rs c.reserve.new.self kept ∙ c.self.view_is)
+    ∙ ap (λ t. registered t pd (new_region c.args.base c.args.octets.items c.args.rights)) (table_of-same_get ds rs c.reserve.new.self kept ∙ c.self.view_is)
