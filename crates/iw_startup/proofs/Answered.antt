@@ -1,10 +1,10 @@
 -- What an answer leaves.
-use Rattle.std.proofs.Common.{◌≡◌, ℕ, ◌≤◌, List, Bool, true, false, ◌&&◌, length, refl, ap, sym, ◌∙◌, Option, Some, None}
+use Rattle.std.proofs.Common.{◌≡◌, ℕ, List, true, ◌&&◌, refl, ◌∙◌, Option, Some, None}
 use Rattle.arrayvec.specs.ArrayVec.{ArrayVec}
 use Rattle.iw_startup.specs.declared.progress.Progress.{Progress}
 use Rattle.iw_startup.specs.declared.progress.Progress.TheVariants.{More, Asked, Agreed, Faulted}
 use Rattle.iw_startup.specs.declared.side.Reply.{Reply}
-use Rattle.iw_startup.specs.declared.side.Reply.TheVariants.{Accept, Reject}
+use Rattle.iw_startup.specs.declared.side.Reply.TheVariants.{Accept}
 use Rattle.iw_startup.specs.declared.side.Side.{Side}
 use Rattle.iw_startup.specs.declared.side.Side.TheVariants.{Initiator, Responder}
 use Rattle.iw_startup.specs.Peer.{fixed_fault, frame_end, progress_of}
@@ -37,6 +37,7 @@ stays_asked (Responder None) reply octets h = record {
 }
 stays_asked (Responder (Some given)) reply octets h = cc
 
+-- an answer that was waited for keeps what holds of every start-up
 pub reached-answered : (s : StartupState) (reply : Reply) → awaits_answer s ≡ true → IsReached s → IsReached (answered s reply)
 reached-answered s reply h reached =
     let stays = stays_asked s.side reply s.octets h in

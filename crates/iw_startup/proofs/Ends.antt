@@ -1,12 +1,11 @@
 -- Where the peer's frame ends is told by its first 20 octets, and does not change once they are there.
-use Rattle.std.proofs.Common.{◌≡◌, ℕ, ◌+◌, ◌<◌, ◌≤◌, ◌++◌, List, Bool, true, false, length, take, drop, get_or, refl, ap, sym, ◌∙◌, arith, cond, is_some, nat_lt, nat_eq, inl, inr, length-append}
+use Rattle.std.proofs.Common.{◌≡◌, ℕ, ◌<◌, ◌≤◌, ◌++◌, List, true, false, length, take, drop, refl, ap, sym, ◌∙◌, arith, nat_lt, nat_eq, inl, inr, length-append}
 use Rattle.std.specs.List.{starts_with}
 use Rattle.std.proofs.lemmas.Bool.{cases_lt}
 use Rattle.std.proofs.lemmas.Bool.Decides.{nat_tests}
 use Rattle.std.proofs.lemmas.List.{take-append-le, get_or_append_left, length-take-le, take_all, take-append-drop}
 use Rattle.iw_startup.specs.declared.side.Side.{Side}
 use Rattle.iw_startup.specs.declared.side.Side.TheVariants.{Initiator, Responder}
-use Rattle.iw_startup.specs.Frame.{private_len}
 use Rattle.iw_startup.specs.Peer.{peer_key, fixed_fault, frame_end, frame_part}
 
 pub key_length : (side : Side) → length (peer_key side) ≡ 16

@@ -1,6 +1,6 @@
 -- A frame that one end spells is read by the other as it was meant.
-use Rattle.std.proofs.Common.{◌≡◌, ℕ, ◌+◌, ◌-◌, ◌*◌, ◌/◌, ◌%◌, ◌<◌, ◌≤◌, ◌==◌, List, [], ◌∷◌, ◌++◌, Bool, true, false, not, ◌||◌, ◌&&◌, Option, Some, None, length, take, drop, min, get_or, nat_lt, nat_le, refl, ap, sym, subst, ◌∙◌, arith, length-append}
-use Rattle.std.specs.Prelude.{slice_index, bit_and, IsTrue}
+use Rattle.std.proofs.Common.{◌≡◌, ℕ, ◌+◌, ◌*◌, ◌/◌, ◌%◌, ◌≤◌, ◌==◌, List, ◌∷◌, ◌++◌, Bool, true, false, not, Some, None, length, take, drop, nat_lt, nat_le, refl, ap, sym, subst, ◌∙◌, arith, length-append}
+use Rattle.std.specs.Prelude.{slice_index, bit_and}
 use Rattle.std.specs.List.{concat}
 use Rattle.std.proofs.lemmas.Bool.Decides.{nat_tests}
 use Rattle.std.proofs.lemmas.List.{take_at}
@@ -10,17 +10,17 @@ use Rattle.iw_startup.specs.declared.config.Config.{Config}
 use Rattle.iw_startup.specs.declared.progress.Progress.{Progress}
 use Rattle.iw_startup.specs.declared.progress.Progress.TheVariants as answer
 use Rattle.iw_startup.specs.declared.progress.StartupFault.TheVariants.{Rejected}
-use Rattle.iw_startup.specs.declared.side.Reply.{Reply}
 use Rattle.iw_startup.specs.declared.side.Reply.TheVariants.{Accept, Reject}
 use Rattle.iw_startup.specs.declared.side.Side.{Side}
 use Rattle.iw_startup.specs.declared.side.Side.TheVariants.{Initiator, Responder}
-use Rattle.iw_startup.specs.Frame.{flags, start_frame, has_flag, asks_markers, asks_crc, rejects, private_len}
+use Rattle.iw_startup.specs.Frame.{flags, start_frame, asks_markers, asks_crc, rejects, private_len}
 use Rattle.iw_startup.specs.Laws.{pushed_all, used_all, Carries, IsRead, RequestsAreAsked, AcceptedEndsAgree, RejectionsAreTold, agreed_between, from_other_end, initiator, responder}
 use Rattle.iw_startup.specs.Peer.{peer_key, fixed_fault, frame_end, frame_part, outcome, progress_of}
 use Rattle.iw_startup.specs.State.{StartupState, IsReached, begun, pushed, used, private_of, frame_of, agreed_of, answered, is_asked, awaits_answer}
-use Rattle.iw_startup.proofs.Ends.{key_length, frame_end-append, least_end}
+use Rattle.iw_startup.proofs.Ends.{key_length, frame_end-append}
 use Rattle.iw_startup.proofs.Answered.{agreed_of-accepted}
-use Rattle.iw_startup.proofs.Cuts.{cut_any_way}
+use Rattle.iw_startup.proofs.Reached.{reached-initiator, reached-responder}
+use Rattle.iw_startup.proofs.Cuts.{same_at_once}
 
 module _ (side : Side) (fl : ℕ) (private : List ℕ) where
   abbrev pub written : List ℕ
@@ -74,7 +74,7 @@ taken : (side : Side) (config : Config) (pieces : List (List ℕ)) (fl : ℕ) (p
     concat pieces ≡ written side fl private ++ behind → IsTaken side config pieces (written side fl private)
 unfolding pushed used frame_part
 taken side config pieces fl private behind reached h carried =
-    let cut = cut_any_way (begun side config) pieces reached in
+    let cut = same_at_once (begun side config) pieces reached in
     let there : 20 ≤ length (written side fl private) = omega (arith, length-written side fl private) in
     let at_end : frame_end side (written side fl private ++ behind) ≡ length (written side fl private)
     = frame_end-append side (written side fl private) behind there ∙ frame_end-written side fl private h in
@@ -120,12 +120,6 @@ says side markers crc rejected private =
     let octet = flags-written side (flags markers crc rejected) private in
     let each = flags_in markers crc rejected in
     record { markers_is = rw octet (each.0); crc_is = rw octet (each.1); rejected_is = rw octet (each.2) }
-
-reached-initiator : (config : Config) → IsReached (initiator config)
-reached-initiator config = record { within = omega arith; asked = λ h. cc }
-
-reached-responder : (config : Config) → IsReached (responder config)
-reached-responder config = record { within = omega arith; asked = λ h. cc }
 
 -- the octets of a Request, as a responder has them
 abbrev request : Config → List ℕ

@@ -1,11 +1,11 @@
 -- What comes in pieces is taken as what comes at once.
-use Rattle.std.proofs.Common.{◌≡◌, ℕ, ◌+◌, ◌-◌, ◌<◌, ◌≤◌, ◌++◌, List, length, take, drop, min, refl, ap, sym, ◌∙◌, arith, inl, inr, length-append, append_assoc, length-drop}
+use Rattle.std.proofs.Common.{◌≡◌, ℕ, ◌+◌, ◌-◌, ◌≤◌, ◌++◌, List, length, take, drop, min, ap, sym, ◌∙◌, arith, inl, inr, length-append, append_assoc, length-drop}
 use Rattle.std.proofs.lemmas.Bool.{cases_lt}
 use Rattle.std.proofs.lemmas.List.{append-nil, take_rest, take_all, take-append-drop, take_min, length-take-le, length-take, take-append-le}
 use Rattle.std.proofs.Math.Seq.{take-append-add, take-add}
 use Rattle.iw_startup.specs.declared.side.Side.{Side}
 use Rattle.iw_startup.specs.Peer.{frame_end, frame_part}
-use Rattle.iw_startup.proofs.Ends.{frame_end-short, frame_end-append, least_end, frame_end-frame_part}
+use Rattle.iw_startup.proofs.Ends.{frame_end-append, least_end, frame_end-frame_part}
 
 -- the frame ends behind what was taken, however many octets follow
 pub end_behind : (side : Side) (xs ys : List ℕ) → length xs ≤ frame_end side xs → length xs ≤ frame_end side (xs ++ ys)

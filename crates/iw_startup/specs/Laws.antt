@@ -1,5 +1,5 @@
 -- What the calls come to: however the peer's octets are cut, and when each end's frame reaches the other.
-use Rattle.std.specs.Prelude.{◌≡◌, ℕ, ◌+◌, ◌≤◌, Bool, true, ◌||◌, List, [], ◌∷◌, ◌++◌, length, Option, Some, None}
+use Rattle.std.specs.Prelude.{◌≡◌, ◌≢◌, ℕ, ◌+◌, ◌≤◌, true, ◌||◌, List, [], ◌∷◌, ◌++◌, length, Some, None}
 use Rattle.std.specs.List.{concat}
 use Rattle.arrayvec.specs.ArrayVec.{ArrayVec}
 use Rattle.iw_startup.specs.declared.config.Agreed.{Agreed}
@@ -23,12 +23,17 @@ used_all s [] = 0
 used_all s (piece ∷ pieces) = used s piece + used_all (pushed s piece) pieces
 
 -- pieces leave what their octets at once would leave, so the progress too, and use as many
-pub record IsCutAnyWay (s : StartupState) (pieces : List (List ℕ)) : Type 0 where
+pub record SameAtOnce (s : StartupState) (pieces : List (List ℕ)) : Type 0 where
   pub after : pushed_all s pieces ≡ pushed s (concat pieces)
   pub used : used_all s pieces ≡ used s (concat pieces)
 
 abbrev pub CutsDoNotMatter : Type 0
-CutsDoNotMatter = (s : StartupState) (pieces : List (List ℕ)) → IsReached s → IsCutAnyWay s pieces
+CutsDoNotMatter = (s : StartupState) (pieces : List (List ℕ)) → IsReached s → SameAtOnce s pieces
+
+-- after any answer but More nothing more is used or changed, so the answer stays too
+abbrev pub AnswersStay : Type 0
+AnswersStay = (s : StartupState) (octets : List ℕ) → IsReached s → progress s ≢ answer.More →
+    (used s octets ≡ 0) × (pushed s octets ≡ s)
 
 -- the pieces are the frame that this end sends, and whatever octets behind it
 abbrev pub Carries : List (List ℕ) → StartupState → Type 0

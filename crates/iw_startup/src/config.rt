@@ -7,7 +7,7 @@ pub const FIXED_OCTETS: usize = 20;
 pub const MAX_PRIVATE: usize = 512;
 
 /// How many octets a start-up frame has at most.
-pub const MAX_FRAME: usize = 532;
+pub const MAX_FRAME: usize = FIXED_OCTETS + MAX_PRIVATE;
 
 /// What a user sends to the other end's user in a start-up frame.
 pub type PrivateData = ArrayVec<u8, MAX_PRIVATE>;

@@ -10,6 +10,14 @@ use crate::progress::{Progress, StartupFault};
 use crate::side::Side;
 use arrayvec::ArrayVec;
 
+// Where the fields behind the key stand.
+const FLAGS_AT: usize = 16;
+
+const REVISION_AT: usize = 17;
+
+const PRIVATE_LEN_AT: usize = 18;
+
+// The flags, and the revision of MPA that this is.
 const MARKERS: u8 = 0x80;
 
 const CRC: u8 = 0x40;
@@ -79,14 +87,14 @@ fn flag_is_set(flag: u8, octets: &[u8]) -> bool
     requires { FIXED_OCTETS ≤ length octets.now }
     ensures { result ≡ has_flag flag octets.now }
 {
-    octets[16] & flag != 0
+    octets[FLAGS_AT] & flag != 0
 }
 
 fn private_len_in(octets: &[u8]) -> usize
     requires { FIXED_OCTETS ≤ length octets.now }
     ensures { result ≡ private_len octets.now }
 {
-    usize::from(octets[18]) * 256 + usize::from(octets[19])
+    usize::from(octets[PRIVATE_LEN_AT]) * 256 + usize::from(octets[PRIVATE_LEN_AT + 1])
 }
 
 #[tactic(auto, unfolding(crate::specs::Peer::fixed_fault))]
@@ -98,7 +106,7 @@ fn fault_in_fixed(side: &Side, octets: &[u8]) -> Option<StartupFault>
     if !octets.starts_with(side.peer_key()) {
         return Some(StartupFault::BadKey);
     }
-    if octets[17] != REVISION {
+    if octets[REVISION_AT] != REVISION {
         return Some(StartupFault::BadRev);
     }
     if private_len_in(octets) > MAX_PRIVATE {
@@ -141,9 +149,10 @@ pub(crate) fn progress_in(side: &Side, octets: &[u8]) -> Progress
 
 // The private data, empty before the frame is whole.
 pub(crate) fn private_in<'a>(side: &Side, octets: &'a [u8]) -> &'a [u8]
-    ensures { result.now ≡ (if is_whole side.now octets.now then drop 20 octets.now else []) }
+    ensures { result.now ≡ (if is_whole side.now octets.now then drop FIXED_OCTETS octets.now else []) }
 {
-    if octets.len() < end_of_frame(side, octets) {
+    let end = end_of_frame(side, octets);
+    if octets.len() < end {
         return &[];
     }
     &octets[FIXED_OCTETS..]

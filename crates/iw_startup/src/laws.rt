@@ -1,8 +1,13 @@
-ghost use Rattle.iw_startup.specs.Laws.{CutsDoNotMatter, RequestsAreAsked, AcceptedEndsAgree, RejectionsAreTold};
+ghost use Rattle.iw_startup.specs.Laws.{CutsDoNotMatter, AnswersStay, RequestsAreAsked, AcceptedEndsAgree, RejectionsAreTold};
 
 /// However the peer's octets are cut into pieces, the progress, the private data and the octets used are the same.
 pub fn cuts_do_not_matter()
     ensures { CutsDoNotMatter }
+{}
+
+/// After any answer but [`Progress::More`](crate::Progress::More), no octets are used and nothing changes.
+pub fn answers_stay()
+    ensures { AnswersStay }
 {}
 
 /// An initiator's frame, in any pieces and whatever follows it, makes a responder ask its user, and shows the private data.

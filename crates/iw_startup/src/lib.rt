@@ -1,7 +1,8 @@
 //! The start-up of an MPA connection: the Request and Reply frames, and what they agree on (RFC 5044 7.1).
 //!
-//! An initiator sends a Request, a responder answers with a Reply. A [`Startup`] is one end of this: it takes the peer's octets
-//! in whatever pieces they come, spells this end's own frame, and tells what was agreed. It takes no memory.
+//! An initiator sends a Request, a responder answers with a Reply. A [`Startup`] is one end of this: it takes the
+//! peer's octets in whatever pieces they come, spells this end's own frame, and tells what was agreed.
+//! It takes no memory.
 #![tactic(auto)]
 
 mod config;
@@ -12,7 +13,9 @@ mod side;
 mod startup;
 
 pub use config::{Agreed, Config, FIXED_OCTETS, MAX_FRAME, MAX_PRIVATE, PrivateData};
-pub use laws::{accepted_ends_agree, cuts_do_not_matter, rejections_are_told, requests_are_asked};
+pub use laws::{
+    accepted_ends_agree, answers_stay, cuts_do_not_matter, rejections_are_told, requests_are_asked,
+};
 pub use progress::{Progress, StartupFault};
 pub use side::{Reply, Side};
 pub use startup::{NotAsked, Startup};

@@ -20,7 +20,9 @@ pub enum Side {
 /// What a responder's user answered to a Request, with the private data of the Reply.
 #[derive(Debug, Drop)]
 pub enum Reply {
+    /// The connection is to be.
     Accept(PrivateData),
+    /// The connection is not to be.
     Reject(PrivateData),
 }
 

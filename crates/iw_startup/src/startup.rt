@@ -8,7 +8,7 @@ use crate::side::{REPLY_KEY, REQUEST_KEY, Reply, Side};
 use arrayvec::ArrayVec;
 use std::marker::Model;
 
-/// Nobody waits for an answer: this end is an initiator, the Request is not whole or faulty, or it was answered before.
+/// Nobody waits for an answer: this end is an initiator, or the Request is not whole, faulty, or answered already.
 #[derive(Clone, Copy, Debug, PartialEq, Eq)]
 pub struct NotAsked;
 
@@ -54,13 +54,15 @@ impl Startup {
         }
     }
 
-    /// Takes the next octets from the peer as far as its frame goes. It tells how many octets were used, and how far the frame has come.
+    /// Takes the next octets from the peer as far as its frame goes. It tells how many octets were used, and how far
+    /// the frame has come (RFC 5044 7.1.1, 7.1.2).
     ///
-    /// After any answer but [`Progress::More`] it uses none and answers the same.
+    /// The flags that are reserved, and R in a Request, are not looked at. Nothing behind the frame is used. After any answer but [`Progress::More`] it uses none and answers the same.
     pub fn push(&mut self, octets: &[u8]) -> (usize, Progress)
         ensures used { result.0 ≡ used self.old octets.now }
         ensures after { self.new ≡ pushed self.old octets.now }
         ensures progress { result.1 ≡ progress self.new }
+        ensures reached { IsReached self.new }
     {
         let fixed = frame::take_up_to(FIXED_OCTETS, &mut self.octets, octets);
         let end = frame::end_of_frame(&self.side, self.octets.as_slice());
@@ -69,7 +71,10 @@ impl Startup {
         (fixed + private, progress)
     }
 
-    /// Answers the Request: the connection is to be. The Reply carries this private data. An `Err` changes nothing.
+    /// Answers the Request: the connection is to be. The Reply carries this private data.
+    ///
+    /// An `Err` changes nothing. It comes at an initiator, before the Request is whole, for a faulty one, and after an
+    /// answer was given.
     pub fn accept(&mut self, private: PrivateData) -> Result<Agreed, NotAsked>
         ensures refused { is_ok result ≡ awaits_answer self.old }
         ensures ok { OnOk result (self.new ≡ answered self.old (Reply.Accept private)) }
@@ -83,7 +88,10 @@ impl Startup {
         Ok(frame::agreement_with(&self.config, self.octets.as_slice()))
     }
 
-    /// Answers the Request: the connection is not to be. The Reply carries this private data. An `Err` changes nothing.
+    /// Answers the Request: the connection is not to be. The Reply carries this private data, and M and C as one that
+    /// accepts.
+    ///
+    /// An `Err` changes nothing. It comes where that of [`Startup::accept`] does.
     pub fn reject(&mut self, private: PrivateData) -> Result<(), NotAsked>
         ensures refused { is_ok result ≡ awaits_answer self.old }
         ensures ok { OnOk result (self.new ≡ answered self.old (Reply.Reject private)) }
@@ -96,7 +104,9 @@ impl Startup {
         Ok(())
     }
 
-    /// The frame that this end sends: an initiator's Request, a responder's Reply. It is empty at a responder without an answer.
+    /// The frame that this end sends: an initiator's Request, a responder's Reply (RFC 5044 7.1.1).
+    ///
+    /// It is empty at a responder without an answer.
     pub fn frame(&self) -> ArrayVec<u8, MAX_FRAME>
         ensures { result.items ≡ frame_of self.now }
     {
@@ -116,7 +126,8 @@ impl Startup {
     /// The peer's private data, empty before its frame is whole.
     #[tactic(auto, unfolding(crate::specs::State::private_of))]
     pub fn private(&self) -> &[u8]
-        ensures { result.now ≡ private_of self.now }
+        ensures private { result.now ≡ private_of self.now }
+        ensures reached { IsReached self.now }
     {
         frame::private_in(&self.side, self.octets.as_slice())
     }

@@ -37,3 +37,6 @@ unfolding pushed
 returns-clause-after c =
     let old : StartupState = record { config = c.self.inside.config; side = c.self.inside.side; octets = c.self.inside.octets.items } in
     ap (λ (xs : List ℕ). record old { octets = xs }) (steps c).1 ∙ ap (λ (s : StartupState). pushed s c.args.octets.now) c.self.view_is
+
+pub returns-clause-reached : goal.returns-clause-reached
+returns-clause-reached c = invariant_of-self c
