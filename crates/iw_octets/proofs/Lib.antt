@@ -4,3 +4,7 @@ pub mod Runs
 pub mod Front
 pub mod Linear
 pub mod TableRules
+pub mod Words
+pub mod Folds
+pub mod FoldSteps
+pub mod Stags

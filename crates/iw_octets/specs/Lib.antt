@@ -8,3 +8,5 @@ pub mod ShownSegment
 pub mod Laws
 pub mod Pieces
 pub mod Crc
+pub mod CrcWords
+pub mod Fold

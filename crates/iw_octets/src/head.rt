@@ -1,15 +1,27 @@
-ghost use Rattle.std.specs.Prelude.{◌≡◌, ◌+◌, ◌<◌, ◌≤◌, length, take, drop};
+ghost use Rattle.std.specs.Prelude.{IfOk, Some, codes, ◌≡◌, ◌+◌, ◌<◌, ◌≤◌, length, take, drop};
 ghost use Rattle.std.specs.Int.{w32, w64, from_be_bytes};
-ghost use Rattle.iw_octets.specs.Head.{first_octet, is_tagged, tagged_octets, untagged_octets, read_tagged, read_untagged};
+ghost use Rattle.iw_octets.specs.Head.{first_octet, is_tagged, is_last, tagged_octets, untagged_octets, read_tagged, read_untagged, FitsTagged, FitsUntagged};
 ghost use Rattle.iw_octets.specs.Shown.{shown};
 ghost use Rattle.iw_octets.specs.Stag.{stag_at};
 
 use crate::stag::Stag;
 use arrayvec::ArrayVec;
+use std::error::Error;
+use std::fmt;
 
 /// The octets are too few for what was to be read from them.
 #[derive(Clone, Copy, Debug, PartialEq, Eq)]
 pub struct Short;
+
+impl fmt::Display for Short {
+    ghost output = { λ short. Some (codes "too few octets") };
+
+    fn fmt<W: fmt::Write>(&self, f: &mut fmt::Formatter<W>) -> fmt::Result {
+        f.write_str("too few octets")
+    }
+}
+
+impl Error for Short {}
 
 /// The header of a segment that names a region and a place in it (RFC 5041 4.2, 14 octets).
 ///
@@ -42,6 +54,13 @@ pub fn is_tagged(first: u8) -> bool
     ensures { result ≡ is_tagged first }
 {
     first >= 0x80
+}
+
+/// Whether the segment that begins with this octet is its message's last.
+fn is_last(first: u8) -> bool
+    ensures { result ≡ is_last first }
+{
+    first >> 6 & 1 == 1
 }
 
 /// The first control octet. The four bits between the flags and the version are reserved, and zero.
@@ -91,13 +110,14 @@ impl TaggedHead {
     /// The header at the front, and what stands behind it. `Short` where there are fewer than 14 octets.
     #[tactic(auto, unfolding(crate::specs::Head::read_tagged))]
     pub fn read(octets: &[u8]) -> Result<(TaggedHead, &[u8]), Short>
-        ensures { shown result ≡ read_tagged octets.now }
+        ensures read { shown result ≡ read_tagged octets.now }
+        ensures fits { IfOk result (λ read. FitsTagged read.0) }
     {
         if octets.len() < 14 {
             return Err(Short);
         }
         let head = TaggedHead {
-            last: octets[0] >> 6 & 1 == 1,
+            last: is_last(octets[0]),
             ddp_version: octets[0] & 3,
             control: octets[1],
             stag: read_stag(octets, 2),
@@ -125,13 +145,14 @@ impl UntaggedHead {
     /// The header at the front, and what stands behind it. `Short` where there are fewer than 18 octets.
     #[tactic(auto, unfolding(crate::specs::Head::read_untagged))]
     pub fn read(octets: &[u8]) -> Result<(UntaggedHead, &[u8]), Short>
-        ensures { shown result ≡ read_untagged octets.now }
+        ensures read { shown result ≡ read_untagged octets.now }
+        ensures fits { IfOk result (λ read. FitsUntagged read.0) }
     {
         if octets.len() < 18 {
             return Err(Short);
         }
         let head = UntaggedHead {
-            last: octets[0] >> 6 & 1 == 1,
+            last: is_last(octets[0]),
             ddp_version: octets[0] & 3,
             control: octets[1],
             tail: number_32(octets, 2),

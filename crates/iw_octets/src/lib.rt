@@ -3,6 +3,7 @@
 
 mod crc;
 mod fault;
+mod fold;
 mod head;
 mod laws;
 mod message;
@@ -16,10 +17,13 @@ mod tables;
 pub use crc::{Crc, crc32c};
 pub use fault::Fault;
 pub use head::{Short, TaggedHead, UntaggedHead, is_tagged};
-pub use laws::reads_again;
+pub use laws::{adds_in_pieces, known_values, numbers_tell, reads_again};
 pub use message::Message;
 pub use octets::Octets;
 pub use payload::{ReadRequest, TerminateWord};
 pub use pieces::{InPieces, copy_in_pieces, gather};
 pub use segment::Segment;
 pub use stag::Stag;
+
+#[cfg(test)]
+mod tests;

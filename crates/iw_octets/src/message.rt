@@ -1,7 +1,7 @@
 use crate::stag::Stag;
 
 /// What is posted at one end for the other. The payload's type is the parameter.
-#[derive(Debug, PartialEq, Drop)]
+#[derive(Debug, PartialEq, Eq, Drop)]
 pub enum Message<O> {
     /// Octets for a region of the peer, from a tagged offset on.
     Write {

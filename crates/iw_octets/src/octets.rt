@@ -1,4 +1,6 @@
-ghost use Rattle.std.specs.Prelude.{◌≡◌, ◌+◌, ◌≤◌, ◌↔◌, [], length, IsTrue};
+ghost use Rattle.std.specs.Prelude.{◌≡◌, ◌+◌, ◌≤◌, ◌↔◌, [], length, nat_eq, IsTrue};
+ghost use Rattle.std.specs.Cmp.{partial_equiv_from_equiv};
+ghost use Rattle.std.specs.Cmp.Lexicographic.{pointwise, nat_list_eq_equiv};
 ghost use Rattle.iw_octets.specs.Octets.{splice};
 
 use std::alloc::{Allocator, Global};
@@ -61,4 +63,18 @@ impl<A: Allocator> Octets<A> {
         let end = at + octets.len();
         self.items.slice_mut(at..end).copy_from_slice(octets);
     }
+}
+
+impl<A: Allocator> PartialEq for Octets<A> {
+    ghost eq = { pointwise nat_eq };
+
+    ghost laws = { partial_equiv_from_equiv nat_list_eq_equiv };
+
+    fn eq(&self, other: &Octets<A>) -> bool {
+        self.as_slice() == other.as_slice()
+    }
+}
+
+impl<A: Allocator> Eq for Octets<A> {
+    ghost laws = { nat_list_eq_equiv };
 }

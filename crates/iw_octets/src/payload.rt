@@ -1,5 +1,5 @@
-ghost use Rattle.std.specs.Prelude.{◌≡◌, ◌<◌};
-ghost use Rattle.iw_octets.specs.Payload.{request_octets, read_request, word_octets, read_word, flags_octet};
+ghost use Rattle.std.specs.Prelude.{IfOk, ◌≡◌, ◌<◌};
+ghost use Rattle.iw_octets.specs.Payload.{request_octets, read_request, word_octets, read_word, flags_octet, FitsRequest, FitsWord};
 ghost use Rattle.iw_octets.specs.Shown.{shown};
 
 use crate::fault::Fault;
@@ -33,7 +33,8 @@ impl ReadRequest {
     /// The request at the front, and what stands behind it. `Short` where there are fewer than 28 octets.
     #[tactic(auto, unfolding(crate::specs::Payload::read_request))]
     pub fn read(octets: &[u8]) -> Result<(ReadRequest, &[u8]), Short>
-        ensures { shown result ≡ read_request octets.now }
+        ensures read { shown result ≡ read_request octets.now }
+        ensures fits { IfOk result (λ read. FitsRequest read.0) }
     {
         if octets.len() < 28 {
             return Err(Short);
@@ -77,7 +78,8 @@ impl TerminateWord {
     /// The word at the front, and what stands behind it. `Short` where there are fewer than 4 octets.
     #[tactic(auto, unfolding(crate::specs::Payload::read_word))]
     pub fn read(octets: &[u8]) -> Result<(TerminateWord, &[u8]), Short>
-        ensures { shown result ≡ read_word octets.now }
+        ensures read { shown result ≡ read_word octets.now }
+        ensures fits { IfOk result (λ read. FitsWord read.0) }
     {
         if octets.len() < 4 {
             return Err(Short);

@@ -1,6 +1,6 @@
 ghost use Rattle.std.specs.Prelude.{◌≡◌};
 ghost use Rattle.std.specs.Int.{w32, to_be_bytes, from_be_bytes};
-ghost use Rattle.iw_octets.specs.Stag.{number_of, spelled, stag_at};
+ghost use Rattle.iw_octets.specs.Stag.{FitsStag, number_of, spelled, stag_at};
 
 /// Names a region: a domain, a slot of that domain, and a key that tells the uses of the slot apart.
 ///
@@ -20,6 +20,17 @@ impl Stag {
     {
         let [high, low] = self.slot.to_be_bytes();
         [self.domain, high, low, self.key]
+    }
+
+    /// Says that the numbers fit their fields.
+    pub fn known(&self)
+        ensures { FitsStag self.now }
+    {
+        let Stag {
+            domain: _domain,
+            slot: _slot,
+            key: _key,
+        } = *self;
     }
 
     /// The STag in four octets of a header.

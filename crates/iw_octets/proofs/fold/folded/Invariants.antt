@@ -1,0 +1,7 @@
+use Rattle.std.proofs.Common.{◌≡◌, ◌≤◌, ◌*◌, ◌++◌, ℕ, List, length, take}
+use Rattle.iw_octets.specs.Crc.{after_octets}
+use Rattle.iw_octets.specs.Fold.{remainder_with}
+use Rattle.iw_octets.proofs.fold.folded.Given as goal
+
+abbrev pub invariant-loop-block : goal.invariant-loop-block
+invariant-loop-block l = (behind : List ℕ) → 290 ≤ length behind → remainder_with (take 290 l.window) behind ≡ after_octets l.remainder (take (2048 * l.block) l.front ++ behind)

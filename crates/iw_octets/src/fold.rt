@@ -1,0 +1,82 @@
+ghost use Rattle.std.specs.Prelude.{◌≡◌, ◌<◌, ◌≤◌, ◌+◌, ◌++◌, List, ℕ, length, take, drop, bit_xor};
+ghost use Rattle.iw_octets.specs.Crc.{after_octets};
+ghost use Rattle.iw_octets.specs.Fold.{owed_next, remainder_with, Folds};
+
+/// An octet that is folded away is last added to the octet that stands so far behind it.
+pub(crate) const SPAN: usize = 290;
+
+/// So many octets are folded at a time.
+const BLOCK: usize = 2048;
+
+/// The last octets before a block, and the block's.
+const WINDOW: usize = BLOCK + SPAN;
+
+/// Writes octets over the first of others.
+fn put_front(out: &mut [u8], octets: &[u8])
+    requires { length octets.now ≤ length out.old }
+    ensures { out.new ≡ octets.now ++ drop (length octets.now) out.old }
+{
+    out[..octets.len()].copy_from_slice(octets);
+}
+
+/// An octet with what the window from a place on adds to it.
+fn with_owed(octet: u8, window: &[u8], at: usize) -> u8
+    requires { at + 136 < length window.now }
+    ensures { result ≡ bit_xor octet (owed_next (drop at window.now)) }
+{
+    octet ^ (window[at] ^ window[at + 32] ^ window[at + 107] ^ window[at + 113] ^ window[at + 136])
+}
+
+/// Folds a block away: the octets of the window from the block's length on are then the last that were folded.
+fn fold(window: &mut [u8], block: &[u8])
+    requires block { length block.now ≤ 2048 }
+    requires window { length window.old ≡ 2338 }
+    ensures { Folds (take 290 window.old) block.now (take 290 (drop (length block.now) window.new)) }
+{
+    for i in 0..block.len() {
+        let octet = with_owed(block[i], window, i);
+        window[i + SPAN] = octet;
+    }
+}
+
+/// Octets with what a window adds to them.
+fn settled(window: &[u8], octets: &[u8]) -> [u8; SPAN]
+    requires window { length window.now ≡ 290 }
+    requires octets { length octets.now ≡ 290 }
+    ensures { after_octets 0 result ≡ remainder_with window.now octets.now }
+{
+    let mut padded = [0; SPAN + SPAN];
+    put_front(&mut padded, window);
+    let mut settled = [0; SPAN];
+    for i in 0..SPAN {
+        let octet = with_owed(octets[i], &padded, i);
+        settled[i] = octet;
+    }
+    settled
+}
+
+/// The window that adds a remainder to the first four octets.
+fn opened(remainder: u32) -> [u8; WINDOW]
+    ensures { (octets : List ℕ) → remainder_with (take 290 result) octets ≡ after_octets remainder octets }
+{
+    let mut window = [0; WINDOW];
+    put_front(&mut window, &remainder.to_le_bytes());
+    window
+}
+
+/// As many octets as the span, whose remainder from 0 is that of `octets` from `remainder`.
+pub(crate) fn folded(remainder: u32, octets: &[u8]) -> [u8; SPAN]
+    requires { 290 ≤ length octets.now }
+    ensures { after_octets 0 result ≡ after_octets remainder octets.now }
+{
+    let mut window = opened(remainder);
+    let (front, back) = octets.split_at(octets.len() - SPAN);
+    let blocks = front.len() / BLOCK;
+    for block in 0..blocks {
+        fold(&mut window, &front[BLOCK * block..BLOCK * block + BLOCK]);
+        window.copy_within(BLOCK..WINDOW, 0);
+    }
+    let tail = &front[BLOCK * blocks..];
+    fold(&mut window, tail);
+    settled(&window[tail.len()..tail.len() + SPAN], back)
+}
