@@ -85,6 +85,13 @@ impl<A: Allocator> Memory<A> {
         Ok(())
     }
 
+    /// Whether the domain was added.
+    pub fn has_domain(&self, pd: u8) -> bool
+        ensures { result ≡ is_added self.now pd }
+    {
+        self.domains[pd as usize].is_some()
+    }
+
     /// Registers octets as a valid region whose tagged offsets go from `base` on, in the domain's lowest free slot,
     /// and tells its STag. The key is 0 at the slot's first use, and one more, modulo 256, at each later one.
     /// `NoMemory` comes only where no other refusal applies. An `Err` changes nothing, and has the octets.

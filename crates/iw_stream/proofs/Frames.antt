@@ -1,12 +1,11 @@
 -- The frames of a stream are determined by its octets.
-use Rattle.std.proofs.Common.{◌≡◌, ℕ, ◌+◌, ◌*◌, ◌-◌, ◌%◌, ◌<◌, ◌≤◌, ◌^◌, List, [], ◌∷◌, ◌++◌, length, drop, take, get_or, replicate, Option, Some, None, refl, sym, ap, ◌∙◌, subst, cond, ltb, true, false, inl, inr, arith, append_assoc, length-append, length-drop, length-take, rules}
+use Rattle.std.proofs.Common.{◌≡◌, ℕ, ◌+◌, ◌<◌, ◌≤◌, ◌^◌, List, [], ◌++◌, length, drop, take, replicate, Some, refl, sym, ap, ◌∙◌, ltb, inl, inr, arith, append_assoc, length-append, length-drop}
 use Rattle.std.specs.Int.{w16, to_be_bytes, from_be_bytes}
 use Rattle.std.proofs.lemmas.Nat.{from_be_bytes-to_be_bytes_2}
 use Rattle.std.proofs.lemmas.Bool.{le-ltb, lt-ltb, cases_lt, cond-true, cond-false}
 use Rattle.std.proofs.lemmas.Bool.Decides.{nat_tests}
-use Rattle.std.proofs.lemmas.List.{take_at, drop_at, length-replicate, take-append-le, drop-append-le, append_cancel_left}
-use Rattle.std.proofs.lemmas.Option.{none-some, some_pair_parts, same_Some}
-use Rattle.std.proofs.lemmas.Grind.{common_steps}
+use Rattle.std.proofs.lemmas.List.{take_at, drop_at, length-replicate, take-append-le, drop-append-le}
+use Rattle.std.proofs.lemmas.Option.{none-some, some_pair_parts}
 use Rattle.iw_stream.specs.Frame.{pad_len, frame_len, frame, read_frame}
 
 pub length-frame : (u : List ℕ) → length (frame u) ≡ frame_len (length u)

@@ -1,3 +1,4 @@
 pub mod Frames
 pub mod Fronts
 pub mod Fits
+pub mod Inverse

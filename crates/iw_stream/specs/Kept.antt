@@ -1,7 +1,6 @@
 -- What a stream keeps of its fields.
 use Rattle.std.specs.Prelude.{◌≡◌, ℕ, ◌+◌, ◌≤◌, Bool, true, List, [], ◌∷◌, length, slice_get, Option, Some, None}
 use Rattle.iw_octets.specs.declared.message.Message.{Message}
-use Rattle.iw_octets.specs.declared.segment.Segment.{Segment}
 use Rattle.iw_octets.specs.declared.segment.Segment.TheVariants.{Tagged, Untagged}
 use Rattle.iw_stream.specs.FirstPath.{message_limit}
 use Rattle.iw_stream.specs.Segments.{octets_of}

@@ -1,4 +1,4 @@
-use Rattle.std.proofs.Common.{◌≡◌, ℕ, ◌+◌, ◌-◌, ◌≤◌, List, ◌++◌, length, drop, arith, length-append, length-drop, subst, sym, ap, ◌∙◌}
+use Rattle.std.proofs.Common.{◌≡◌, ℕ, List, ◌++◌, length, arith, length-append, length-drop, subst, sym, ap, ◌∙◌}
 use Rattle.iw_stream.specs.Stream.{front}
 use Rattle.iw_stream.specs.Kept.{IsPlaced}
 use Rattle.iw_stream.proofs.Fronts.{placed-more}

@@ -1,0 +1,169 @@
+-- What one more act does to the streams of an end, and to what its acts say of them.
+use Rattle.std.proofs.Common.{◌≡◌, ◌≢◌, ℕ, zero, suc, ◌<◌, List, [], ◌∷◌, ◌++◌, length, Option, Some, None, Bool, true, false, cond, eqb, refl, sym, ap, ◌∙◌, subst, arith, eqb-true}
+use Rattle.std.specs.Prelude.{slice_set, slice_index_or, unwrap_or, is_some, not}
+use Rattle.std.proofs.lemmas.List.{append-nil, get_or-set_same, get_or-set_other, length-set}
+use Rattle.std.proofs.lemmas.Bool.{eq-eqb, false≢true}
+use Rattle.iw_memory.specs.Table.{is_added}
+use Rattle.iw_stream.specs.declared.answer.Delivery.TheVariants.{Kept, Dropped}
+use Rattle.iw_stream.specs.Stream.{StreamState}
+use Rattle.iw_events.specs.declared.act.OpenRefusal.TheVariants.{NumberTaken, BadNumber, NoDomain}
+use Rattle.iw_events.specs.declared.act.Act.{Act}
+use Rattle.iw_events.specs.declared.act.Act.TheVariants.{Domain, Register, Deregister, Open, Stream}
+use Rattle.iw_events.specs.declared.act.StreamAct.{StreamAct}
+use Rattle.iw_events.specs.declared.act.StreamAct.TheVariants.{Recv, Post, Emit, Deliver, Work}
+use Rattle.iw_events.specs.declared.act.Shown.TheVariants.{Frame, Nothing}
+use Rattle.iw_events.specs.declared.act.Seen.TheVariants as seen
+use Rattle.iw_world.specs.Words.{Octets, openings, openings_by, table_after, table_by}
+use Rattle.iw_world.specs.Rules.{Connected, connected, EndState, has_stream, stream_at, open_refusal, Rule, stream_after, connected_after, streams_after, end_after}
+use Rattle.iw_world.specs.Safe.{domain_of}
+use Rattle.iw_world.proofs.Tales.{table-push, openings-push}
+
+there : {A : Type 0} (xs : List (Option A)) (i : ℕ) → is_some (slice_index_or xs i None) ≡ true → i < length xs
+there [] i h = absurd (false≢true h)
+there (y ∷ ys) zero h = omega arith
+there (y ∷ ys) (suc i) h = let more : i < length ys = there ys i h in omega arith
+
+-- ---- openings
+
+abbrev pub was_opened : List ℕ → Bool
+was_opened [] = false
+was_opened (pd ∷ pds) = true
+
+pub unopened : (pds : List ℕ) → was_opened pds ≡ false → pds ≡ []
+unopened [] h = refl
+unopened (pd ∷ pds) h = absurd (false≢true (sym h))
+
+-- what the state of an end has in common with what was done there
+pub record EndSeen (s : EndState) (done : List (Act Octets)) : Type 0 where
+  pub table : s.table ≡ table_after done
+  pub numbers : length s.streams ≡ 64
+  pub opened : (n : ℕ) → has_stream s n ≡ was_opened (openings n done)
+  pub domain : (n : ℕ) → has_stream s n ≡ true → (stream_at s n).stream.domain ≡ domain_of n done
+
+-- an act that opens nothing
+pub opens_same : (n : ℕ) (done : List (Act Octets)) (act : Act Octets) → openings_by n act ≡ [] → openings n (done ++ act ∷ []) ≡ openings n done
+opens_same n done act e = openings-push n done act ∙ ap (λ z. openings n done ++ z) e ∙ append-nil (openings n done)
+
+-- the fields that an opening needs
+pub record Opens (s : EndState) (n : ℕ) : Type 0 where
+  pub fresh : has_stream s n ≡ false
+  pub number : n ≡ 0
+
+pub opens : (s : EndState) (n pd : ℕ) → None ≡ open_refusal s n pd → Opens s n
+opens s n pd e = go (has_stream s n) (eqb n 0) refl refl (is_added s.table pd) e
+  where
+    go : (has zero_is : Bool) → has_stream s n ≡ has → eqb n 0 ≡ zero_is → (added : Bool)
+        → None ≡ cond has (Some NumberTaken) (cond (not zero_is) (Some BadNumber) (cond (not added) (Some NoDomain) None)) → Opens s n
+    go true b h z added e' = cc
+    go false false h z added e' = cc
+    go false true h z added e' = record { fresh = h; number = eqb-true n 0 z }
+
+-- a stream keeps its domain
+pub same_domain : (s : StreamState) (act : StreamAct Octets) → (stream_after s act).domain ≡ s.domain
+same_domain s (Recv len None) = refl
+same_domain s (Recv len (Some refusal)) = refl
+same_domain s (Post m None) = refl
+same_domain s (Post m (Some refusal)) = refl
+same_domain s (Emit (Frame from octets)) = refl
+same_domain s (Emit Nothing) = refl
+same_domain s (Deliver from octets Kept) = refl
+same_domain s (Deliver from octets Dropped) = refl
+same_domain s (Work (seen.Done kind)) = refl
+same_domain s (Work (seen.Placed right stag to octets)) = refl
+same_domain s (Work (seen.Buffered msn mo len)) = refl
+same_domain s (Work seen.Passed) = refl
+same_domain s (Work (seen.Received octets solicited invalidate)) = refl
+same_domain s (Work (seen.Fault fault)) = refl
+same_domain s (Work seen.Idle) = refl
+
+-- ---- the stream of a number, behind an act
+
+pub at_same : (s : EndState) (n : ℕ) (c : Connected) → n < length s.streams → slice_index_or (slice_set s.streams n (Some c)) n None ≡ Some c
+at_same s n c h = get_or-set_same s.streams n (Some c) None h
+
+pub at_other : (s : EndState) (m n : ℕ) (o : Option Connected) → eqb m n ≡ false → slice_index_or (slice_set s.streams m o) n None ≡ slice_index_or s.streams n None
+at_other s m n o h = get_or-set_other s.streams m n o None (differ h)
+  where
+    differ : eqb m n ≡ false → n ≢ m
+    differ e same = absurd (false≢true (sym e ∙ eq-eqb m n (sym same)))
+
+pub number_there : (s : EndState) (n : ℕ) → has_stream s n ≡ true → n < length s.streams
+number_there s n h = there s.streams n h
+
+-- what the streams of the other numbers keep
+pub record KeepsNumber (s : EndState) (done : List (Act Octets)) (act : Act Octets) (n : ℕ) : Type 0 where
+  pub has : has_stream (end_after s act) n ≡ was_opened (openings n (done ++ act ∷ []))
+  pub domain : has_stream (end_after s act) n ≡ true → (stream_at (end_after s act) n).stream.domain ≡ domain_of n (done ++ act ∷ [])
+
+keeps_number : (s : EndState) (done : List (Act Octets)) (act : Act Octets) (n : ℕ) → EndSeen s done → slice_index_or (streams_after s.streams act) n None ≡ slice_index_or s.streams n None → openings_by n act ≡ []
+    → KeepsNumber s done act n
+keeps_number s done act n k same none =
+    let opened_same : openings n (done ++ act ∷ []) ≡ openings n done = opens_same n done act none in
+    record {
+      has = ap is_some same ∙ k.opened n ∙ ap was_opened (sym opened_same);
+      domain = λ h. ap (λ o. (unwrap_or o (connected 0)).stream.domain) same ∙ k.domain n (ap is_some (sym same) ∙ h) ∙ ap (λ z. slice_index_or z 0 0) (sym opened_same);
+    }
+
+cond_none : (b : Bool) (pd : ℕ) → b ≡ false → cond b (pd ∷ []) [] ≡ []
+cond_none b pd e = ap (λ z. cond z (pd ∷ []) []) e
+
+cond_one : (b : Bool) (pd : ℕ) → b ≡ true → cond b (pd ∷ []) [] ≡ pd ∷ []
+cond_one b pd e = ap (λ z. cond z (pd ∷ []) []) e
+
+number_after : (s peer : EndState) (done : List (Act Octets)) (act : Act Octets) (n : ℕ) → EndSeen s done → Rule s peer act → KeepsNumber s done act n
+number_after s peer done (Domain pd None) n k rule = keeps_number s done (Domain pd None) n k refl refl
+number_after s peer done (Domain pd (Some refusal)) n k rule = keeps_number s done (Domain pd (Some refusal)) n k refl refl
+number_after s peer done (Register pd base rights octets answer) n k rule = keeps_number s done (Register pd base rights octets answer) n k refl refl
+number_after s peer done (Deregister stag answer) n k rule = keeps_number s done (Deregister stag answer) n k refl refl
+number_after s peer done (Open m pd role private (Some refusal)) n k rule = keeps_number s done (Open m pd role private (Some refusal)) n k refl refl
+number_after s peer done (Open m pd role private None) n k rule = go (eqb m n) refl
+  where
+    go : (b : Bool) → eqb m n ≡ b → KeepsNumber s done (Open m pd role private None) n
+    go false e = keeps_number s done (Open m pd role private None) n k (at_other s m n (Some (connected pd)) e) (cond_none (eqb m n) pd e)
+    go true e =
+        let o = opens s m pd rule in
+        let same : m ≡ n = eqb-true m n e in
+        let room : m < length s.streams = omega (arith, o.number, k.numbers) in
+        let here : slice_index_or (slice_set s.streams m (Some (connected pd))) n None ≡ Some (connected pd) =
+        subst (λ j. slice_index_or (slice_set s.streams m (Some (connected pd))) j None ≡ Some (connected pd)) same (at_same s m (connected pd) room) in
+        let before : openings n done ≡ [] = unopened (openings n done) (sym (k.opened n) ∙ subst (λ j. has_stream s j ≡ false) same o.fresh) in
+        let now : openings n (done ++ Open m pd role private None ∷ []) ≡ pd ∷ [] =
+        openings-push n done (Open m pd role private None) ∙ (λ i. before i ++ cond_one (eqb m n) pd e i) in
+        record {
+          has = ap is_some here ∙ ap was_opened (sym now);
+          domain = λ h. ap (λ z. (unwrap_or z (connected 0)).stream.domain) here ∙ ap (λ z. slice_index_or z 0 0) (sym now);
+        }
+number_after s peer done (Stream m act) n k rule = go (eqb m n) refl
+  where
+    go : (b : Bool) → eqb m n ≡ b → KeepsNumber s done (Stream m act) n
+    go false e = keeps_number s done (Stream m act) n k (at_other s m n (Some (connected_after (stream_at s m) act)) e) refl
+    go true e =
+        let same : m ≡ n = eqb-true m n e in
+        let c : Connected = connected_after (stream_at s m) act in
+        let here : slice_index_or (slice_set s.streams m (Some c)) n None ≡ Some c =
+        subst (λ j. slice_index_or (slice_set s.streams m (Some c)) j None ≡ Some c) same (at_same s m c (number_there s m rule.0)) in
+        let has : has_stream s n ≡ true = subst (λ j. has_stream s j ≡ true) same rule.0 in
+        let opened_same : openings n (done ++ Stream m act ∷ []) ≡ openings n done = opens_same n done (Stream m act) refl in
+        record {
+          has = ap is_some here ∙ sym has ∙ k.opened n ∙ ap was_opened (sym opened_same);
+          domain = λ h. ap (λ z. (unwrap_or z (connected 0)).stream.domain) here ∙ same_domain (stream_at s m).stream act
+              ∙ ap (λ j. (stream_at s j).stream.domain) same ∙ k.domain n has ∙ ap (λ z. slice_index_or z 0 0) (sym opened_same);
+        }
+
+numbers_after : (s : EndState) (act : Act Octets) → length (streams_after s.streams act) ≡ length s.streams
+numbers_after s (Domain pd None) = refl
+numbers_after s (Domain pd (Some refusal)) = refl
+numbers_after s (Register pd base rights octets answer) = refl
+numbers_after s (Deregister stag answer) = refl
+numbers_after s (Open m pd role private None) = length-set s.streams m (Some (connected pd))
+numbers_after s (Open m pd role private (Some refusal)) = refl
+numbers_after s (Stream m act) = length-set s.streams m (Some (connected_after (stream_at s m) act))
+
+-- an act that the rules give keeps what the end has in common with what was done
+pub end_step : (s peer : EndState) (done : List (Act Octets)) (act : Act Octets) → EndSeen s done → Rule s peer act → EndSeen (end_after s act) (done ++ act ∷ [])
+end_step s peer done act k rule = record {
+  table = ap (λ z. table_by z act) k.table ∙ sym (table-push done act);
+  numbers = numbers_after s act ∙ k.numbers;
+  opened = λ n. (number_after s peer done act n k rule).has;
+  domain = λ n. (number_after s peer done act n k rule).domain;
+}

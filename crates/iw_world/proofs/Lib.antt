@@ -1,0 +1,13 @@
+pub mod Seeing
+pub mod Lists
+pub mod Tales
+pub mod Flow
+pub mod Told
+pub mod Sends
+pub mod Checks
+pub mod Steps
+pub mod Owns
+pub mod Ends
+pub mod Whole
+pub mod Laws
+pub mod Shorts

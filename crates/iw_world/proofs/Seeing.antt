@@ -1,0 +1,76 @@
+-- What is seen of a step tells what the step did.
+use Rattle.std.proofs.Common.{◌≡◌, ℕ, List, length, Option, Some, None, refl, sym, ap, ◌∙◌}
+use Rattle.std.specs.Option.{option_map}
+use Rattle.std.proofs.lemmas.Option.{none-some}
+use Rattle.iw_octets.specs.declared.fault.Fault.{Fault}
+use Rattle.iw_octets.specs.declared.stag.Stag.{Stag}
+use Rattle.iw_memory.specs.declared.refusal.Deny.{Deny}
+use Rattle.iw_memory.specs.declared.rights.Right.{Right}
+use Rattle.iw_memory.specs.declared.rights.Right.TheVariants.{Write}
+use Rattle.iw_memory.specs.Table.{Table, denial, put, octets_at}
+use Rattle.iw_stream.specs.declared.answer.Step.{Step}
+use Rattle.iw_stream.specs.declared.answer.Step.TheVariants as steps
+use Rattle.iw_stream.specs.Stream.{StreamState, front, payload_of, worked}
+use Rattle.iw_stream.specs.Judging.{denial_fault, or_else, tagged_head_fault, work_step, table_worked}
+use Rattle.iw_stream.proofs.Inverse.{working, PlacesWrite}
+use Rattle.iw_world.specs.Words.{table_seen}
+use Rattle.iw_world.specs.Rules.{seen_of, step_of}
+use Rattle.iw_memory.proofs.Callers.{octets_at-put}
+
+-- a Write that passed its checks is not denied
+undenied : (first : Option Fault) (o : Option Deny) → or_else first (option_map denial_fault o) ≡ None → o ≡ None
+undenied (Some fault) o e = absurd (none-some _ (sym e))
+undenied None None e = refl
+undenied None (Some deny) e = absurd (none-some _ (sym e))
+
+-- a step that places a Write
+pub record Writes (table : Table) (s : StreamState) (right : Right) (stag : Stag) (to len : ℕ) : Type 0 where
+  pub payload : List ℕ
+  pub payload_is : payload_of (front s.inbox) ≡ payload
+  pub len_is : len ≡ length payload
+  pub admitted : denial table s.domain stag to (length payload) right ≡ None
+
+pub writes : (table : Table) (s : StreamState) (right : Right) (stag : Stag) (to len : ℕ) → PlacesWrite table s (steps.Placed right stag to len) → Writes table s right stag to len
+writes table s right stag to len p =
+    let right_is : right ≡ Write = let is = p.is in cc in
+    let stag_is : stag ≡ p.head.stag = let is = p.is in cc in
+    let to_is : to ≡ p.head.to = let is = p.is in cc in
+    let len_is : len ≡ length p.payload = let is = p.is in cc in
+    let checked : denial table s.domain p.head.stag p.head.to (length p.payload) Write ≡ None =
+    undenied (tagged_head_fault p.head) (denial table s.domain p.head.stag p.head.to (length p.payload) Write) p.checked in
+    record {
+      payload = p.payload;
+      payload_is = ap payload_of p.fronts.whole;
+      len_is = len_is;
+      admitted = (λ i. denial table s.domain (stag_is i) (to_is i) (length p.payload) (right_is i)) ∙ checked;
+    }
+
+-- the octets that stand where a step placed are the payload of the frame at the in-order point
+pub placed_stand : (table : Table) (s : StreamState) (right : Right) (stag : Stag) (to len : ℕ) → Writes table s right stag to len
+    → octets_at (put table stag to (payload_of (front s.inbox))) stag to len ≡ payload_of (front s.inbox)
+placed_stand table s right stag to len w =
+    (λ i. octets_at (put table stag to (w.payload_is i)) stag to (w.len_is i))
+    ∙ octets_at-put table s.domain stag to w.payload right w.admitted
+    ∙ sym w.payload_is
+
+-- the table that a step leaves is the one that what is seen of it leaves
+pub table_of_seen : (table : Table) (s : StreamState) (step : Step (List ℕ)) → step ≡ work_step table s
+    → table_worked table s step ≡ table_seen table (seen_of (table_worked table s step) step)
+table_of_seen table s (steps.Placed right stag to len) e =
+    ap (put table stag to) (sym (placed_stand table s right stag to len (writes table s right stag to len (working table s (steps.Placed right stag to len) e))))
+table_of_seen table s (steps.Done kind) e = refl
+table_of_seen table s (steps.Buffered msn mo len) e = refl
+table_of_seen table s steps.Passed e = refl
+table_of_seen table s (steps.Received buffer len solicited invalidate) e = refl
+table_of_seen table s (steps.Fault fault) e = refl
+table_of_seen table s steps.Idle e = refl
+
+-- and so is the stream
+pub worked_seen : (table : Table) (s : StreamState) (step : Step (List ℕ)) → worked s (step_of (seen_of table step)) ≡ worked s step
+worked_seen table s (steps.Placed right stag to len) = refl
+worked_seen table s (steps.Done kind) = refl
+worked_seen table s (steps.Buffered msn mo len) = refl
+worked_seen table s steps.Passed = refl
+worked_seen table s (steps.Received buffer len solicited invalidate) = refl
+worked_seen table s (steps.Fault fault) = refl
+worked_seen table s steps.Idle = refl

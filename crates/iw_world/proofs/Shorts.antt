@@ -1,0 +1,91 @@
+-- How many octets the entries of a trace can have emitted.
+use Rattle.std.proofs.Common.{◌≡◌, ℕ, ◌+◌, ◌*◌, ◌^◌, ◌≤◌, List, [], ◌∷◌, ◌++◌, length, Some, None, Bool, true, false, eqb, refl, sym, ap, subst, arith, append_assoc, length-append}
+use Rattle.std.proofs.lemmas.List.{append-nil, length_push}
+use Rattle.iw_events.specs.declared.call.End.{End}
+use Rattle.iw_events.specs.declared.act.Act.{Act}
+use Rattle.iw_events.specs.declared.act.Act.TheVariants.{Domain, Register, Deregister, Open, Stream}
+use Rattle.iw_events.specs.declared.act.Entry.{Entry}
+use Rattle.iw_world.specs.Words.{Octets, other, acts, stream_acts, stream_acts_by, sent, sent_by}
+use Rattle.iw_world.specs.Rules.{EndState, State, end_of, stream_at, start, Rule, after_entry, state_after, Follows}
+use Rattle.iw_world.specs.Bounds.{IsShortEnd, IsShortState}
+use Rattle.iw_world.proofs.Tales.{Tale, tale_of, tale_same, tale_more, acts_mine, acts_other}
+use Rattle.iw_world.proofs.Flow.{came_of_sent}
+use Rattle.iw_world.proofs.Whole.{Seen, Pair, emits_few, one_more, unsaid, seen_after, both, acts_none, acts_one}
+
+-- the octets emitted on a stream
+abbrev sent_on : ℕ → List (Act Octets) → ℕ
+sent_on n done = length (sent (stream_acts n done))
+
+-- an act adds no more than a frame
+same_sent : (n : ℕ) (done : List (Act Octets)) (act : Act Octets) → stream_acts_by n act ≡ [] → sent_on n (done ++ act ∷ []) ≤ sent_on n done + 2 ^ 17
+same_sent n done act none = let same : sent_on n (done ++ act ∷ []) ≡ sent_on n done = ap (λ (t : Tale). length t.sent) (tale_same n done act none) in omega arith
+
+one_frame : (s peer : EndState) (done : List (Act Octets)) (act : Act Octets) (n : ℕ) → ((n : ℕ) → (u : Tale) × Pair (stream_at s n) (tale_of (stream_acts n done)) (stream_at peer n) u) → Rule s peer act
+    → sent_on n (done ++ act ∷ []) ≤ sent_on n done + 2 ^ 17
+one_frame s peer done (Domain pd None) n p rule = same_sent n done (Domain pd None) refl
+one_frame s peer done (Domain pd (Some refusal)) n p rule = same_sent n done (Domain pd (Some refusal)) refl
+one_frame s peer done (Register pd base rights octets answer) n p rule = same_sent n done (Register pd base rights octets answer) refl
+one_frame s peer done (Deregister stag answer) n p rule = same_sent n done (Deregister stag answer) refl
+one_frame s peer done (Open m pd role private refused) n p rule = same_sent n done (Open m pd role private refused) refl
+one_frame s peer done (Stream m act) n p rule = go (eqb m n) refl
+  where
+    go : (b : Bool) → eqb m n ≡ b → sent_on n (done ++ Stream m act ∷ []) ≤ sent_on n done + 2 ^ 17
+    go false e = same_sent n done (Stream m act) (acts_none m n act e)
+    go true e =
+        let few : length (sent_by act) ≤ 2 ^ 17 = emits_few s.table (stream_at peer m).wire (stream_at s m) (tale_of (stream_acts m done)) act rule.2 (p m).1.own in
+        let more : sent_on n (done ++ Stream m act ∷ []) ≡ length (sent (stream_acts n done) ++ sent_by act) =
+        ap (λ (t : Tale). length t.sent) (tale_more n done (Stream m act) act (acts_one m n act e)) in
+        omega (arith, more, length-append (sent (stream_acts n done)) (sent_by act), few)
+
+-- at most a frame an entry
+abbrev Few : List (Entry Octets) → Type 0
+Few trace = (x : End) (n : ℕ) → sent_on n (acts x trace) ≤ 2 ^ 17 * length trace
+
+few_step : (trace : List (Entry Octets)) (w : State) (e : Entry Octets) → Seen trace w → Few trace → Rule (end_of e.end w) (end_of (other e.end) w) e.act → Few (trace ++ e ∷ [])
+few_step trace w e k few rule =
+    let x : End = e.end in
+    let y : End = other e.end in
+    let longer : length (trace ++ e ∷ []) ≡ length trace + 1 = length_push trace e in
+    let F : End → Type 0 = λ v. (n : ℕ) → sent_on n (acts v (trace ++ e ∷ [])) ≤ 2 ^ 17 * length (trace ++ e ∷ []) in
+    let mine : F x = λ n.
+    let one : sent_on n (acts x trace ++ e.act ∷ []) ≤ sent_on n (acts x trace) + 2 ^ 17 =
+    one_frame (end_of x w) (end_of y w) (acts x trace) e.act n (λ j. (tale_of (stream_acts j (acts y trace)), k.pairs x j)) rule in
+    let before : sent_on n (acts x trace) ≤ 2 ^ 17 * length trace = few x n in
+    let same : sent_on n (acts x (trace ++ e ∷ [])) ≡ sent_on n (acts x trace ++ e.act ∷ []) = ap (sent_on n) (acts_mine trace e) in
+    omega (arith, longer, one, before, same) in
+    let others : F y = λ n.
+    let before : sent_on n (acts y trace) ≤ 2 ^ 17 * length trace = few y n in
+    let same : sent_on n (acts y (trace ++ e ∷ [])) ≡ sent_on n (acts y trace) = ap (sent_on n) (acts_other trace e) in
+    omega (arith, longer, before, same) in
+    both F x mine others
+
+few_onward : (past rest : List (Entry Octets)) (w : State) → Seen past w → Few past → Follows w rest → Few (past ++ rest)
+few_onward past [] w k few follows = subst Few (sym (append-nil past)) few
+few_onward past (e ∷ rest) w k few follows =
+    subst Few (append_assoc past (e ∷ []) rest)
+    (few_onward (past ++ e ∷ []) rest (after_entry w e) (one_more past w e k follows.0) (few_step past w e k few follows.0) follows.1)
+
+few_none : Few []
+unfolding acts stream_acts sent
+few_none x n = omega arith
+
+few_all : (trace : List (Entry Octets)) → Follows start trace → Few trace
+few_all trace follows = few_onward [] trace start unsaid few_none follows
+
+-- so, in a trace that is not too long, no stream has come far
+short_end : (trace : List (Entry Octets)) (w : State) → Seen trace w → Few trace → length trace ≤ 2 ^ 45 → (x : End) → IsShortEnd (end_of x w)
+short_end trace w k few bound x = record {
+  streams = λ n.
+      let p = k.pairs x n in
+      let mine : sent_on n (acts x trace) ≤ 2 ^ 17 * length trace = few x n in
+      let others : sent_on n (acts (other x) trace) ≤ 2 ^ 17 * length trace = few (other x) n in
+      let came : length _ ≡ length (sent (stream_acts n (acts (other x) trace))) = ap length (came_of_sent _ _ _ _ p.back) in
+      record { sent = omega (arith, p.own.sent, mine, bound); point = omega (arith, p.back.point, came, length-append {A = ℕ}, others, bound) };
+  wires = λ n.
+      let p = k.pairs x n in
+      let mine : sent_on n (acts x trace) ≤ 2 ^ 17 * length trace = few x n in
+      omega (arith, ap length p.own.wire, mine, bound);
+}
+
+pub short_state : (trace : List (Entry Octets)) → Follows start trace → length trace ≤ 2 ^ 45 → IsShortState (state_after start trace)
+short_state trace follows bound x = short_end trace (state_after start trace) (seen_after trace follows) (few_all trace follows) bound x

@@ -1,0 +1,81 @@
+-- The right answer at a stream, with steps of work told apart by what is seen of them.
+use Rattle.std.proofs.Common.{◌≡◌, ℕ, ◌∷◌, List, length, take, None, false, refl, sym, ap, ◌∙◌, subst}
+use Rattle.iw_octets.specs.declared.stag.Stag.{Stag}
+use Rattle.iw_memory.specs.declared.rights.Right.{Right}
+use Rattle.iw_memory.specs.Table.{Table, denial}
+use Rattle.iw_stream.specs.declared.answer.Kind.{Kind}
+use Rattle.iw_stream.specs.declared.answer.Step.{Step}
+use Rattle.iw_stream.specs.declared.answer.Step.TheVariants as steps
+use Rattle.iw_stream.specs.Stream.{StreamState, front, payload_of}
+use Rattle.iw_stream.specs.Judging.{work_step, table_worked}
+use Rattle.iw_stream.proofs.Inverse.{Working, working, PlacesWrite, PlacesSend, Passes, Completes}
+use Rattle.iw_events.specs.declared.act.StreamAct.{StreamAct}
+use Rattle.iw_events.specs.declared.act.StreamAct.TheVariants.{Recv, Post, Emit, Deliver, Work}
+use Rattle.iw_events.specs.declared.act.Seen.{Seen}
+use Rattle.iw_events.specs.declared.act.Seen.TheVariants as seen
+use Rattle.iw_world.specs.Words.{Octets}
+use Rattle.iw_world.specs.Rules.{StreamRule, seen_of}
+use Rattle.iw_world.proofs.Seeing.{writes, placed_stand}
+
+-- a Write that was placed, with the octets that then stood there
+pub record SeesWrite (table : Table) (s : StreamState) (right : Right) (stag : Stag) (to : ℕ) (octets : List ℕ) : Type 0 where
+  pub places : (len : ℕ) × PlacesWrite table s (steps.Placed right stag to len)
+  pub admitted : denial table s.domain stag to (length octets) right ≡ None
+  pub is : octets ≡ payload_of (front s.inbox)
+
+-- a Send that was received
+pub record SeesReceive (s : StreamState) (octets : List ℕ) : Type 0 where
+  pub buffer : List ℕ
+  pub len : ℕ
+  pub completes : Completes s (steps.Received buffer len false None)
+  pub is : octets ≡ take len buffer
+
+-- what is seen of a step tells of the stream and the regions
+abbrev pub Sees : Table → StreamState → Seen Octets → Type 0
+Sees table s (seen.Done kind) = (kinds : List Kind) × (s.finished ≡ kind ∷ kinds)
+Sees table s (seen.Placed right stag to octets) = SeesWrite table s right stag to octets
+Sees table s (seen.Buffered msn mo len) = PlacesSend s (steps.Buffered msn mo len)
+Sees table s seen.Passed = Passes s
+Sees table s (seen.Received octets solicited invalidate) = SeesReceive s octets × (solicited ≡ false) × (invalidate ≡ None)
+Sees table s (seen.Fault fault) = Unit {0}
+Sees table s seen.Idle = Unit {0}
+
+sees_step : (table : Table) (s : StreamState) (step : Step (List ℕ)) → Working table s step → Sees table s (seen_of (table_worked table s step) step)
+sees_step table s (steps.Done kind) w = w
+sees_step table s (steps.Placed right stag to len) w =
+    let wr = writes table s right stag to len w in
+    let stand = placed_stand table s right stag to len wr in
+    record {
+      places = (len, w);
+      admitted = ap (λ z. denial table s.domain stag to (length z) right) (stand ∙ wr.payload_is) ∙ wr.admitted;
+      is = stand;
+    }
+sees_step table s (steps.Buffered msn mo len) w = w
+sees_step table s steps.Passed w = w
+sees_step table s (steps.Received buffer len solicited invalidate) w =
+    let plain : solicited ≡ false = let is = w.is in cc in
+    let none : invalidate ≡ None = let is = w.is in cc in (
+      record { buffer = buffer; len = len; completes = subst (λ b. Completes s (steps.Received buffer len b None)) plain (subst (λ o. Completes s (steps.Received buffer len solicited o)) none w); is = refl },
+      plain,
+      none,
+    )
+sees_step table s (steps.Fault fault) w = tt
+sees_step table s steps.Idle w = tt
+
+pub sees : (table : Table) (s : StreamState) (step : Seen Octets) → step ≡ seen_of (table_worked table s (work_step table s)) (work_step table s) → Sees table s step
+sees table s step e = subst (Sees table s) (sym e) (sees_step table s (work_step table s) (working table s (work_step table s) refl))
+
+-- the rule at a stream, with steps told apart
+abbrev pub Told : Table → List ℕ → StreamState → StreamAct Octets → Type 0
+Told table peer s (Work step) = Sees table s step
+Told table peer s (Recv len refused) = StreamRule table peer s (Recv len refused)
+Told table peer s (Post message refused) = StreamRule table peer s (Post message refused)
+Told table peer s (Emit shown) = StreamRule table peer s (Emit shown)
+Told table peer s (Deliver from octets delivery) = StreamRule table peer s (Deliver from octets delivery)
+
+pub told : (table : Table) (peer : List ℕ) (s : StreamState) (act : StreamAct Octets) → StreamRule table peer s act → Told table peer s act
+told table peer s (Work step) rule = sees table s step rule
+told table peer s (Recv len refused) rule = rule
+told table peer s (Post message refused) rule = rule
+told table peer s (Emit shown) rule = rule
+told table peer s (Deliver from octets delivery) rule = rule

@@ -1,0 +1,7 @@
+pub mod Words
+pub mod FirstPath
+pub mod Fitting
+pub mod Rules
+pub mod Safe
+pub mod Stops
+pub mod Bounds

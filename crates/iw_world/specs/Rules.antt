@@ -1,0 +1,191 @@
+-- The state of both ends, which answer is right in a state, and what each entry leaves of it.
+use Rattle.std.specs.Prelude.{◌≡◌, ℕ, ◌+◌, ◌≤◌, List, [], ◌∷◌, ◌++◌, length, take, drop, replicate, slice_index_or, slice_set, Bool, true, false, not, is_some, unwrap_or, if◌then◌else◌, Option, Some, None, Ok, Err, Result}
+use Rattle.std.specs.Option.{option_map_or}
+use Rattle.iw_octets.specs.declared.stag.Stag.{Stag}
+use Rattle.iw_memory.specs.declared.refusal.NoRegion.{NoRegion}
+use Rattle.iw_memory.specs.declared.refusal.RegisterRefusal.{RegisterRefusal}
+use Rattle.iw_memory.specs.Table.{Table, empty, is_added, domain_refusal, register_refusal, next_stag, region_at, octets_at}
+use Rattle.iw_stream.specs.declared.answer.Step.{Step}
+use Rattle.iw_stream.specs.declared.answer.Step.TheVariants as steps
+use Rattle.iw_stream.specs.declared.answer.Emission.{Emission}
+use Rattle.iw_stream.specs.declared.answer.Emission.TheVariants as emissions
+use Rattle.iw_stream.specs.Stream.{StreamState, opened, with_buffer, with_message, recv_refusal, post_refusal, emission_of, emitted, after_emit, delivery_of, after_deliver, worked}
+use Rattle.iw_stream.specs.Judging.{work_step, table_worked}
+use Rattle.iw_events.specs.declared.call.End.{End}
+use Rattle.iw_events.specs.declared.call.End.TheVariants.{A, B}
+use Rattle.iw_events.specs.declared.call.StreamCall.{StreamCall}
+use Rattle.iw_events.specs.declared.call.StreamCall.TheVariants as stream_calls
+use Rattle.iw_events.specs.Events.{stream_call_of}
+use Rattle.iw_events.specs.declared.act.OpenRefusal.{OpenRefusal}
+use Rattle.iw_events.specs.declared.act.OpenRefusal.TheVariants.{NumberTaken, BadNumber, NoDomain}
+use Rattle.iw_events.specs.declared.act.Act.{Act}
+use Rattle.iw_events.specs.declared.act.Act.TheVariants.{Domain, Register, Deregister, Open, Stream}
+use Rattle.iw_events.specs.declared.act.StreamAct.{StreamAct}
+use Rattle.iw_events.specs.declared.act.StreamAct.TheVariants.{Recv, Post, Emit, Deliver, Work}
+use Rattle.iw_events.specs.declared.act.Shown.{Shown}
+use Rattle.iw_events.specs.declared.act.Shown.TheVariants.{Frame, Nothing}
+use Rattle.iw_events.specs.declared.act.Seen.{Seen}
+use Rattle.iw_events.specs.declared.act.Seen.TheVariants as seen
+use Rattle.iw_events.specs.declared.act.Entry.{Entry}
+use Rattle.iw_world.specs.Words.{Octets, other, sent_by, table_by}
+use Rattle.iw_world.specs.Fitting.{FitsMessage}
+use Rattle.iw_world.specs.FirstPath.{is_stream_number}
+
+-- ---- states
+
+-- a stream, and the octets that it emitted
+pub record Connected : Type 0 where
+  pub stream : StreamState
+  pub wire : List ℕ
+
+abbrev pub connected : ℕ → Connected
+connected domain = record { stream = opened domain; wire = [] }
+
+-- one end: its regions, and its streams by number
+pub record EndState : Type 0 where
+  pub table : Table
+  pub streams : List (Option Connected)
+
+-- both ends
+pub record State : Type 0 where
+  pub a : EndState
+  pub b : EndState
+
+-- how many stream numbers an end has
+abbrev pub stream_numbers : ℕ
+stream_numbers = 64
+
+-- no stream was opened
+unfoldable pub no_streams : List (Option Connected)
+no_streams = replicate stream_numbers None
+
+abbrev pub fresh : EndState
+fresh = record { table = empty; streams = no_streams }
+
+abbrev pub start : State
+start = record { a = fresh; b = fresh }
+
+abbrev pub end_of : End → State → EndState
+end_of A w = w.a
+end_of B w = w.b
+
+abbrev pub with_end : End → EndState → State → State
+with_end A s w = record w { a = s }
+with_end B s w = record w { b = s }
+
+abbrev pub has_stream : EndState → ℕ → Bool
+has_stream s n = is_some (slice_index_or s.streams n None)
+
+-- the stream of this number; where none was opened, one to which nothing has happened
+abbrev pub stream_at : EndState → ℕ → Connected
+stream_at s n = unwrap_or (slice_index_or s.streams n None) (connected 0)
+
+-- ---- which answer is right
+
+-- what was shown of an emission
+abbrev pub shown_of : Emission → List ℕ → Shown Octets
+shown_of (emissions.Frame from len) octets = Frame from octets
+shown_of emissions.Nothing octets = Nothing
+
+-- what was seen of a step, where it left this table
+abbrev pub seen_of : Table → Step Octets → Seen Octets
+seen_of table (steps.Done kind) = seen.Done kind
+seen_of table (steps.Placed right stag to len) = seen.Placed right stag to (octets_at table stag to len)
+seen_of table (steps.Buffered msn mo len) = seen.Buffered msn mo len
+seen_of table steps.Passed = seen.Passed
+seen_of table (steps.Received buffer len solicited invalidate) = seen.Received (take len buffer) solicited invalidate
+seen_of table (steps.Fault fault) = seen.Fault fault
+seen_of table steps.Idle = seen.Idle
+
+-- the right answer at a stream; peer is what the other end has emitted on it
+abbrev pub StreamRule : Table → List ℕ → StreamState → StreamAct Octets → Type 0
+StreamRule table peer s (Recv len refused) = refused ≡ recv_refusal s
+StreamRule table peer s (Post message refused) = FitsMessage message × (refused ≡ post_refusal s message)
+StreamRule table peer s (Emit shown) = shown ≡ shown_of (emission_of s) (emitted s)
+StreamRule table peer s (Deliver from octets delivery) =
+    (from + length octets ≤ length peer) × (octets ≡ take (length octets) (drop from peer)) × (delivery ≡ delivery_of s from (length octets))
+StreamRule table peer s (Work step) = step ≡ seen_of (table_worked table s (work_step table s)) (work_step table s)
+
+-- a delivery needs the stream at the other end too
+abbrev pub needs_peer : StreamCall Octets → Bool
+needs_peer (stream_calls.Deliver from len) = true
+needs_peer (stream_calls.Recv len) = false
+needs_peer (stream_calls.Post message) = false
+needs_peer stream_calls.Emit = false
+needs_peer stream_calls.Work = false
+
+abbrev pub open_refusal : EndState → ℕ → ℕ → Option OpenRefusal
+open_refusal s n pd =
+    if has_stream s n then Some NumberTaken
+    else if not (is_stream_number n) then Some BadNumber
+    else if not (is_added s.table pd) then Some NoDomain
+    else None
+
+abbrev pub register_answer : Table → ℕ → ℕ → ℕ → Result Stag RegisterRefusal
+register_answer table pd base len = option_map_or Err (register_refusal table pd base len) (Ok (next_stag table pd))
+
+abbrev pub deregister_answer : Table → Stag → Result Octets NoRegion
+deregister_answer table stag = option_map_or (λ r. Ok r.octets) (region_at table stag) (Err (record {}))
+
+-- the right answer at an end, the other end being peer
+abbrev pub Rule : EndState → EndState → Act Octets → Type 0
+Rule s peer (Domain pd refused) = refused ≡ domain_refusal s.table pd
+Rule s peer (Register pd base rights octets answer) = answer ≡ register_answer s.table pd base (length octets)
+Rule s peer (Deregister stag answer) = answer ≡ deregister_answer s.table stag
+Rule s peer (Open n pd role private refused) = refused ≡ open_refusal s n pd
+Rule s peer (Stream n act) =
+    (has_stream s n ≡ true) × (needs_peer (stream_call_of act) ≡ true → has_stream peer n ≡ true) × StreamRule s.table (stream_at peer n).wire (stream_at s n).stream act
+
+-- ---- what an entry leaves
+
+-- a step that would be seen so
+abbrev pub step_of : Seen Octets → Step Octets
+step_of (seen.Done kind) = steps.Done kind
+step_of (seen.Placed right stag to octets) = steps.Placed right stag to (length octets)
+step_of (seen.Buffered msn mo len) = steps.Buffered msn mo len
+step_of seen.Passed = steps.Passed
+step_of (seen.Received octets solicited invalidate) = steps.Received octets (length octets) solicited invalidate
+step_of (seen.Fault fault) = steps.Fault fault
+step_of seen.Idle = steps.Idle
+
+abbrev pub stream_after : StreamState → StreamAct Octets → StreamState
+stream_after s (Recv len None) = with_buffer s (replicate len 0)
+stream_after s (Recv len (Some refusal)) = s
+stream_after s (Post message None) = with_message s message
+stream_after s (Post message (Some refusal)) = s
+stream_after s (Emit (Frame from octets)) = after_emit s (emissions.Frame from (length octets))
+stream_after s (Emit Nothing) = s
+stream_after s (Deliver from octets delivery) = after_deliver s from octets delivery
+stream_after s (Work step) = worked s (step_of step)
+
+abbrev pub connected_after : Connected → StreamAct Octets → Connected
+connected_after c act = record { stream = stream_after c.stream act; wire = c.wire ++ sent_by act }
+
+abbrev pub streams_after : List (Option Connected) → Act Octets → List (Option Connected)
+streams_after streams (Open n pd role private None) = slice_set streams n (Some (connected pd))
+streams_after streams (Open n pd role private (Some refusal)) = streams
+streams_after streams (Stream n act) = slice_set streams n (Some (connected_after (unwrap_or (slice_index_or streams n None) (connected 0)) act))
+streams_after streams (Domain pd refused) = streams
+streams_after streams (Register pd base rights octets answer) = streams
+streams_after streams (Deregister stag answer) = streams
+
+-- the end behind an opening
+abbrev pub opened_end : EndState → ℕ → ℕ → Option OpenRefusal → EndState
+opened_end s n pd None = record s { streams = slice_set s.streams n (Some (connected pd)) }
+opened_end s n pd (Some refusal) = s
+
+abbrev pub end_after : EndState → Act Octets → EndState
+end_after s act = record { table = table_by s.table act; streams = streams_after s.streams act }
+
+abbrev pub after_entry : State → Entry Octets → State
+after_entry w e = with_end e.end (end_after (end_of e.end w) e.act) w
+
+-- the state that the entries leave
+abbrev pub state_after : State → List (Entry Octets) → State
+state_after w [] = w
+state_after w (e ∷ es) = state_after (after_entry w e) es
+
+-- each answer is the one that the rules give in the state that the entries before it leave
+abbrev pub Follows : State → List (Entry Octets) → Type 0
+Follows w [] = Unit {0}
+Follows w (e ∷ es) = Rule (end_of e.end w) (end_of (other e.end) w) e.act × Follows (after_entry w e) es

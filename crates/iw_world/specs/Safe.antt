@@ -1,0 +1,57 @@
+-- What holds of every trace of two ends, in words of the trace alone.
+use Rattle.std.specs.Prelude.{◌≡◌, ℕ, ◌+◌, ◌≤◌, List, ◌∷◌, ◌++◌, length, slice_get, slice_index_or, Some, Ok, option_map}
+use Rattle.iw_memory.specs.Laws.{Allows}
+use Rattle.iw_memory.specs.Table.{region_at}
+use Rattle.iw_stream.specs.Receiving.{ahead_of}
+use Rattle.iw_events.specs.declared.call.End.{End}
+use Rattle.iw_events.specs.declared.act.Act.{Act}
+use Rattle.iw_events.specs.declared.act.Act.TheVariants.{Deregister, Stream}
+use Rattle.iw_events.specs.declared.act.StreamAct.{StreamAct}
+use Rattle.iw_events.specs.declared.act.StreamAct.TheVariants.{Work}
+use Rattle.iw_events.specs.declared.act.Seen.TheVariants as seen
+use Rattle.iw_events.specs.declared.act.Entry.{Entry}
+use Rattle.iw_world.specs.Words.{Octets, other, acts, stream_acts, openings, posted, sends, received, table_after, buffers, due}
+
+abbrev pub IsPrefixOf : {A : Type 0} → List A → List A → Type 0
+IsPrefixOf {A} xs ys = (rest : List A) × (xs ++ rest ≡ ys)
+
+-- ---- receives
+
+-- at every moment, what an end has received on a stream is a prefix of the Sends posted at the other end
+abbrev pub InOrder : List (Entry Octets) → Type 0
+InOrder trace = (past future : List (Entry Octets)) → trace ≡ past ++ future → (x : End) (n : ℕ) →
+    IsPrefixOf (received (stream_acts n (acts (other x) past))) (sends (posted (stream_acts n (acts x past))))
+
+-- ---- octets that change
+
+-- the message sequence number names a buffer that is there, and the octets lie within it
+abbrev pub InBuffer : List ℕ → ℕ → ℕ → ℕ → ℕ → Type 0
+InBuffer lens first msn mo n = (len : ℕ) × (slice_get lens (ahead_of first msn) ≡ Some len) × (mo + n ≤ len)
+
+-- the domain that the stream was opened in
+abbrev pub domain_of : ℕ → List (Act Octets) → ℕ
+domain_of n done = slice_index_or (openings n done) 0 0
+
+-- what an act changed lay in a region that then allowed it, or in a receive buffer that was then posted
+abbrev pub WithinStream : List (Act Octets) → ℕ → StreamAct Octets → Type 0
+WithinStream before n (Work (seen.Placed right stag to octets)) = Allows (table_after before) (domain_of n before) stag to (length octets) right
+WithinStream before n (Work (seen.Buffered msn mo len)) = InBuffer (buffers (stream_acts n before)) (due (stream_acts n before)) msn mo len
+WithinStream before n _ = Unit {0}
+
+abbrev pub WithinAct : List (Act Octets) → Act Octets → Type 0
+WithinAct before (Stream n act) = WithinStream before n act
+WithinAct before _ = Unit {0}
+
+-- at every entry, at the moment before it
+abbrev pub Within : List (Entry Octets) → Type 0
+Within trace = (past : List (Entry Octets)) (e : Entry Octets) (future : List (Entry Octets)) → trace ≡ past ++ e ∷ future → WithinAct (acts e.end past) e.act
+
+-- ---- memory
+
+-- the octets that a deregistration hands back are those that the entries before it leave in the region
+abbrev pub ShowsRegion : List (Act Octets) → Act Octets → Type 0
+ShowsRegion before (Deregister stag (Ok octets)) = option_map (λ r. r.octets) (region_at (table_after before) stag) ≡ Some octets
+ShowsRegion before _ = Unit {0}
+
+abbrev pub ShowsMemory : List (Entry Octets) → Type 0
+ShowsMemory trace = (past : List (Entry Octets)) (e : Entry Octets) (future : List (Entry Octets)) → trace ≡ past ++ e ∷ future → ShowsRegion (acts e.end past) e.act

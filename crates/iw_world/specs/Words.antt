@@ -1,0 +1,191 @@
+-- What a trace says has happened, by its entries alone.
+use Rattle.std.specs.Prelude.{ℕ, ◌+◌, ◌-◌, ◌%◌, ◌^◌, ◌==◌, List, [], ◌∷◌, ◌++◌, length, drop, Bool, true, if◌then◌else◌, Option, Some, None, Ok, Err, fold}
+use Rattle.std.specs.List.{flat_map}
+use Rattle.iw_octets.specs.declared.stag.Stag.{Stag}
+use Rattle.iw_octets.specs.declared.message.Message.{Message}
+use Rattle.iw_octets.specs.declared.message.Message.TheVariants.{Write, Send}
+use Rattle.iw_memory.specs.Table.{Table, empty, put, added, registered, deregistered}
+use Rattle.iw_stream.specs.declared.answer.Delivery.TheVariants.{Kept, Dropped}
+use Rattle.iw_events.specs.declared.call.End.{End}
+use Rattle.iw_events.specs.declared.call.End.TheVariants.{A, B}
+use Rattle.iw_events.specs.declared.act.Act.{Act}
+use Rattle.iw_events.specs.declared.act.Act.TheVariants.{Domain, Register, Deregister, Open, Stream}
+use Rattle.iw_events.specs.declared.act.StreamAct.{StreamAct}
+use Rattle.iw_events.specs.declared.act.StreamAct.TheVariants.{Recv, Post, Emit, Deliver, Work}
+use Rattle.iw_events.specs.declared.act.Shown.TheVariants.{Frame, Nothing}
+use Rattle.iw_events.specs.declared.act.Seen.{Seen}
+use Rattle.iw_events.specs.declared.act.Seen.TheVariants as seen
+use Rattle.iw_events.specs.declared.act.Entry.{Entry}
+
+-- octets as lists, in every entry
+abbrev pub Octets : Type 0
+Octets = List ℕ
+
+abbrev pub other : End → End
+other A = B
+other B = A
+
+-- ---- the acts of one end, and those of one of its streams
+
+abbrev pub acts_if : End → End → Act Octets → List (Act Octets)
+acts_if A A act = act ∷ []
+acts_if B B act = act ∷ []
+acts_if A B act = []
+acts_if B A act = []
+
+unfoldable pub acts : End → List (Entry Octets) → List (Act Octets)
+acts x trace = flat_map (λ e. acts_if x e.end e.act) trace
+
+abbrev pub stream_acts_by : ℕ → Act Octets → List (StreamAct Octets)
+stream_acts_by n (Stream number act) = if number == n then act ∷ [] else []
+stream_acts_by n (Domain pd refused) = []
+stream_acts_by n (Register pd base rights octets answer) = []
+stream_acts_by n (Deregister stag answer) = []
+stream_acts_by n (Open number pd role private refused) = []
+
+unfoldable pub stream_acts : ℕ → List (Act Octets) → List (StreamAct Octets)
+stream_acts n done = flat_map (stream_acts_by n) done
+
+-- ---- a stream that was opened
+
+abbrev pub openings_by : ℕ → Act Octets → List ℕ
+openings_by n (Open number pd role private None) = if number == n then pd ∷ [] else []
+openings_by n (Open number pd role private (Some refusal)) = []
+openings_by n (Stream number act) = []
+openings_by n (Domain pd refused) = []
+openings_by n (Register pd base rights octets answer) = []
+openings_by n (Deregister stag answer) = []
+
+-- the domains that the stream was opened in: one, where it was opened
+unfoldable pub openings : ℕ → List (Act Octets) → List ℕ
+openings n done = flat_map (openings_by n) done
+
+-- ---- messages
+
+abbrev pub posted_by : StreamAct Octets → List (Message Octets)
+posted_by (Post message None) = message ∷ []
+posted_by (Post message (Some refusal)) = []
+posted_by (Recv len refused) = []
+posted_by (Emit shown) = []
+posted_by (Deliver from octets delivery) = []
+posted_by (Work step) = []
+
+-- the messages accepted, in order
+unfoldable pub posted : List (StreamAct Octets) → List (Message Octets)
+posted done = flat_map posted_by done
+
+-- a Send as it is posted, and as it is received
+pub record Sent : Type 0 where
+  pub octets : List ℕ
+  pub solicited : Bool
+  pub invalidate : Option Stag
+
+abbrev pub sends : List (Message Octets) → List Sent
+sends [] = []
+sends (Write stag to octets ∷ ms) = sends ms
+sends (Send octets solicited invalidate ∷ ms) = record { octets = octets; solicited = solicited; invalidate = invalidate } ∷ sends ms
+
+abbrev pub received_in : Seen Octets → List Sent
+received_in (seen.Received octets solicited invalidate) = record { octets = octets; solicited = solicited; invalidate = invalidate } ∷ []
+received_in (seen.Done kind) = []
+received_in (seen.Placed right stag to octets) = []
+received_in (seen.Buffered msn mo len) = []
+received_in seen.Passed = []
+received_in (seen.Fault fault) = []
+received_in seen.Idle = []
+
+abbrev pub received_by : StreamAct Octets → List Sent
+received_by (Work step) = received_in step
+received_by (Post message refused) = []
+received_by (Recv len refused) = []
+received_by (Emit shown) = []
+received_by (Deliver from octets delivery) = []
+
+-- the Sends received, in order
+unfoldable pub received : List (StreamAct Octets) → List Sent
+received done = flat_map received_by done
+
+-- ---- octets
+
+abbrev pub sent_by : StreamAct Octets → List ℕ
+sent_by (Emit (Frame from octets)) = octets
+sent_by (Emit Nothing) = []
+sent_by (Post message refused) = []
+sent_by (Recv len refused) = []
+sent_by (Deliver from octets delivery) = []
+sent_by (Work step) = []
+
+-- the octets emitted, in order
+unfoldable pub sent : List (StreamAct Octets) → List ℕ
+sent done = flat_map sent_by done
+
+abbrev pub came_after : List ℕ → StreamAct Octets → List ℕ
+came_after came (Deliver from octets Kept) = came ++ drop (length came - from) octets
+came_after came (Deliver from octets Dropped) = came
+came_after came (Emit shown) = came
+came_after came (Post message refused) = came
+came_after came (Recv len refused) = came
+came_after came (Work step) = came
+
+-- the octets that came, which stand without a gap: the first copy of each
+unfoldable pub came : List (StreamAct Octets) → List ℕ
+came done = fold came_after [] done
+
+-- ---- memory
+
+abbrev pub table_seen : Table → Seen Octets → Table
+table_seen table (seen.Placed right stag to octets) = put table stag to octets
+table_seen table (seen.Received octets solicited invalidate) = table
+table_seen table (seen.Done kind) = table
+table_seen table (seen.Buffered msn mo len) = table
+table_seen table seen.Passed = table
+table_seen table (seen.Fault fault) = table
+table_seen table seen.Idle = table
+
+abbrev pub table_by_stream : Table → StreamAct Octets → Table
+table_by_stream table (Work step) = table_seen table step
+table_by_stream table (Deliver from octets delivery) = table
+table_by_stream table (Emit shown) = table
+table_by_stream table (Post message refused) = table
+table_by_stream table (Recv len refused) = table
+
+abbrev pub table_by : Table → Act Octets → Table
+table_by table (Domain pd None) = added table pd
+table_by table (Domain pd (Some refusal)) = table
+table_by table (Register pd base rights octets (Ok stag)) = registered table pd (record { base = base; octets = octets; rights = rights; valid = true })
+table_by table (Register pd base rights octets (Err refusal)) = table
+table_by table (Deregister stag (Ok octets)) = deregistered table stag
+table_by table (Deregister stag (Err refusal)) = table
+table_by table (Open number pd role private refused) = table
+table_by table (Stream number act) = table_by_stream table act
+
+-- the regions of an end: what was registered, less what was deregistered, with what was placed
+unfoldable pub table_after : List (Act Octets) → Table
+table_after done = fold table_by empty done
+
+-- ---- receive buffers
+
+abbrev pub buffers_seen : List ℕ → Seen Octets → List ℕ
+buffers_seen lens (seen.Received octets solicited invalidate) = drop 1 lens
+buffers_seen lens (seen.Placed right stag to octets) = lens
+buffers_seen lens (seen.Done kind) = lens
+buffers_seen lens (seen.Buffered msn mo len) = lens
+buffers_seen lens seen.Passed = lens
+buffers_seen lens (seen.Fault fault) = lens
+buffers_seen lens seen.Idle = lens
+
+abbrev pub buffers_after : List ℕ → StreamAct Octets → List ℕ
+buffers_after lens (Recv len None) = lens ++ len ∷ []
+buffers_after lens (Recv len (Some refusal)) = lens
+buffers_after lens (Work step) = buffers_seen lens step
+buffers_after lens (Deliver from octets delivery) = lens
+buffers_after lens (Emit shown) = lens
+buffers_after lens (Post message refused) = lens
+
+-- the lengths of the receive buffers posted and not handed back, oldest first
+unfoldable pub buffers : List (StreamAct Octets) → List ℕ
+buffers done = fold buffers_after [] done
+
+-- the message sequence number of the oldest buffer
+abbrev pub due : List (StreamAct Octets) → ℕ
+due done = (1 + length (received done)) % 2 ^ 32

@@ -1,0 +1,216 @@
+ghost use Rattle.std.specs.Prelude.{◌≡◌, ◌≢◌, ◌+◌, ◌<◌, ◌≤◌, ◌^◌, ℕ, List, length, IfOk, IfErr};
+ghost use Rattle.iw_memory.specs.Table.{Table};
+ghost use Rattle.iw_events.specs.Events.{stream_call_of};
+
+use crate::copies::{known, shared, standing};
+use crate::fault::Failure;
+use bytes::Bytes;
+use iw_events::{Seen, Shown, StreamAct, StreamCall};
+use iw_memory::Memory;
+use iw_octets::Message;
+use iw_stream::{Emission, PostRefusal, RecvRefusal, Step, Stream};
+use std::alloc::{Allocator, Global};
+use std::marker::Model;
+
+/// A stream, and the octets that it emitted.
+#[derive(Drop)]
+pub(crate) struct Connection<A: Allocator = Global> {
+    stream: Stream<A>,
+    wire: Vec<u8, A>,
+}
+
+impl<A: Allocator> Model for Connection<A> {
+    ghost use Rattle.iw_world.specs.Rules.{Connected};
+
+    ghost Value = { Connected };
+
+    ghost view = { λ c. record { stream = c.stream; wire = c.wire.items } };
+}
+
+impl<A: Allocator + Copy> Connection<A> {
+    ghost use Rattle.iw_stream.specs.Stream.{post_refusal};
+    ghost use Rattle.iw_world.specs.Words.{table_by_stream};
+    ghost use Rattle.iw_world.specs.Rules.{connected, connected_after, StreamRule};
+    ghost use Rattle.iw_world.specs.Bounds.{IsShort, AsksOver};
+
+    pub(crate) fn new(alloc: A, domain: u8) -> Connection<A>
+        ensures { result ≡ connected domain }
+    {
+        Connection {
+            stream: Stream::new(alloc, domain),
+            wire: Vec::new(alloc),
+        }
+    }
+
+    /// The octets emitted.
+    pub(crate) fn wire(&self) -> &[u8]
+        ensures { result.now ≡ self.now.wire }
+    {
+        self.wire.as_slice()
+    }
+
+    /// Makes a call; peer is what the other end has emitted.
+    pub(crate) fn act(
+        &mut self,
+        alloc: A,
+        memory: &mut Memory<A>,
+        peer: &[u8],
+        call: &StreamCall<Bytes<A>>,
+    ) -> Result<StreamAct<Bytes<A>>, Failure>
+        requires short { IsShort self.old.stream }
+        requires peer { length peer.now ≤ 2 ^ 62 }
+        ensures rule { IfOk result (λ act. StreamRule memory.old peer.now self.old.stream act) }
+        ensures call { IfOk result (λ act. stream_call_of act ≡ call.now) }
+        ensures state { IfOk result (λ act. self.new ≡ connected_after self.old act) }
+        ensures memory { IfOk result (λ act. memory.new ≡ table_by_stream memory.old act) }
+        ensures not_sent { result ≡ Err Failure.NotSent → AsksOver peer.now call.now }
+        ensures stream { result ≢ Err Failure.NoSuchStream }
+    {
+        match call {
+            StreamCall::Recv { len } => self.recv(alloc, *len),
+            StreamCall::Post { message } => self.post(message),
+            StreamCall::Emit => self.emit(alloc),
+            StreamCall::Deliver { from, len } => self.deliver(alloc, peer, *from, *len),
+            StreamCall::Work => self.work(alloc, memory),
+        }
+    }
+
+    fn recv(&mut self, alloc: A, len: u32) -> Result<StreamAct<Bytes<A>>, Failure>
+        ensures rule { IfOk result (λ act. (table : Table) (peer : List ℕ) → StreamRule table peer self.old.stream act) }
+        ensures call { IfOk result (λ act. stream_call_of act ≡ StreamCall.Recv len) }
+        ensures state { IfOk result (λ act. self.new ≡ connected_after self.old act) }
+        ensures memory { IfOk result (λ act. (table : Table) → table_by_stream table act ≡ table) }
+        ensures failure { IfErr result (λ failure. failure ≡ Failure.NoMemory) }
+    {
+        let buffer = vec![in alloc; 0; len as usize]?;
+        match self.stream.post_recv(buffer) {
+            Ok(()) => Ok(StreamAct::Recv { len, refused: None }),
+            Err((RecvRefusal::NoMemory, _)) => Err(Failure::NoMemory),
+            Err((refusal, _)) => Ok(StreamAct::Recv {
+                len,
+                refused: Some(refusal),
+            }),
+        }
+    }
+
+    fn post(&mut self, message: &Message<Bytes<A>>) -> Result<StreamAct<Bytes<A>>, Failure>
+        ensures rule { IfOk result (λ act. (table : Table) (peer : List ℕ) → StreamRule table peer self.old.stream act) }
+        ensures call { IfOk result (λ act. stream_call_of act ≡ StreamCall.Post message.now) }
+        ensures state { IfOk result (λ act. self.new ≡ connected_after self.old act) }
+        ensures memory { IfOk result (λ act. (table : Table) → table_by_stream table act ≡ table) }
+        ensures failure { IfErr result (λ failure. failure ≡ Failure.NoMemory) }
+    {
+        known(message);
+        let refused = self.try_post(shared(message)?)?;
+        Ok(StreamAct::Post {
+            message: shared(message)?,
+            refused,
+        })
+    }
+
+    // Posts a message, and tells why it was refused, if it was.
+    fn try_post(&mut self, message: Message<Bytes<A>>) -> Result<Option<PostRefusal>, Failure>
+        ensures rule { IfOk result (λ refused. refused ≡ post_refusal self.old.stream message) }
+        ensures state { IfOk result (λ refused. self.new ≡ connected_after self.old (StreamAct.Post message refused)) }
+        ensures failure { IfErr result (λ failure. failure ≡ Failure.NoMemory) }
+    {
+        match self.stream.post(message) {
+            Ok(()) => Ok(None),
+            Err((PostRefusal::NoMemory, _)) => Err(Failure::NoMemory),
+            Err((refusal, _)) => Ok(Some(refusal)),
+        }
+    }
+
+    fn emit(&mut self, alloc: A) -> Result<StreamAct<Bytes<A>>, Failure>
+        requires { IsShort self.old.stream }
+        ensures rule { IfOk result (λ act. (table : Table) (peer : List ℕ) → StreamRule table peer self.old.stream act) }
+        ensures call { IfOk result (λ act. stream_call_of act ≡ StreamCall.Emit) }
+        ensures state { IfOk result (λ act. self.new ≡ connected_after self.old act) }
+        ensures memory { IfOk result (λ act. (table : Table) → table_by_stream table act ≡ table) }
+        ensures failure { IfErr result (λ failure. failure ≡ Failure.NoMemory) }
+    {
+        let before = self.wire.len();
+        match self.stream.emit(&mut self.wire)? {
+            Emission::Nothing => Ok(StreamAct::Emit(Shown::Nothing)),
+            Emission::Frame { from, len: _ } => {
+                let octets = Bytes::copy_from_slice(alloc, &self.wire[before..])?;
+                Ok(StreamAct::Emit(Shown::Frame { from, octets }))
+            }
+        }
+    }
+
+    fn deliver(
+        &mut self,
+        alloc: A,
+        peer: &[u8],
+        from: u64,
+        len: u64,
+    ) -> Result<StreamAct<Bytes<A>>, Failure>
+        requires short { IsShort self.old.stream }
+        requires peer { length peer.now ≤ 2 ^ 62 }
+        ensures rule { IfOk result (λ act. (table : Table) → StreamRule table peer.now self.old.stream act) }
+        ensures call { IfOk result (λ act. stream_call_of act ≡ StreamCall.Deliver from len) }
+        ensures state { IfOk result (λ act. self.new ≡ connected_after self.old act) }
+        ensures memory { IfOk result (λ act. (table : Table) → table_by_stream table act ≡ table) }
+        ensures not_sent { result ≡ Err Failure.NotSent → length peer.now < from + len }
+        ensures stream { result ≢ Err Failure.NoSuchStream }
+    {
+        let emitted = peer.len() as u64;
+        if from > emitted || len > emitted - from {
+            return Err(Failure::NotSent);
+        }
+        let start = from as usize;
+        let octets = &peer[start..start + len as usize];
+        let copy = Bytes::copy_from_slice(alloc, octets)?;
+        let delivery = self.stream.deliver(from, octets)?;
+        Ok(StreamAct::Deliver {
+            from,
+            octets: copy,
+            delivery,
+        })
+    }
+
+    #[tactic(auto, using(crate::proofs::Seeing::table_of_seen))]
+    fn work(&mut self, alloc: A, memory: &mut Memory<A>) -> Result<StreamAct<Bytes<A>>, Failure>
+        requires { IsShort self.old.stream }
+        ensures rule { IfOk result (λ act. (peer : List ℕ) → StreamRule memory.old peer self.old.stream act) }
+        ensures call { IfOk result (λ act. stream_call_of act ≡ StreamCall.Work) }
+        ensures state { IfOk result (λ act. self.new ≡ connected_after self.old act) }
+        ensures memory { IfOk result (λ act. memory.new ≡ table_by_stream memory.old act) }
+        ensures failure { IfErr result (λ failure. failure ≡ Failure.NoMemory) }
+    {
+        let seen = match self.stream.work(memory) {
+            Step::Done(kind) => Seen::Done(kind),
+            Step::Placed {
+                right,
+                stag,
+                to,
+                len,
+            } => Seen::Placed {
+                right,
+                stag,
+                to,
+                octets: standing(alloc, memory, stag, to, len)?,
+            },
+            Step::Buffered { msn, mo, len } => Seen::Buffered { msn, mo, len },
+            Step::Passed => Seen::Passed,
+            Step::Received {
+                buffer,
+                len,
+                solicited,
+                invalidate,
+            } => {
+                let mut octets = Bytes::from_vec(buffer.into_vec())?;
+                octets.truncate(len);
+                Seen::Received {
+                    octets,
+                    solicited,
+                    invalidate,
+                }
+            }
+            Step::Fault(fault) => Seen::Fault(fault),
+            Step::Idle => Seen::Idle,
+        };
+        Ok(StreamAct::Work(seen))
+    }
+}

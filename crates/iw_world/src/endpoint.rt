@@ -1,0 +1,272 @@
+ghost use Rattle.std.specs.Prelude.{◌≡◌, ◌≤◌, ◌^◌, true, false, length, is_some, unwrap_or, IfOk, IfErr, Some, None, slice_index_or};
+ghost use Rattle.iw_world.specs.Words.{table_by_stream};
+ghost use Rattle.iw_world.specs.Rules.{connected, connected_after, StreamRule, needs_peer};
+ghost use Rattle.iw_world.specs.Bounds.{IsShort, AsksOver};
+ghost use Rattle.std.specs.Option.{option_copied};
+ghost use Rattle.iw_events.specs.Events.{call_of, stream_call_of};
+
+use crate::connection::Connection;
+use crate::fault::Failure;
+use crate::first_path::is_stream_number;
+use bytes::Bytes;
+use iw_events::{Act, Call, OpenRefusal, StreamAct, StreamCall};
+use iw_memory::{Memory, RegisterRefusal, Rights, Stag};
+use std::alloc::{AllocError, Allocator, Global};
+use std::marker::Model;
+
+const STREAM_NUMBERS: usize = 64;
+
+/// One end: its regions, and its streams by number.
+#[derive(Drop)]
+pub(crate) struct Endpoint<A: Allocator = Global> {
+    memory: Memory<A>,
+    streams: Vec<Option<Connection<A>>, A>,
+}
+
+impl<A: Allocator> Model for Endpoint<A> {
+    ghost use Rattle.iw_world.specs.Rules.{EndState};
+
+    ghost Value = { EndState };
+
+    ghost view = { λ e. record { table = e.memory; streams = e.streams.items } };
+}
+
+impl<A: Allocator + Copy> Endpoint<A> {
+    ghost use Rattle.iw_world.specs.Rules.{fresh, end_after, Rule, has_stream, stream_at, register_answer, deregister_answer, open_refusal, opened_end};
+    ghost use Rattle.iw_world.specs.Bounds.{IsShortEnd, LacksStream, AsksTooMuch};
+
+    pub(crate) fn new(alloc: A) -> Result<Endpoint<A>, AllocError>
+        ensures { IfOk result (λ endpoint. endpoint ≡ fresh) }
+    {
+        let mut streams = Vec::with_capacity(alloc, STREAM_NUMBERS)?;
+        for _i in 0..64usize {
+            streams.push(None)?;
+        }
+        Ok(Endpoint {
+            memory: Memory::new(alloc)?,
+            streams,
+        })
+    }
+
+    // The stream that was opened under this number.
+    fn stream(&self, number: u8) -> Option<&Connection<A>>
+        ensures { option_copied result ≡ slice_index_or self.now.streams number None }
+    {
+        self.streams.get(number as usize)?.as_ref()
+    }
+
+    // Whether a stream was opened under this number.
+    fn has_stream(&self, number: u8) -> bool
+        ensures { result ≡ has_stream self.now number }
+    {
+        self.stream(number).is_some()
+    }
+
+    // The octets that a stream emitted: none where it was not opened.
+    fn wire(&self, number: u8) -> &[u8]
+        ensures { result.now ≡ (stream_at self.now number).wire }
+    {
+        match self.stream(number) {
+            Some(connection) => connection.wire(),
+            None => &[],
+        }
+    }
+
+    /// Makes a call; peer is the other end.
+    pub(crate) fn act(
+        &mut self,
+        alloc: A,
+        peer: &Endpoint<A>,
+        call: &Call<Bytes<A>>,
+    ) -> Result<Act<Bytes<A>>, Failure>
+        requires short { IsShortEnd self.old }
+        requires peer { IsShortEnd peer.now }
+        ensures rule { IfOk result (λ act. Rule self.old peer.now act) }
+        ensures call { IfOk result (λ act. call_of act ≡ call.now) }
+        ensures state { IfOk result (λ act. self.new ≡ end_after self.old act) }
+        ensures no_stream { result ≡ Err Failure.NoSuchStream → LacksStream self.old peer.now call.now }
+        ensures not_sent { result ≡ Err Failure.NotSent → AsksTooMuch self.old peer.now call.now }
+    {
+        match call {
+            Call::Domain { pd } => Ok(Act::Domain {
+                pd: *pd,
+                refused: self.memory.add_domain(*pd).err(),
+            }),
+            Call::Register {
+                pd,
+                base,
+                rights,
+                octets,
+            } => self.register(alloc, *pd, *base, *rights, octets),
+            Call::Deregister { stag } => self.deregister(*stag),
+            Call::Open {
+                stream,
+                pd,
+                role,
+                private,
+            } => {
+                let private = private.clone()?;
+                let refused = self.open(alloc, *stream, *pd);
+                Ok(Act::Open {
+                    stream: *stream,
+                    pd: *pd,
+                    role: *role,
+                    private,
+                    refused,
+                })
+            }
+            Call::Stream { stream, call } => {
+                let act = self.act_on(alloc, peer, *stream, call)?;
+                Ok(Act::Stream {
+                    stream: *stream,
+                    act,
+                })
+            }
+        }
+    }
+
+    fn register(
+        &mut self,
+        alloc: A,
+        pd: u8,
+        base: u64,
+        rights: Rights,
+        octets: &Bytes<A>,
+    ) -> Result<Act<Bytes<A>>, Failure>
+        ensures rule { IfOk result (λ act. Rule self.old self.old act) }
+        ensures call { IfOk result (λ act. call_of act ≡ Call.Register pd base rights octets.now) }
+        ensures state { IfOk result (λ act. self.new ≡ end_after self.old act) }
+        ensures failure { IfErr result (λ failure. failure ≡ Failure.NoMemory) }
+    {
+        let copy = Vec::from_slice(alloc, octets.as_slice())?;
+        let answer = self.try_register(pd, base, copy, rights)?;
+        Ok(Act::Register {
+            pd,
+            base,
+            rights,
+            octets: octets.clone()?,
+            answer,
+        })
+    }
+
+    // Registers octets: under which STag, or why not.
+    fn try_register(
+        &mut self,
+        pd: u8,
+        base: u64,
+        octets: Vec<u8, A>,
+        rights: Rights,
+    ) -> Result<Result<Stag, RegisterRefusal>, Failure>
+        ensures rule { IfOk result (λ answer. answer ≡ register_answer self.old.table pd base (length octets.items)) }
+        ensures state { IfOk result (λ answer. self.new ≡ end_after self.old (Act.Register pd base rights octets.items answer)) }
+        ensures failure { IfErr result (λ failure. failure ≡ Failure.NoMemory) }
+    {
+        match self.memory.register(pd, base, octets, rights) {
+            Ok(stag) => Ok(Ok(stag)),
+            Err((RegisterRefusal::NoMemory, _)) => Err(Failure::NoMemory),
+            Err((refusal, _)) => Ok(Err(refusal)),
+        }
+    }
+
+    fn deregister(&mut self, stag: Stag) -> Result<Act<Bytes<A>>, Failure>
+        ensures rule { IfOk result (λ act. Rule self.old self.old act) }
+        ensures call { IfOk result (λ act. call_of act ≡ Call.Deregister stag) }
+        ensures state { IfOk result (λ act. self.new ≡ end_after self.old act) }
+        ensures failure { IfErr result (λ failure. failure ≡ Failure.NoMemory) }
+    {
+        match self.memory.deregister(stag) {
+            Ok(octets) => {
+                let octets = Bytes::from_vec(octets)?;
+                Ok(Act::Deregister {
+                    stag,
+                    answer: Ok(octets),
+                })
+            }
+            Err(missing) => Ok(Act::Deregister {
+                stag,
+                answer: Err(missing),
+            }),
+        }
+    }
+
+    // Opens a stream in a domain, or tells why not.
+    fn open(&mut self, alloc: A, number: u8, pd: u8) -> Option<OpenRefusal>
+        ensures rule { result ≡ open_refusal self.old number pd }
+        ensures state { self.new ≡ opened_end self.old number pd result }
+    {
+        if self.has_stream(number) {
+            return Some(OpenRefusal::NumberTaken);
+        }
+        if !is_stream_number(number) {
+            return Some(OpenRefusal::BadNumber);
+        }
+        if !self.memory.has_domain(pd) {
+            return Some(OpenRefusal::NoDomain);
+        }
+        if let Some(place) = self.streams.get_mut(number as usize) {
+            *place = Some(Connection::new(alloc, pd));
+        }
+        None
+    }
+
+    // Calls a stream.
+    fn act_on(
+        &mut self,
+        alloc: A,
+        peer: &Endpoint<A>,
+        number: u8,
+        call: &StreamCall<Bytes<A>>,
+    ) -> Result<StreamAct<Bytes<A>>, Failure>
+        requires short { IsShortEnd self.old }
+        requires peer { IsShortEnd peer.now }
+        ensures rule { IfOk result (λ act. Rule self.old peer.now (Act.Stream number act)) }
+        ensures call { IfOk result (λ act. stream_call_of act ≡ call.now) }
+        ensures state { IfOk result (λ act. self.new ≡ end_after self.old (Act.Stream number act)) }
+        ensures no_stream { result ≡ Err Failure.NoSuchStream → LacksStream self.old peer.now (Call.Stream number call.now) }
+        ensures not_sent { result ≡ Err Failure.NotSent → AsksTooMuch self.old peer.now (Call.Stream number call.now) }
+    {
+        if needs_peer(call) && !peer.has_stream(number) {
+            return Err(Failure::NoSuchStream);
+        }
+        let wire = peer.wire(number);
+        match self.streams.get_mut(number as usize) {
+            Some(place) => act_at(place, alloc, &mut self.memory, wire, call),
+            None => Err(Failure::NoSuchStream),
+        }
+    }
+}
+
+// Whether the call needs the stream at the other end too.
+fn needs_peer<A: Allocator>(call: &StreamCall<Bytes<A>>) -> bool
+    ensures { result ≡ needs_peer call.now }
+{
+    match call {
+        StreamCall::Deliver { .. } => true,
+        StreamCall::Recv { .. } | StreamCall::Post { .. } | StreamCall::Emit | StreamCall::Work =>
+            false,
+    }
+}
+
+// Calls the stream in this place, if one was opened there; wire is what the other end has emitted on it.
+fn act_at<A: Allocator + Copy>(
+    place: &mut Option<Connection<A>>,
+    alloc: A,
+    memory: &mut Memory<A>,
+    wire: &[u8],
+    call: &StreamCall<Bytes<A>>,
+) -> Result<StreamAct<Bytes<A>>, Failure>
+    requires short { IsShort (unwrap_or place.old (connected 0)).stream }
+    requires wire { length wire.now ≤ 2 ^ 62 }
+    ensures there { IfOk result (λ act. is_some place.old ≡ true) }
+    ensures rule { IfOk result (λ act. StreamRule memory.old wire.now (unwrap_or place.old (connected 0)).stream act) }
+    ensures call { IfOk result (λ act. stream_call_of act ≡ call.now) }
+    ensures state { IfOk result (λ act. place.new ≡ Some (connected_after (unwrap_or place.old (connected 0)) act)) }
+    ensures memory { IfOk result (λ act. memory.new ≡ table_by_stream memory.old act) }
+    ensures no_stream { result ≡ Err Failure.NoSuchStream → is_some place.old ≡ false }
+    ensures not_sent { result ≡ Err Failure.NotSent → (is_some place.old ≡ true) × AsksOver wire.now call.now }
+{
+    match place {
+        Some(connection) => connection.act(alloc, memory, wire, call),
+        None => Err(Failure::NoSuchStream),
+    }
+}

@@ -1,0 +1,12 @@
+//! Two ends, runs of events at them, and what holds of every trace.
+#![tactic(auto)]
+
+mod connection;
+mod copies;
+mod endpoint;
+mod fault;
+mod first_path;
+mod world;
+
+pub use fault::WorldFault;
+pub use world::World;

@@ -1,0 +1,98 @@
+//! Both ends, and runs of events.
+
+ghost use Rattle.std.specs.Prelude.{◌≡◌, ℕ, ◌+◌, ◌<◌, ◌≤◌, ◌^◌, map, length, IfOk, IfErr};
+ghost use Rattle.iw_events.specs.Events.{event_of};
+ghost use Rattle.iw_world.specs.Words.{other};
+ghost use Rattle.iw_world.specs.Rules.{start, after_entry, end_of, Rule, Follows};
+ghost use Rattle.iw_world.specs.Safe.{InOrder, Within, ShowsMemory};
+ghost use Rattle.iw_world.specs.Bounds.{IsShortState, LacksStream, AsksTooMuch};
+ghost use Rattle.iw_world.specs.Stops.{StopsAt};
+
+use crate::endpoint::Endpoint;
+use crate::fault::{Failure, WorldFault};
+use bytes::Bytes;
+use iw_events::{End, Entry, Event};
+use std::alloc::{AllocError, Allocator, Global};
+use std::marker::Model;
+
+/// Two ends, whose streams of one number are connected.
+#[derive(Drop)]
+pub struct World<A: Allocator = Global> {
+    a: Endpoint<A>,
+    b: Endpoint<A>,
+    alloc: A,
+}
+
+impl<A: Allocator> Model for World<A> {
+    ghost use Rattle.iw_world.specs.Rules.{State};
+
+    ghost Value = { State };
+
+    ghost view = { λ w. record { a = w.a; b = w.b } };
+}
+
+impl<A: Allocator + Copy> World<A> {
+    fn new(alloc: A) -> Result<World<A>, AllocError>
+        ensures { IfOk result (λ world. world ≡ start) }
+    {
+        Ok(World {
+            a: Endpoint::new(alloc)?,
+            b: Endpoint::new(alloc)?,
+            alloc,
+        })
+    }
+
+    // Makes one event happen.
+    fn happen(&mut self, event: &Event<Bytes<A>>) -> Result<Entry<Bytes<A>>, Failure>
+        requires { IsShortState self.old }
+        ensures rule { IfOk result (λ e. Rule (end_of e.end self.old) (end_of (other e.end) self.old) e.act) }
+        ensures event { IfOk result (λ e. event_of e ≡ event.now) }
+        ensures state { IfOk result (λ e. self.new ≡ after_entry self.old e) }
+        ensures no_stream { result ≡ Err Failure.NoSuchStream → LacksStream (end_of event.now.end self.old) (end_of (other event.now.end) self.old) event.now.call }
+        ensures not_sent { result ≡ Err Failure.NotSent → AsksTooMuch (end_of event.now.end self.old) (end_of (other event.now.end) self.old) event.now.call }
+    {
+        match event.end {
+            End::A => {
+                let act = self.a.act(self.alloc, &self.b, &event.call)?;
+                Ok(Entry { end: End::A, act })
+            }
+            End::B => {
+                let act = self.b.act(self.alloc, &self.a, &event.call)?;
+                Ok(Entry { end: End::B, act })
+            }
+        }
+    }
+
+    /// The trace of these events, in order, at two ends that start with no domain, no region and no stream.
+    ///
+    /// Every event has one entry; a refused call is an entry too. Where an event names a stream that was never opened,
+    /// or delivers octets that were not emitted, there is no trace, and its number is told.
+    pub fn run(alloc: A, events: &[Event<Bytes<A>>]) -> Result<Vec<Entry<Bytes<A>>, A>, WorldFault>
+        requires { length events.now ≤ 2 ^ 45 }
+        ensures events { IfOk result (λ trace. map event_of trace.items ≡ events.now) }
+        ensures follows { IfOk result (λ trace. Follows start trace.items) }
+        // What was received is a prefix of what was sent.
+        ensures in_order { IfOk result (λ trace. InOrder trace.items) }
+        // What changed lay where it was allowed.
+        ensures within { IfOk result (λ trace. Within trace.items) }
+        // What is shown of the regions is what the entries made of them.
+        ensures memory { IfOk result (λ trace. ShowsMemory trace.items) }
+        // Which event has no entry, and why.
+        ensures refused { IfErr result (λ fault. StopsAt events.now fault) }
+    {
+        let mut world = World::new(alloc)?;
+        let mut trace = Vec::new(alloc);
+        for event in events {
+            let entry = match world.happen(event) {
+                Ok(entry) => entry,
+                Err(Failure::NotSent) => return Err(WorldFault::NotSent(trace.len() + 1)),
+                Err(Failure::NoSuchStream) => {
+                    return Err(WorldFault::NoSuchStream(trace.len() + 1));
+                }
+                Err(Failure::NoMemory) => return Err(WorldFault::NoMemory),
+            };
+            trace.push(entry)?;
+        }
+        Ok(trace)
+    }
+}
