@@ -1,0 +1,5 @@
+pub mod InPieces
+pub mod Digits
+pub mod Copies
+pub mod Lines
+pub mod LineText

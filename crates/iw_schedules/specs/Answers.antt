@@ -1,0 +1,139 @@
+-- The words in which calls are answered.
+use Rattle.std.specs.Prelude.{ℕ, Bool, true, false, List, [], ◌∷◌, Option, Some, None, Result, Ok, Err, codes}
+use Rattle.std.specs.Option.{option_map}
+use Rattle.std.specs.Fmt.{decimal}
+use Rattle.hex.specs.Hex.{encode_lower}
+use Rattle.iw_octets.specs.declared.stag.Stag.{Stag}
+use Rattle.iw_octets.specs.Stag.{spelled}
+use Rattle.iw_octets.specs.declared.fault.Fault.{Fault}
+use Rattle.iw_memory.specs.declared.refusal.DomainRefusal.{DomainRefusal}
+use Rattle.iw_memory.specs.declared.refusal.DomainRefusal.TheVariants as domains
+use Rattle.iw_memory.specs.declared.refusal.RegisterRefusal.{RegisterRefusal}
+use Rattle.iw_memory.specs.declared.refusal.RegisterRefusal.TheVariants as registers
+use Rattle.iw_memory.specs.declared.rights.Right.{Right}
+use Rattle.iw_memory.specs.declared.rights.Right.TheVariants as rights
+use Rattle.iw_stream.specs.declared.answer.Kind.{Kind}
+use Rattle.iw_stream.specs.declared.answer.Kind.TheVariants as kinds
+use Rattle.iw_stream.specs.declared.answer.PostRefusal.{PostRefusal}
+use Rattle.iw_stream.specs.declared.answer.PostRefusal.TheVariants as posts
+use Rattle.iw_stream.specs.declared.answer.RecvRefusal.{RecvRefusal}
+use Rattle.iw_stream.specs.declared.answer.RecvRefusal.TheVariants as recvs
+use Rattle.iw_stream.specs.declared.answer.Delivery.{Delivery}
+use Rattle.iw_stream.specs.declared.answer.Delivery.TheVariants as deliveries
+use Rattle.iw_events.specs.declared.act.OpenRefusal.{OpenRefusal}
+use Rattle.iw_events.specs.declared.act.OpenRefusal.TheVariants as opens
+use Rattle.iw_events.specs.declared.act.Shown.{Shown}
+use Rattle.iw_events.specs.declared.act.Shown.TheVariants as shown
+use Rattle.iw_events.specs.declared.act.Seen.{Seen}
+use Rattle.iw_events.specs.declared.act.Seen.TheVariants as seen
+
+abbrev pub Words : Type 0
+Words = List (List ℕ)
+
+-- ---- octets and STags, in lower case
+
+abbrev pub octets_text : List ℕ → List ℕ
+octets_text [] = codes "-"
+octets_text (octet ∷ octets) = encode_lower (octet ∷ octets)
+
+abbrev pub stag_text : Stag → List ℕ
+stag_text stag = encode_lower (spelled stag)
+
+abbrev pub optional_stag_text : Option Stag → List ℕ
+optional_stag_text None = codes "-"
+optional_stag_text (Some stag) = stag_text stag
+
+-- ---- refusals: each call's own are numbered
+
+abbrev pub Numbered : Type 0
+Numbered = ℕ × List ℕ
+
+abbrev pub domain_refusal : DomainRefusal → Numbered
+domain_refusal domains.BadDomain = (1, codes "BadDomain")
+domain_refusal domains.DomainTaken = (2, codes "DomainTaken")
+domain_refusal domains.NoMemory = (3, codes "NoMemory")
+
+abbrev pub register_refusal : RegisterRefusal → Numbered
+register_refusal registers.NoDomain = (1, codes "NoDomain")
+register_refusal registers.DomainFull = (2, codes "DomainFull")
+register_refusal registers.TooLong = (3, codes "TooLong")
+register_refusal registers.BaseWrap = (4, codes "BaseWrap")
+register_refusal registers.NoMemory = (5, codes "NoMemory")
+
+abbrev pub no_region : Numbered
+no_region = (1, codes "NoRegion")
+
+abbrev pub open_refusal : OpenRefusal → Numbered
+open_refusal opens.NumberTaken = (1, codes "NumberTaken")
+open_refusal opens.BadNumber = (2, codes "BadNumber")
+open_refusal opens.NoDomain = (3, codes "NoDomain")
+open_refusal opens.NoMemory = (4, codes "NoMemory")
+
+abbrev pub recv_refusal : RecvRefusal → Numbered
+recv_refusal recvs.Full = (1, codes "Full")
+recv_refusal recvs.NoMemory = (2, codes "NoMemory")
+recv_refusal recvs.Ended = (3, codes "Ended")
+
+abbrev pub post_refusal : PostRefusal → Numbered
+post_refusal posts.Full = (1, codes "Full")
+post_refusal posts.TooLong = (2, codes "TooLong")
+post_refusal posts.NotOpen = (3, codes "NotOpen")
+post_refusal posts.NoMemory = (4, codes "NoMemory")
+
+abbrev pub refused : Numbered → Words
+refused refusal = codes "refused" ∷ decimal refusal.0 ∷ refusal.1 ∷ []
+
+abbrev pub ok_or_refused : Option Numbered → Words
+ok_or_refused None = codes "ok" ∷ []
+ok_or_refused (Some refusal) = refused refusal
+
+-- ---- what calls of a stream answer
+
+abbrev pub kind_text : Kind → List ℕ
+kind_text kinds.Write = codes "write"
+kind_text kinds.Send = codes "send"
+
+-- the use that was made of a region
+abbrev pub right_text : Right → List ℕ
+right_text rights.Write = codes "write"
+right_text rights.Read = codes "read"
+right_text rights.Sink = codes "sink"
+
+-- the kind of a Send: whether it is solicited, and whether it invalidates a region
+abbrev pub send_text : Bool → Option Stag → List ℕ
+send_text false None = codes "plain"
+send_text true None = codes "solicited"
+send_text false (Some stag) = codes "invalidate"
+send_text true (Some stag) = codes "both"
+
+abbrev pub delivery_text : Delivery → List ℕ
+delivery_text deliveries.Kept = codes "kept"
+delivery_text deliveries.Dropped = codes "dropped"
+
+abbrev pub fault_words : Fault → Words
+fault_words fault = codes "fault" ∷ decimal fault.layer ∷ decimal fault.kind ∷ decimal fault.code ∷ []
+
+abbrev pub shown_words : Shown (List ℕ) → Words
+shown_words (shown.Frame from octets) = codes "frame" ∷ decimal from ∷ octets_text octets ∷ []
+shown_words shown.Nothing = codes "nothing" ∷ []
+
+abbrev pub done_words : Kind → Words
+done_words kind = codes "done" ∷ kind_text kind ∷ []
+
+abbrev pub placed_words : Right → Stag → ℕ → List ℕ → Words
+placed_words right stag to octets = codes "placed" ∷ right_text right ∷ stag_text stag ∷ decimal to ∷ octets_text octets ∷ []
+
+abbrev pub buffered_words : ℕ → ℕ → ℕ → Words
+buffered_words msn mo len = codes "buffered" ∷ decimal msn ∷ decimal mo ∷ decimal len ∷ []
+
+abbrev pub received_words : List ℕ → Bool → Option Stag → Words
+received_words octets solicited invalidate = codes "received" ∷ octets_text octets ∷ send_text solicited invalidate ∷ optional_stag_text invalidate ∷ []
+
+abbrev pub seen_words : Seen (List ℕ) → Words
+seen_words (seen.Done kind) = done_words kind
+seen_words (seen.Placed right stag to octets) = placed_words right stag to octets
+seen_words (seen.Buffered msn mo len) = buffered_words msn mo len
+seen_words seen.Passed = codes "passed" ∷ []
+seen_words (seen.Received octets solicited invalidate) = received_words octets solicited invalidate
+seen_words (seen.Fault fault) = fault_words fault
+seen_words seen.Idle = codes "idle" ∷ []

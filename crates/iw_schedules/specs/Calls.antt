@@ -1,0 +1,138 @@
+-- The words of a line, taken one after the other: which events the line stands for.
+use Rattle.std.specs.Prelude.{ℕ, ◌-◌, ◌^◌, List, [], ◌∷◌, map, replicate, None, false, Result, Ok, Err}
+use Rattle.iw_octets.specs.declared.message.Message.TheVariants as messages
+use Rattle.iw_events.specs.declared.call.End.{End}
+use Rattle.iw_events.specs.declared.call.Event.{Event}
+use Rattle.iw_events.specs.declared.call.Call.{Call}
+use Rattle.iw_events.specs.declared.call.Call.TheVariants.{Domain, Register, Deregister, Open, Stream}
+use Rattle.iw_events.specs.declared.call.StreamCall.{StreamCall}
+use Rattle.iw_events.specs.declared.call.StreamCall.TheVariants.{Recv, Post, Emit, Deliver, Work}
+use Rattle.iw_schedules.specs.declared.fault.FaultName.{FaultName}
+use Rattle.iw_schedules.specs.declared.fault.FaultName.TheVariants.{BadWord}
+use Rattle.iw_schedules.specs.declared.kinds.TheConstants.{MOST_OCTETS}
+use Rattle.iw_schedules.specs.declared.words.CallWord.{CallWord}
+use Rattle.iw_schedules.specs.declared.words.CallWord.TheVariants as named
+use Rattle.iw_schedules.specs.declared.calls.Calls.{Calls}
+use Rattle.iw_schedules.specs.declared.calls.Calls.TheVariants.{One, Many}
+use Rattle.iw_schedules.specs.declared.calls.Step.{Step}
+use Rattle.iw_schedules.specs.declared.calls.Step.TheVariants as steps
+use Rattle.iw_schedules.specs.Reading.{◌>>=◌}
+use Rattle.iw_schedules.specs.Kinds.{number_word, times_word, stag_word, octets_word, private_word}
+use Rattle.iw_schedules.specs.FirstPath.{role_word, kind_word, no_stag_word, rights_word, options_word}
+use Rattle.iw_schedules.specs.Words.{end_word, call_word}
+
+-- a value, and the words behind it
+abbrev pub Taken : Type 0 → Type 0
+Taken X = Result (X × List (List ℕ)) FaultName
+
+-- a word that is missing is a bad one
+abbrev pub next_word : List (List ℕ) → Taken (List ℕ)
+next_word [] = Err BadWord
+next_word (word ∷ words) = Ok (word, words)
+
+-- the next word, which is of this kind
+abbrev pub field : {X : Type 0} → (List ℕ → Result X FaultName) → List (List ℕ) → Taken X
+field kind words = next_word words >>= λ next. kind next.0 >>= λ x. Ok (x, next.1)
+
+abbrev pub octet_number : List ℕ → Result ℕ FaultName
+octet_number word = number_word 255 word
+
+abbrev pub long_number : List ℕ → Result ℕ FaultName
+long_number word = number_word (2 ^ 64 - 1) word
+
+-- how often, and once where the word is left out
+abbrev pub times_at : List (List ℕ) → Taken ℕ
+times_at [] = Ok (1, [])
+times_at (word ∷ words) = times_word word >>= λ n. Ok (n, words)
+
+abbrev pub one : Call (List ℕ) → List (Call (List ℕ))
+one call = call ∷ []
+
+unfoldable pub domain_at : List (List ℕ) → Taken (List (Call (List ℕ)))
+domain_at words = do
+  pd ← field octet_number words
+  Ok (one (Domain pd.0), pd.1)
+
+unfoldable pub register_at : List (List ℕ) → Taken (List (Call (List ℕ)))
+register_at words = do
+  pd ← field octet_number words
+  base ← field long_number pd.1
+  rights ← field rights_word base.1
+  octets ← field octets_word rights.1
+  Ok (one (Register pd.0 base.0 rights.0 octets.0), octets.1)
+
+unfoldable pub deregister_at : List (List ℕ) → Taken (List (Call (List ℕ)))
+deregister_at words = do
+  stag ← field stag_word words
+  Ok (one (Deregister stag.0), stag.1)
+
+unfoldable pub open_at : List (List ℕ) → Taken (List (Call (List ℕ)))
+open_at words = do
+  stream ← field octet_number words
+  pd ← field octet_number stream.1
+  role ← field role_word pd.1
+  options ← field options_word role.1
+  private ← field private_word options.1
+  Ok (one (Open stream.0 pd.0 role.0 private.0), private.1)
+
+unfoldable pub recv_at : List (List ℕ) → Taken (List (Call (List ℕ)))
+recv_at words = do
+  stream ← field octet_number words
+  len ← field (number_word MOST_OCTETS) stream.1
+  Ok (one (Stream stream.0 (Recv len.0)), len.1)
+
+unfoldable pub send_at : List (List ℕ) → Taken (List (Call (List ℕ)))
+send_at words = do
+  stream ← field octet_number words
+  kind ← field kind_word stream.1
+  stag ← field no_stag_word kind.1
+  octets ← field octets_word stag.1
+  Ok (one (Stream stream.0 (Post (messages.Send octets.0 false None))), octets.1)
+
+unfoldable pub write_at : List (List ℕ) → Taken (List (Call (List ℕ)))
+write_at words = do
+  stream ← field octet_number words
+  stag ← field stag_word stream.1
+  to ← field long_number stag.1
+  octets ← field octets_word to.1
+  Ok (one (Stream stream.0 (Post (messages.Write stag.0 to.0 octets.0))), octets.1)
+
+abbrev pub step_call : Step → StreamCall (List ℕ)
+step_call steps.Emit = Emit
+step_call steps.Work = Work
+
+-- equal calls, as often as the line says
+unfoldable pub steps_at : Step → List (List ℕ) → Taken (List (Call (List ℕ)))
+steps_at step words = do
+  stream ← field octet_number words
+  times ← times_at stream.1
+  Ok (replicate times.0 (Stream stream.0 (step_call step)), times.1)
+
+unfoldable pub deliver_at : List (List ℕ) → Taken (List (Call (List ℕ)))
+deliver_at words = do
+  stream ← field octet_number words
+  from ← field long_number stream.1
+  len ← field long_number from.1
+  Ok (one (Stream stream.0 (Deliver from.0 len.0)), len.1)
+
+-- what stands behind each word that names a call
+abbrev pub behind : CallWord → List (List ℕ) → Taken (List (Call (List ℕ)))
+behind named.Domain words = domain_at words
+behind named.Register words = register_at words
+behind named.Deregister words = deregister_at words
+behind named.Open words = open_at words
+behind named.Recv words = recv_at words
+behind named.Send words = send_at words
+behind named.Write words = write_at words
+behind named.Emit words = steps_at steps.Emit words
+behind named.Work words = steps_at steps.Work words
+behind named.Deliver words = deliver_at words
+
+unfoldable pub calls_at : List (List ℕ) → Taken (List (Call (List ℕ)))
+calls_at words = do
+  name ← field call_word words
+  behind name.0 name.1
+
+abbrev pub calls_of : Calls (List ℕ) → List (Call (List ℕ))
+calls_of (One call) = one call
+calls_of (Many stream step times) = replicate times (Stream stream (step_call step))

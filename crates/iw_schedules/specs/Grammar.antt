@@ -1,0 +1,110 @@
+-- The grammar of schedules, apart from how they are read: which texts stand for which events.
+use Rattle.std.specs.Prelude.{◌≡◌, ℕ, ◌+◌, ◌*◌, ◌-◌, ◌^◌, ◌<◌, ◌≤◌, IsTrue, true, false, List, [], ◌∷◌, ◌++◌, length, map, replicate, None, Result, Ok, codes}
+use Rattle.std.specs.List.{repeat}
+use Rattle.std.specs.Str.Parse.{digits_value}
+use Rattle.hex.specs.Hex.{decode_of}
+use Rattle.iw_octets.specs.declared.stag.Stag.{Stag}
+use Rattle.iw_octets.specs.Stag.{stag_at}
+use Rattle.iw_octets.specs.declared.message.Message.TheVariants as messages
+use Rattle.iw_memory.specs.declared.rights.Rights.{Rights}
+use Rattle.iw_events.specs.declared.call.End.{End}
+use Rattle.iw_events.specs.declared.call.Role.TheVariants.{Preset}
+use Rattle.iw_events.specs.declared.call.Call.{Call}
+use Rattle.iw_events.specs.declared.call.Call.TheVariants.{Domain, Register, Deregister, Open, Stream}
+use Rattle.iw_events.specs.declared.call.StreamCall.TheVariants.{Recv, Post, Emit, Deliver, Work}
+use Rattle.iw_schedules.specs.declared.kinds.TheConstants.{MOST_OCTETS, MOST_PRIVATE, MOST_TIMES}
+use Rattle.iw_schedules.specs.declared.schedule.TheConstants.{MOST_EVENTS}
+use Rattle.iw_schedules.specs.Pieces.{lines, words}
+use Rattle.iw_schedules.specs.Kinds.{is_decimal}
+use Rattle.iw_schedules.specs.FirstPath.{only}
+use Rattle.iw_schedules.specs.Words.{end_text}
+use Rattle.iw_schedules.specs.Calls.{one}
+use Rattle.iw_schedules.specs.Schedule.{Events, is_skipped, event_at}
+
+abbrev pub Word : Type 0
+Word = List ℕ
+
+-- ---- kinds of words
+
+-- decimal digits that write a number of at most `most`; leading zeros are allowed
+pub record IsNumber (most : ℕ) (word : Word) (n : ℕ) : Type 0 where
+  pub digits : is_decimal word ≡ true
+  pub value : digits_value 10 word ≡ n
+  pub bound : n ≤ most
+
+-- the number of an end's domain or stream
+abbrev pub IsOctetNumber : Word → ℕ → Type 0
+IsOctetNumber word n = IsNumber 255 word n
+
+abbrev pub IsLongNumber : Word → ℕ → Type 0
+IsLongNumber word n = IsNumber (2 ^ 64 - 1) word n
+
+-- how often an event happens
+pub record IsTimes (word : Word) (n : ℕ) : Type 0 where
+  pub number : IsNumber MOST_TIMES word n
+  pub some : 0 < n
+
+-- hexadecimal digits, two for each of these octets, of either case
+pub record IsHex (word : Word) (octets : List ℕ) : Type 0 where
+  pub digits : decode_of word ≡ Ok octets
+  pub some : 0 < length octets
+
+pub record IsStag (word : Word) (stag : Stag) : Type 0 where
+  pub octets : List ℕ
+  pub digits : IsHex word octets
+  pub four : length octets ≡ 4
+  pub value : stag_at octets 0 ≡ stag
+
+pub data IsOctets : Word → List ℕ → Type 0 where
+  none : IsOctets (codes "-") []
+  once : {word : Word} {octets : List ℕ} → IsHex word octets → length octets ≤ MOST_OCTETS → IsOctets word octets
+  repeated : {word count : Word} {octets : List ℕ} {n : ℕ} → IsHex word octets → IsNumber MOST_OCTETS count n → n * length octets ≤ MOST_OCTETS → IsOctets (word ++ 42 ∷ count) (repeat n octets)
+
+pub record IsPrivate (word : Word) (octets : List ℕ) : Type 0 where
+  pub octets : IsOctets word octets
+  pub few : length octets ≤ MOST_PRIVATE
+
+pub data IsRights : Word → Rights → Type 0 where
+  no_right : IsRights (codes "-") (only false)
+  write_right : IsRights (codes "w") (only true)
+
+-- ---- lines
+
+-- which calls these words stand for
+pub data IsCall : List Word → List (Call (List ℕ)) → Type 0 where
+  domain : {a : Word} {pd : ℕ} → IsOctetNumber a pd → IsCall (codes "domain" ∷ a ∷ []) (one (Domain pd))
+  register : {a b c d : Word} {pd base : ℕ} {rights : Rights} {octets : List ℕ} → IsOctetNumber a pd → IsLongNumber b base → IsRights c rights → IsOctets d octets
+      → IsCall (codes "register" ∷ a ∷ b ∷ c ∷ d ∷ []) (one (Register pd base rights octets))
+  deregister : {a : Word} {stag : Stag} → IsStag a stag → IsCall (codes "deregister" ∷ a ∷ []) (one (Deregister stag))
+  open_preset : {a b c : Word} {stream pd : ℕ} {private : List ℕ} → IsOctetNumber a stream → IsOctetNumber b pd → IsPrivate c private
+      → IsCall (codes "open" ∷ a ∷ b ∷ codes "preset" ∷ codes "-" ∷ c ∷ []) (one (Open stream pd Preset private))
+  recv : {a b : Word} {stream len : ℕ} → IsOctetNumber a stream → IsNumber MOST_OCTETS b len → IsCall (codes "recv" ∷ a ∷ b ∷ []) (one (Stream stream (Recv len)))
+  send_plain : {a b : Word} {stream : ℕ} {octets : List ℕ} → IsOctetNumber a stream → IsOctets b octets
+      → IsCall (codes "send" ∷ a ∷ codes "plain" ∷ codes "-" ∷ b ∷ []) (one (Stream stream (Post (messages.Send octets false None))))
+  write : {a b c d : Word} {stream to : ℕ} {stag : Stag} {octets : List ℕ} → IsOctetNumber a stream → IsStag b stag → IsLongNumber c to → IsOctets d octets
+      → IsCall (codes "write" ∷ a ∷ b ∷ c ∷ d ∷ []) (one (Stream stream (Post (messages.Write stag to octets))))
+  emit : {a : Word} {stream : ℕ} → IsOctetNumber a stream → IsCall (codes "emit" ∷ a ∷ []) (one (Stream stream Emit))
+  emit_times : {a b : Word} {stream n : ℕ} → IsOctetNumber a stream → IsTimes b n → IsCall (codes "emit" ∷ a ∷ b ∷ []) (replicate n (Stream stream Emit))
+  work : {a : Word} {stream : ℕ} → IsOctetNumber a stream → IsCall (codes "work" ∷ a ∷ []) (one (Stream stream Work))
+  work_times : {a b : Word} {stream n : ℕ} → IsOctetNumber a stream → IsTimes b n → IsCall (codes "work" ∷ a ∷ b ∷ []) (replicate n (Stream stream Work))
+  deliver : {a b c : Word} {stream from len : ℕ} → IsOctetNumber a stream → IsLongNumber b from → IsLongNumber c len
+      → IsCall (codes "deliver" ∷ a ∷ b ∷ c ∷ []) (one (Stream stream (Deliver from len)))
+
+-- an end, and calls at it
+pub record IsLine (line : List ℕ) (events : Events) : Type 0 where
+  pub end : End
+  pub others : List Word
+  pub calls : List (Call (List ℕ))
+  pub words_are : words line ≡ end_text end ∷ others
+  pub call : IsCall others calls
+  pub events_are : map (event_at end) calls ≡ events
+
+-- lines and their events, in order; what is skipped has none
+pub data AreLines : List (List ℕ) → Events → Type 0 where
+  no_lines : AreLines [] []
+  skipped : {line : List ℕ} {others : List (List ℕ)} {events : Events} → is_skipped line ≡ true → AreLines others events → AreLines (line ∷ others) events
+  spoken : {line : List ℕ} {others : List (List ℕ)} {events more : Events} → IsLine line events → AreLines others more → AreLines (line ∷ others) (events ++ more)
+
+pub record IsSchedule (text : List ℕ) (events : Events) : Type 0 where
+  pub each : AreLines (lines text) events
+  pub few : length events ≤ MOST_EVENTS

@@ -1,0 +1,12 @@
+pub mod FaultText
+pub mod Reading
+pub mod Pieces
+pub mod Words
+pub mod FirstPath
+pub mod Kinds
+pub mod Calls
+pub mod Schedule
+pub mod Answers
+pub mod Trace
+pub mod Appended
+pub mod Shown

@@ -1,0 +1,61 @@
+-- A trace as text: a line for each entry.
+use Rattle.std.specs.Prelude.{ℕ, List, [], ◌∷◌, ◌++◌, Option, Some, None, Result, Ok, Err, codes}
+use Rattle.std.specs.Option.{option_map}
+use Rattle.std.specs.List.{flat_map}
+use Rattle.std.specs.Fmt.{decimal}
+use Rattle.iw_octets.specs.declared.stag.Stag.{Stag}
+use Rattle.iw_octets.specs.declared.message.Message.{Message}
+use Rattle.iw_octets.specs.declared.message.Message.TheVariants as messages
+use Rattle.iw_memory.specs.declared.refusal.RegisterRefusal.{RegisterRefusal}
+use Rattle.iw_memory.specs.declared.refusal.NoRegion.{NoRegion}
+use Rattle.iw_events.specs.declared.act.Act.{Act}
+use Rattle.iw_events.specs.declared.act.Act.TheVariants.{Domain, Register, Deregister, Open, Stream}
+use Rattle.iw_events.specs.declared.act.StreamAct.{StreamAct}
+use Rattle.iw_events.specs.declared.act.StreamAct.TheVariants.{Recv, Post, Emit, Deliver, Work}
+use Rattle.iw_events.specs.declared.act.Entry.{Entry}
+use Rattle.iw_schedules.specs.declared.words.CallWord.{CallWord}
+use Rattle.iw_schedules.specs.declared.words.CallWord.TheVariants as named
+use Rattle.iw_schedules.specs.Words.{end_text, call_text}
+use Rattle.iw_schedules.specs.Answers.{Words, octets_text, stag_text, domain_refusal, register_refusal, no_region, open_refusal, recv_refusal, post_refusal, refused, ok_or_refused, delivery_text, shown_words, seen_words}
+
+abbrev pub registered : Result Stag RegisterRefusal → Words
+registered (Ok stag) = stag_text stag ∷ []
+registered (Err refusal) = refused (register_refusal refusal)
+
+abbrev pub deregistered : Result (List ℕ) NoRegion → Words
+deregistered (Ok octets) = codes "ok" ∷ octets_text octets ∷ []
+deregistered (Err refusal) = refused no_region
+
+-- the word that posts a message
+abbrev pub post_word : Message (List ℕ) → CallWord
+post_word (messages.Write stag to octets) = named.Write
+post_word (messages.Send octets solicited invalidate) = named.Send
+
+-- a call, and the stream or the domain that it names
+abbrev pub call_on : CallWord → ℕ → Words
+call_on call n = call_text call ∷ decimal n ∷ []
+
+abbrev pub stream_words : ℕ → StreamAct (List ℕ) → Words
+stream_words stream (Recv len refusal) = call_text named.Recv ∷ decimal stream ∷ ok_or_refused (option_map recv_refusal refusal)
+stream_words stream (Post message refusal) = call_text (post_word message) ∷ decimal stream ∷ ok_or_refused (option_map post_refusal refusal)
+stream_words stream (Emit shown) = call_text named.Emit ∷ decimal stream ∷ shown_words shown
+stream_words stream (Deliver from octets delivery) = call_text named.Deliver ∷ decimal stream ∷ delivery_text delivery ∷ []
+stream_words stream (Work seen) = call_text named.Work ∷ decimal stream ∷ seen_words seen
+
+-- a call with its answer, behind the end
+abbrev pub act_words : Act (List ℕ) → Words
+act_words (Domain pd refusal) = call_text named.Domain ∷ decimal pd ∷ ok_or_refused (option_map domain_refusal refusal)
+act_words (Register pd base rights octets answer) = call_text named.Register ∷ registered answer
+act_words (Deregister stag answer) = call_text named.Deregister ∷ stag_text stag ∷ deregistered answer
+act_words (Open stream pd role private refusal) = call_text named.Open ∷ decimal stream ∷ ok_or_refused (option_map open_refusal refusal)
+act_words (Stream stream act) = stream_words stream act
+
+-- words, with a space before each
+abbrev pub spaced : Words → List ℕ
+spaced words = flat_map (λ word. 32 ∷ word) words
+
+unfoldable pub entry_text : Entry (List ℕ) → List ℕ
+entry_text entry = end_text entry.end ++ (spaced (act_words entry.act) ++ 10 ∷ [])
+
+unfoldable pub trace_text : List (Entry (List ℕ)) → List ℕ
+trace_text trace = flat_map entry_text trace

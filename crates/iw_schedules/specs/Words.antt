@@ -1,0 +1,43 @@
+-- The fixed words of schedules and traces.
+use Rattle.std.specs.Prelude.{ℕ, List, [], ◌∷◌, codes, Result, Ok, Err, if◌then◌else◌}
+use Rattle.std.specs.Str.{bytes_eq}
+use Rattle.iw_events.specs.declared.call.End.{End}
+use Rattle.iw_events.specs.declared.call.End.TheVariants.{A, B}
+use Rattle.iw_schedules.specs.declared.fault.FaultName.{FaultName}
+use Rattle.iw_schedules.specs.declared.fault.FaultName.TheVariants.{BadWord}
+use Rattle.iw_schedules.specs.declared.words.CallWord.{CallWord}
+use Rattle.iw_schedules.specs.declared.words.CallWord.TheVariants.{Domain, Register, Deregister, Open, Recv, Send, Write, Emit, Work, Deliver}
+
+-- the one of these that has this text
+abbrev pub one_of : {X : Type 0} → (X → List ℕ) → List X → List ℕ → Result X FaultName
+one_of text [] word = Err BadWord
+one_of text (x ∷ xs) word = if bytes_eq word (text x) then Ok x else one_of text xs word
+
+abbrev pub end_text : End → List ℕ
+end_text A = codes "a"
+end_text B = codes "b"
+
+abbrev pub ends : List End
+ends = A ∷ B ∷ []
+
+abbrev pub end_word : List ℕ → Result End FaultName
+end_word word = one_of end_text ends word
+
+-- the word that names a call
+abbrev pub call_text : CallWord → List ℕ
+call_text Domain = codes "domain"
+call_text Register = codes "register"
+call_text Deregister = codes "deregister"
+call_text Open = codes "open"
+call_text Recv = codes "recv"
+call_text Send = codes "send"
+call_text Write = codes "write"
+call_text Emit = codes "emit"
+call_text Work = codes "work"
+call_text Deliver = codes "deliver"
+
+abbrev pub call_words : List CallWord
+call_words = Domain ∷ Register ∷ Deregister ∷ Open ∷ Recv ∷ Send ∷ Write ∷ Emit ∷ Work ∷ Deliver ∷ []
+
+unfoldable pub call_word : List ℕ → Result CallWord FaultName
+call_word word = one_of call_text call_words word

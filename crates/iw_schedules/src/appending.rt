@@ -1,0 +1,85 @@
+//! Words appended to a text, each with a space before it.
+
+ghost use Rattle.std.specs.Prelude.{◌≡◌, [], ◌∷◌, OnOk, string_bytes};
+ghost use Rattle.std.specs.Option.{option_map};
+ghost use Rattle.std.specs.Fmt.{decimal};
+ghost use Rattle.iw_schedules.specs.Answers.{octets_text, stag_text, optional_stag_text, refused, ok_or_refused};
+ghost use Rattle.iw_schedules.specs.Appended.{with_words};
+ghost use Rattle.iw_schedules.specs.Shown.{shown_refusal};
+
+use crate::refusals::Refusal;
+use iw_octets::Stag;
+use std::alloc::{AllocError, Allocator};
+
+pub(crate) fn word<A: Allocator>(text: &mut String<A>, word: &str) -> Result<(), AllocError>
+    ensures { OnOk result (string_bytes text.new ≡ with_words (string_bytes text.old) (word.now ∷ [])) }
+{
+    write!(text, " {word}")
+}
+
+pub(crate) fn number<A: Allocator>(text: &mut String<A>, number: u64) -> Result<(), AllocError>
+    ensures { OnOk result (string_bytes text.new ≡ with_words (string_bytes text.old) (decimal number ∷ [])) }
+{
+    write!(text, " {number}")
+}
+
+/// Octets in hexadecimal digits, and `-` where there are none.
+pub(crate) fn octets<A: Allocator + Copy>(
+    text: &mut String<A>,
+    octets: &[u8],
+) -> Result<(), AllocError>
+    ensures { OnOk result (string_bytes text.new ≡ with_words (string_bytes text.old) (octets_text octets.now ∷ [])) }
+{
+    if octets.is_empty() {
+        return word(text, "-");
+    }
+    let alloc = *text.allocator();
+    let digits = hex::encode(alloc, octets)?;
+    word(text, digits.as_str())
+}
+
+pub(crate) fn stag<A: Allocator + Copy>(text: &mut String<A>, stag: Stag) -> Result<(), AllocError>
+    ensures { OnOk result (string_bytes text.new ≡ with_words (string_bytes text.old) (stag_text stag ∷ [])) }
+{
+    let alloc = *text.allocator();
+    let digits = hex::encode(alloc, stag.to_octets())?;
+    word(text, digits.as_str())
+}
+
+/// An STag, or `-` for none.
+pub(crate) fn optional_stag<A: Allocator + Copy>(
+    text: &mut String<A>,
+    name: Option<Stag>,
+) -> Result<(), AllocError>
+    ensures { OnOk result (string_bytes text.new ≡ with_words (string_bytes text.old) (optional_stag_text name ∷ [])) }
+{
+    match name {
+        None => word(text, "-"),
+        Some(name) => stag(text, name),
+    }
+}
+
+pub(crate) fn refusal<A: Allocator>(
+    text: &mut String<A>,
+    refusal: Refusal,
+) -> Result<(), AllocError>
+    ensures { OnOk result (string_bytes text.new ≡ with_words (string_bytes text.old) (refused (shown_refusal refusal))) }
+{
+    word(text, "refused")?;
+    number(text, u64::from(refusal.number))?;
+    word(text, refusal.name)?;
+    Ok(())
+}
+
+/// `ok`, or a refusal.
+pub(crate) fn outcome<A: Allocator>(
+    text: &mut String<A>,
+    refused: Option<Refusal>,
+) -> Result<(), AllocError>
+    ensures { OnOk result (string_bytes text.new ≡ with_words (string_bytes text.old) (ok_or_refused (option_map shown_refusal refused))) }
+{
+    match refused {
+        None => word(text, "ok"),
+        Some(given) => refusal(text, given),
+    }
+}

@@ -1,0 +1,238 @@
+//! The words behind a line's end: which calls they stand for.
+
+ghost use Rattle.std.specs.Prelude.{◌≡◌, length};
+ghost use Rattle.iw_schedules.specs.Reading.{Gives};
+ghost use Rattle.iw_schedules.specs.Kinds.{number_word, stag_word, octets_word};
+ghost use Rattle.iw_schedules.specs.Calls.{step_call, calls_of, next_word, field, octet_number, long_number, times_at, domain_at, register_at, deregister_at, open_at, recv_at, send_at, write_at, steps_at, deliver_at, calls_at};
+
+use crate::fault::{FaultName, ReadError};
+use crate::pieces::Pieces;
+use crate::words::CallWord;
+use crate::{first_path, kinds};
+use bytes::Bytes;
+use iw_events::{Call, StreamCall};
+use iw_octets::{Message, Stag};
+use std::alloc::Allocator;
+
+/// A call of a stream that a line may ask for many times.
+#[derive(Clone, Copy, Debug, PartialEq, Eq)]
+pub(crate) enum Step {
+    Emit,
+    Work,
+}
+
+/// The calls that a line stands for. The type of the octets is the parameter.
+#[derive(Debug, PartialEq, Drop)]
+pub(crate) enum Calls<O> {
+    One(Call<O>),
+    /// Equal calls of a stream.
+    Many { stream: u8, step: Step, times: u64 },
+}
+
+impl Step {
+    pub(crate) fn call<A: Allocator>(self) -> StreamCall<Bytes<A>>
+        ensures { result ≡ step_call self }
+    {
+        match self {
+            Step::Emit => StreamCall::Emit,
+            Step::Work => StreamCall::Work,
+        }
+    }
+}
+
+impl<A: Allocator> Calls<Bytes<A>> {
+    /// How many calls they are.
+    pub(crate) fn len(&self) -> u64
+        ensures { result ≡ length (calls_of self.now) }
+    {
+        match self {
+            Calls::One(_) => 1,
+            Calls::Many { times, .. } => *times,
+        }
+    }
+}
+
+// The next word.
+fn next<'a>(words: &mut Pieces<'a>) -> Result<&'a [u8], ReadError>
+    ensures { Gives (λ word. (word.now, words.new)) result (next_word words.old) }
+{
+    match words.next() {
+        Some(word) => Ok(word),
+        None => Err(ReadError::Fault(FaultName::BadWord)),
+    }
+}
+
+// A number of an end's domains or streams.
+fn octet_number_in(words: &mut Pieces<'_>) -> Result<u8, ReadError>
+    ensures { Gives (λ n. (n, words.new)) result (field octet_number words.old) }
+{
+    Ok(kinds::number(next(words)?, 255)? as u8)
+}
+
+fn long_number_in(words: &mut Pieces<'_>) -> Result<u64, ReadError>
+    ensures { Gives (λ n. (n, words.new)) result (field long_number words.old) }
+{
+    Ok(kinds::number(next(words)?, u64::MAX)?)
+}
+
+fn stag_in(words: &mut Pieces<'_>) -> Result<Stag, ReadError>
+    ensures { Gives (λ stag. (stag, words.new)) result (field stag_word words.old) }
+{
+    Ok(kinds::stag(next(words)?)?)
+}
+
+fn octets_in<A: Allocator + Copy>(alloc: A, words: &mut Pieces<'_>) -> Result<Bytes<A>, ReadError>
+    ensures { Gives (λ octets. (octets, words.new)) result (field octets_word words.old) }
+{
+    kinds::octets(alloc, next(words)?)
+}
+
+// How often, and once where the word is left out.
+fn times_in(words: &mut Pieces<'_>) -> Result<u64, ReadError>
+    ensures { Gives (λ n. (n, words.new)) result (times_at words.old) }
+{
+    match words.next() {
+        Some(word) => Ok(kinds::times(word)?),
+        None => Ok(1),
+    }
+}
+
+#[tactic(auto, unfolding(crate::specs::Calls::domain_at))]
+fn domain<A: Allocator>(words: &mut Pieces<'_>) -> Result<Calls<Bytes<A>>, ReadError>
+    ensures { Gives (λ calls. (calls_of calls, words.new)) result (domain_at words.old) }
+{
+    let pd = octet_number_in(words)?;
+    Ok(Calls::One(Call::Domain { pd }))
+}
+
+#[tactic(auto, unfolding(crate::specs::Calls::register_at))]
+fn register<A: Allocator + Copy>(
+    alloc: A,
+    words: &mut Pieces<'_>,
+) -> Result<Calls<Bytes<A>>, ReadError>
+    ensures { Gives (λ calls. (calls_of calls, words.new)) result (register_at words.old) }
+{
+    let pd = octet_number_in(words)?;
+    let base = long_number_in(words)?;
+    let rights = first_path::rights(next(words)?)?;
+    let octets = octets_in(alloc, words)?;
+    Ok(Calls::One(Call::Register {
+        pd,
+        base,
+        rights,
+        octets,
+    }))
+}
+
+#[tactic(auto, unfolding(crate::specs::Calls::deregister_at))]
+fn deregister<A: Allocator>(words: &mut Pieces<'_>) -> Result<Calls<Bytes<A>>, ReadError>
+    ensures { Gives (λ calls. (calls_of calls, words.new)) result (deregister_at words.old) }
+{
+    let stag = stag_in(words)?;
+    Ok(Calls::One(Call::Deregister { stag }))
+}
+
+#[tactic(auto, unfolding(crate::specs::Calls::open_at))]
+fn open<A: Allocator + Copy>(alloc: A, words: &mut Pieces<'_>) -> Result<Calls<Bytes<A>>, ReadError>
+    ensures { Gives (λ calls. (calls_of calls, words.new)) result (open_at words.old) }
+{
+    let stream = octet_number_in(words)?;
+    let pd = octet_number_in(words)?;
+    let role = first_path::role(next(words)?)?;
+    first_path::options(next(words)?)?;
+    let private = kinds::private(alloc, next(words)?)?;
+    Ok(Calls::One(Call::Open {
+        stream,
+        pd,
+        role,
+        private,
+    }))
+}
+
+#[tactic(auto, unfolding(crate::specs::Calls::recv_at))]
+fn recv<A: Allocator>(words: &mut Pieces<'_>) -> Result<Calls<Bytes<A>>, ReadError>
+    ensures { Gives (λ calls. (calls_of calls, words.new)) result (recv_at words.old) }
+{
+    let stream = octet_number_in(words)?;
+    let len = kinds::number(next(words)?, kinds::MOST_OCTETS)? as u32;
+    let call = StreamCall::Recv { len };
+    Ok(Calls::One(Call::Stream { stream, call }))
+}
+
+#[tactic(auto, unfolding(crate::specs::Calls::send_at))]
+fn send<A: Allocator + Copy>(alloc: A, words: &mut Pieces<'_>) -> Result<Calls<Bytes<A>>, ReadError>
+    ensures { Gives (λ calls. (calls_of calls, words.new)) result (send_at words.old) }
+{
+    let stream = octet_number_in(words)?;
+    first_path::kind(next(words)?)?;
+    first_path::no_stag(next(words)?)?;
+    let message = Message::Send {
+        octets: octets_in(alloc, words)?,
+        solicited: false,
+        invalidate: None,
+    };
+    let call = StreamCall::Post { message };
+    Ok(Calls::One(Call::Stream { stream, call }))
+}
+
+#[tactic(auto, unfolding(crate::specs::Calls::write_at))]
+fn write<A: Allocator + Copy>(
+    alloc: A,
+    words: &mut Pieces<'_>,
+) -> Result<Calls<Bytes<A>>, ReadError>
+    ensures { Gives (λ calls. (calls_of calls, words.new)) result (write_at words.old) }
+{
+    let stream = octet_number_in(words)?;
+    let stag = stag_in(words)?;
+    let to = long_number_in(words)?;
+    let octets = octets_in(alloc, words)?;
+    let message = Message::Write { stag, to, octets };
+    let call = StreamCall::Post { message };
+    Ok(Calls::One(Call::Stream { stream, call }))
+}
+
+#[tactic(auto, unfolding(crate::specs::Calls::steps_at))]
+fn steps<A: Allocator>(step: Step, words: &mut Pieces<'_>) -> Result<Calls<Bytes<A>>, ReadError>
+    ensures { Gives (λ calls. (calls_of calls, words.new)) result (steps_at step words.old) }
+{
+    let stream = octet_number_in(words)?;
+    let times = times_in(words)?;
+    Ok(Calls::Many {
+        stream,
+        step,
+        times,
+    })
+}
+
+#[tactic(auto, unfolding(crate::specs::Calls::deliver_at))]
+fn deliver<A: Allocator>(words: &mut Pieces<'_>) -> Result<Calls<Bytes<A>>, ReadError>
+    ensures { Gives (λ calls. (calls_of calls, words.new)) result (deliver_at words.old) }
+{
+    let stream = octet_number_in(words)?;
+    let from = long_number_in(words)?;
+    let len = long_number_in(words)?;
+    let call = StreamCall::Deliver { from, len };
+    Ok(Calls::One(Call::Stream { stream, call }))
+}
+
+/// The calls that the next words stand for, the first of which names them.
+#[tactic(auto, unfolding(crate::specs::Calls::calls_at))]
+pub(crate) fn read_calls<A: Allocator + Copy>(
+    alloc: A,
+    words: &mut Pieces<'_>,
+) -> Result<Calls<Bytes<A>>, ReadError>
+    ensures { Gives (λ calls. (calls_of calls, words.new)) result (calls_at words.old) }
+{
+    match CallWord::read(next(words)?)? {
+        CallWord::Domain => domain(words),
+        CallWord::Register => register(alloc, words),
+        CallWord::Deregister => deregister(words),
+        CallWord::Open => open(alloc, words),
+        CallWord::Recv => recv(words),
+        CallWord::Send => send(alloc, words),
+        CallWord::Write => write(alloc, words),
+        CallWord::Emit => steps(Step::Emit, words),
+        CallWord::Work => steps(Step::Work, words),
+        CallWord::Deliver => deliver(words),
+    }
+}

@@ -1,0 +1,112 @@
+ghost use Rattle.std.specs.Prelude.{◌≡◌};
+ghost use Rattle.iw_schedules.specs.Reading.{fault_at};
+
+use std::alloc::{AllocError, AllocFailed};
+use std::error::Error;
+use std::fmt;
+
+/// What is wrong with a line of a schedule: the first fault from left to right.
+#[derive(Clone, Copy, Debug, PartialEq, Eq)]
+pub enum FaultName {
+    /// An unknown word, end, role or kind, or not as many words as belong there.
+    BadWord,
+    /// No number, or one that is out of its range; or no STag.
+    BadNumber,
+    /// No octets, or too many of them; or no rights or options.
+    BadOctets,
+    /// The line's words are good, and its events pass the 1,000,000 that a schedule may have.
+    TooMany,
+}
+
+/// Why a schedule was not read. It prints as `line N: NAME`, or as `no memory`.
+#[derive(Clone, Copy, Debug, PartialEq, Eq)]
+pub enum ScheduleFault {
+    /// The first line with a fault, counted from 1.
+    Line { line: u64, name: FaultName },
+    /// There is no memory for the events.
+    NoMemory,
+}
+
+/// Why a part of a line was not read.
+#[derive(Clone, Copy, Debug, PartialEq, Eq)]
+pub(crate) enum ReadError {
+    Fault(FaultName),
+    NoMemory,
+}
+
+impl ReadError {
+    /// The fault of a schedule that has this one in its line of this number.
+    pub(crate) fn at(self, line: u64) -> ScheduleFault
+        ensures { result ≡ fault_at line self }
+    {
+        match self {
+            ReadError::Fault(name) => ScheduleFault::Line { line, name },
+            ReadError::NoMemory => ScheduleFault::NoMemory,
+        }
+    }
+}
+
+impl fmt::Display for FaultName {
+    ghost use Rattle.std.specs.Prelude.{Some};
+    ghost use Rattle.iw_schedules.specs.FaultText.{fault_name};
+
+    ghost output = { λ name. Some (fault_name name) };
+
+    fn fmt<W: fmt::Write>(&self, f: &mut fmt::Formatter<W>) -> fmt::Result {
+        f.write_str(match self {
+            FaultName::BadWord => "BadWord",
+            FaultName::BadNumber => "BadNumber",
+            FaultName::BadOctets => "BadOctets",
+            FaultName::TooMany => "TooMany",
+        })
+    }
+}
+
+impl fmt::Display for ScheduleFault {
+    ghost use Rattle.std.specs.Prelude.{Some};
+    ghost use Rattle.iw_schedules.specs.FaultText.{fault_text};
+
+    ghost output = { λ fault. Some (fault_text fault) };
+
+    fn fmt<W: fmt::Write>(&self, f: &mut fmt::Formatter<W>) -> fmt::Result {
+        match self {
+            ScheduleFault::Line { line, name } => write!(f, "line {line}: {name}"),
+            ScheduleFault::NoMemory => write!(f, "no memory"),
+        }
+    }
+}
+
+impl Error for ScheduleFault {}
+
+impl From<FaultName> for ReadError {
+    ghost use Rattle.std.specs.Prelude.{◌≡◌};
+    ghost use Rattle.iw_schedules.specs.declared.fault.ReadError.TheVariants.{Fault};
+
+    ghost from_gives = { λ name e. e ≡ Fault name };
+
+    fn from(name: FaultName) -> ReadError {
+        ReadError::Fault(name)
+    }
+}
+
+impl From<AllocError> for ReadError {
+    ghost use Rattle.std.specs.Prelude.{◌≡◌};
+    ghost use Rattle.iw_schedules.specs.declared.fault.ReadError.TheVariants.{NoMemory};
+
+    ghost from_gives = { λ _ e. e ≡ NoMemory };
+
+    fn from(_error: AllocError) -> ReadError {
+        ReadError::NoMemory
+    }
+}
+
+impl<T: Drop> From<AllocFailed<T>> for ReadError {
+    ghost use Rattle.std.specs.Prelude.{◌≡◌};
+    ghost use Rattle.iw_schedules.specs.declared.fault.ReadError.TheVariants.{NoMemory};
+
+    ghost from_gives = { λ _ e. e ≡ NoMemory };
+
+    fn from(_error: AllocFailed<T>) -> ReadError {
+        ReadError::NoMemory
+    }
+}

@@ -1,0 +1,20 @@
+//! Schedules read from text, and traces printed as text.
+#![tactic(auto)]
+
+mod appending;
+mod calls;
+mod fault;
+mod first_path;
+mod kinds;
+mod pieces;
+mod refusals;
+mod schedule;
+mod trace;
+mod words;
+
+pub use fault::{FaultName, ScheduleFault};
+pub use schedule::read_schedule;
+pub use trace::print_trace;
+
+#[cfg(test)]
+mod tests;

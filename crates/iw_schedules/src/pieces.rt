@@ -1,0 +1,62 @@
+ghost use Rattle.std.specs.Prelude.{◌≡◌, ◌+◌, ◌<◌, ◌==◌, [], ◌∷◌, MatchOption, IfSome, length, position};
+ghost use Rattle.std.specs.Option.{option_copied, option_map, unwrap_or};
+ghost use Rattle.iw_schedules.specs.Pieces.{split_at_first, pieces};
+
+use std::marker::Model;
+
+/// What stands between separators, from left to right.
+#[derive(Drop)]
+pub(crate) struct Pieces<'a> {
+    separator: u8,
+    left: Option<&'a [u8]>,
+}
+
+impl<'a> Model for Pieces<'a> {
+    ghost use Rattle.std.specs.Prelude.{List, ℕ};
+    ghost use Rattle.std.specs.Option.{option_copied};
+    ghost use Rattle.iw_schedules.specs.Pieces.{pieces_left};
+
+    ghost Value = { List (List ℕ) };
+
+    ghost view = { λ p. pieces_left p.separator (option_copied p.left) };
+}
+
+impl<'a> Pieces<'a> {
+    pub(crate) fn new(text: &'a [u8], separator: u8) -> Pieces<'a>
+        ensures { result ≡ pieces separator text.now }
+    {
+        Pieces {
+            separator,
+            left: Some(text),
+        }
+    }
+
+    pub(crate) fn next(&mut self) -> Option<&'a [u8]>
+        ensures { MatchOption result ((self.old ≡ []) × (self.new ≡ [])) (λ piece. self.old ≡ piece.now ∷ self.new) }
+    {
+        let text = self.left?;
+        let (piece, left) = split_at(text, self.separator);
+        self.left = left;
+        Some(piece)
+    }
+}
+
+/// What stands before the first separator, and what stands behind it, if there is one.
+pub(crate) fn split_at(text: &[u8], separator: u8) -> (&[u8], Option<&[u8]>)
+    ensures front { result.0.now ≡ (split_at_first separator text.now).0 }
+    ensures back { option_copied result.1 ≡ (split_at_first separator text.now).1 }
+    ensures len { length result.0.now + unwrap_or (option_map (λ behind. length behind.now + 1) result.1) 0 ≡ length text.now }
+{
+    match find(text, separator) {
+        None => (text, None),
+        Some(at) => (&text[..at], Some(&text[at + 1..])),
+    }
+}
+
+// Where the first separator stands.
+fn find(text: &[u8], separator: u8) -> Option<usize>
+    ensures at { result ≡ position (λ octet. octet == separator) text.now }
+    ensures within { IfSome result (λ at. at < length text.now) }
+{
+    text.iter().position(|octet| *octet == separator)
+}

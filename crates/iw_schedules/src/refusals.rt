@@ -1,0 +1,84 @@
+//! The refusals of each call, with their numbers.
+
+ghost use Rattle.std.specs.Prelude.{◌≡◌};
+ghost use Rattle.iw_schedules.specs.Answers.{domain_refusal, register_refusal, open_refusal, recv_refusal, post_refusal, no_region};
+ghost use Rattle.iw_schedules.specs.Shown.{shown_refusal};
+
+use iw_events::OpenRefusal;
+use iw_memory::{DomainRefusal, NoRegion, RegisterRefusal};
+use iw_stream::{PostRefusal, RecvRefusal};
+
+/// A refusal's number and name.
+#[derive(Clone, Copy, Debug)]
+pub(crate) struct Refusal {
+    pub(crate) number: u8,
+    pub(crate) name: &'static str,
+}
+
+impl Refusal {
+    fn new(number: u8, name: &'static str) -> Refusal
+        ensures { shown_refusal result ≡ (number, name.now) }
+    {
+        Refusal { number, name }
+    }
+}
+
+pub(crate) fn of_domain(refusal: DomainRefusal) -> Refusal
+    ensures { shown_refusal result ≡ domain_refusal refusal }
+{
+    match refusal {
+        DomainRefusal::BadDomain => Refusal::new(1, "BadDomain"),
+        DomainRefusal::DomainTaken => Refusal::new(2, "DomainTaken"),
+        DomainRefusal::NoMemory => Refusal::new(3, "NoMemory"),
+    }
+}
+
+pub(crate) fn of_register(refusal: RegisterRefusal) -> Refusal
+    ensures { shown_refusal result ≡ register_refusal refusal }
+{
+    match refusal {
+        RegisterRefusal::NoDomain => Refusal::new(1, "NoDomain"),
+        RegisterRefusal::DomainFull => Refusal::new(2, "DomainFull"),
+        RegisterRefusal::TooLong => Refusal::new(3, "TooLong"),
+        RegisterRefusal::BaseWrap => Refusal::new(4, "BaseWrap"),
+        RegisterRefusal::NoMemory => Refusal::new(5, "NoMemory"),
+    }
+}
+
+pub(crate) fn of_deregister(_refusal: NoRegion) -> Refusal
+    ensures { shown_refusal result ≡ no_region }
+{
+    Refusal::new(1, "NoRegion")
+}
+
+pub(crate) fn of_open(refusal: OpenRefusal) -> Refusal
+    ensures { shown_refusal result ≡ open_refusal refusal }
+{
+    match refusal {
+        OpenRefusal::NumberTaken => Refusal::new(1, "NumberTaken"),
+        OpenRefusal::BadNumber => Refusal::new(2, "BadNumber"),
+        OpenRefusal::NoDomain => Refusal::new(3, "NoDomain"),
+        OpenRefusal::NoMemory => Refusal::new(4, "NoMemory"),
+    }
+}
+
+pub(crate) fn of_recv(refusal: RecvRefusal) -> Refusal
+    ensures { shown_refusal result ≡ recv_refusal refusal }
+{
+    match refusal {
+        RecvRefusal::Full => Refusal::new(1, "Full"),
+        RecvRefusal::NoMemory => Refusal::new(2, "NoMemory"),
+        RecvRefusal::Ended => Refusal::new(3, "Ended"),
+    }
+}
+
+pub(crate) fn of_post(refusal: PostRefusal) -> Refusal
+    ensures { shown_refusal result ≡ post_refusal refusal }
+{
+    match refusal {
+        PostRefusal::Full => Refusal::new(1, "Full"),
+        PostRefusal::TooLong => Refusal::new(2, "TooLong"),
+        PostRefusal::NotOpen => Refusal::new(3, "NotOpen"),
+        PostRefusal::NoMemory => Refusal::new(4, "NoMemory"),
+    }
+}

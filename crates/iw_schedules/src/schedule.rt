@@ -1,0 +1,119 @@
+ghost use Rattle.std.specs.Prelude.{◌≡◌, ◌<◌, ◌++◌, map, length, OnOk, OnErr};
+ghost use Rattle.iw_schedules.specs.Reading.{Gives};
+ghost use Rattle.iw_schedules.specs.Pieces.{words};
+ghost use Rattle.iw_schedules.specs.Calls.{calls_of};
+ghost use Rattle.iw_schedules.specs.Schedule.{is_skipped, event_at, events_of, with_line, schedule_of, Reads};
+
+use crate::calls::{Calls, read_calls};
+use crate::fault::{FaultName, ReadError, ScheduleFault};
+use crate::pieces::{Pieces, split_at};
+use crate::words;
+use bytes::Bytes;
+use iw_events::{Call, End, Event};
+use std::alloc::{AllocError, Allocator};
+
+/// The most events of a schedule.
+pub(crate) const MOST_EVENTS: u64 = 1_000_000;
+
+// Whether a line is empty or a comment.
+fn is_skipped_line(line: &[u8]) -> bool
+    ensures { result ≡ is_skipped line.now }
+{
+    match line {
+        [] => true,
+        [first, ..] => *first == b'#',
+    }
+}
+
+// The calls of a line, and the end at which they are made.
+#[tactic(auto, unfolding(crate::specs::Schedule::events_of))]
+fn read_line<A: Allocator + Copy>(
+    alloc: A,
+    line: &[u8],
+) -> Result<(End, Calls<Bytes<A>>), ReadError>
+    ensures { Gives (λ read. map (event_at read.0) (calls_of read.1)) result (events_of (words line.now)) }
+{
+    let mut words = Pieces::new(line, b' ');
+    let Some(first) = words.next() else {
+        return Err(ReadError::Fault(FaultName::BadWord));
+    };
+    let end = words::end(first)?;
+    let calls = read_calls(alloc, &mut words)?;
+    match words.next() {
+        None => Ok((end, calls)),
+        Some(_) => Err(ReadError::Fault(FaultName::BadWord)),
+    }
+}
+
+// Appends the events of a line.
+fn push<A: Allocator>(
+    events: &mut Vec<Event<Bytes<A>>, A>,
+    end: End,
+    calls: Calls<Bytes<A>>,
+) -> Result<(), AllocError>
+    ensures { OnOk result (events.new.items ≡ events.old.items ++ map (event_at end) (calls_of calls)) }
+{
+    match calls {
+        Calls::One(call) => events.push(Event { end, call })?,
+        Calls::Many {
+            stream,
+            step,
+            times,
+        } => {
+            for _ in 0..times {
+                let call = Call::Stream {
+                    stream,
+                    call: step.call(),
+                };
+                events.push(Event { end, call })?;
+            }
+        }
+    }
+    Ok(())
+}
+
+// Appends the events that a line stands for.
+#[tactic(auto, unfolding(crate::specs::Schedule::with_line))]
+fn add_line<A: Allocator + Copy>(
+    alloc: A,
+    line: &[u8],
+    events: &mut Vec<Event<Bytes<A>>, A>,
+) -> Result<(), ReadError>
+    ensures events { Gives (λ _. events.new.items) result (with_line events.old.items line.now) }
+    ensures line { OnErr result (0 < length line.now) }
+{
+    if is_skipped_line(line) {
+        return Ok(());
+    }
+    let (end, calls) = read_line(alloc, line)?;
+    match (events.len() as u64).checked_add(calls.len()) {
+        Some(all) if all <= MOST_EVENTS => Ok(push(events, end, calls)?),
+        _ => Err(ReadError::Fault(FaultName::TooMany)),
+    }
+}
+
+/// Reads a schedule: its events, in order.
+///
+/// Each line stands for one event, or for as many as it says; empty lines and lines that begin with `#` stand for none.
+/// The fault is the first one, by lines and by words, or that there is no memory.
+pub fn read_schedule<A: Allocator + Copy>(
+    alloc: A,
+    text: &[u8],
+) -> Result<Vec<Event<Bytes<A>>, A>, ScheduleFault>
+    ensures { Reads (λ events. events.items) result (schedule_of text.now) }
+{
+    let mut events = Vec::new(alloc);
+    let mut before = 0u64;
+    let mut left = text;
+    'lines: loop {
+        let (line, behind) = split_at(left, b'\n');
+        if let Err(error) = add_line(alloc, line, &mut events) {
+            return Err(error.at(before + 1));
+        }
+        let Some(behind) = behind else {
+            return Ok(events);
+        };
+        before += 1;
+        left = behind;
+    }
+}

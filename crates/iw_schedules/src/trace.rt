@@ -1,0 +1,301 @@
+ghost use Rattle.std.specs.Prelude.{◌≡◌, ◌++◌, IfOk, OnOk, string_bytes};
+ghost use Rattle.iw_schedules.specs.Answers.{kind_text, right_text, send_text, delivery_text, fault_words, shown_words, done_words, placed_words, buffered_words, received_words, seen_words};
+ghost use Rattle.iw_schedules.specs.Trace.{registered, deregistered, post_word, call_on, stream_words, act_words, entry_text, trace_text};
+ghost use Rattle.iw_schedules.specs.Appended.{with_words};
+
+use crate::words::{CallWord, end_name};
+use crate::{appending, refusals};
+use bytes::Bytes;
+use iw_events::{Act, Entry, Seen, Shown, StreamAct};
+use iw_memory::{NoRegion, RegisterRefusal, Right};
+use iw_octets::{Fault, Message, Stag};
+use iw_stream::{Delivery, Kind};
+use std::alloc::{AllocError, Allocator};
+
+fn kind_name(kind: Kind) -> &'static str
+    ensures { result.now ≡ kind_text kind }
+{
+    match kind {
+        Kind::Write => "write",
+        Kind::Send => "send",
+    }
+}
+
+fn right_name(right: Right) -> &'static str
+    ensures { result.now ≡ right_text right }
+{
+    match right {
+        Right::Write => "write",
+        Right::Read => "read",
+        Right::Sink => "sink",
+    }
+}
+
+// The kind of a Send.
+fn send_name(solicited: bool, invalidate: Option<Stag>) -> &'static str
+    ensures { result.now ≡ send_text solicited invalidate }
+{
+    match (solicited, invalidate) {
+        (false, None) => "plain",
+        (true, None) => "solicited",
+        (false, Some(_)) => "invalidate",
+        (true, Some(_)) => "both",
+    }
+}
+
+fn delivery_name(delivery: Delivery) -> &'static str
+    ensures { result.now ≡ delivery_text delivery }
+{
+    match delivery {
+        Delivery::Kept => "kept",
+        Delivery::Dropped => "dropped",
+    }
+}
+
+// The word that posts a message.
+fn post_name<A: Allocator>(message: &Message<Bytes<A>>) -> CallWord
+    ensures { result ≡ post_word message.now }
+{
+    match message {
+        Message::Write { .. } => CallWord::Write,
+        Message::Send { .. } => CallWord::Send,
+    }
+}
+
+fn add_fault<A: Allocator>(text: &mut String<A>, fault: Fault) -> Result<(), AllocError>
+    ensures { OnOk result (string_bytes text.new ≡ with_words (string_bytes text.old) (fault_words fault)) }
+{
+    appending::word(text, "fault")?;
+    appending::number(text, u64::from(fault.layer))?;
+    appending::number(text, u64::from(fault.kind))?;
+    appending::number(text, u64::from(fault.code))?;
+    Ok(())
+}
+
+fn add_shown<A: Allocator + Copy>(
+    text: &mut String<A>,
+    shown: &Shown<Bytes<A>>,
+) -> Result<(), AllocError>
+    ensures { OnOk result (string_bytes text.new ≡ with_words (string_bytes text.old) (shown_words shown.now)) }
+{
+    match shown {
+        Shown::Frame { from, octets } => {
+            appending::word(text, "frame")?;
+            appending::number(text, *from)?;
+            appending::octets(text, octets.as_slice())?;
+        }
+        Shown::Nothing => appending::word(text, "nothing")?,
+    }
+    Ok(())
+}
+
+fn add_placed<A: Allocator + Copy>(
+    text: &mut String<A>,
+    right: Right,
+    stag: Stag,
+    to: u64,
+    octets: &[u8],
+) -> Result<(), AllocError>
+    ensures { OnOk result (string_bytes text.new ≡ with_words (string_bytes text.old) (placed_words right stag to octets.now)) }
+{
+    appending::word(text, "placed")?;
+    appending::word(text, right_name(right))?;
+    appending::stag(text, stag)?;
+    appending::number(text, to)?;
+    appending::octets(text, octets)?;
+    Ok(())
+}
+
+fn add_buffered<A: Allocator>(
+    text: &mut String<A>,
+    msn: u32,
+    mo: u32,
+    len: usize,
+) -> Result<(), AllocError>
+    ensures { OnOk result (string_bytes text.new ≡ with_words (string_bytes text.old) (buffered_words msn mo len)) }
+{
+    appending::word(text, "buffered")?;
+    appending::number(text, u64::from(msn))?;
+    appending::number(text, u64::from(mo))?;
+    appending::number(text, len as u64)?;
+    Ok(())
+}
+
+fn add_received<A: Allocator + Copy>(
+    text: &mut String<A>,
+    octets: &[u8],
+    solicited: bool,
+    invalidate: Option<Stag>,
+) -> Result<(), AllocError>
+    ensures { OnOk result (string_bytes text.new ≡ with_words (string_bytes text.old) (received_words octets.now solicited invalidate)) }
+{
+    appending::word(text, "received")?;
+    appending::octets(text, octets)?;
+    appending::word(text, send_name(solicited, invalidate))?;
+    appending::optional_stag(text, invalidate)?;
+    Ok(())
+}
+
+fn add_done<A: Allocator>(text: &mut String<A>, kind: Kind) -> Result<(), AllocError>
+    ensures { OnOk result (string_bytes text.new ≡ with_words (string_bytes text.old) (done_words kind)) }
+{
+    appending::word(text, "done")?;
+    appending::word(text, kind_name(kind))?;
+    Ok(())
+}
+
+fn add_seen<A: Allocator + Copy>(
+    text: &mut String<A>,
+    seen: &Seen<Bytes<A>>,
+) -> Result<(), AllocError>
+    ensures { OnOk result (string_bytes text.new ≡ with_words (string_bytes text.old) (seen_words seen.now)) }
+{
+    match seen {
+        Seen::Done(kind) => add_done(text, *kind),
+        Seen::Placed {
+            right,
+            stag,
+            to,
+            octets,
+        } => add_placed(text, *right, *stag, *to, octets.as_slice()),
+        Seen::Buffered { msn, mo, len } => add_buffered(text, *msn, *mo, *len),
+        Seen::Passed => appending::word(text, "passed"),
+        Seen::Received {
+            octets,
+            solicited,
+            invalidate,
+        } => add_received(text, octets.as_slice(), *solicited, *invalidate),
+        Seen::Fault(fault) => add_fault(text, *fault),
+        Seen::Idle => appending::word(text, "idle"),
+    }
+}
+
+// The word of a call, and its stream.
+fn add_call<A: Allocator>(
+    text: &mut String<A>,
+    call: CallWord,
+    stream: u8,
+) -> Result<(), AllocError>
+    ensures { OnOk result (string_bytes text.new ≡ with_words (string_bytes text.old) (call_on call stream)) }
+{
+    appending::word(text, call.text())?;
+    appending::number(text, u64::from(stream))?;
+    Ok(())
+}
+
+fn add_stream_act<A: Allocator + Copy>(
+    text: &mut String<A>,
+    stream: u8,
+    act: &StreamAct<Bytes<A>>,
+) -> Result<(), AllocError>
+    ensures { OnOk result (string_bytes text.new ≡ with_words (string_bytes text.old) (stream_words stream act.now)) }
+{
+    match act {
+        StreamAct::Recv { refused, .. } => {
+            add_call(text, CallWord::Recv, stream)?;
+            appending::outcome(text, refused.map(refusals::of_recv))
+        }
+        StreamAct::Post { message, refused } => {
+            add_call(text, post_name(message), stream)?;
+            appending::outcome(text, refused.map(refusals::of_post))
+        }
+        StreamAct::Emit(shown) => {
+            add_call(text, CallWord::Emit, stream)?;
+            add_shown(text, shown)
+        }
+        StreamAct::Deliver { delivery, .. } => {
+            add_call(text, CallWord::Deliver, stream)?;
+            appending::word(text, delivery_name(*delivery))
+        }
+        StreamAct::Work(seen) => {
+            add_call(text, CallWord::Work, stream)?;
+            add_seen(text, seen)
+        }
+    }
+}
+
+fn add_registered<A: Allocator + Copy>(
+    text: &mut String<A>,
+    answer: Result<Stag, RegisterRefusal>,
+) -> Result<(), AllocError>
+    ensures { OnOk result (string_bytes text.new ≡ with_words (string_bytes text.old) (registered answer)) }
+{
+    match answer {
+        Ok(stag) => appending::stag(text, stag),
+        Err(refusal) => appending::refusal(text, refusals::of_register(refusal)),
+    }
+}
+
+fn add_deregistered<A: Allocator + Copy>(
+    text: &mut String<A>,
+    answer: &Result<Bytes<A>, NoRegion>,
+) -> Result<(), AllocError>
+    ensures { OnOk result (string_bytes text.new ≡ with_words (string_bytes text.old) (deregistered answer.now)) }
+{
+    match answer {
+        Ok(octets) => {
+            appending::word(text, "ok")?;
+            appending::octets(text, octets.as_slice())
+        }
+        Err(refusal) => appending::refusal(text, refusals::of_deregister(*refusal)),
+    }
+}
+
+fn add_act<A: Allocator + Copy>(text: &mut String<A>, act: &Act<Bytes<A>>) -> Result<(), AllocError>
+    ensures { OnOk result (string_bytes text.new ≡ with_words (string_bytes text.old) (act_words act.now)) }
+{
+    match act {
+        Act::Domain { pd, refused } => {
+            add_call(text, CallWord::Domain, *pd)?;
+            appending::outcome(text, refused.map(refusals::of_domain))
+        }
+        Act::Register { answer, .. } => {
+            appending::word(text, CallWord::Register.text())?;
+            add_registered(text, *answer)
+        }
+        Act::Deregister { stag, answer } => {
+            appending::word(text, CallWord::Deregister.text())?;
+            appending::stag(text, *stag)?;
+            add_deregistered(text, answer)
+        }
+        Act::Open {
+            stream,
+            refused,
+            ..
+        } => {
+            add_call(text, CallWord::Open, *stream)?;
+            appending::outcome(text, refused.map(refusals::of_open))
+        }
+        Act::Stream { stream, act } => add_stream_act(text, *stream, act),
+    }
+}
+
+// Appends the line of an entry.
+fn add_entry<A: Allocator + Copy>(
+    text: &mut String<A>,
+    entry: &Entry<Bytes<A>>,
+) -> Result<(), AllocError>
+    ensures { OnOk result (string_bytes text.new ≡ string_bytes text.old ++ entry_text entry.now) }
+{
+    text.push_str(end_name(entry.end))?;
+    add_act(text, &entry.act)?;
+    text.push_str("\n")?;
+    Ok(())
+}
+
+/// Prints a trace: one line for each entry.
+///
+/// Octets and STags print in lower case, no octets as `-`, and all other numbers in decimal; every line ends with a line feed.
+#[tactic(auto, unfolding(crate::specs::Trace::trace_text))]
+pub fn print_trace<A: Allocator + Copy>(
+    alloc: A,
+    trace: &[Entry<Bytes<A>>],
+) -> Result<String<A>, AllocError>
+    ensures { IfOk result (λ text. string_bytes text ≡ trace_text trace.now) }
+{
+    let mut text = String::new(alloc);
+    for entry in trace {
+        add_entry(&mut text, entry)?;
+    }
+    Ok(text)
+}

@@ -1,0 +1,94 @@
+//! The fixed words of schedules and traces: the one table from which they are read and printed.
+
+ghost use Rattle.std.specs.Prelude.{◌≡◌};
+ghost use Rattle.iw_schedules.specs.Words.{one_of, end_text, end_word, call_text, call_word};
+
+use crate::fault::FaultName;
+use iw_events::End;
+
+/// What a line calls: its second word.
+#[derive(Clone, Copy, Debug, PartialEq, Eq)]
+pub(crate) enum CallWord {
+    Domain,
+    Register,
+    Deregister,
+    Open,
+    Recv,
+    Send,
+    Write,
+    Emit,
+    Work,
+    Deliver,
+}
+
+impl CallWord {
+    /// Every one of them.
+    pub(crate) const ALL: [CallWord; 10] = [
+        CallWord::Domain,
+        CallWord::Register,
+        CallWord::Deregister,
+        CallWord::Open,
+        CallWord::Recv,
+        CallWord::Send,
+        CallWord::Write,
+        CallWord::Emit,
+        CallWord::Work,
+        CallWord::Deliver,
+    ];
+
+    pub(crate) fn text(self) -> &'static str
+        ensures { result.now ≡ call_text self }
+    {
+        match self {
+            CallWord::Domain => "domain",
+            CallWord::Register => "register",
+            CallWord::Deregister => "deregister",
+            CallWord::Open => "open",
+            CallWord::Recv => "recv",
+            CallWord::Send => "send",
+            CallWord::Write => "write",
+            CallWord::Emit => "emit",
+            CallWord::Work => "work",
+            CallWord::Deliver => "deliver",
+        }
+    }
+
+    #[tactic(auto, unfolding(crate::specs::Words::call_word))]
+    pub(crate) fn read(word: &[u8]) -> Result<CallWord, FaultName>
+        ensures { result ≡ call_word word.now }
+    {
+        CallWord::one_of(&CallWord::ALL, word)
+    }
+
+    // The one of these that is written so.
+    fn one_of(all: &[CallWord], word: &[u8]) -> Result<CallWord, FaultName>
+        ensures { result ≡ one_of call_text all.now word.now }
+    {
+        for call in all {
+            if word == call.text().as_bytes() {
+                return Ok(*call);
+            }
+        }
+        Err(FaultName::BadWord)
+    }
+}
+
+pub(crate) fn end_name(end: End) -> &'static str
+    ensures { result.now ≡ end_text end }
+{
+    match end {
+        End::A => "a",
+        End::B => "b",
+    }
+}
+
+pub(crate) fn end(word: &[u8]) -> Result<End, FaultName>
+    ensures { result ≡ end_word word.now }
+{
+    for end in [End::A, End::B] {
+        if word == end_name(end).as_bytes() {
+            return Ok(end);
+        }
+    }
+    Err(FaultName::BadWord)
+}
