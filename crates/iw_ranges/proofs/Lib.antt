@@ -1,0 +1,9 @@
+pub mod Reaches
+pub mod Joins
+pub mod Adds
+pub mod Fills
+pub mod Cells
+pub mod Counts
+pub mod Keeps
+pub mod Moves
+pub mod ByPlace

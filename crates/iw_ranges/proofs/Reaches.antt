@@ -1,0 +1,119 @@
+-- The spans before the first that reaches a place, and those from it on.
+use Rattle.std.proofs.Common.{◌≡◌, ℕ, ◌+◌, ◌<◌, ◌≤◌, zero, suc, Bool, true, false, ◌||◌, List, [], ◌∷◌, drop, length, get_or, refl, sym, ap, ◌∙◌, subst, arith, inl, inr}
+use Rattle.std.proofs.lemmas.List.{drop_more, drop_all}
+use Rattle.std.proofs.lemmas.Bool.{cases_lt}
+use Rattle.std.proofs.lemmas.Bool.Decides.{nat_tests}
+use Rattle.std.specs.Prelude.{nat_lt, nat_le, MatchBool}
+use Rattle.std.specs.List.Sorted.{IsNonDecreasingBy, IsPartitionPoint}
+use Rattle.iw_ranges.specs.declared.spans.Span.{Span}
+use Rattle.iw_ranges.specs.Spans.{in_span, in_spans, IsApart, IsFromStart, IsInOrder, IsFirstReaching}
+
+pub in_order_tail : (s : Span) (ss : List Span) → IsInOrder (s ∷ ss) → IsInOrder ss
+in_order_tail s [] h = tt
+in_order_tail s (t ∷ ts) h = (omega (arith, h.1.1), h.1.2)
+
+pub in_order_start : (ss : List Span) → IsFromStart ss → IsInOrder ss
+in_order_start [] h = tt
+in_order_start (s ∷ ss) h = (omega (arith, h.0), h.1)
+
+pub in_order_drop : (i : ℕ) (ss : List Span) → IsInOrder ss → IsInOrder (drop i ss)
+in_order_drop zero ss h = h
+in_order_drop (suc i) [] h = tt
+in_order_drop (suc i) (s ∷ ss) h = in_order_drop i ss (in_order_tail s ss h)
+
+-- no place up to the end of what stands before lies in the spans
+pub below_apart : (m q : ℕ) (ss : List Span) → IsApart m ss → q ≤ m → in_spans q ss ≡ false
+below_apart m q [] h le = refl
+below_apart m q (s ∷ ss) h le =
+    let rest : in_spans q ss ≡ false = below_apart s.to q ss h.2 (omega arith) in
+    grind (arith, nat_tests, rest)
+
+-- ---- ends do not fall
+ends_above : (m : ℕ) (ss : List Span) (k : ℕ) (d : Span) → IsApart m ss → k < length ss → m < (get_or ss k d).to
+ends_above m [] k d apart lt = absurd (omega arith)
+ends_above m (s ∷ ss) zero d apart lt = omega (arith, apart.0, apart.1)
+ends_above m (s ∷ ss) (suc k) d apart lt = omega (arith, apart.0, apart.1, ends_above s.to ss k d apart.2 (omega arith))
+
+pub ends_rise : (ss : List Span) → IsInOrder ss → IsNonDecreasingBy (λ s. s.to) ss
+ends_rise [] order i j d le lt = absurd (omega arith)
+ends_rise (s ∷ ss) order zero zero d le lt = omega arith
+ends_rise (s ∷ ss) order zero (suc j) d le lt = omega (arith, ends_above s.to ss j d order.1 (omega arith))
+ends_rise (s ∷ ss) order (suc i) zero d le lt = absurd (omega arith)
+ends_rise (s ∷ ss) order (suc i) (suc j) d le lt = ends_rise ss (in_order_tail s ss order) i j d (omega arith) (omega arith)
+
+-- ---- the spans before `from`
+abbrev pub AllBefore : List Span → ℕ → ℕ → Type 0
+AllBefore ss from i = (k : ℕ) (d : Span) → k < i → (get_or ss k d).to < from
+
+pub in_rest : (ss : List Span) (from i p : ℕ) → AllBefore ss from i → from ≤ p + 1 → in_spans p (drop i ss) ≡ in_spans p ss
+in_rest ss from zero p before low = refl
+in_rest [] from (suc i) p before low = refl
+in_rest (s ∷ ss) from (suc i) p before low =
+    let first : s.to < from = before zero s (omega arith) in
+    let out : in_span p s ≡ false = grind (arith, nat_tests) in
+    in_rest ss from i p (λ k d lt. before (suc k) d (omega arith)) low ∙ sym (ap (λ b. b || in_spans p ss) out)
+
+pub inside_first : (p : ℕ) (s : Span) (ss : List Span) → s.from ≤ p → p < s.to → in_spans p (s ∷ ss) ≡ true
+inside_first p s ss low high = let here : in_span p s ≡ true = grind (arith, nat_tests) in ap (λ b. b || in_spans p ss) here
+
+-- ---- what a search answers
+pub first_from_point : (ss : List Span) (from i : ℕ) → i ≤ length ss → IsPartitionPoint (λ s. nat_lt s.to from ≡ true) (λ s. nat_lt s.to from ≡ false) ss i → IsFirstReaching ss from i
+first_from_point ss from i within point = record {
+  within = within;
+  before = λ k d lt. let t = point.0 k d (omega arith) lt in grind (arith, nat_tests, t);
+  reaches = λ d lt. let t = point.1 i d (omega arith) lt in grind (arith, nat_tests, t);
+}
+
+-- ---- whether a range lies in the spans: `at` is the first span that reaches behind `from`
+abbrev pub AllOrSome : Bool → (ℕ → Bool) → ℕ → ℕ → Type 0
+AllOrSome r came from to = MatchBool r ((p : ℕ) → from ≤ p → p < to → came p ≡ true) ((p : ℕ) × (from ≤ p) × (p < to) × (came p ≡ false))
+
+-- the answer for a test is the answer for one that agrees with it from `from` on
+pub answer_via : (r : Bool) (f g : ℕ → Bool) (from to : ℕ) → ((p : ℕ) → from ≤ p → f p ≡ g p) → AllOrSome r g from to → AllOrSome r f from to
+answer_via true f g from to same all = λ p a b. same p a ∙ all p a b
+answer_via false f g from to same some = (some.0, some.1, some.2, same some.0 some.1 ∙ some.3)
+
+answer_to : (from to : ℕ) (s : Span) (ss : List Span) → from < to → IsInOrder (s ∷ ss) → s.from ≤ from → from < s.to → AllOrSome (nat_le to s.to) (λ p. in_spans p (s ∷ ss)) from to
+answer_to from to s ss some order low inside =
+    elim (cases_lt s.to to) [
+      | inl more ↦
+          let t : nat_le to s.to ≡ false = grind (arith, nat_tests) in
+          let out : in_span s.to s ≡ false = grind (arith, nat_tests) in
+          subst (λ b. AllOrSome b (λ p. in_spans p (s ∷ ss)) from to) (sym t)
+          (s.to, omega arith, more, ap (λ b. b || in_spans s.to ss) out ∙ below_apart s.to s.to ss order.1 (omega arith))
+      | inr fits ↦
+          let t : nat_le to s.to ≡ true = grind (arith, nat_tests) in
+          subst (λ b. AllOrSome b (λ p. in_spans p (s ∷ ss)) from to) (sym t) (λ p a b. inside_first p s ss (omega arith) (omega arith))
+    ]
+
+answer_before : (from to : ℕ) (s : Span) (ss : List Span) → from < to → IsInOrder (s ∷ ss) → from < s.from → from < s.to → AllOrSome (nat_le s.from from) (λ p. in_spans p (s ∷ ss)) from to
+answer_before from to s ss some order before inside =
+    let t : nat_le s.from from ≡ false = grind (arith, nat_tests) in
+    let out : in_span from s ≡ false = grind (arith, nat_tests) in
+    subst (λ b. AllOrSome b (λ p. in_spans p (s ∷ ss)) from to) (sym t)
+    (from, omega arith, some, ap (λ b. b || in_spans from ss) out ∙ below_apart s.to from ss order.1 (omega arith))
+
+-- the span at `at`, and those behind it
+tail_is : (ss : List Span) (at : ℕ) (s : Span) → at < length ss → s ≡ get_or ss at s → drop at ss ≡ s ∷ drop (at + 1) ss
+tail_is ss at s lt is = drop_more ss at s lt ∙ ap (λ x. x ∷ drop (at + 1) ss) (sym is)
+
+in_tail : (ss : List Span) (from at : ℕ) (s : Span) → IsFirstReaching ss (from + 1) at → at < length ss → s ≡ get_or ss at s → (p : ℕ) → from ≤ p → in_spans p ss ≡ in_spans p (s ∷ drop (at + 1) ss)
+in_tail ss from at s first lt is p low = sym (in_rest ss (from + 1) at p first.before (omega arith)) ∙ ap (in_spans p) (tail_is ss at s lt is)
+
+reached : (ss : List Span) (from at : ℕ) (s : Span) → IsFirstReaching ss (from + 1) at → at < length ss → s ≡ get_or ss at s → from < s.to
+reached ss from at s first lt is = let h : from + 1 ≤ s.to = subst (λ (x : Span). from + 1 ≤ x.to) (sym is) (first.reaches s lt) in omega arith
+
+pub answer_at_to : (ss : List Span) (at : ℕ) (s : Span) (from to : ℕ) → at < length ss → s ≡ get_or ss at s → from < to → IsInOrder ss → IsFirstReaching ss (from + 1) at → s.from ≤ from
+    → AllOrSome (nat_le to s.to) (λ p. in_spans p ss) from to
+answer_at_to ss at s from to lt is some order first low =
+    answer_via (nat_le to s.to) (λ p. in_spans p ss) (λ p. in_spans p (s ∷ drop (at + 1) ss)) from to (in_tail ss from at s first lt is)
+    (answer_to from to s (drop (at + 1) ss) some (subst IsInOrder (tail_is ss at s lt is) (in_order_drop at ss order)) low (reached ss from at s first lt is))
+
+pub answer_at_from : (ss : List Span) (at : ℕ) (s : Span) (from to : ℕ) → at < length ss → s ≡ get_or ss at s → from < to → IsInOrder ss → IsFirstReaching ss (from + 1) at → from < s.from
+    → AllOrSome (nat_le s.from from) (λ p. in_spans p ss) from to
+answer_at_from ss at s from to lt is some order first before =
+    answer_via (nat_le s.from from) (λ p. in_spans p ss) (λ p. in_spans p (s ∷ drop (at + 1) ss)) from to (in_tail ss from at s first lt is)
+    (answer_before from to s (drop (at + 1) ss) some (subst IsInOrder (tail_is ss at s lt is) (in_order_drop at ss order)) before (reached ss from at s first lt is))
+
+pub none_reaches : (ss : List Span) (at from : ℕ) → IsFirstReaching ss (from + 1) at → length ss ≤ at → in_spans from ss ≡ false
+none_reaches ss at from first past = sym (in_rest ss (from + 1) at from first.before (omega arith)) ∙ ap (in_spans from) (drop_all at ss past)

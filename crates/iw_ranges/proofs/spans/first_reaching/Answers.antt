@@ -1,0 +1,13 @@
+use Rattle.std.proofs.Common.{rules, of_calls, arith}
+use Rattle.std.proofs.lemmas.Fn.{always_returns_same}
+use Rattle.std.proofs.lemmas.List.Sorted.{IsPartitionedBy-ltb}
+use Rattle.std.specs.Prelude.{nat_lt}
+use Rattle.iw_ranges.proofs.Reaches.{first_from_point, ends_rise}
+use Rattle.iw_ranges.proofs.spans.first_reaching.Goals as goal
+
+pub returns-2 : goal.returns-2
+returns-2 g c =
+    let ss = c.args.spans.now.items in
+    first_from_point ss c.args.from c.partition_point.result (omega (arith, c.partition_point.ensures.bound, c.args.spans.now.ok.0))
+    (c.partition_point.ensures.partitioned (λ s. nat_lt s.to c.args.from) (always_returns_same _ _ _ (λ a r f k. search (rules, of_calls)))
+    (IsPartitionedBy-ltb (λ s. s.to) ss c.args.from (ends_rise ss c.requires)))

@@ -1,0 +1,117 @@
+-- What came of a stream, place by place, and what each call makes of it.
+use Rattle.std.specs.Prelude.{ℕ, ◌≡◌, ◌≤◌, ◌+◌, ◌-◌, ◌^◌, zero, suc, Bool, true, false, ◌&&◌, ◌||◌, not, nat_lt, nat_le, List, [], length, map, drop, max, if◌then◌else◌, slice_index, slice_index_or}
+use Rattle.std.specs.List.{range_with_len}
+use Rattle.iw_ranges.specs.declared.Delivery.{Delivery}
+use Rattle.iw_ranges.specs.declared.Delivery.TheVariants.{Kept, Dropped}
+
+-- what is known of one place: its octet didn't come, came and is held, or came and was given up
+pub data Cell : Type 0 where
+  Missing : Cell
+  Here : ℕ → Cell
+  Gone : Cell
+
+-- a stream: all before the in-order point `floor` came and was given up, cell i is place floor + i, and behind the last cell nothing came
+pub record Arrived : Type 0 where
+  pub floor : ℕ
+  pub cells : List Cell
+
+-- an `Islands`: what came, and how many releases there is room for
+pub record Held : Type 0 where
+  pub arrived : Arrived
+  pub room : ℕ
+
+abbrev pub nothing : Arrived
+nothing = record { floor = 0; cells = [] }
+
+abbrev pub cell_at : Arrived → ℕ → Cell
+cell_at a p = if nat_lt p a.floor then Gone else slice_index_or a.cells (p - a.floor) Missing
+
+abbrev pub is_missing : Cell → Bool
+is_missing Missing = true
+is_missing (Here x) = false
+is_missing Gone = false
+
+abbrev pub IsHere : Cell → Type 0
+IsHere Missing = ⊥
+IsHere (Here x) = Unit {0}
+IsHere Gone = ⊥
+
+abbrev pub has_come : Arrived → ℕ → Bool
+has_come a p = not (is_missing (cell_at a p))
+
+-- the place behind the last cell
+abbrev pub end_of : Arrived → ℕ
+end_of a = a.floor + length a.cells
+
+-- the stream that has these cells from `floor` on up to `end`
+abbrev pub drawn : ℕ → ℕ → (ℕ → Cell) → Arrived
+drawn floor end cell = record { floor = floor; cells = map cell (range_with_len floor (end - floor)) }
+
+-- the cells from place `from` up to place `to`
+abbrev pub cells_between : Arrived → ℕ → ℕ → List Cell
+cells_between a from to = map (cell_at a) (range_with_len from (to - from))
+
+-- ---- a segment: n octets from `place` on
+abbrev pub in_segment : ℕ → ℕ → ℕ → Bool
+in_segment place n p = nat_le place p && nat_lt p (place + n)
+
+-- the places that came once the segment came too
+abbrev pub come_after : Arrived → ℕ → ℕ → ℕ → Bool
+come_after a place n p = has_come a p || in_segment place n p
+
+-- how many of the n places from `from` on came where the place before them didn't
+abbrev pub starts_in : (ℕ → Bool) → ℕ → ℕ → ℕ
+starts_in came from zero = 0
+starts_in came from (suc n) = (if came from && not (came (from - 1)) then 1 else 0) + starts_in came (from + 1) n
+
+-- an octet comes less than this far behind the in-order point, or is dropped
+abbrev pub window : ℕ
+window = 262144
+
+abbrev pub max_islands : ℕ
+max_islands = 1024
+
+-- how many islands of octets there are, those that came without a gap from `floor` on not counted
+unfoldable pub island_count : (ℕ → Bool) → ℕ → ℕ
+island_count came floor = starts_in came (floor + 1) window
+
+-- an octet of the segment lies out of the window, or there would be too many islands
+unfoldable pub is_dropped : Arrived → ℕ → ℕ → Bool
+is_dropped a place n = nat_lt 0 n && (nat_lt (a.floor + window) (place + n) || nat_lt max_islands (island_count (come_after a place n) a.floor))
+
+abbrev pub delivery : Arrived → ℕ → ℕ → Delivery
+delivery a place n = if is_dropped a place n then Dropped else Kept
+
+-- the first copy of an octet stays
+abbrev pub first_copy : ℕ → List ℕ → ℕ → Cell → Cell
+first_copy place octets p Missing = if in_segment place (length octets) p then Here (slice_index octets (p - place)) else Missing
+first_copy place octets p (Here x) = Here x
+first_copy place octets p Gone = Gone
+
+unfoldable pub taken_in : Arrived → ℕ → List ℕ → Arrived
+taken_in a place octets =
+    if nat_lt 0 (length octets) then drawn a.floor (max (end_of a) (place + length octets)) (λ p. first_copy place octets p (cell_at a p)) else a
+
+-- a segment is dropped whole, or taken in
+abbrev pub delivered : Arrived → ℕ → List ℕ → Arrived
+delivered a place octets = if is_dropped a place (length octets) then a else taken_in a place octets
+
+-- ---- what comes after
+-- the in-order point is `to`, or stays where it lies further on
+unfoldable pub advanced : Arrived → ℕ → Arrived
+advanced a to = record { floor = max a.floor to; cells = drop (to - a.floor) a.cells }
+
+-- an octet that came is given up if its place lies from `from` up to `to`
+abbrev pub given_up : ℕ → ℕ → ℕ → Cell → Cell
+given_up from to p Missing = Missing
+given_up from to p (Here x) = if nat_le from p && nat_lt p to then Gone else Here x
+given_up from to p Gone = Gone
+
+unfoldable pub released : Arrived → ℕ → ℕ → Arrived
+released a from to = drawn a.floor (end_of a) (λ p. given_up from to p (cell_at a p))
+
+-- ---- what is so at any time
+pub record IsWithinLimits (a : Arrived) : Type 0 where
+  pub octets : (p : ℕ) → a.floor + window ≤ p → cell_at a p ≡ Missing
+  pub islands : island_count (has_come a) a.floor ≤ max_islands
+  pub floor : a.floor ≤ 2 ^ 63

@@ -1,0 +1,39 @@
+-- What the fields of an `Islands` mean, and what they keep.
+use Rattle.std.specs.Prelude.{ℕ, ◌≡◌, ◌≤◌, ◌<◌, ◌+◌, ◌-◌, ◌*◌, ◌^◌, true, List, length, if◌then◌else◌, slice_index}
+use Rattle.std.specs.VecDeque.{deque_len, deque_capacity}
+use Rattle.iw_ranges.specs.Spans.{in_spans, IsFromStart, AreSpans, first_end}
+use Rattle.iw_ranges.specs.Arrived.{Cell, Missing, Here, Gone, Arrived, Held, drawn, window}
+use Rattle.iw_ranges.specs.declared.spans.Span.{Span}
+use Rattle.iw_ranges.specs.declared.Islands.TheInside.{Inside}
+
+-- the fields, whatever the allocator
+pub record Fields : Type 0 where
+  pub base : ℕ
+  pub floor : ℕ
+  pub octets : List ℕ
+  pub spans : List Span
+  pub gone : List Span
+
+abbrev pub fields_of : {A : Type 0} → Inside A → Fields
+fields_of {A} a = record { base = a.base; floor = a.floor; octets = a.octets.items; spans = a.spans.items; gone = a.gone.items }
+
+unfoldable pub cell_of : Fields → ℕ → Cell
+cell_of f p = if in_spans p f.spans then (if in_spans p f.gone then Gone else Here (slice_index f.octets (p - f.base))) else Missing
+
+abbrev pub arrived_in : Fields → Arrived
+arrived_in f = drawn f.floor (f.base + length f.octets) (cell_of f)
+
+abbrev pub held_by : {A : Type 0} → Inside A → Held
+held_by {A} a = record { arrived = arrived_in (fields_of a); room = deque_capacity a.gone - deque_len a.gone }
+
+pub record IsSound (f : Fields) : Type 0 where
+  pub base : f.base ≤ f.floor
+  pub order : IsFromStart f.spans
+  pub reached : f.floor ≤ first_end f.spans
+  pub within : (p : ℕ) → in_spans p f.spans ≡ true → p < f.base + length f.octets
+  pub windowed : f.base + length f.octets ≤ f.floor + window
+  pub half : 2 * (f.floor - f.base) ≤ length f.octets
+  pub few : length f.spans ≤ 1025
+  pub low : f.floor ≤ 2 ^ 63
+  pub gone_order : AreSpans f.gone
+  pub gone_came : (p : ℕ) → in_spans p f.gone ≡ true → in_spans p f.spans ≡ true

@@ -1,0 +1,5 @@
+pub mod Arrived
+pub mod Spans
+pub mod Fields
+pub mod Parts
+pub mod Laws

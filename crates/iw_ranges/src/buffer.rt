@@ -1,0 +1,122 @@
+ghost use Rattle.std.specs.Prelude.{◌≡◌, ◌<◌, ◌≤◌, ◌+◌, ◌-◌, ◌*◌, ◌^◌, ◌&&◌, ℕ, length, vec_len, true, slice_index, if◌then◌else◌, nat_le, nat_lt, OnOk, OnErr, max, take, drop};
+ghost use Rattle.std.specs.VecDeque.{deque_len, deque_capacity};
+ghost use Rattle.iw_ranges.specs.Spans.{in_spans, add_span, IsFromStart, IsFirstReaching, octet_after};
+
+use crate::spans::{Span, join};
+use std::alloc::{AllocError, Allocator};
+use std::collections::VecDeque;
+
+/// Writes the octets over those that stand at `at`.
+fn write_at(buffer: &mut [u8], at: usize, octets: &[u8])
+    requires { at + length octets.now ≤ length buffer.old }
+    ensures { (i : ℕ) → i < length buffer.old → slice_index buffer.new i
+        ≡ (if nat_le at i && nat_lt i (at + length octets.now) then slice_index octets.now (i - at) else slice_index buffer.old i) }
+{
+    buffer[at..at + octets.len()].copy_from_slice(octets);
+}
+
+/// Writes the octets from place `from` on, but for the places in the spans, of which that at `low` is the first that
+/// reaches `from`. The buffer begins at place `base`.
+fn fill<A: Allocator>(
+    buffer: &mut [u8],
+    base: u64,
+    spans: &VecDeque<Span, A>,
+    low: usize,
+    from: u64,
+    octets: &[u8],
+)
+    requires base { base ≤ from }
+    requires room { from + length octets.now ≤ base + length buffer.old }
+    requires small { from + length octets.now < 2 ^ 64 }
+    requires order { IsFromStart spans.now.items }
+    requires place { IsFirstReaching spans.now.items from low }
+    ensures { (i : ℕ) → i < length buffer.old → slice_index buffer.new i ≡ octet_after base spans.now.items from octets.now buffer.old i }
+{
+    let mut next = from;
+    let mut rest = octets;
+    let mut at = low;
+    'gaps: while !rest.is_empty() && at < spans.len() {
+        let span = spans[at];
+        let gap = rest.len().min(span.from.saturating_sub(next) as usize);
+        let (before, _) = rest.split_at(gap);
+        write_at(buffer, (next - base) as usize, before);
+        let skip = rest.len().min(span.to.saturating_sub(next) as usize);
+        let (_, behind) = rest.split_at(skip);
+        rest = behind;
+        next += skip as u64;
+        at += 1;
+    }
+    write_at(buffer, (next - base) as usize, rest);
+}
+
+/// Puts the octets at index `at`, behind all that stands in the buffer, with zeros between. An `Err` changes nothing.
+fn append<A: Allocator>(buffer: &mut Vec<u8, A>, at: usize, octets: &[u8]) -> Result<(), AllocError>
+    requires behind { 0 < length octets.now → vec_len buffer.old ≤ at }
+    requires small { at + length octets.now < 2 ^ 64 }
+    ensures octets { OnOk result ((i : ℕ) → slice_index buffer.new.items i
+        ≡ (if nat_le at i && nat_lt i (at + length octets.now) then slice_index octets.now (i - at) else slice_index buffer.old.items i)) }
+    ensures len { OnOk result (vec_len buffer.new ≡ (if nat_lt 0 (length octets.now) then at + length octets.now else vec_len buffer.old)) }
+    ensures err { OnErr result (buffer.new.items ≡ buffer.old.items) }
+{
+    if octets.is_empty() {
+        return Ok(());
+    }
+    buffer.reserve(at - buffer.len() + octets.len())?;
+    let _ = buffer.resize(at, 0);
+    let _ = buffer.extend_from_slice(octets);
+    Ok(())
+}
+
+/// Takes in the octets from place `from` on, but for the places in the spans, and adds their places to the spans, of which
+/// that at `low` is the first that reaches `from`. An `Err` changes nothing.
+pub(crate) fn put<A: Allocator>(
+    buffer: &mut Vec<u8, A>,
+    base: u64,
+    spans: &mut VecDeque<Span, A>,
+    low: usize,
+    from: u64,
+    octets: &[u8],
+) -> Result<(), AllocError>
+    requires base { base ≤ from }
+    requires some { 0 < length octets.now }
+    requires small { from + length octets.now < 2 ^ 64 }
+    requires order { IsFromStart spans.old.items }
+    requires place { IsFirstReaching spans.old.items from low }
+    requires within { (p : ℕ) → in_spans p spans.old.items ≡ true → p < base + vec_len buffer.old }
+    ensures spans { OnOk result (spans.new.items ≡ add_span from (from + length octets.now) spans.old.items) }
+    ensures len { OnOk result (vec_len buffer.new ≡ max (vec_len buffer.old) (from + length octets.now - base)) }
+    ensures octets { OnOk result ((i : ℕ) → slice_index buffer.new.items i ≡ octet_after base spans.old.items from octets.now buffer.old.items i) }
+    ensures err_spans { OnErr result (spans.new.items ≡ spans.old.items) }
+    ensures err_octets { OnErr result (buffer.new.items ≡ buffer.old.items) }
+{
+    let at = (from - base) as usize;
+    let inside = octets.len().min(buffer.len().saturating_sub(at));
+    let (front, back) = octets.split_at(inside);
+    spans.reserve(1)?;
+    append(buffer, at + inside, back)?;
+    fill(buffer, base, spans, low, from, front);
+    join(spans, low, from, from + octets.len() as u64);
+    Ok(())
+}
+
+/// Copies the octets from index `n` on to the front, where they have room.
+fn copy_to_front(octets: &mut [u8], n: usize)
+    requires within { n ≤ length octets.old }
+    requires room { length octets.old ≤ 2 * n }
+    ensures { take (length octets.old - n) octets.new ≡ drop n octets.old }
+{
+    let (front, back) = octets.split_at_mut(n);
+    front[..back.len()].copy_from_slice(back);
+}
+
+/// Lets the first `n` octets go, at least half of them.
+pub(crate) fn drop_front<A: Allocator>(octets: &mut Vec<u8, A>, n: usize)
+    requires within { n ≤ vec_len octets.old }
+    requires half { vec_len octets.old ≤ 2 * n }
+    ensures items { octets.new.items ≡ drop n octets.old.items }
+    ensures len { vec_len octets.new + n ≡ vec_len octets.old }
+{
+    let kept = octets.len() - n;
+    copy_to_front(octets, n);
+    octets.truncate(kept);
+}

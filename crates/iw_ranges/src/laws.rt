@@ -1,0 +1,27 @@
+//! What the calls of [`Islands`](crate::Islands) leave, said of each place of the stream.
+ghost use Rattle.iw_ranges.specs.Laws.{KeepsFirstCopies, AddsPlaces, GivesUpPlaces, StaysCome, GivesUpBefore};
+
+/// Of an octet that came twice the first copy stays.
+pub fn first_copies_stay()
+    ensures { KeepsFirstCopies }
+{}
+
+/// The places of a segment that is kept count as come, with those that came before.
+pub fn segments_add_places()
+    ensures { AddsPlaces }
+{}
+
+/// A release gives up the octets of its places and no other.
+pub fn releases_give_up_their_places()
+    ensures { GivesUpPlaces }
+{}
+
+/// Places that were given up still count as come.
+pub fn released_places_stay_come()
+    ensures { StaysCome }
+{}
+
+/// What lies before the in-order point is given up, and all else stays as it is.
+pub fn the_in_order_point_gives_up_what_is_before()
+    ensures { GivesUpBefore }
+{}
