@@ -1,11 +1,15 @@
 -- Each kind of word is read as the grammar says, and nothing else is.
 use Rattle.std.proofs.Common.{◌≡◌, ℕ, ◌+◌, ◌*◌, ◌<◌, ◌≤◌, Bool, true, false, cond, ◌&&◌, ltb, leb, eqb, List, [], ◌∷◌, ◌++◌, length, Option, Some, None, Result, Ok, Err, refl, sym, ap, subst, ◌∙◌, codes, arith}
-use Rattle.std.specs.List.{repeat}
+use Rattle.std.specs.Prelude.{MatchOption}
+use Rattle.std.specs.List.{repeat, AllPass}
+use Rattle.std.proofs.lemmas.List.{append-nil, length-append}
+use Rattle.std.proofs.lemmas.List.Elements.{All-head, All-tail}
 use Rattle.std.specs.Str.{bytes_eq}
 use Rattle.std.specs.Str.Parse.{digits_value}
-use Rattle.std.proofs.lemmas.Bool.{ltb-true, lt-ltb, leb-true, le-leb}
+use Rattle.std.proofs.lemmas.Bool.{ltb-true, lt-ltb, leb-true, le-leb, eqb-true, ne_eqb}
 use Rattle.std.proofs.lemmas.Slice.Eq.{bytes_eq-Decides}
-use Rattle.hex.specs.Hex.{decode_of, decode_sized}
+use Rattle.hex.specs.declared.error.FromHexError.{FromHexError}
+use Rattle.hex.specs.Hex.{decode_of, decode_sized, is_hex_digit}
 use Rattle.hex.proofs.HexLemmas.{decode_of-ok, decode_sized-ok, decode_sized-twice}
 use Rattle.iw_octets.specs.declared.stag.Stag.{Stag}
 use Rattle.iw_octets.specs.Stag.{stag_at}
@@ -28,11 +32,11 @@ pub bind_ok : {A B : Type 0} (r : Result A FaultName) (f : A → Result B FaultN
 bind_ok (Ok x) f y e = (x, refl, e)
 bind_ok (Err fault) f y e = absurd cc
 
-ok_ok : {A E : Type 0} (fault : FaultName) (x y : A) → or_fault {E = E} fault (Ok x) ≡ Ok y → Ok {E = E} x ≡ Ok y
-ok_ok fault x y e = let same : x ≡ y = cc in ap Ok same
+abbrev pub okay : {A : Type 0} (E : Type 0) → A → Result A E
+okay E x = Ok x
 
 pub or_fault_ok : {A E : Type 0} (fault : FaultName) (r : Result A E) (y : A) → or_fault fault r ≡ Ok y → r ≡ Ok y
-or_fault_ok fault (Ok x) y e = ok_ok fault x y e
+or_fault_ok {A} {E} fault (Ok x) y e = let same : x ≡ y = cc in ap (okay E) same
 or_fault_ok fault (Err x) y e = absurd cc
 
 -- a test that passed
@@ -83,8 +87,134 @@ hex_again word octets is = rw (is.digits, lt-ltb 0 (length octets) is.some) refl
 
 pub stag_is : (word : Word) (stag : Stag) → stag_word word ≡ Ok stag → IsStag word stag
 unfolding stag_word
-stag_is word stag e = ?
+stag_is word stag e =
+    let a = bind_ok (or_fault BadNumber (decode_sized word 4)) (λ octets. Ok (stag_at octets 0)) stag e in
+    let sized = or_fault_ok BadNumber (decode_sized word 4) a.0 a.1 in
+    let digits : decode_of word ≡ Ok a.0 = sym (decode_sized-twice word 4 (decode_sized-ok word 4 a.0 sized)) ∙ sized in
+    let four : length a.0 ≡ 4 = omega (arith, decode_sized-ok word 4 a.0 sized, (decode_of-ok word a.0 digits).2) in
+    record { octets = a.0; digits = record { digits = digits; some = omega arith }; four = four; value = cc (a.2) }
 
 pub stag_again : (word : Word) (stag : Stag) → IsStag word stag → stag_word word ≡ Ok stag
 unfolding stag_word
-stag_again word stag is = ?
+stag_again word stag is =
+    let len : length word ≡ 2 * 4 = omega (arith, is.four, (decode_of-ok word is.octets is.digits.digits).2) in
+    let sized : decode_sized word 4 ≡ Ok is.octets = decode_sized-twice word 4 len ∙ is.digits.digits in
+    ap (λ (r : Result (List ℕ) FromHexError). or_fault BadNumber r >>= λ octets. Ok (stag_at octets 0)) sized ∙ ap (okay FaultName) is.value
+
+-- ---- octets that may be repeated
+
+-- these parts around a separator make up the whole
+abbrev Joins : ℕ → List ℕ → List ℕ → Option (List ℕ) → Type 0
+Joins separator xs front behind = MatchOption behind (xs ≡ front) (λ rest. xs ≡ front ++ separator ∷ rest)
+
+joins_onto : (separator x : ℕ) (xs front : List ℕ) (behind : Option (List ℕ)) → Joins separator xs front behind → Joins separator (x ∷ xs) (x ∷ front) behind
+joins_onto separator x xs front None e = ap (λ ys. x ∷ ys) e
+joins_onto separator x xs front (Some rest) e = ap (λ ys. x ∷ ys) e
+
+joins_at : (separator x : ℕ) (xs : List ℕ) (b : Bool) → eqb x separator ≡ b → Joins separator xs (split_at_first separator xs).0 (split_at_first separator xs).1
+    → Joins separator (x ∷ xs) (split_at_first separator (x ∷ xs)).0 (split_at_first separator (x ∷ xs)).1
+joins_at separator x xs true e others = rw e (ap (λ y. y ∷ xs) (eqb-true x separator e))
+joins_at separator x xs false e others = rw e (joins_onto separator x xs (split_at_first separator xs).0 (split_at_first separator xs).1 others)
+
+pub split_joins : (separator : ℕ) (xs : List ℕ) → Joins separator xs (split_at_first separator xs).0 (split_at_first separator xs).1
+split_joins separator [] = refl
+split_joins separator (x ∷ xs) = joins_at separator x xs (eqb x separator) refl (split_joins separator xs)
+
+-- a digit is no separator
+digit_is_no_star : (x : ℕ) → is_hex_digit x ≡ true → eqb x 42 ≡ false
+digit_is_no_star x digit = ne_eqb x 42 (λ same. let no : is_hex_digit 42 ≡ true = rw same at digit in absurd cc)
+
+abbrev AreDigits : List ℕ → Type 0
+AreDigits word = AllPass is_hex_digit word
+
+head_of : (x : ℕ) (xs : List ℕ) → AreDigits (x ∷ xs) → is_hex_digit x ≡ true
+head_of x xs all = All-head (λ c. is_hex_digit c ≡ true) x xs all
+
+tail_of : (x : ℕ) (xs : List ℕ) → AreDigits (x ∷ xs) → AreDigits xs
+tail_of x xs all = All-tail (λ c. is_hex_digit c ≡ true) x xs all
+
+digits_alone : (word : Word) → AreDigits word → split_at_first 42 word ≡ (word, None)
+digits_alone [] all = refl
+digits_alone (x ∷ xs) all = rw (digit_is_no_star x (head_of x xs all), digits_alone xs (tail_of x xs all)) refl
+
+digits_then : (word count : Word) → AreDigits word → split_at_first 42 (word ++ 42 ∷ count) ≡ (word, Some count)
+digits_then [] count all = refl
+digits_then (x ∷ xs) count all = rw (digit_is_no_star x (head_of x xs all), digits_then xs count (tail_of x xs all)) refl
+
+no_dash : (word : Word) (b : Bool) → bytes_eq word (codes "-") ≡ b → 1 < length word → b ≡ false
+no_dash word true e lt = let same : word ≡ codes "-" = (bytes_eq-Decides word (codes "-")).0 e in absurd (omega (arith, ap length same))
+no_dash word false e lt = refl
+
+too_long : (word : Word) → 1 < length word → bytes_eq word (codes "-") ≡ false
+too_long word lt = no_dash word (bytes_eq word (codes "-")) refl lt
+
+octets_counted : (word front octets out : List ℕ) (n : ℕ) (behind : Option (List ℕ)) → Joins 42 word front behind → IsHex front octets → count_word behind ≡ Ok n
+    → n * length octets ≤ MOST_OCTETS → repeat n octets ≡ out → IsOctets word out
+octets_counted word front octets out n None joins hex counted few made =
+    let one : 1 ≡ n = cc in
+    let same : octets ≡ out = sym (append-nil octets) ∙ (ap (λ k. repeat k octets) one ∙ made) in
+    let len : length octets ≤ MOST_OCTETS = omega (arith, subst (λ k. k * length octets ≤ MOST_OCTETS) (sym one) few) in
+    subst (λ w. IsOctets w out) (sym joins) (subst (λ o. IsOctets front o) same (once hex len))
+octets_counted word front octets out n (Some count) joins hex counted few made =
+    let number = number_is MOST_OCTETS count n (or_fault_ok BadOctets (number_word MOST_OCTETS count) n counted) in
+    subst (λ w. IsOctets w out) (sym joins) (subst (λ o. IsOctets (front ++ 42 ∷ count) o) made (repeated hex number few))
+
+octets_told : (word octets : List ℕ) (b : Bool) → bytes_eq word (codes "-") ≡ b → octets_word word ≡ Ok octets → IsOctets word octets
+unfolding octets_word
+octets_told word octets true dash e =
+    let same : word ≡ codes "-" = (bytes_eq-Decides word (codes "-")).0 dash in
+    let none_is : [] ≡ octets = cc (rw dash at e) in
+    subst (λ w. IsOctets w octets) (sym same) (subst (λ o. IsOctets (codes "-") o) none_is none)
+octets_told word octets false dash e =
+    let read = rw dash at e in
+    let split = split_at_first 42 word in
+    let hex = bind_ok (hex_word split.0) _ octets read in
+    let count = bind_ok (count_word split.1) _ octets hex.2 in
+    let few = if_ok (leb (count.0 * length hex.0) MOST_OCTETS) BadOctets (repeat count.0 hex.0) octets count.2 in
+    octets_counted word split.0 hex.0 octets count.0 split.1 (split_joins 42 word) (hex_is split.0 hex.0 hex.1) count.1 (leb-true _ _ few.0) few.1
+
+pub octets_is : (word octets : List ℕ) → octets_word word ≡ Ok octets → IsOctets word octets
+octets_is word octets e = octets_told word octets (bytes_eq word (codes "-")) refl e
+
+pub octets_again : (word octets : List ℕ) → IsOctets word octets → octets_word word ≡ Ok octets
+unfolding octets_word
+octets_again word octets none = refl
+octets_again word octets (once hex few) =
+    let ok = decode_of-ok word octets hex.digits in
+    let long : 1 < length word = omega (arith, hex.some, ok.2) in
+    rw (too_long word long, digits_alone word ok.1, hex_again word octets hex, le-leb (1 * length octets) MOST_OCTETS (omega arith)) (ap (okay FaultName) (append-nil octets))
+octets_again word out (repeated {word = digits} {count} {octets} {n} hex number few) =
+    let ok = decode_of-ok digits octets hex.digits in
+    let long : 1 < length (digits ++ 42 ∷ count) = omega (arith, hex.some, ok.2, length-append digits (42 ∷ count)) in
+    rw (too_long (digits ++ 42 ∷ count) long, digits_then digits count ok.1, hex_again digits octets hex, number_again MOST_OCTETS count n number, le-leb (n * length octets) MOST_OCTETS few) refl
+
+pub private_is : (word octets : List ℕ) → private_word word ≡ Ok octets → IsPrivate word octets
+unfolding private_word
+private_is word octets e =
+    let a = bind_ok (octets_word word) _ octets e in
+    let t = if_ok (leb (length a.0) MOST_PRIVATE) BadOctets a.0 octets a.2 in
+    record { digits = octets_is word octets (rw t.1 at a.1); few = rw (← t.1) (leb-true _ _ t.0) }
+
+pub private_again : (word octets : List ℕ) → IsPrivate word octets → private_word word ≡ Ok octets
+unfolding private_word
+private_again word octets is = rw (octets_again word octets is.digits, le-leb (length octets) MOST_PRIVATE is.few) refl
+
+-- ---- rights
+
+rights_told : (word : Word) (rights : Rights) (w d : Bool) → bytes_eq word (codes "w") ≡ w → bytes_eq word (codes "-") ≡ d → rights_word word ≡ Ok rights → IsRights word rights
+rights_told word rights true d is_w is_d e =
+    let same : word ≡ codes "w" = (bytes_eq-Decides word (codes "w")).0 is_w in
+    let value : only true ≡ rights = cc (rw is_w at e) in
+    subst (λ x. IsRights x rights) (sym same) (subst (λ r. IsRights (codes "w") r) value write_right)
+rights_told word rights false true is_w is_d e =
+    let same : word ≡ codes "-" = (bytes_eq-Decides word (codes "-")).0 is_d in
+    let value : only false ≡ rights = cc (rw (is_w, is_d) at e) in
+    subst (λ x. IsRights x rights) (sym same) (subst (λ r. IsRights (codes "-") r) value no_right)
+rights_told word rights false false is_w is_d e = absurd (cc (rw (is_w, is_d) at e))
+
+pub rights_is : (word : Word) (rights : Rights) → rights_word word ≡ Ok rights → IsRights word rights
+rights_is word rights e = rights_told word rights (bytes_eq word (codes "w")) (bytes_eq word (codes "-")) refl refl e
+
+pub rights_again : (word : Word) (rights : Rights) → IsRights word rights → rights_word word ≡ Ok rights
+rights_again word rights no_right = refl
+rights_again word rights write_right = refl

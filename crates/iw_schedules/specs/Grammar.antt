@@ -1,5 +1,5 @@
 -- The grammar of schedules, apart from how they are read: which texts stand for which events.
-use Rattle.std.specs.Prelude.{◌≡◌, ℕ, ◌+◌, ◌*◌, ◌-◌, ◌^◌, ◌<◌, ◌≤◌, IsTrue, true, false, List, [], ◌∷◌, ◌++◌, length, map, replicate, None, Result, Ok, codes}
+use Rattle.std.specs.Prelude.{◌≡◌, ℕ, ◌+◌, ◌*◌, ◌-◌, ◌^◌, ◌<◌, ◌≤◌, IsTrue, true, false, List, [], ◌∷◌, ◌++◌, length, map, replicate, None, Result, Ok, Err, codes}
 use Rattle.std.specs.List.{repeat}
 use Rattle.std.specs.Str.Parse.{digits_value}
 use Rattle.hex.specs.Hex.{decode_of}
@@ -12,6 +12,9 @@ use Rattle.iw_events.specs.declared.call.Role.TheVariants.{Preset}
 use Rattle.iw_events.specs.declared.call.Call.{Call}
 use Rattle.iw_events.specs.declared.call.Call.TheVariants.{Domain, Register, Deregister, Open, Stream}
 use Rattle.iw_events.specs.declared.call.StreamCall.TheVariants.{Recv, Post, Emit, Deliver, Work}
+use Rattle.iw_schedules.specs.declared.fault.FaultName.{FaultName}
+use Rattle.iw_schedules.specs.declared.fault.ScheduleFault.{ScheduleFault}
+use Rattle.iw_schedules.specs.declared.fault.ScheduleFault.TheVariants.{Line, NoMemory}
 use Rattle.iw_schedules.specs.declared.kinds.TheConstants.{MOST_OCTETS, MOST_PRIVATE, MOST_TIMES}
 use Rattle.iw_schedules.specs.declared.schedule.TheConstants.{MOST_EVENTS}
 use Rattle.iw_schedules.specs.Pieces.{lines, words}
@@ -19,7 +22,7 @@ use Rattle.iw_schedules.specs.Kinds.{is_decimal}
 use Rattle.iw_schedules.specs.FirstPath.{only}
 use Rattle.iw_schedules.specs.Words.{end_text}
 use Rattle.iw_schedules.specs.Calls.{one}
-use Rattle.iw_schedules.specs.Schedule.{Events, is_skipped, event_at}
+use Rattle.iw_schedules.specs.Schedule.{Events, is_skipped, event_at, with_line}
 
 abbrev pub Word : Type 0
 Word = List ℕ
@@ -61,7 +64,7 @@ pub data IsOctets : Word → List ℕ → Type 0 where
   repeated : {word count : Word} {octets : List ℕ} {n : ℕ} → IsHex word octets → IsNumber MOST_OCTETS count n → n * length octets ≤ MOST_OCTETS → IsOctets (word ++ 42 ∷ count) (repeat n octets)
 
 pub record IsPrivate (word : Word) (octets : List ℕ) : Type 0 where
-  pub octets : IsOctets word octets
+  pub digits : IsOctets word octets
   pub few : length octets ≤ MOST_PRIVATE
 
 pub data IsRights : Word → Rights → Type 0 where
@@ -108,3 +111,21 @@ pub data AreLines : List (List ℕ) → Events → Type 0 where
 pub record IsSchedule (text : List ℕ) (events : Events) : Type 0 where
   pub each : AreLines (lines text) events
   pub few : length events ≤ MOST_EVENTS
+
+-- ---- faults
+
+-- the first line with a fault: the lines before it stand for events, and with it they do not
+pub record IsFirstFault (text : List ℕ) (number : ℕ) (name : FaultName) : Type 0 where
+  pub good : List (List ℕ)
+  pub bad : List ℕ
+  pub behind : List (List ℕ)
+  pub events : Events
+  pub lines_are : lines text ≡ good ++ bad ∷ behind
+  pub number_is : length good + 1 ≡ number
+  pub each : AreLines good events
+  pub few : length events ≤ MOST_EVENTS
+  pub fault : with_line events bad ≡ Err name
+
+abbrev pub FirstFault : List ℕ → ScheduleFault → Type 0
+FirstFault text (Line number name) = IsFirstFault text number name
+FirstFault text NoMemory = Unit {0}

@@ -10,3 +10,5 @@ pub mod Answers
 pub mod Trace
 pub mod Appended
 pub mod Shown
+pub mod Grammar
+pub mod Laws

@@ -6,6 +6,7 @@ mod calls;
 mod fault;
 mod first_path;
 mod kinds;
+mod laws;
 mod pieces;
 mod refusals;
 mod schedule;
@@ -13,6 +14,7 @@ mod trace;
 mod words;
 
 pub use fault::{FaultName, ScheduleFault};
+pub use laws::{pieces_are_clear, schedules_are_clear};
 pub use schedule::read_schedule;
 pub use trace::print_trace;
 

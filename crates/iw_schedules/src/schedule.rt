@@ -1,8 +1,9 @@
-ghost use Rattle.std.specs.Prelude.{◌≡◌, ◌<◌, ◌++◌, map, length, OnOk, OnErr};
+ghost use Rattle.std.specs.Prelude.{◌≡◌, ◌<◌, ◌++◌, map, length, OnOk, OnErr, IfOk, IfErr, Ok};
 ghost use Rattle.iw_schedules.specs.Reading.{Gives};
 ghost use Rattle.iw_schedules.specs.Pieces.{words};
 ghost use Rattle.iw_schedules.specs.Calls.{calls_of};
-ghost use Rattle.iw_schedules.specs.Schedule.{is_skipped, event_at, events_of, with_line, schedule_of, Reads};
+ghost use Rattle.iw_schedules.specs.Schedule.{is_skipped, event_at, events_of, with_line, schedule_of, Events, Reads};
+ghost use Rattle.iw_schedules.specs.Grammar.{IsSchedule, FirstFault};
 
 use crate::calls::{Calls, read_calls};
 use crate::fault::{FaultName, ReadError, ScheduleFault};
@@ -92,11 +93,8 @@ fn add_line<A: Allocator + Copy>(
     }
 }
 
-/// Reads a schedule: its events, in order.
-///
-/// Each line stands for one event, or for as many as it says; empty lines and lines that begin with `#` stand for none.
-/// The fault is the first one, by lines and by words, or that there is no memory.
-pub fn read_schedule<A: Allocator + Copy>(
+// The events of all lines, or the first fault.
+fn read_lines<A: Allocator + Copy>(
     alloc: A,
     text: &[u8],
 ) -> Result<Vec<Event<Bytes<A>>, A>, ScheduleFault>
@@ -116,4 +114,23 @@ pub fn read_schedule<A: Allocator + Copy>(
         before += 1;
         left = behind;
     }
+}
+
+/// Reads a schedule: its events, in order.
+///
+/// Each line stands for one event, or for as many as it says; empty lines and lines that begin with `#` stand for none.
+/// The fault is the first one, by lines and by words, or that there is no memory.
+pub fn read_schedule<A: Allocator + Copy>(
+    alloc: A,
+    text: &[u8],
+) -> Result<Vec<Event<Bytes<A>>, A>, ScheduleFault>
+    // What is read is in the grammar, and stands for these events.
+    ensures found { IfOk result (λ events. IsSchedule text.now events.items) }
+    // What is in the grammar is read, unless there is no memory.
+    ensures only { (events : Events) → IsSchedule text.now events → Reads (λ read. read.items) result (Ok events) }
+    // Which fault it is.
+    ensures first { IfErr result (FirstFault text.now) }
+    ensures exact { Reads (λ events. events.items) result (schedule_of text.now) }
+{
+    read_lines(alloc, text)
 }

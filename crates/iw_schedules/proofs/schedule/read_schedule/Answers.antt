@@ -1,34 +1,11 @@
-use Rattle.std.proofs.Common.{◌≡◌, ◌+◌, Some, None, refl, sym, ap, ◌∙◌, arith}
-use Rattle.std.specs.Option.{option_copied}
-use Rattle.iw_schedules.specs.Pieces.{split_at_first}
-use Rattle.iw_schedules.specs.Schedule.{schedule_of}
-use Rattle.iw_schedules.proofs.Lines.{goes_on, is_last, ends}
+use Rattle.iw_schedules.proofs.ScheduleLaws.{found, only, first}
 use Rattle.iw_schedules.proofs.schedule.read_schedule.Goals as goal
 
-pub lines-init : goal.lines-init
-unfolding schedule_of
-lines-init g c = record { events = rw c.new-events.ensures.items refl; within = omega arith }
+pub returns-clause-found : goal.returns-clause-found
+returns-clause-found g c = found c.args.text.now (λ events. events.items) c.read_lines.result c.read_lines.ensures
 
-pub returns-in-Err : goal.returns-in-Err
-returns-in-Err g c =
-    let l = c.lines in
-    let split = c.split_at in
-    rw (c.at.ensures, ← l.invariant.events) (ends c.in-Err.error (l.before + 1) l.events.items l.left.now split.result.0.now (option_copied split.result.1) split.ensures.front split.ensures.back c.in-Err.ensures.events)
+pub returns-clause-only : goal.returns-clause-only
+returns-clause-only g c = λ events is. only c.args.text.now events (λ events. events.items) c.read_lines.result is c.read_lines.ensures
 
-pub returns-in_default-behind : goal.returns-in_default-behind
-returns-in_default-behind g c =
-    let l = c.lines in
-    let split = c.split_at in
-    let back : None ≡ (split_at_first 10 l.left.now).1 = rw c.in_default-behind.is at split.ensures.back in
-    sym l.invariant.events ∙ (goes_on (l.before + 1) l.events.items c.add_line.new.events.items l.left.now split.result.0.now None split.ensures.front back c.in_default.ensures.events ∙ is_last _ _)
-
-pub lines-preserved : goal.lines-preserved
-lines-preserved g c =
-    let l = c.lines in
-    let split = c.split_at in
-    let back : Some c.in-Some.behind.now ≡ (split_at_first 10 l.left.now).1 = rw c.in-Some.is at split.ensures.back in
-    let len = rw c.in-Some.is at split.ensures.len in
-    record {
-      events = sym (goes_on (l.before + 1) l.events.items c.add_line.new.events.items l.left.now split.result.0.now (Some c.in-Some.behind.now) split.ensures.front back c.in_default.ensures.events) ∙ l.invariant.events;
-      within = omega arith;
-    }
+pub returns-clause-first : goal.returns-clause-first
+returns-clause-first g c = first c.args.text.now (λ events. events.items) c.read_lines.result c.read_lines.ensures

@@ -1,0 +1,259 @@
+-- The words behind an end are read as the grammar says, and no others are.
+use Rattle.std.proofs.Common.{◌≡◌, ◌⊎◌, inl, inr, ℕ, ◌-◌, ◌^◌, Bool, true, false, cond, List, [], ◌∷◌, ◌++◌, length, map, replicate, Option, Some, None, Result, Ok, Err, refl, sym, ap, subst, ◌∙◌, codes, arith}
+use Rattle.std.specs.Str.{bytes_eq}
+use Rattle.std.proofs.lemmas.Slice.Eq.{bytes_eq-Decides}
+use Rattle.iw_octets.specs.declared.stag.Stag.{Stag}
+use Rattle.iw_memory.specs.declared.rights.Rights.{Rights}
+use Rattle.iw_events.specs.declared.call.Call.{Call}
+use Rattle.iw_events.specs.declared.call.Call.TheVariants.{Domain, Register, Deregister, Open, Stream}
+use Rattle.iw_octets.specs.declared.message.Message.TheVariants as messages
+use Rattle.iw_events.specs.declared.call.StreamCall.TheVariants.{Recv, Post, Emit, Deliver, Work}
+use Rattle.iw_events.specs.declared.call.Role.{Role}
+use Rattle.iw_events.specs.declared.call.Role.TheVariants.{Preset}
+use Rattle.iw_schedules.specs.declared.fault.FaultName.{FaultName}
+use Rattle.iw_schedules.specs.declared.fault.FaultName.TheVariants.{BadWord, BadNumber, BadOctets}
+use Rattle.iw_schedules.specs.declared.kinds.TheConstants.{MOST_OCTETS}
+use Rattle.iw_schedules.specs.declared.words.CallWord.{CallWord}
+use Rattle.iw_schedules.specs.declared.words.CallWord.TheVariants as named
+use Rattle.iw_schedules.specs.declared.calls.Step.{Step}
+use Rattle.iw_schedules.specs.declared.calls.Step.TheVariants as steps
+use Rattle.iw_schedules.specs.Reading.{◌>>=◌}
+use Rattle.iw_schedules.specs.Kinds.{number_word, times_word, stag_word, octets_word, private_word}
+use Rattle.iw_schedules.specs.FirstPath.{role_word, kind_word, no_stag_word, rights_word, options_word}
+use Rattle.iw_schedules.specs.Words.{one_of, call_text, call_words, call_word}
+use Rattle.iw_schedules.specs.Calls.{Taken, next_word, field, octet_number, long_number, times_at, one, step_call, domain_at, register_at, deregister_at, open_at, recv_at, send_at, write_at, steps_at, deliver_at, behind, calls_at}
+use Rattle.iw_schedules.specs.Grammar.{Word, IsNumber, IsOctetNumber, IsLongNumber, IsTimes, IsStag, IsOctets, IsPrivate, IsRights, IsCall}
+use Rattle.iw_schedules.specs.Grammar.IsCall.{domain, register, deregister, open_preset, recv, send_plain, write, emit, emit_times, work, work_times, deliver}
+use Rattle.iw_schedules.proofs.KindLaws.{bind_ok, okay, number_is, number_again, times_is, times_again, stag_is, stag_again, octets_is, octets_again, private_is, private_again, rights_is, rights_again}
+
+abbrev Calls : Type 0
+Calls = List (Call (List ℕ))
+
+-- a word that was read, and the words behind it
+pub record Field {X : Type 0} (kind : Word → Result X FaultName) (words : List Word) (x : X) (others : List Word) : Type 0 where
+  pub word : Word
+  pub words_are : words ≡ word ∷ others
+  pub value : kind word ≡ Ok x
+
+field_made : {X : Type 0} (r : Result X FaultName) (others : List Word) (y : X × List Word) → (r >>= λ x. Ok (x, others)) ≡ Ok y → (r ≡ Ok y.0) × (others ≡ y.1)
+field_made {X} (Ok x) others y e =
+    let made : X × List Word = (x, others) in
+    let pair : made ≡ y = cc in
+    (ap (λ (p : X × List Word). okay FaultName p.0) pair, ap (λ (p : X × List Word). p.1) pair)
+field_made (Err fault) others y e = absurd cc
+
+pub field_is : {X : Type 0} (kind : Word → Result X FaultName) (words : List Word) (y : X × List Word) → field kind words ≡ Ok y → Field kind words y.0 y.1
+field_is kind [] y e = absurd cc
+field_is kind (word ∷ words) y e =
+    let made = field_made (kind word) words y e in
+    record { word = word; words_are = ap (λ ws. word ∷ ws) made.1; value = made.0 }
+
+abbrev both : Calls → List Word → Calls × List Word
+both calls others = (calls, others)
+
+-- the last step: nothing is left
+ended : (calls made : Calls) (others : List Word) → okay FaultName (both made others) ≡ okay FaultName (both calls []) → (made ≡ calls) × (others ≡ [])
+ended calls made others e = let pair : both made others ≡ both calls [] = cc in (ap (λ (p : Calls × List Word). p.0) pair, ap (λ (p : Calls × List Word). p.1) pair)
+
+stands_for : (words made_of : List Word) (calls made : Calls) → words ≡ made_of → made ≡ calls → IsCall made_of made → IsCall words calls
+stands_for words made_of calls made w c is = subst (λ ws. IsCall ws calls) (sym w) (subst (λ cs. IsCall made_of cs) c is)
+
+pub domain_is : (words : List Word) (calls : Calls) → domain_at words ≡ Ok (calls, []) → IsCall (codes "domain" ∷ words) calls
+unfolding domain_at
+domain_is words calls e =
+    let a = bind_ok (field octet_number words) _ (calls, []) e in
+    let end = ended calls (one (Domain a.0.0)) a.0.1 a.2 in
+    let f = field_is octet_number words a.0 a.1 in
+    stands_for _ (codes "domain" ∷ f.word ∷ []) calls _ (cc (f.words_are, end.1)) end.0 (domain (number_is 255 f.word a.0.0 f.value))
+
+pub register_is : (words : List Word) (calls : Calls) → register_at words ≡ Ok (calls, []) → IsCall (codes "register" ∷ words) calls
+unfolding register_at
+register_is words calls e =
+    let a = bind_ok (field octet_number words) _ (calls, []) e in
+    let b = bind_ok (field long_number a.0.1) _ (calls, []) a.2 in
+    let c = bind_ok (field rights_word b.0.1) _ (calls, []) b.2 in
+    let d = bind_ok (field octets_word c.0.1) _ (calls, []) c.2 in
+    let end = ended calls (one (Register a.0.0 b.0.0 c.0.0 d.0.0)) d.0.1 d.2 in
+    let f = field_is octet_number words a.0 a.1 in
+    let g = field_is long_number a.0.1 b.0 b.1 in
+    let h = field_is rights_word b.0.1 c.0 c.1 in
+    let i = field_is octets_word c.0.1 d.0 d.1 in
+    stands_for _ (codes "register" ∷ f.word ∷ g.word ∷ h.word ∷ i.word ∷ []) calls _ (cc (f.words_are, g.words_are, h.words_are, i.words_are, end.1)) end.0
+    (register (number_is 255 f.word a.0.0 f.value) (number_is (2 ^ 64 - 1) g.word b.0.0 g.value) (rights_is h.word c.0.0 h.value) (octets_is i.word d.0.0 i.value))
+
+pub deregister_is : (words : List Word) (calls : Calls) → deregister_at words ≡ Ok (calls, []) → IsCall (codes "deregister" ∷ words) calls
+unfolding deregister_at
+deregister_is words calls e =
+    let a = bind_ok (field stag_word words) _ (calls, []) e in
+    let end = ended calls (one (Deregister a.0.0)) a.0.1 a.2 in
+    let f = field_is stag_word words a.0 a.1 in
+    stands_for _ (codes "deregister" ∷ f.word ∷ []) calls _ (cc (f.words_are, end.1)) end.0 (deregister (stag_is f.word a.0.0 f.value))
+
+-- a fixed word
+fixed : {X : Type 0} (word text : Word) (b : Bool) (fault : FaultName) (x y : X) → bytes_eq word text ≡ b → cond b (Ok x) (Err fault) ≡ Ok y → word ≡ text
+fixed word text true fault x y same e = (bytes_eq-Decides word text).0 same
+fixed word text false fault x y same e = absurd cc
+
+same_role : (role : Role) → role ≡ Preset
+same_role Preset = refl
+
+pub open_is : (words : List Word) (calls : Calls) → open_at words ≡ Ok (calls, []) → IsCall (codes "open" ∷ words) calls
+unfolding open_at
+open_is words calls e =
+    let a = bind_ok (field octet_number words) _ (calls, []) e in
+    let b = bind_ok (field octet_number a.0.1) _ (calls, []) a.2 in
+    let c = bind_ok (field role_word b.0.1) _ (calls, []) b.2 in
+    let d = bind_ok (field options_word c.0.1) _ (calls, []) c.2 in
+    let o = bind_ok (field private_word d.0.1) _ (calls, []) d.2 in
+    let end = ended calls (one (Open a.0.0 b.0.0 c.0.0 o.0.0)) o.0.1 o.2 in
+    let f = field_is octet_number words a.0 a.1 in
+    let g = field_is octet_number a.0.1 b.0 b.1 in
+    let h = field_is role_word b.0.1 c.0 c.1 in
+    let i = field_is options_word c.0.1 d.0 d.1 in
+    let j = field_is private_word d.0.1 o.0 o.1 in
+    let role = fixed h.word (codes "preset") _ BadWord Preset c.0.0 refl h.value in
+    let options = fixed i.word (codes "-") _ BadOctets tt d.0.0 refl i.value in
+    let made : one (Open a.0.0 b.0.0 Preset o.0.0) ≡ calls = ap (λ r. one (Open a.0.0 b.0.0 r o.0.0)) (sym (same_role c.0.0)) ∙ end.0 in
+    stands_for _ (codes "open" ∷ f.word ∷ g.word ∷ codes "preset" ∷ codes "-" ∷ j.word ∷ []) calls _ (cc (f.words_are, g.words_are, h.words_are, i.words_are, j.words_are, role, options, end.1)) made
+    (open_preset (number_is 255 f.word a.0.0 f.value) (number_is 255 g.word b.0.0 g.value) (private_is j.word o.0.0 j.value))
+
+pub recv_is : (words : List Word) (calls : Calls) → recv_at words ≡ Ok (calls, []) → IsCall (codes "recv" ∷ words) calls
+unfolding recv_at
+recv_is words calls e =
+    let a = bind_ok (field octet_number words) _ (calls, []) e in
+    let b = bind_ok (field (number_word MOST_OCTETS) a.0.1) _ (calls, []) a.2 in
+    let end = ended calls (one (Stream a.0.0 (Recv b.0.0))) b.0.1 b.2 in
+    let f = field_is octet_number words a.0 a.1 in
+    let g = field_is (number_word MOST_OCTETS) a.0.1 b.0 b.1 in
+    stands_for _ (codes "recv" ∷ f.word ∷ g.word ∷ []) calls _ (cc (f.words_are, g.words_are, end.1)) end.0
+    (recv (number_is 255 f.word a.0.0 f.value) (number_is MOST_OCTETS g.word b.0.0 g.value))
+
+pub send_is : (words : List Word) (calls : Calls) → send_at words ≡ Ok (calls, []) → IsCall (codes "send" ∷ words) calls
+unfolding send_at
+send_is words calls e =
+    let a = bind_ok (field octet_number words) _ (calls, []) e in
+    let b = bind_ok (field kind_word a.0.1) _ (calls, []) a.2 in
+    let c = bind_ok (field no_stag_word b.0.1) _ (calls, []) b.2 in
+    let d = bind_ok (field octets_word c.0.1) _ (calls, []) c.2 in
+    let end = ended calls (one (Stream a.0.0 (Post (messages.Send d.0.0 false None)))) d.0.1 d.2 in
+    let f = field_is octet_number words a.0 a.1 in
+    let g = field_is kind_word a.0.1 b.0 b.1 in
+    let h = field_is no_stag_word b.0.1 c.0 c.1 in
+    let i = field_is octets_word c.0.1 d.0 d.1 in
+    let kind = fixed g.word (codes "plain") _ BadWord tt b.0.0 refl g.value in
+    let stag = fixed h.word (codes "-") _ BadNumber tt c.0.0 refl h.value in
+    stands_for _ (codes "send" ∷ f.word ∷ codes "plain" ∷ codes "-" ∷ i.word ∷ []) calls _ (cc (f.words_are, g.words_are, h.words_are, i.words_are, kind, stag, end.1)) end.0
+    (send_plain (number_is 255 f.word a.0.0 f.value) (octets_is i.word d.0.0 i.value))
+
+pub write_is : (words : List Word) (calls : Calls) → write_at words ≡ Ok (calls, []) → IsCall (codes "write" ∷ words) calls
+unfolding write_at
+write_is words calls e =
+    let a = bind_ok (field octet_number words) _ (calls, []) e in
+    let b = bind_ok (field stag_word a.0.1) _ (calls, []) a.2 in
+    let c = bind_ok (field long_number b.0.1) _ (calls, []) b.2 in
+    let d = bind_ok (field octets_word c.0.1) _ (calls, []) c.2 in
+    let end = ended calls (one (Stream a.0.0 (Post (messages.Write b.0.0 c.0.0 d.0.0)))) d.0.1 d.2 in
+    let f = field_is octet_number words a.0 a.1 in
+    let g = field_is stag_word a.0.1 b.0 b.1 in
+    let h = field_is long_number b.0.1 c.0 c.1 in
+    let i = field_is octets_word c.0.1 d.0 d.1 in
+    stands_for _ (codes "write" ∷ f.word ∷ g.word ∷ h.word ∷ i.word ∷ []) calls _ (cc (f.words_are, g.words_are, h.words_are, i.words_are, end.1)) end.0
+    (write (number_is 255 f.word a.0.0 f.value) (stag_is g.word b.0.0 g.value) (number_is (2 ^ 64 - 1) h.word c.0.0 h.value) (octets_is i.word d.0.0 i.value))
+
+pub deliver_is : (words : List Word) (calls : Calls) → deliver_at words ≡ Ok (calls, []) → IsCall (codes "deliver" ∷ words) calls
+unfolding deliver_at
+deliver_is words calls e =
+    let a = bind_ok (field octet_number words) _ (calls, []) e in
+    let b = bind_ok (field long_number a.0.1) _ (calls, []) a.2 in
+    let c = bind_ok (field long_number b.0.1) _ (calls, []) b.2 in
+    let end = ended calls (one (Stream a.0.0 (Deliver b.0.0 c.0.0))) c.0.1 c.2 in
+    let f = field_is octet_number words a.0 a.1 in
+    let g = field_is long_number a.0.1 b.0 b.1 in
+    let h = field_is long_number b.0.1 c.0 c.1 in
+    stands_for _ (codes "deliver" ∷ f.word ∷ g.word ∷ h.word ∷ []) calls _ (cc (f.words_are, g.words_are, h.words_are, end.1)) end.0
+    (deliver (number_is 255 f.word a.0.0 f.value) (number_is (2 ^ 64 - 1) g.word b.0.0 g.value) (number_is (2 ^ 64 - 1) h.word c.0.0 h.value))
+
+-- ---- equal calls
+
+times_told : (words : List Word) (y : ℕ × List Word) → times_at words ≡ Ok y → ((words ≡ []) × (y.1 ≡ []) × (1 ≡ y.0)) ⊎ ((word : Word) × (words ≡ word ∷ y.1) × IsTimes word y.0)
+times_told [] y e =
+    let made : ℕ × List Word = (1, []) in
+    let pair : made ≡ y = cc in
+    inl (refl, ap (λ (p : ℕ × List Word). p.1) (sym pair), ap (λ (p : ℕ × List Word). p.0) pair)
+times_told (word ∷ words) y e =
+    let made = field_made (times_word word) words y e in
+    inr (word, ap (λ ws. word ∷ ws) made.1, times_is word y.0 made.0)
+
+emit_is : (words : List Word) (calls : Calls) → steps_at steps.Emit words ≡ Ok (calls, []) → IsCall (codes "emit" ∷ words) calls
+unfolding steps_at
+emit_is words calls e =
+    let a = bind_ok (field octet_number words) _ (calls, []) e in
+    let b = bind_ok (times_at a.0.1) _ (calls, []) a.2 in
+    let end = ended calls (replicate b.0.0 (Stream a.0.0 Emit)) b.0.1 b.2 in
+    let f = field_is octet_number words a.0 a.1 in
+    elim (times_told a.0.1 b.0 b.1) [
+      | inl none ↦ stands_for _ (codes "emit" ∷ f.word ∷ []) calls _ (cc (f.words_are, none.0)) (ap (λ n. replicate n (Stream a.0.0 Emit)) none.2 ∙ end.0) (emit (number_is 255 f.word a.0.0 f.value))
+      | inr some ↦ stands_for _ (codes "emit" ∷ f.word ∷ some.0 ∷ []) calls _ (cc (f.words_are, some.1, end.1)) end.0 (emit_times (number_is 255 f.word a.0.0 f.value) some.2)
+    ]
+
+work_is : (words : List Word) (calls : Calls) → steps_at steps.Work words ≡ Ok (calls, []) → IsCall (codes "work" ∷ words) calls
+unfolding steps_at
+work_is words calls e =
+    let a = bind_ok (field octet_number words) _ (calls, []) e in
+    let b = bind_ok (times_at a.0.1) _ (calls, []) a.2 in
+    let end = ended calls (replicate b.0.0 (Stream a.0.0 Work)) b.0.1 b.2 in
+    let f = field_is octet_number words a.0 a.1 in
+    elim (times_told a.0.1 b.0 b.1) [
+      | inl none ↦ stands_for _ (codes "work" ∷ f.word ∷ []) calls _ (cc (f.words_are, none.0)) (ap (λ n. replicate n (Stream a.0.0 Work)) none.2 ∙ end.0) (work (number_is 255 f.word a.0.0 f.value))
+      | inr some ↦ stands_for _ (codes "work" ∷ f.word ∷ some.0 ∷ []) calls _ (cc (f.words_are, some.1, end.1)) end.0 (work_times (number_is 255 f.word a.0.0 f.value) some.2)
+    ]
+
+-- ---- all calls
+
+one_of_told : {X : Type 0} (text : X → Word) (x : X) (xs : List X) (word : Word) (y : X) (b : Bool) → bytes_eq word (text x) ≡ b → (one_of text xs word ≡ Ok y → word ≡ text y) → cond b (Ok x) (one_of text xs word) ≡ Ok y → word ≡ text y
+one_of_told text x xs word y true same others e = let is : x ≡ y = cc in (bytes_eq-Decides word (text x)).0 same ∙ ap text is
+one_of_told text x xs word y false same others e = others e
+
+-- the word of what was found by it
+pub one_of_is : {X : Type 0} (text : X → Word) (xs : List X) (word : Word) (y : X) → one_of text xs word ≡ Ok y → word ≡ text y
+one_of_is text [] word y e = absurd cc
+one_of_is text (x ∷ xs) word y e = one_of_told text x xs word y (bytes_eq word (text x)) refl (one_of_is text xs word y) e
+
+call_word_is : (word : Word) (call : CallWord) → call_word word ≡ Ok call → word ≡ call_text call
+unfolding call_word
+call_word_is word call e = one_of_is call_text call_words word call e
+
+behind_is : (call : CallWord) (words : List Word) (calls : Calls) → behind call words ≡ Ok (calls, []) → IsCall (call_text call ∷ words) calls
+behind_is named.Domain words calls e = domain_is words calls e
+behind_is named.Register words calls e = register_is words calls e
+behind_is named.Deregister words calls e = deregister_is words calls e
+behind_is named.Open words calls e = open_is words calls e
+behind_is named.Recv words calls e = recv_is words calls e
+behind_is named.Send words calls e = send_is words calls e
+behind_is named.Write words calls e = write_is words calls e
+behind_is named.Emit words calls e = emit_is words calls e
+behind_is named.Work words calls e = work_is words calls e
+behind_is named.Deliver words calls e = deliver_is words calls e
+
+pub calls_are : (words : List Word) (calls : Calls) → calls_at words ≡ Ok (calls, []) → IsCall words calls
+unfolding calls_at
+calls_are words calls e =
+    let a = bind_ok (field call_word words) _ (calls, []) e in
+    let f = field_is call_word words a.0 a.1 in
+    let text = call_word_is f.word a.0.0 f.value in
+    subst (λ ws. IsCall ws calls) (cc (f.words_are, text)) (behind_is a.0.0 a.0.1 calls a.2)
+
+pub calls_again : (words : List Word) (calls : Calls) → IsCall words calls → calls_at words ≡ Ok (calls, [])
+unfolding calls_at call_word domain_at register_at deregister_at open_at recv_at send_at write_at steps_at deliver_at
+calls_again words calls (domain {a} {pd} p) = rw (number_again 255 a pd p) refl
+calls_again words calls (register {a} {b} {c} {d} {pd} {base} {rights} {octets} p q r s) = rw (number_again 255 a pd p, number_again (2 ^ 64 - 1) b base q, rights_again c rights r, octets_again d octets s) refl
+calls_again words calls (deregister {a} {stag} p) = rw (stag_again a stag p) refl
+calls_again words calls (open_preset {a} {b} {c} {stream} {pd} {private} p q r) = rw (number_again 255 a stream p, number_again 255 b pd q, private_again c private r) refl
+calls_again words calls (recv {a} {b} {stream} {len} p q) = rw (number_again 255 a stream p, number_again MOST_OCTETS b len q) refl
+calls_again words calls (send_plain {a} {b} {stream} {octets} p q) = rw (number_again 255 a stream p, octets_again b octets q) refl
+calls_again words calls (write {a} {b} {c} {d} {stream} {to} {stag} {octets} p q r s) = rw (number_again 255 a stream p, stag_again b stag q, number_again (2 ^ 64 - 1) c to r, octets_again d octets s) refl
+calls_again words calls (emit {a} {stream} p) = rw (number_again 255 a stream p) refl
+calls_again words calls (emit_times {a} {b} {stream} {n} p q) = rw (number_again 255 a stream p, times_again b n q) refl
+calls_again words calls (work {a} {stream} p) = rw (number_again 255 a stream p) refl
+calls_again words calls (work_times {a} {b} {stream} {n} p q) = rw (number_again 255 a stream p, times_again b n q) refl
+calls_again words calls (deliver {a} {b} {c} {stream} {from} {len} p q r) = rw (number_again 255 a stream p, number_again (2 ^ 64 - 1) b from q, number_again (2 ^ 64 - 1) c len r) refl
