@@ -1,0 +1,55 @@
+ghost use Rattle.std.specs.Prelude.{◌≡◌};
+ghost use Rattle.iw_program.specs.Status.{code_of, is_fault, status_of};
+
+use bytes::Bytes;
+use iw_events::{Act, Entry, Seen, StreamAct};
+use std::alloc::Allocator;
+
+/// How a run of the program ends.
+#[derive(Clone, Copy, Debug, PartialEq, Eq)]
+pub enum Status {
+    /// It did what was asked.
+    Completed,
+    /// A stream ended by a fault, or input or output failed.
+    Failed,
+    /// What was asked was refused, and nothing was done.
+    Refused,
+}
+
+impl Status {
+    /// The exit status of the process.
+    pub fn code(self) -> u8
+        ensures { result ≡ code_of self }
+    {
+        match self {
+            Status::Completed => 0,
+            Status::Failed => 1,
+            Status::Refused => 2,
+        }
+    }
+}
+
+// Whether a stream ended by a fault here.
+fn is_fault_entry<A: Allocator>(entry: &Entry<Bytes<A>>) -> bool
+    ensures { result ≡ is_fault entry.now }
+{
+    match &entry.act {
+        Act::Stream {
+            act: StreamAct::Work(Seen::Fault(_)),
+            ..
+        } => true,
+        _ => false,
+    }
+}
+
+/// How a run with this trace ends.
+pub(crate) fn trace_status<A: Allocator>(trace: &[Entry<Bytes<A>>]) -> Status
+    ensures { result ≡ status_of trace.now }
+{
+    for entry in trace {
+        if is_fault_entry(entry) {
+            return Status::Failed;
+        }
+    }
+    Status::Completed
+}

@@ -1,0 +1,30 @@
+ghost use Rattle.std.specs.Prelude.{string_bytes, IfOk, IfErr};
+ghost use Rattle.iw_program.specs.Replay.{Replays, Refuses};
+
+use crate::fault::Refusal;
+use crate::status::{Status, trace_status};
+use iw_schedules::{print_trace, read_schedule};
+use iw_world::World;
+use std::alloc::{Allocator, Global};
+
+/// What a schedule's replay gives.
+#[derive(Drop)]
+pub struct Replayed<A: Allocator = Global> {
+    /// The trace, printed.
+    pub trace: String<A>,
+    /// `Failed` where the trace has a fault, and else `Completed`.
+    pub status: Status,
+}
+
+/// Runs the schedule that the text is, and prints its trace.
+pub fn replay_text<A: Allocator + Copy>(alloc: A, text: &[u8]) -> Result<Replayed<A>, Refusal>
+    ensures replays { IfOk result (λ replayed. Replays text.now (string_bytes replayed.trace) replayed.status) }
+    ensures refused { IfErr result (Refuses text.now) }
+{
+    let events = read_schedule(alloc, text).map_err(Refusal::Schedule)?;
+    let trace = World::run(alloc, events.as_slice()).map_err(Refusal::World)?;
+    Ok(Replayed {
+        trace: print_trace(alloc, trace.as_slice())?,
+        status: trace_status(trace.as_slice()),
+    })
+}

@@ -1,0 +1,129 @@
+//! Replays the schedules of its folder, and compares what each writes and how it ends with what is expected of it.
+//!
+//! It prints a line for each schedule: `NAME: as written`, or what is not as written, with status 1.
+#![tactic(auto)]
+
+use iw_program::{ReplayFault, Status, replay};
+use std::alloc::{AllocError, Global};
+use std::fs;
+use std::process::ExitCode;
+use std::rt::Runtime;
+
+/// How a replay has to end.
+#[derive(Clone, Copy, Debug)]
+enum Ending {
+    /// The trace is written, and no stream ended by a fault.
+    Completed,
+    /// The trace is written, and a stream ended by a fault.
+    Faulted,
+    /// Nothing is written, for the reason that prints so.
+    Refused(&'static str),
+}
+
+/// The schedules, by the names of their files, `NAME.schedule`. The trace of one that has a trace is in `NAME.trace`.
+const ROWS: [(&str, Ending); 13] = [
+    ("first", Ending::Completed),
+    ("one-write", Ending::Completed),
+    ("empty-messages", Ending::Completed),
+    ("octets-stay", Ending::Completed),
+    ("past-the-last-offset", Ending::Faulted),
+    ("empty", Ending::Completed),
+    ("unknown-word", Ending::Refused("line 2: BadWord")),
+    ("number-too-large", Ending::Refused("line 1: BadNumber")),
+    ("too-often", Ending::Refused("line 1: BadNumber")),
+    ("odd-digits", Ending::Refused("line 1: BadOctets")),
+    ("too-many-events", Ending::Refused("line 11: TooMany")),
+    ("never-opened", Ending::Refused("event 1: NoSuchStream")),
+    ("not-sent", Ending::Refused("event 5: NotSent")),
+];
+
+/// What a replay does other than it has to.
+#[derive(Clone, Copy, Debug)]
+enum Difference {
+    /// The first line of the trace that is not as expected, counted from 1.
+    Line(usize),
+    /// It ended in another way.
+    Ended(Result<Status, ReplayFault>),
+}
+
+// What the replay has to write.
+fn expected<R: Runtime + AllocGlobal>(
+    rt: &R,
+    name: &str,
+    ending: Ending,
+) -> anyhow::Result<Vec<u8>> {
+    match ending {
+        Ending::Refused(_) => Ok(Vec::new(rt.alloc())),
+        Ending::Completed | Ending::Faulted => {
+            let path = format!(in rt.alloc(); "{name}.trace")?;
+            Ok(fs::read(rt, path.as_str())?)
+        }
+    }
+}
+
+// The first line in which the texts differ, counted from 1.
+fn first_difference(written: &[u8], expected: &[u8]) -> usize {
+    let mut line = 1usize;
+    for (a, b) in written.iter().zip(expected.iter()) {
+        if a != b {
+            return line;
+        }
+        if *a == b'\n' {
+            line = line.saturating_add(1);
+        }
+    }
+    line
+}
+
+fn ends_so(
+    alloc: Global,
+    ended: Result<Status, ReplayFault>,
+    ending: Ending,
+) -> Result<bool, AllocError> {
+    Ok(match (ended, ending) {
+        (Ok(Status::Completed), Ending::Completed) => true,
+        (Ok(Status::Failed), Ending::Faulted) => true,
+        (Err(ReplayFault::Refused(refusal)), Ending::Refused(text)) => {
+            refusal.to_string(alloc)?.as_str() == text
+        }
+        _ => false,
+    })
+}
+
+fn compare<R: Runtime + AllocGlobal>(
+    rt: &R,
+    name: &str,
+    ending: Ending,
+) -> anyhow::Result<Option<Difference>> {
+    let path = format!(in rt.alloc(); "{name}.schedule")?;
+    let mut input = fs::open(rt, path.as_str())?;
+    let mut written = Vec::new(rt.alloc());
+    let ended = replay(rt.alloc(), &mut input, &mut written);
+    let expected = expected(rt, name, ending)?;
+    if written.as_slice() != expected.as_slice() {
+        let line = first_difference(written.as_slice(), expected.as_slice());
+        return Ok(Some(Difference::Line(line)));
+    }
+    if !ends_so(rt.alloc(), ended, ending)? {
+        return Ok(Some(Difference::Ended(ended)));
+    }
+    Ok(None)
+}
+
+fn run<R: Runtime + AllocGlobal>(rt: &R) -> anyhow::Result<ExitCode> {
+    let mut code = ExitCode::SUCCESS;
+    for (name, ending) in &ROWS {
+        match compare(rt, name, *ending)? {
+            None => println!(rt; "{name}: as written")?,
+            Some(difference) => {
+                println!(rt; "{name}: not as written, {difference:?}")?;
+                code = ExitCode::FAILURE;
+            }
+        }
+    }
+    Ok(code)
+}
+
+fn main(rt: HostRuntime) -> anyhow::Result<ExitCode> {
+    run(&rt)
+}
