@@ -37,7 +37,7 @@ unfolding with_lines
 few_with_lines number before after [] few e = let same : before ≡ after = cc in rw (← same) few
 few_with_lines number before after (line ∷ others) few e =
     few_next number after others (with_line before line) (λ mid is. few_with_line before mid line (is_skipped line) refl few is)
-      (λ mid less is. few_with_lines (number + 1) mid after others less is) e
+    (λ mid less is. few_with_lines (number + 1) mid after others less is) e
 
 pub schedule_fits : (text : List ℕ) (events : Events) → schedule_of text ≡ Ok events → length events ≤ 2 ^ 45
 unfolding schedule_of
