@@ -1,30 +1,25 @@
 -- The words behind an end are read as the grammar says, and no others are.
-use Rattle.std.proofs.Common.{◌≡◌, ◌⊎◌, inl, inr, ℕ, ◌-◌, ◌^◌, Bool, true, false, cond, List, [], ◌∷◌, ◌++◌, length, map, replicate, Option, Some, None, Result, Ok, Err, refl, sym, ap, subst, ◌∙◌, codes, arith}
+use Rattle.std.proofs.Common.{◌≡◌, ◌⊎◌, inl, inr, ℕ, ◌-◌, ◌^◌, Bool, true, false, cond, List, [], ◌∷◌, replicate, Result, Ok, Err, refl, sym, ap, subst, ◌∙◌, codes}
 use Rattle.std.specs.Str.{bytes_eq}
 use Rattle.std.proofs.lemmas.Slice.Eq.{bytes_eq-Decides}
-use Rattle.iw_octets.specs.declared.stag.Stag.{Stag}
-use Rattle.iw_memory.specs.declared.rights.Rights.{Rights}
 use Rattle.iw_events.specs.declared.call.Call.{Call}
 use Rattle.iw_events.specs.declared.call.Call.TheVariants.{Domain, Register, Deregister, Open, Stream}
 use Rattle.iw_octets.specs.declared.message.Message.TheVariants as messages
 use Rattle.iw_events.specs.declared.call.StreamCall.TheVariants.{Recv, Post, Emit, Deliver, Work}
-use Rattle.iw_events.specs.declared.call.Role.{Role}
-use Rattle.iw_events.specs.declared.call.Role.TheVariants.{Preset}
 use Rattle.iw_schedules.specs.declared.fault.FaultName.{FaultName}
-use Rattle.iw_schedules.specs.declared.fault.FaultName.TheVariants.{BadWord, BadNumber, BadOctets}
 use Rattle.iw_schedules.specs.declared.kinds.TheConstants.{MOST_OCTETS}
 use Rattle.iw_schedules.specs.declared.words.CallWord.{CallWord}
 use Rattle.iw_schedules.specs.declared.words.CallWord.TheVariants as named
-use Rattle.iw_schedules.specs.declared.calls.Step.{Step}
 use Rattle.iw_schedules.specs.declared.calls.Step.TheVariants as steps
 use Rattle.iw_schedules.specs.Reading.{◌>>=◌}
 use Rattle.iw_schedules.specs.Kinds.{number_word, times_word, stag_word, octets_word, private_word}
-use Rattle.iw_schedules.specs.FirstPath.{role_word, kind_word, no_stag_word, rights_word, options_word}
+use Rattle.iw_schedules.specs.FirstPath.{role_word, options_word, rights_word, kind_word, is_solicited, invalidated_word}
+use Rattle.iw_schedules.specs.FirstPath.IsKind.{plain}
 use Rattle.iw_schedules.specs.Words.{one_of, call_text, call_words, call_word}
-use Rattle.iw_schedules.specs.Calls.{Taken, next_word, field, octet_number, long_number, times_at, one, step_call, domain_at, register_at, deregister_at, open_at, recv_at, send_at, write_at, steps_at, deliver_at, behind, calls_at}
-use Rattle.iw_schedules.specs.Grammar.{Word, IsNumber, IsOctetNumber, IsLongNumber, IsTimes, IsStag, IsOctets, IsPrivate, IsRights, IsCall}
-use Rattle.iw_schedules.specs.Grammar.IsCall.{domain, register, deregister, open_preset, recv, send_plain, write, emit, emit_times, work, work_times, deliver}
-use Rattle.iw_schedules.proofs.KindLaws.{bind_ok, okay, number_is, number_again, times_is, times_again, stag_is, stag_again, octets_is, octets_again, private_is, private_again, rights_is, rights_again}
+use Rattle.iw_schedules.specs.Calls.{field, octet_number, long_number, times_at, one, domain_at, register_at, deregister_at, open_at, recv_at, send_at, write_at, steps_at, deliver_at, behind, calls_at}
+use Rattle.iw_schedules.specs.Grammar.{Word, IsTimes, IsCall}
+use Rattle.iw_schedules.specs.Grammar.IsCall.{domain, register, deregister, opening, recv, send, write, emit, emit_times, work, work_times, deliver}
+use Rattle.iw_schedules.proofs.KindLaws.{bind_ok, okay, number_is, number_again, times_is, times_again, stag_is, stag_again, octets_is, octets_again, private_is, private_again, rights_is, rights_again, role_is, role_again, options_are, options_again, kind_is}
 
 abbrev Calls : Type 0
 Calls = List (Call (List ℕ))
@@ -89,14 +84,6 @@ deregister_is words calls e =
     let f = field_is stag_word words a.0 a.1 in
     stands_for _ (codes "deregister" ∷ f.word ∷ []) calls _ (cc (f.words_are, end.1)) end.0 (deregister (stag_is f.word a.0.0 f.value))
 
--- a fixed word
-fixed : {X : Type 0} (word text : Word) (b : Bool) (fault : FaultName) (x y : X) → bytes_eq word text ≡ b → cond b (Ok x) (Err fault) ≡ Ok y → word ≡ text
-fixed word text true fault x y same e = (bytes_eq-Decides word text).0 same
-fixed word text false fault x y same e = absurd cc
-
-same_role : (role : Role) → role ≡ Preset
-same_role Preset = refl
-
 pub open_is : (words : List Word) (calls : Calls) → open_at words ≡ Ok (calls, []) → IsCall (codes "open" ∷ words) calls
 unfolding open_at
 open_is words calls e =
@@ -111,11 +98,11 @@ open_is words calls e =
     let h = field_is role_word b.0.1 c.0 c.1 in
     let i = field_is options_word c.0.1 d.0 d.1 in
     let j = field_is private_word d.0.1 o.0 o.1 in
-    let role = fixed h.word (codes "preset") _ BadWord Preset c.0.0 refl h.value in
-    let options = fixed i.word (codes "-") _ BadOctets tt d.0.0 refl i.value in
-    let made : one (Open a.0.0 b.0.0 Preset o.0.0) ≡ calls = ap (λ r. one (Open a.0.0 b.0.0 r o.0.0)) (sym (same_role c.0.0)) ∙ end.0 in
-    stands_for _ (codes "open" ∷ f.word ∷ g.word ∷ codes "preset" ∷ codes "-" ∷ j.word ∷ []) calls _ (cc (f.words_are, g.words_are, h.words_are, i.words_are, j.words_are, role, options, end.1)) made
-    (open_preset (number_is 255 f.word a.0.0 f.value) (number_is 255 g.word b.0.0 g.value) (private_is j.word o.0.0 j.value))
+    let last : d.0.1 ≡ j.word ∷ [] = cc (j.words_are, end.1) in
+    let spelled : words ≡ f.word ∷ g.word ∷ h.word ∷ i.word ∷ j.word ∷ [] =
+    f.words_are ∙ ap (λ ws. f.word ∷ ws) (g.words_are ∙ ap (λ ws. g.word ∷ ws) (h.words_are ∙ ap (λ ws. h.word ∷ ws) (i.words_are ∙ ap (λ ws. i.word ∷ ws) last))) in
+    stands_for _ (codes "open" ∷ f.word ∷ g.word ∷ h.word ∷ i.word ∷ j.word ∷ []) calls _ (ap (λ ws. codes "open" ∷ ws) spelled) end.0
+    (opening (number_is 255 f.word a.0.0 f.value) (number_is 255 g.word b.0.0 g.value) (role_is h.word c.0.0 h.value) (options_are i.word d.0.0 i.value) (private_is j.word o.0.0 j.value))
 
 pub recv_is : (words : List Word) (calls : Calls) → recv_at words ≡ Ok (calls, []) → IsCall (codes "recv" ∷ words) calls
 unfolding recv_at
@@ -133,17 +120,15 @@ unfolding send_at
 send_is words calls e =
     let a = bind_ok (field octet_number words) _ (calls, []) e in
     let b = bind_ok (field kind_word a.0.1) _ (calls, []) a.2 in
-    let c = bind_ok (field no_stag_word b.0.1) _ (calls, []) b.2 in
+    let c = bind_ok (field (invalidated_word b.0.0) b.0.1) _ (calls, []) b.2 in
     let d = bind_ok (field octets_word c.0.1) _ (calls, []) c.2 in
-    let end = ended calls (one (Stream a.0.0 (Post (messages.Send d.0.0 false None)))) d.0.1 d.2 in
+    let end = ended calls (one (Stream a.0.0 (Post (messages.Send d.0.0 (is_solicited b.0.0) c.0.0)))) d.0.1 d.2 in
     let f = field_is octet_number words a.0 a.1 in
     let g = field_is kind_word a.0.1 b.0 b.1 in
-    let h = field_is no_stag_word b.0.1 c.0 c.1 in
+    let h = field_is (invalidated_word b.0.0) b.0.1 c.0 c.1 in
     let i = field_is octets_word c.0.1 d.0 d.1 in
-    let kind = fixed g.word (codes "plain") _ BadWord tt b.0.0 refl g.value in
-    let stag = fixed h.word (codes "-") _ BadNumber tt c.0.0 refl h.value in
-    stands_for _ (codes "send" ∷ f.word ∷ codes "plain" ∷ codes "-" ∷ i.word ∷ []) calls _ (cc (f.words_are, g.words_are, h.words_are, i.words_are, kind, stag, end.1)) end.0
-    (send_plain (number_is 255 f.word a.0.0 f.value) (octets_is i.word d.0.0 i.value))
+    stands_for _ (codes "send" ∷ f.word ∷ g.word ∷ h.word ∷ i.word ∷ []) calls _ (cc (f.words_are, g.words_are, h.words_are, i.words_are, end.1)) end.0
+    (send (number_is 255 f.word a.0.0 f.value) (kind_is g.word h.word b.0.0 c.0.0 g.value h.value) (octets_is i.word d.0.0 i.value))
 
 pub write_is : (words : List Word) (calls : Calls) → write_at words ≡ Ok (calls, []) → IsCall (codes "write" ∷ words) calls
 unfolding write_at
@@ -248,9 +233,9 @@ unfolding calls_at call_word domain_at register_at deregister_at open_at recv_at
 calls_again words calls (domain {a} {pd} p) = rw (number_again 255 a pd p) refl
 calls_again words calls (register {a} {b} {c} {d} {pd} {base} {rights} {octets} p q r s) = rw (number_again 255 a pd p, number_again (2 ^ 64 - 1) b base q, rights_again c rights r, octets_again d octets s) refl
 calls_again words calls (deregister {a} {stag} p) = rw (stag_again a stag p) refl
-calls_again words calls (open_preset {a} {b} {c} {stream} {pd} {private} p q r) = rw (number_again 255 a stream p, number_again 255 b pd q, private_again c private r) refl
+calls_again words calls (opening {a} {b} {c} {d} {e} {stream} {pd} {role} {private} p q r s t) = rw (number_again 255 a stream p, number_again 255 b pd q, role_again c role r, options_again d s, private_again e private t) refl
 calls_again words calls (recv {a} {b} {stream} {len} p q) = rw (number_again 255 a stream p, number_again MOST_OCTETS b len q) refl
-calls_again words calls (send_plain {a} {b} {stream} {octets} p q) = rw (number_again 255 a stream p, octets_again b octets q) refl
+calls_again words calls (send {a} {b} {c} {d} {stream} {solicited} {invalidate} {octets} p plain r) = rw (number_again 255 a stream p, octets_again d octets r) refl
 calls_again words calls (write {a} {b} {c} {d} {stream} {to} {stag} {octets} p q r s) = rw (number_again 255 a stream p, stag_again b stag q, number_again (2 ^ 64 - 1) c to r, octets_again d octets s) refl
 calls_again words calls (emit {a} {stream} p) = rw (number_again 255 a stream p) refl
 calls_again words calls (emit_times {a} {b} {stream} {n} p q) = rw (number_again 255 a stream p, times_again b n q) refl

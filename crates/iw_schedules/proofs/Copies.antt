@@ -1,7 +1,6 @@
 -- Octets and events, repeated.
-use Rattle.std.proofs.Common.{◌≡◌, ◌≢◌, ℕ, zero, suc, ◌+◌, List, [], ◌∷◌, ◌++◌, length, map, replicate, refl, sym, ap, ◌∙◌, arith}
+use Rattle.std.proofs.Common.{◌≡◌, ℕ, zero, suc, List, [], ◌∷◌, replicate, refl, ap}
 use Rattle.std.specs.List.{AllZip, repeat}
-use Rattle.std.proofs.lemmas.List.{append_assoc, replicate_more}
 
 -- a list whose elements are those of another, in order
 pub zip_same : (xs ys : List ℕ) → AllZip (λ x y. y ≡ x) xs ys → ys ≡ xs

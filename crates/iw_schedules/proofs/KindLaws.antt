@@ -1,5 +1,5 @@
 -- Each kind of word is read as the grammar says, and nothing else is.
-use Rattle.std.proofs.Common.{◌≡◌, ℕ, ◌+◌, ◌*◌, ◌<◌, ◌≤◌, Bool, true, false, cond, ◌&&◌, ltb, leb, eqb, List, [], ◌∷◌, ◌++◌, length, Option, Some, None, Result, Ok, Err, refl, sym, ap, subst, ◌∙◌, codes, arith}
+use Rattle.std.proofs.Common.{◌≡◌, ℕ, ◌*◌, ◌<◌, ◌≤◌, Bool, true, false, cond, ◌&&◌, ltb, leb, eqb, List, [], ◌∷◌, ◌++◌, length, Option, Some, None, Result, Ok, Err, refl, sym, ap, subst, ◌∙◌, codes, arith}
 use Rattle.std.specs.Prelude.{MatchOption}
 use Rattle.std.specs.List.{repeat, AllPass}
 use Rattle.std.proofs.lemmas.List.{append-nil, length-append}
@@ -14,16 +14,23 @@ use Rattle.hex.proofs.HexLemmas.{decode_of-ok, decode_sized-ok, decode_sized-twi
 use Rattle.iw_octets.specs.declared.stag.Stag.{Stag}
 use Rattle.iw_octets.specs.Stag.{stag_at}
 use Rattle.iw_memory.specs.declared.rights.Rights.{Rights}
+use Rattle.iw_events.specs.declared.call.Role.{Role}
+use Rattle.iw_events.specs.declared.call.Role.TheVariants.{Preset}
+use Rattle.iw_schedules.specs.declared.first_path.SendKind.{SendKind}
+use Rattle.iw_schedules.specs.declared.first_path.SendKind.TheVariants.{Plain}
 use Rattle.iw_schedules.specs.declared.fault.FaultName.{FaultName}
-use Rattle.iw_schedules.specs.declared.fault.FaultName.TheVariants.{BadNumber, BadOctets}
+use Rattle.iw_schedules.specs.declared.fault.FaultName.TheVariants.{BadWord, BadNumber, BadOctets}
 use Rattle.iw_schedules.specs.declared.kinds.TheConstants.{MOST_OCTETS, MOST_PRIVATE, MOST_TIMES}
 use Rattle.iw_schedules.specs.Reading.{◌>>=◌, or_fault}
 use Rattle.iw_schedules.specs.Pieces.{split_at_first}
 use Rattle.iw_schedules.specs.Kinds.{is_decimal, number_word, times_word, stag_word, hex_word, count_word, octets_word, private_word}
-use Rattle.iw_schedules.specs.FirstPath.{rights_word, only}
-use Rattle.iw_schedules.specs.Grammar.{Word, IsNumber, IsTimes, IsHex, IsStag, IsOctets, IsPrivate, IsRights}
+use Rattle.iw_schedules.specs.FirstPath.{role_word, options_word, rights_word, only_write, kind_word, is_solicited, invalidated_word, IsRole, IsOptions, IsRights, IsKind}
+use Rattle.iw_schedules.specs.Grammar.{Word, IsNumber, IsTimes, IsHex, IsStag, IsOctets, IsPrivate}
 use Rattle.iw_schedules.specs.Grammar.IsOctets.{none, once, repeated}
-use Rattle.iw_schedules.specs.Grammar.IsRights.{no_right, write_right}
+use Rattle.iw_schedules.specs.FirstPath.IsRole.{preset}
+use Rattle.iw_schedules.specs.FirstPath.IsOptions.{no_options}
+use Rattle.iw_schedules.specs.FirstPath.IsRights.{no_right, write_right}
+use Rattle.iw_schedules.specs.FirstPath.IsKind.{plain}
 
 -- ---- steps
 
@@ -204,11 +211,11 @@ private_again word octets is = rw (octets_again word octets is.digits, le-leb (l
 rights_told : (word : Word) (rights : Rights) (w d : Bool) → bytes_eq word (codes "w") ≡ w → bytes_eq word (codes "-") ≡ d → rights_word word ≡ Ok rights → IsRights word rights
 rights_told word rights true d is_w is_d e =
     let same : word ≡ codes "w" = (bytes_eq-Decides word (codes "w")).0 is_w in
-    let value : only true ≡ rights = cc (rw is_w at e) in
+    let value : only_write true ≡ rights = cc (rw is_w at e) in
     subst (λ x. IsRights x rights) (sym same) (subst (λ r. IsRights (codes "w") r) value write_right)
 rights_told word rights false true is_w is_d e =
     let same : word ≡ codes "-" = (bytes_eq-Decides word (codes "-")).0 is_d in
-    let value : only false ≡ rights = cc (rw (is_w, is_d) at e) in
+    let value : only_write false ≡ rights = cc (rw (is_w, is_d) at e) in
     subst (λ x. IsRights x rights) (sym same) (subst (λ r. IsRights (codes "-") r) value no_right)
 rights_told word rights false false is_w is_d e = absurd (cc (rw (is_w, is_d) at e))
 
@@ -218,3 +225,32 @@ rights_is word rights e = rights_told word rights (bytes_eq word (codes "w")) (b
 pub rights_again : (word : Word) (rights : Rights) → IsRights word rights → rights_word word ≡ Ok rights
 rights_again word rights no_right = refl
 rights_again word rights write_right = refl
+
+-- ---- fixed words of the first path
+
+-- the only word that is read so
+fixed : {X : Type 0} (word text : Word) (b : Bool) (fault : FaultName) (x y : X) → bytes_eq word text ≡ b → cond b (Ok x) (Err fault) ≡ Ok y → (word ≡ text) × (x ≡ y)
+fixed word text true fault x y same e = ((bytes_eq-Decides word text).0 same, cc)
+fixed word text false fault x y same e = absurd cc
+
+pub role_is : (word : Word) (role : Role) → role_word word ≡ Ok role → IsRole word role
+role_is word role e =
+    let f = fixed word (codes "preset") (bytes_eq word (codes "preset")) BadWord Preset role refl e in
+    subst (λ w. IsRole w role) (sym f.0) (subst (λ r. IsRole (codes "preset") r) f.1 preset)
+
+pub role_again : (word : Word) (role : Role) → IsRole word role → role_word word ≡ Ok role
+role_again word role preset = refl
+
+pub options_are : (word : Word) (unit : Unit {0}) → options_word word ≡ Ok unit → IsOptions word
+options_are word unit e =
+    let f = fixed word (codes "-") (bytes_eq word (codes "-")) BadOctets tt unit refl e in
+    subst IsOptions (sym f.0) no_options
+
+pub options_again : (word : Word) → IsOptions word → options_word word ≡ Ok tt
+options_again word no_options = refl
+
+pub kind_is : (word stag_word : Word) (kind : SendKind) (stag : Option Stag) → kind_word word ≡ Ok kind → invalidated_word kind stag_word ≡ Ok stag → IsKind word stag_word (is_solicited kind) stag
+kind_is word stag_word Plain stag k s =
+    let f = fixed word (codes "plain") (bytes_eq word (codes "plain")) BadWord Plain Plain refl k in
+    let g = fixed stag_word (codes "-") (bytes_eq stag_word (codes "-")) BadNumber None stag refl s in
+    subst (λ w. IsKind w stag_word false stag) (sym f.0) (subst (λ w. IsKind (codes "plain") w false stag) (sym g.0) (subst (λ o. IsKind (codes "plain") (codes "-") false o) g.1 plain))

@@ -1,5 +1,5 @@
 -- Words appended one after the other are the words with a space before each.
-use Rattle.std.proofs.Common.{◌≡◌, ℕ, List, [], ◌∷◌, ◌++◌, refl, sym, ap, ◌∙◌, append_assoc}
+use Rattle.std.proofs.Common.{◌≡◌, ℕ, List, [], ◌∷◌, ◌++◌, refl, sym, ◌∙◌, append_assoc}
 use Rattle.std.proofs.lemmas.List.{append-nil}
 use Rattle.iw_schedules.specs.Answers.{Words}
 use Rattle.iw_schedules.specs.Trace.{spaced}

@@ -1,8 +1,7 @@
 -- A schedule, line by line.
-use Rattle.std.proofs.Common.{◌≡◌, ℕ, ◌+◌, List, [], ◌∷◌, Option, Some, None, Result, Ok, Err, refl, sym, ap, ◌∙◌}
+use Rattle.std.proofs.Common.{◌≡◌, ℕ, ◌+◌, List, Option, None, Ok, refl, ◌∙◌}
 use Rattle.iw_schedules.specs.declared.fault.ReadError.{ReadError}
 use Rattle.iw_schedules.specs.declared.fault.ReadError.TheVariants as errors
-use Rattle.iw_schedules.specs.declared.fault.ScheduleFault.{ScheduleFault}
 use Rattle.iw_schedules.specs.Reading.{Fails, fault_at}
 use Rattle.iw_schedules.specs.Pieces.{split_at_first, pieces_left, lines}
 use Rattle.iw_schedules.specs.Schedule.{Events, and_then, with_line, with_lines, FailsWith}

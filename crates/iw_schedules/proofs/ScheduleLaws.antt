@@ -1,5 +1,5 @@
 -- A schedule is read as the grammar says, and nothing else is.
-use Rattle.std.proofs.Common.{◌≡◌, ◌⊎◌, inl, inr, ℕ, ◌+◌, ◌<◌, ◌≤◌, Bool, true, false, cond, ltb, eqb, List, [], ◌∷◌, get_or, ◌++◌, length, map, Option, Some, None, Result, Ok, Err, refl, sym, ap, subst, ◌∙◌, append_assoc, codes, arith}
+use Rattle.std.proofs.Common.{◌≡◌, ◌⊎◌, inl, inr, ℕ, ◌+◌, ◌≤◌, Bool, true, false, cond, ltb, eqb, List, [], ◌∷◌, get_or, ◌++◌, length, map, Result, Ok, Err, refl, sym, ap, subst, ◌∙◌, append_assoc, codes, arith}
 use Rattle.std.specs.Prelude.{IfOk, IfErr}
 use Rattle.std.proofs.lemmas.Bool.{ltb-false, le-ltb}
 use Rattle.std.proofs.lemmas.List.{append-nil, length-append}
@@ -11,12 +11,11 @@ use Rattle.iw_schedules.specs.declared.fault.FaultName.TheVariants.{TooMany}
 use Rattle.iw_schedules.specs.declared.fault.ScheduleFault.{ScheduleFault}
 use Rattle.iw_schedules.specs.declared.fault.ScheduleFault.TheVariants as faults
 use Rattle.iw_schedules.specs.declared.schedule.TheConstants.{MOST_EVENTS}
-use Rattle.iw_schedules.specs.Reading.{◌>>=◌}
-use Rattle.iw_schedules.specs.Pieces.{split_at_first, pieces_left, lines, words}
+use Rattle.iw_schedules.specs.Pieces.{split_at_first, lines, words}
 use Rattle.iw_schedules.specs.Words.{end_text, ends, end_word}
 use Rattle.iw_schedules.specs.Calls.{field, calls_at}
 use Rattle.iw_schedules.specs.Schedule.{Events, is_skipped, ended, event_at, events_of, with_line, and_then, with_lines, schedule_of, Reads}
-use Rattle.iw_schedules.specs.Grammar.{Word, IsCall, IsLine, AreLines, IsSchedule, IsFirstFault, FirstFault}
+use Rattle.iw_schedules.specs.Grammar.{Word, IsLine, AreLines, IsSchedule, IsFirstFault, FirstFault}
 use Rattle.iw_schedules.specs.Grammar.AreLines.{no_lines, skipped, spoken}
 use Rattle.iw_schedules.proofs.InPieces.{pieces-split}
 use Rattle.iw_schedules.proofs.KindLaws.{bind_ok, okay}

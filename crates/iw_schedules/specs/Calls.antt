@@ -1,8 +1,6 @@
 -- The words of a line, taken one after the other: which events the line stands for.
-use Rattle.std.specs.Prelude.{ℕ, ◌-◌, ◌^◌, List, [], ◌∷◌, map, replicate, None, false, Result, Ok, Err}
+use Rattle.std.specs.Prelude.{ℕ, ◌-◌, ◌^◌, List, [], ◌∷◌, replicate, Result, Ok, Err}
 use Rattle.iw_octets.specs.declared.message.Message.TheVariants as messages
-use Rattle.iw_events.specs.declared.call.End.{End}
-use Rattle.iw_events.specs.declared.call.Event.{Event}
 use Rattle.iw_events.specs.declared.call.Call.{Call}
 use Rattle.iw_events.specs.declared.call.Call.TheVariants.{Domain, Register, Deregister, Open, Stream}
 use Rattle.iw_events.specs.declared.call.StreamCall.{StreamCall}
@@ -18,8 +16,8 @@ use Rattle.iw_schedules.specs.declared.calls.Step.{Step}
 use Rattle.iw_schedules.specs.declared.calls.Step.TheVariants as steps
 use Rattle.iw_schedules.specs.Reading.{◌>>=◌}
 use Rattle.iw_schedules.specs.Kinds.{number_word, times_word, stag_word, octets_word, private_word}
-use Rattle.iw_schedules.specs.FirstPath.{role_word, kind_word, no_stag_word, rights_word, options_word}
-use Rattle.iw_schedules.specs.Words.{end_word, call_word}
+use Rattle.iw_schedules.specs.FirstPath.{role_word, options_word, rights_word, kind_word, is_solicited, invalidated_word}
+use Rattle.iw_schedules.specs.Words.{call_word}
 
 -- a value, and the words behind it
 abbrev pub Taken : Type 0 → Type 0
@@ -85,9 +83,9 @@ unfoldable pub send_at : List (List ℕ) → Taken (List (Call (List ℕ)))
 send_at words = do
   stream ← field octet_number words
   kind ← field kind_word stream.1
-  stag ← field no_stag_word kind.1
+  stag ← field (invalidated_word kind.0) kind.1
   octets ← field octets_word stag.1
-  Ok (one (Stream stream.0 (Post (messages.Send octets.0 false None))), octets.1)
+  Ok (one (Stream stream.0 (Post (messages.Send octets.0 (is_solicited kind.0) stag.0))), octets.1)
 
 unfoldable pub write_at : List (List ℕ) → Taken (List (Call (List ℕ)))
 write_at words = do

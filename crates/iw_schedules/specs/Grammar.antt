@@ -1,5 +1,5 @@
 -- The grammar of schedules, apart from how they are read: which texts stand for which events.
-use Rattle.std.specs.Prelude.{◌≡◌, ℕ, ◌+◌, ◌*◌, ◌-◌, ◌^◌, ◌<◌, ◌≤◌, IsTrue, true, false, List, [], ◌∷◌, ◌++◌, length, map, replicate, None, Result, Ok, Err, codes}
+use Rattle.std.specs.Prelude.{◌≡◌, ℕ, ◌+◌, ◌*◌, ◌-◌, ◌^◌, ◌<◌, ◌≤◌, Bool, true, List, [], ◌∷◌, ◌++◌, length, map, replicate, Option, Ok, Err, codes}
 use Rattle.std.specs.List.{repeat}
 use Rattle.std.specs.Str.Parse.{digits_value}
 use Rattle.hex.specs.Hex.{decode_of}
@@ -8,7 +8,7 @@ use Rattle.iw_octets.specs.Stag.{stag_at}
 use Rattle.iw_octets.specs.declared.message.Message.TheVariants as messages
 use Rattle.iw_memory.specs.declared.rights.Rights.{Rights}
 use Rattle.iw_events.specs.declared.call.End.{End}
-use Rattle.iw_events.specs.declared.call.Role.TheVariants.{Preset}
+use Rattle.iw_events.specs.declared.call.Role.{Role}
 use Rattle.iw_events.specs.declared.call.Call.{Call}
 use Rattle.iw_events.specs.declared.call.Call.TheVariants.{Domain, Register, Deregister, Open, Stream}
 use Rattle.iw_events.specs.declared.call.StreamCall.TheVariants.{Recv, Post, Emit, Deliver, Work}
@@ -19,7 +19,7 @@ use Rattle.iw_schedules.specs.declared.kinds.TheConstants.{MOST_OCTETS, MOST_PRI
 use Rattle.iw_schedules.specs.declared.schedule.TheConstants.{MOST_EVENTS}
 use Rattle.iw_schedules.specs.Pieces.{lines, words}
 use Rattle.iw_schedules.specs.Kinds.{is_decimal}
-use Rattle.iw_schedules.specs.FirstPath.{only}
+use Rattle.iw_schedules.specs.FirstPath.{IsRole, IsOptions, IsRights, IsKind}
 use Rattle.iw_schedules.specs.Words.{end_text}
 use Rattle.iw_schedules.specs.Calls.{one}
 use Rattle.iw_schedules.specs.Schedule.{Events, is_skipped, event_at, with_line}
@@ -67,10 +67,6 @@ pub record IsPrivate (word : Word) (octets : List ℕ) : Type 0 where
   pub digits : IsOctets word octets
   pub few : length octets ≤ MOST_PRIVATE
 
-pub data IsRights : Word → Rights → Type 0 where
-  no_right : IsRights (codes "-") (only false)
-  write_right : IsRights (codes "w") (only true)
-
 -- ---- lines
 
 -- which calls these words stand for
@@ -79,11 +75,11 @@ pub data IsCall : List Word → List (Call (List ℕ)) → Type 0 where
   register : {a b c d : Word} {pd base : ℕ} {rights : Rights} {octets : List ℕ} → IsOctetNumber a pd → IsLongNumber b base → IsRights c rights → IsOctets d octets
       → IsCall (codes "register" ∷ a ∷ b ∷ c ∷ d ∷ []) (one (Register pd base rights octets))
   deregister : {a : Word} {stag : Stag} → IsStag a stag → IsCall (codes "deregister" ∷ a ∷ []) (one (Deregister stag))
-  open_preset : {a b c : Word} {stream pd : ℕ} {private : List ℕ} → IsOctetNumber a stream → IsOctetNumber b pd → IsPrivate c private
-      → IsCall (codes "open" ∷ a ∷ b ∷ codes "preset" ∷ codes "-" ∷ c ∷ []) (one (Open stream pd Preset private))
+  opening : {a b c d e : Word} {stream pd : ℕ} {role : Role} {private : List ℕ} → IsOctetNumber a stream → IsOctetNumber b pd → IsRole c role → IsOptions d → IsPrivate e private
+      → IsCall (codes "open" ∷ a ∷ b ∷ c ∷ d ∷ e ∷ []) (one (Open stream pd role private))
   recv : {a b : Word} {stream len : ℕ} → IsOctetNumber a stream → IsNumber MOST_OCTETS b len → IsCall (codes "recv" ∷ a ∷ b ∷ []) (one (Stream stream (Recv len)))
-  send_plain : {a b : Word} {stream : ℕ} {octets : List ℕ} → IsOctetNumber a stream → IsOctets b octets
-      → IsCall (codes "send" ∷ a ∷ codes "plain" ∷ codes "-" ∷ b ∷ []) (one (Stream stream (Post (messages.Send octets false None))))
+  send : {a b c d : Word} {stream : ℕ} {solicited : Bool} {invalidate : Option Stag} {octets : List ℕ} → IsOctetNumber a stream → IsKind b c solicited invalidate → IsOctets d octets
+      → IsCall (codes "send" ∷ a ∷ b ∷ c ∷ d ∷ []) (one (Stream stream (Post (messages.Send octets solicited invalidate))))
   write : {a b c d : Word} {stream to : ℕ} {stag : Stag} {octets : List ℕ} → IsOctetNumber a stream → IsStag b stag → IsLongNumber c to → IsOctets d octets
       → IsCall (codes "write" ∷ a ∷ b ∷ c ∷ d ∷ []) (one (Stream stream (Post (messages.Write stag to octets))))
   emit : {a : Word} {stream : ℕ} → IsOctetNumber a stream → IsCall (codes "emit" ∷ a ∷ []) (one (Stream stream Emit))

@@ -1,5 +1,5 @@
 -- Laws of pieces: the lines of a text, the words of a line.
-use Rattle.std.specs.Prelude.{◌≡◌, ℕ, ◌==◌, Bool, true, not, List, [], ◌∷◌}
+use Rattle.std.specs.Prelude.{◌≡◌, ℕ, ◌==◌, Bool, true, not, List, ◌∷◌}
 use Rattle.std.specs.List.{list_all, join_with_byte}
 use Rattle.iw_schedules.specs.Pieces.{pieces}
 

@@ -1,6 +1,5 @@
 -- Text in pieces: the lines of a text, the words of a line.
 use Rattle.std.specs.Prelude.{ℕ, ◌==◌, List, [], ◌∷◌, Option, Some, None, if◌then◌else◌}
-use Rattle.std.specs.Borrow.{Bor}
 
 -- what stands before the first separator, and what stands behind it, if there is one
 abbrev pub split_at_first : ℕ → List ℕ → List ℕ × Option (List ℕ)

@@ -1,5 +1,4 @@
 -- What contracts see of a refusal: its number and its name.
-use Rattle.std.specs.Prelude.{ℕ, List}
 use Rattle.iw_schedules.specs.declared.refusals.Refusal.{Refusal}
 use Rattle.iw_schedules.specs.Answers.{Numbered}
 

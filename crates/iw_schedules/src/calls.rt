@@ -6,6 +6,7 @@ ghost use Rattle.iw_schedules.specs.Kinds.{number_word, stag_word, octets_word};
 ghost use Rattle.iw_schedules.specs.Calls.{step_call, calls_of, next_word, field, octet_number, long_number, times_at, domain_at, register_at, deregister_at, open_at, recv_at, send_at, write_at, steps_at, deliver_at, calls_at};
 
 use crate::fault::{FaultName, ReadError};
+use crate::first_path::SendKind;
 use crate::pieces::Pieces;
 use crate::words::CallWord;
 use crate::{first_path, kinds};
@@ -164,12 +165,12 @@ fn send<A: Allocator + Copy>(alloc: A, words: &mut Pieces<'_>) -> Result<Calls<B
     ensures { Gives (λ calls. (calls_of calls, words.new)) result (send_at words.old) }
 {
     let stream = octet_number_in(words)?;
-    first_path::kind(next(words)?)?;
-    first_path::no_stag(next(words)?)?;
+    let kind = SendKind::read(next(words)?)?;
+    let invalidate = kind.invalidated(next(words)?)?;
     let message = Message::Send {
         octets: octets_in(alloc, words)?,
-        solicited: false,
-        invalidate: None,
+        solicited: kind.is_solicited(),
+        invalidate,
     };
     let call = StreamCall::Post { message };
     Ok(Calls::One(Call::Stream { stream, call }))

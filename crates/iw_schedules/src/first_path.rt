@@ -1,13 +1,51 @@
-//! What a schedule may say so far: one role, one kind of Send, no options and one right.
+//! What a schedule may say so far: one role, no options, one right, and one kind of Send.
 //!
 //! The words that name calls stand in the table of `words.rt`.
 
 ghost use Rattle.std.specs.Prelude.{◌≡◌};
-ghost use Rattle.iw_schedules.specs.FirstPath.{role_word, kind_word, rights_word, options_word, no_stag_word};
+ghost use Rattle.iw_schedules.specs.FirstPath.{role_word, options_word, rights_word, kind_word, is_solicited, invalidated_word};
 
 use crate::fault::FaultName;
 use iw_events::Role;
 use iw_memory::Rights;
+use iw_octets::Stag;
+
+/// The kind of a Send.
+#[derive(Clone, Copy, Debug, PartialEq, Eq)]
+pub(crate) enum SendKind {
+    /// It is not solicited and invalidates nothing.
+    Plain,
+}
+
+impl SendKind {
+    /// A kind: `plain`.
+    pub(crate) fn read(word: &[u8]) -> Result<SendKind, FaultName>
+        ensures { result ≡ kind_word word.now }
+    {
+        if word == b"plain".as_slice() {
+            return Ok(SendKind::Plain);
+        }
+        Err(FaultName::BadWord)
+    }
+
+    pub(crate) fn is_solicited(self) -> bool
+        ensures { result ≡ is_solicited self }
+    {
+        match self {
+            SendKind::Plain => false,
+        }
+    }
+
+    /// The STag that such a Send invalidates: `-`, none.
+    pub(crate) fn invalidated(self, word: &[u8]) -> Result<Option<Stag>, FaultName>
+        ensures { result ≡ invalidated_word self word.now }
+    {
+        match self {
+            SendKind::Plain if word == b"-".as_slice() => Ok(None),
+            SendKind::Plain => Err(FaultName::BadNumber),
+        }
+    }
+}
 
 /// A role: `preset`.
 pub(crate) fn role(word: &[u8]) -> Result<Role, FaultName>
@@ -19,24 +57,14 @@ pub(crate) fn role(word: &[u8]) -> Result<Role, FaultName>
     Err(FaultName::BadWord)
 }
 
-/// The kind of a Send: `plain`, which is not solicited and invalidates nothing.
-pub(crate) fn kind(word: &[u8]) -> Result<(), FaultName>
-    ensures { result ≡ kind_word word.now }
-{
-    if word == b"plain".as_slice() {
-        return Ok(());
-    }
-    Err(FaultName::BadWord)
-}
-
-/// The STag that such a Send invalidates: `-`, none.
-pub(crate) fn no_stag(word: &[u8]) -> Result<(), FaultName>
-    ensures { result ≡ no_stag_word word.now }
+/// Options: `-`, none.
+pub(crate) fn options(word: &[u8]) -> Result<(), FaultName>
+    ensures { result ≡ options_word word.now }
 {
     if word == b"-".as_slice() {
         return Ok(());
     }
-    Err(FaultName::BadNumber)
+    Err(FaultName::BadOctets)
 }
 
 /// Rights: `-` or `w`.
@@ -53,14 +81,4 @@ pub(crate) fn rights(word: &[u8]) -> Result<Rights, FaultName>
         sink: false,
         invalidate: false,
     })
-}
-
-/// Options: `-`, none.
-pub(crate) fn options(word: &[u8]) -> Result<(), FaultName>
-    ensures { result ≡ options_word word.now }
-{
-    if word == b"-".as_slice() {
-        return Ok(());
-    }
-    Err(FaultName::BadOctets)
 }

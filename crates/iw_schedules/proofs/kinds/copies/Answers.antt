@@ -1,4 +1,4 @@
-use Rattle.std.proofs.Common.{refl, ◌∙◌}
+use Rattle.std.proofs.Common.{◌∙◌}
 use Rattle.std.proofs.lemmas.Result.{IfOk-weaker}
 use Rattle.iw_schedules.proofs.Copies.{repeat-one}
 use Rattle.iw_schedules.proofs.kinds.copies.Goals as goal

@@ -1,4 +1,4 @@
-use Rattle.std.proofs.Common.{refl, sym, ap, ◌∙◌, arith}
+use Rattle.std.proofs.Common.{refl, sym, ap, ◌∙◌}
 use Rattle.std.specs.Option.{option_copied}
 use Rattle.iw_schedules.specs.Pieces.{pieces_left}
 use Rattle.iw_schedules.proofs.InPieces.{pieces-split}
