@@ -1,11 +1,10 @@
 -- What a replay reads and writes.
-use Rattle.std.specs.Prelude.{◌≡◌, ℕ, List, map, take, Option, Ok, Err}
+use Rattle.std.specs.Prelude.{◌≡◌, ℕ, List, map, take, Option}
 use Rattle.std.specs.Io.KnownBytes.{Appends, Consumes, IsAtEnd, Keeps}
 use Rattle.iw_events.specs.declared.act.Entry.{Entry}
 use Rattle.iw_events.specs.Events.{event_of}
-use Rattle.iw_schedules.specs.declared.fault.ScheduleFault.{ScheduleFault}
-use Rattle.iw_schedules.specs.declared.fault.ScheduleFault.TheVariants as schedules
-use Rattle.iw_schedules.specs.Schedule.{Events, schedule_of}
+use Rattle.iw_schedules.specs.Schedule.{Events}
+use Rattle.iw_schedules.specs.Grammar.{IsSchedule, FirstFault}
 use Rattle.iw_schedules.specs.Trace.{trace_text}
 use Rattle.iw_world.specs.declared.fault.WorldFault.{WorldFault}
 use Rattle.iw_world.specs.Rules.{start, Follows}
@@ -21,7 +20,7 @@ use Rattle.iw_program.specs.Status.{status_of}
 pub record Replays (text printed : List ℕ) (status : Status) : Type 0 where
   pub events : Events
   pub trace : List (Entry (List ℕ))
-  pub reads : schedule_of text ≡ Ok events
+  pub reads : IsSchedule text events
   pub answers : map event_of trace ≡ events
   pub follows : Follows start trace
   pub prints : printed ≡ trace_text trace
@@ -30,17 +29,12 @@ pub record Replays (text printed : List ℕ) (status : Status) : Type 0 where
 -- the text is a schedule, the events of which stop so
 pub record StopsIn (text : List ℕ) (fault : WorldFault) : Type 0 where
   pub events : Events
-  pub reads : schedule_of text ≡ Ok events
+  pub reads : IsSchedule text events
   pub stops : StopsAt events fault
-
--- the text is no schedule, by this fault
-abbrev pub IsNoSchedule : List ℕ → ScheduleFault → Type 0
-IsNoSchedule text (schedules.Line line name) = schedule_of text ≡ Err (schedules.Line line name)
-IsNoSchedule text schedules.NoMemory = Unit {0}
 
 -- why a text has no trace; where memory ran out nothing is said of it
 abbrev pub Refuses : List ℕ → Refusal → Type 0
-Refuses text (Schedule fault) = IsNoSchedule text fault
+Refuses text (Schedule fault) = FirstFault text fault
 Refuses text (World fault) = StopsIn text fault
 Refuses text NoMemory = Unit {0}
 

@@ -17,7 +17,6 @@ pub struct Replayed<A: Allocator = Global> {
 }
 
 /// Runs the schedule that the text is, and prints its trace.
-#[tactic(auto, using(crate::proofs::Fits::schedule_fits))]
 pub fn replay_text<A: Allocator + Copy>(alloc: A, text: &[u8]) -> Result<Replayed<A>, Refusal>
     ensures replays { IfOk result (λ replayed. Replays text.now (string_bytes replayed.trace) replayed.status) }
     ensures refused { IfErr result (Refuses text.now) }

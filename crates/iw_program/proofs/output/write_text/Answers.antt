@@ -1,4 +1,4 @@
-use Rattle.std.proofs.Common.{◌≡◌, ℕ, ◌-◌, List, length, take, drop, arith, take-add, take_all, length-drop}
+use Rattle.std.proofs.Common.{arith, take-add, length-drop}
 use Rattle.std.proofs.KnownBytes.{Appends-kept, Appends-trans}
 use Rattle.iw_program.proofs.Ends.{slice_end}
 use Rattle.iw_program.proofs.output.write_text.Goals as goal
