@@ -1,0 +1,55 @@
+// Times writes to one region while few and many others live, and prints the ratios and what the last may be at most.
+// It reads the processor's time of this thread, in which other work on the machine shows little.
+
+#[repr(C)]
+struct Time {
+    seconds: i64,
+    nanoseconds: i64,
+}
+
+unsafe extern "C" {
+    fn clock_gettime(clock: i32, time: *mut Time) -> i32;
+    fn memory_writes(others: usize, rounds: usize, octets: *const u8, n: usize) -> usize;
+}
+
+const THREAD_TIME: i32 = 3;
+const OTHERS: [usize; 3] = [1, 100, 100_000];
+const OCTETS: [u8; 64] = [0x5a; 64];
+const ROUNDS: usize = 20_000_000;
+const TURNS: usize = 9;
+const MOST: f64 = 1.5;
+
+/// The processor's time of this thread, in nanoseconds.
+fn now() -> f64 {
+    let mut time = Time { seconds: 0, nanoseconds: 0 };
+    assert_eq!(unsafe { clock_gettime(THREAD_TIME, &mut time) }, 0);
+    time.seconds as f64 * 1e9 + time.nanoseconds as f64
+}
+
+/// The time to register the regions and make so many writes, in nanoseconds.
+fn time(others: usize, rounds: usize) -> f64 {
+    let start = now();
+    let count = unsafe { memory_writes(others, rounds, OCTETS.as_ptr(), OCTETS.len()) };
+    let time = now() - start;
+    assert_eq!(count, rounds, "writes placed among {others} others");
+    time
+}
+
+fn main() {
+    // The least of several turns: of the regions alone, and of the regions and the writes.
+    let mut least = [[f64::MAX; 2]; OTHERS.len()];
+    for _ in 0..TURNS {
+        for (times, others) in least.iter_mut().zip(OTHERS) {
+            for (least, rounds) in times.iter_mut().zip([0, ROUNDS]) {
+                *least = least.min(time(others, rounds));
+            }
+        }
+    }
+    let writes = least.map(|[without, with]| (with - without) / ROUNDS as f64);
+    for (each, others) in writes.iter().zip(OTHERS) {
+        println!("{others} others: {each:.1} ns a write, ratio {:.2}", each / writes[0]);
+    }
+    let ratio = writes[OTHERS.len() - 1] / writes[0];
+    println!("ratio of the last to the first {ratio:.2}, under {MOST}");
+    std::process::exit(if ratio < MOST { 0 } else { 1 });
+}
