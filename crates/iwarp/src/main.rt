@@ -16,17 +16,20 @@ enum Task {
 }
 
 fn replay_command<'a>(alloc: Global) -> Command<'a> {
-    Command::new(alloc, "replay")
-        .about("Runs the schedule on standard input and writes its trace to standard output")
+    Command::new(alloc, "replay").about(
+        "Runs the schedule on standard input and writes its trace to standard output",
+    )
 }
 
 fn command<'a>(alloc: Global) -> Result<Command<'a>, clap::Error> {
-    Ok(Command::new(alloc, "iwarp")
-        .version("0.1.0")
-        .about("iWARP over schedules: every call at both ends of a connection, with its answer")
-        .subcommand_required(true)
-        .arg_required_else_help(true)
-        .subcommand(replay_command(alloc))?)
+    Ok(
+        Command::new(alloc, "iwarp")
+            .version("0.1.0")
+            .about("iWARP over schedules: every call at both ends of a connection, with its answer")
+            .subcommand_required(true)
+            .arg_required_else_help(true)
+            .subcommand(replay_command(alloc))?,
+    )
 }
 
 fn task_of(matches: &ArgMatches<'_>) -> Option<Task> {
