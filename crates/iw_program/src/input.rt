@@ -9,8 +9,8 @@ use std::io::{ErrorKind, Read};
 /// The most reads of one input.
 const MOST_READS: u32 = 1_000_000;
 
-/// The most octets of one read.
-const MOST_OCTETS: usize = 65_536;
+/// The most octets of one read: an input without end is at fault after some 4 GB.
+const MOST_OCTETS: usize = 4_096;
 
 // Reads once, and appends what was read. Returns whether the input may go on.
 fn read_once<R: Read, A: Allocator>(
