@@ -1,7 +1,9 @@
-//! What is left where memory is refused, for the crates below.
+//! What is left where memory is refused, or input or output fails, for the crates below.
 #![tactic(auto)]
 
 #[cfg(test)]
 mod memory;
 #[cfg(test)]
 mod ranges;
+#[cfg(test)]
+mod replay;

@@ -1,6 +1,9 @@
-//! An allocator that refuses the allocation after the next `left`, and no other.
+//! What fails on demand, for tests: an allocator that refuses an allocation, readers and writers that halt.
 #![tactic(auto)]
 
+mod halting;
+
+pub use halting::{Endless, Halting};
 use std::alloc::{AllocError, Allocator};
 use std::cell::Cell;
 
