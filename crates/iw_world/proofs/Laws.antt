@@ -1,8 +1,13 @@
 -- The laws, of whatever follows the rules.
-use Rattle.std.proofs.Common.{◌≡◌, ℕ, List, ◌∷◌, ◌++◌, length, Option, Some, None, Ok, Err, true, false, sym, ap, ◌∙◌, subst, inl, inr, append_assoc}
+use Rattle.std.proofs.Common.{◌≡◌, ◌⊎◌, ℕ, List, [], ◌∷◌, ◌++◌, length, Option, Some, None, Ok, Err, Bool, true, false, cond, refl, sym, ap, ◌∙◌, subst, inl, inr, append_assoc}
+use Rattle.std.proofs.lemmas.List.{append-nil}
 use Rattle.std.specs.Prelude.{option_map}
 use Rattle.std.specs.Option.{option_map_or}
 use Rattle.std.proofs.lemmas.Bool.{false≢true}
+use Rattle.iw_octets.specs.declared.message.Message.{Message}
+use Rattle.iw_stream.specs.declared.answer.Emission.TheVariants as emissions
+use Rattle.iw_stream.specs.Segments.{segments_of, layout}
+use Rattle.iw_stream.specs.Stream.{first_emission, first_frame_of}
 use Rattle.iw_memory.specs.declared.refusal.NoRegion.{NoRegion}
 use Rattle.iw_memory.specs.Region.{Region}
 use Rattle.iw_memory.specs.Table.{Table, region_at}
@@ -14,17 +19,21 @@ use Rattle.iw_events.specs.declared.act.Act.{Act}
 use Rattle.iw_events.specs.declared.act.Act.TheVariants.{Domain, Register, Deregister, Open, Stream}
 use Rattle.iw_events.specs.declared.act.StreamAct.{StreamAct}
 use Rattle.iw_events.specs.declared.act.StreamAct.TheVariants.{Recv, Post, Emit, Deliver, Work}
+use Rattle.iw_events.specs.declared.act.Shown.TheVariants.{Frame, Nothing}
 use Rattle.iw_events.specs.declared.act.Seen.TheVariants as seen
 use Rattle.iw_events.specs.declared.act.Entry.{Entry}
-use Rattle.iw_world.specs.Words.{Octets, other, acts, stream_acts, openings, posted, sends, received, sent, table_after}
-use Rattle.iw_world.specs.Safe.{IsPrefixOf, InOrder, Within, WithinAct, WithinStream, ShowsMemory, ShowsRegion, domain_of}
-use Rattle.iw_world.specs.Rules.{Connected, EndState, State, end_of, has_stream, stream_at, start, Rule, state_after, Follows}
+use Rattle.iw_world.specs.Words.{Octets, other, acts, stream_acts, openings, posted, sends, received, ended, sent, table_after}
+use Rattle.iw_world.specs.Safe.{IsPrefixOf, InOrder, AreFirstFrames, Emission, NothingDue, NothingAct, NothingOnlyAtRest, Within, WithinAct, WithinStream, ShowsMemory, ShowsRegion, domain_of}
+use Rattle.iw_world.specs.Turns.{story, standing, TurnsSeen, TurnsStream, TurnsAct, Turns, IdleStream, IdleAct, IdleOnlyAtRest}
+use Rattle.iw_world.specs.Rules.{Connected, EndState, State, end_of, has_stream, stream_at, start, shown_of, Rule, StreamRule, state_after, Follows}
 use Rattle.iw_world.specs.Bounds.{LacksStream, AsksTooMuch, AsksOver}
 use Rattle.iw_world.specs.Stops.{NamesNoStream, AsksNotSent, IsUnopened}
 use Rattle.iw_world.proofs.Told.{told}
+use Rattle.iw_world.proofs.Tracks.{Track}
+use Rattle.iw_world.proofs.Answers.{standing_of, answers, idles}
 use Rattle.iw_world.proofs.Tales.{Tale, tale_of}
 use Rattle.iw_world.proofs.Lists.{sends-append}
-use Rattle.iw_world.proofs.Owns.{within, WithinTale}
+use Rattle.iw_world.proofs.Owns.{Own, within, WithinTale}
 use Rattle.iw_world.proofs.Ends.{EndSeen, was_opened, unopened}
 use Rattle.iw_world.proofs.Whole.{Seen, Pair, seen_at, follows_split}
 
@@ -83,6 +92,99 @@ within_all trace follows past e future is =
     let m = moment past e future trace follows is in
     let w : State = state_after start past in
     within_act (acts e.end past) (end_of e.end w) (end_of (other e.end) w) e.act (m.0.ends e.end) (λ n. (tale_of (stream_acts n (acts (other e.end) past)), m.0.pairs e.end n)) m.1
+
+-- ---- what goes out
+
+first_frames : (past : List (Entry Octets)) (w : State) → Seen past w → (x : End) (n : ℕ) → AreFirstFrames (sent (stream_acts n (acts x past))) (posted (stream_acts n (acts x past)))
+first_frames past w k x n =
+    let e = (k.pairs x n).own.emits in
+    record { begun = e.begun; first = ((stream_at (end_of x w) n).stream.queue, sym e.posted); spelled = e.spells }
+
+pub emission : (trace : List (Entry Octets)) → Follows start trace → Emission trace
+emission trace follows past future is x n = first_frames past (state_after start past) (seen_at past future trace follows is) x n
+
+nothing_stream : (c : Connected) (done : List (StreamAct Octets)) (table : Table) (peer : List ℕ) (act : StreamAct Octets) → StreamRule table peer c.stream act → Own c (tale_of done) → NothingDue done act
+nothing_stream c done table peer (Emit Nothing) rule o = go c.stream.ended c.stream.queue refl refl rule
+  where
+    go : (b : Bool) (q : List (Message Octets)) → c.stream.ended ≡ b → c.stream.queue ≡ q → Nothing ≡ shown_of (cond b emissions.Nothing (first_emission c.stream.sent c.stream.next q)) (cond b [] (first_frame_of c.stream.next q))
+        → (ended done ≡ true) ⊎ (sent done ≡ layout (segments_of 1 (posted done)))
+    go true q e is h = inl (sym o.ended ∙ e)
+    go false [] e is h = inr (o.emits.spells ∙ ap (λ ms. layout (segments_of 1 ms)) (sym (append-nil o.emits.begun) ∙ ap (λ z. o.emits.begun ++ z) (sym is) ∙ sym o.emits.posted))
+    go false (m ∷ ms) e is h = cc
+nothing_stream c done table peer (Emit (Frame from octets)) rule o = tt
+nothing_stream c done table peer (Post m refused) rule o = tt
+nothing_stream c done table peer (Recv len refused) rule o = tt
+nothing_stream c done table peer (Deliver from octets delivery) rule o = tt
+nothing_stream c done table peer (Work step) rule o = tt
+
+nothing_act : (done : List (Act Octets)) (s peer : EndState) (act : Act Octets) → ((n : ℕ) → Own (stream_at s n) (tale_of (stream_acts n done))) → Rule s peer act → NothingAct done act
+nothing_act done s peer (Stream n act) owns rule = nothing_stream (stream_at s n) (stream_acts n done) s.table (stream_at peer n).wire act rule.2 (owns n)
+nothing_act done s peer (Domain pd refused) owns rule = tt
+nothing_act done s peer (Register pd base rights octets answer) owns rule = tt
+nothing_act done s peer (Deregister stag answer) owns rule = tt
+nothing_act done s peer (Open n pd role private refused) owns rule = tt
+
+pub nothing_at_rest : (trace : List (Entry Octets)) → Follows start trace → NothingOnlyAtRest trace
+nothing_at_rest trace follows past e future is =
+    let m = moment past e future trace follows is in
+    let w : State = state_after start past in
+    nothing_act (acts e.end past) (end_of e.end w) (end_of (other e.end) w) e.act (λ n. (m.0.pairs e.end n).own) m.1
+
+-- ---- the turns of frames
+
+same_standing : (done : List (Act Octets)) (n : ℕ) (s : EndState) → EndSeen s done → has_stream s n ≡ true → Track (stream_at s n).stream (story (stream_acts n done)) → standing_of s.table (stream_at s n).stream ≡ standing n done
+same_standing done n s k there track = λ i. record { table = k.table i; domain = k.domain n there i; receiving = sym track.receiving i }
+
+turns_stream : (done : List (Act Octets)) (n : ℕ) (s : EndState) (peer : List ℕ) (act : StreamAct Octets) → EndSeen s done → has_stream s n ≡ true → StreamRule s.table peer (stream_at s n).stream act
+    → Track (stream_at s n).stream (story (stream_acts n done)) → TurnsStream done n act
+turns_stream done n s peer (Work step) k there rule track =
+    subst (λ z. TurnsSeen (story (stream_acts n done)) z step) (same_standing done n s k there track) (answers s.table (stream_at s n).stream (story (stream_acts n done)) step rule track)
+turns_stream done n s peer (Post m refused) k there rule track = tt
+turns_stream done n s peer (Recv len refused) k there rule track = tt
+turns_stream done n s peer (Emit shown) k there rule track = tt
+turns_stream done n s peer (Deliver from octets delivery) k there rule track = tt
+
+turns_act : (done : List (Act Octets)) (s peer : EndState) (act : Act Octets) → EndSeen s done → ((n : ℕ) → Track (stream_at s n).stream (story (stream_acts n done))) → Rule s peer act → TurnsAct done act
+turns_act done s peer (Stream n act) k tracks rule = turns_stream done n s (stream_at peer n).wire act k rule.0 rule.2 (tracks n)
+turns_act done s peer (Domain pd refused) k tracks rule = tt
+turns_act done s peer (Register pd base rights octets answer) k tracks rule = tt
+turns_act done s peer (Deregister stag answer) k tracks rule = tt
+turns_act done s peer (Open n pd role private refused) k tracks rule = tt
+
+pub turns_all : (trace : List (Entry Octets)) → Follows start trace → Turns trace
+turns_all trace follows past e future is =
+    let m = moment past e future trace follows is in
+    let w : State = state_after start past in
+    turns_act (acts e.end past) (end_of e.end w) (end_of (other e.end) w) e.act (m.0.ends e.end) (λ n. (m.0.pairs e.end n).own.track) m.1
+
+idle_stream : (s : EndState) (peer : List ℕ) (c : Connected) (done : List (StreamAct Octets)) (act : StreamAct Octets) → StreamRule s.table peer c.stream act → Own c (tale_of done) → IdleStream done act
+idle_stream s peer c done (Work seen.Idle) rule o = elim (idles s.table c.stream (story done) rule o.track) [
+  | inl over ↦ inl (sym o.ended ∙ over)
+  | inr none ↦ inr none
+]
+idle_stream s peer c done (Work (seen.Done kind)) rule o = tt
+idle_stream s peer c done (Work (seen.Placed right stag to octets)) rule o = tt
+idle_stream s peer c done (Work (seen.Buffered msn mo len)) rule o = tt
+idle_stream s peer c done (Work seen.Passed) rule o = tt
+idle_stream s peer c done (Work (seen.Received octets solicited invalidate)) rule o = tt
+idle_stream s peer c done (Work (seen.Fault fault)) rule o = tt
+idle_stream s peer c done (Post m refused) rule o = tt
+idle_stream s peer c done (Recv len refused) rule o = tt
+idle_stream s peer c done (Emit shown) rule o = tt
+idle_stream s peer c done (Deliver from octets delivery) rule o = tt
+
+idle_act : (done : List (Act Octets)) (s peer : EndState) (act : Act Octets) → ((n : ℕ) → Own (stream_at s n) (tale_of (stream_acts n done))) → Rule s peer act → IdleAct done act
+idle_act done s peer (Stream n act) owns rule = idle_stream s (stream_at peer n).wire (stream_at s n) (stream_acts n done) act rule.2 (owns n)
+idle_act done s peer (Domain pd refused) owns rule = tt
+idle_act done s peer (Register pd base rights octets answer) owns rule = tt
+idle_act done s peer (Deregister stag answer) owns rule = tt
+idle_act done s peer (Open n pd role private refused) owns rule = tt
+
+pub idle_at_rest : (trace : List (Entry Octets)) → Follows start trace → IdleOnlyAtRest trace
+idle_at_rest trace follows past e future is =
+    let m = moment past e future trace follows is in
+    let w : State = state_after start past in
+    idle_act (acts e.end past) (end_of e.end w) (end_of (other e.end) w) e.act (λ n. (m.0.pairs e.end n).own) m.1
 
 -- what is shown of the regions is what the entries made of them
 shown_region : (o : Option Region) (octets : List ℕ) (missing : NoRegion) → Ok octets ≡ option_map_or (λ r. Ok r.octets) o (Err missing) → option_map (λ r. r.octets) o ≡ Some octets

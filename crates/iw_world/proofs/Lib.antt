@@ -3,6 +3,8 @@ pub mod Lists
 pub mod Tales
 pub mod Flow
 pub mod Told
+pub mod Tracks
+pub mod Answers
 pub mod Sends
 pub mod Checks
 pub mod Steps

@@ -1,13 +1,15 @@
 -- What the state of a stream has in common with what its acts say, and that changes stay within what was allowed.
-use Rattle.std.proofs.Common.{◌≡◌, ℕ, ◌+◌, ◌%◌, ◌^◌, List, [], ◌∷◌, ◌++◌, length, drop, map, replicate, Some, None, refl, sym, ap, ◌∙◌, subst, arith, length-append}
+use Rattle.std.proofs.Common.{◌≡◌, ℕ, ◌+◌, ◌%◌, ◌^◌, List, [], ◌∷◌, ◌++◌, length, take, drop, map, replicate, Some, None, refl, sym, ap, ◌∙◌, subst, arith, append_assoc, length-append}
 use Rattle.std.specs.Prelude.{slice_get, slice_set, slice_index_or}
 use Rattle.std.proofs.lemmas.List.{append-nil, map-append, length-replicate, length_push}
+use Rattle.iw_octets.specs.declared.message.Message.{Message}
 use Rattle.iw_octets.specs.declared.segment.Segment.TheVariants.{Tagged, Untagged}
 use Rattle.iw_octets.specs.Octets.{splice}
 use Rattle.iw_memory.specs.Table.{Table}
 use Rattle.iw_memory.specs.Laws.{Allows}
 use Rattle.iw_stream.specs.declared.answer.Delivery.TheVariants.{Kept, Dropped}
 use Rattle.iw_stream.specs.declared.answer.Step.TheVariants as steps
+use Rattle.iw_stream.specs.Segments.{segment_of, msn_after_all, frame_of}
 use Rattle.iw_stream.specs.Receiving.{Receiving, ahead_of}
 use Rattle.iw_stream.specs.Stream.{StreamState, Front, front, payload_of, turned_with}
 use Rattle.iw_stream.proofs.Inverse.{PlacesSend}
@@ -15,15 +17,23 @@ use Rattle.iw_events.specs.declared.act.StreamAct.{StreamAct}
 use Rattle.iw_events.specs.declared.act.StreamAct.TheVariants.{Recv, Post, Emit, Deliver, Work}
 use Rattle.iw_events.specs.declared.act.Shown.TheVariants.{Frame, Nothing}
 use Rattle.iw_events.specs.declared.act.Seen.TheVariants as seen
-use Rattle.iw_world.specs.Words.{Octets, received_by, sent_by, buffers_after, Sent}
+use Rattle.iw_world.specs.Words.{Octets, posted_by, received_by, ended_after, sent_by, buffers_after, Sent}
 use Rattle.iw_world.specs.Rules.{Connected, connected_after, stream_after}
 use Rattle.iw_world.specs.Safe.{InBuffer}
 use Rattle.iw_memory.proofs.Callers.{allows}
 use Rattle.iw_world.proofs.Told.{Told}
 use Rattle.iw_world.proofs.Tales.{Tale, tale_after}
-use Rattle.iw_world.proofs.Lists.{AllGood, good-push, good_rest}
+use Rattle.iw_world.proofs.Tracks.{Track, tracking}
+use Rattle.iw_world.proofs.Lists.{AllGood, good-push, good_rest, spelled, spelled-push, msn_after_all-append}
 use Rattle.iw_world.proofs.Checks.{HasBuffer, checked_buffer, same_lengths, index_of, length_of, length-splice}
-use Rattle.iw_world.proofs.Steps.{accepted_good}
+use Rattle.iw_world.proofs.Steps.{accepted_good, emits_first}
+
+-- what was sent is the frames of the first messages, and the others wait
+pub record Emits (s : StreamState) (t : Tale) : Type 0 where
+  pub begun : List (Message Octets)
+  pub posted : t.posted ≡ begun ++ s.queue
+  pub next : s.next ≡ msn_after_all 1 begun
+  pub spells : t.sent ≡ spelled 1 begun
 
 pub record Own (c : Connected) (t : Tale) : Type 0 where
   pub wire : c.wire ≡ t.sent
@@ -31,6 +41,9 @@ pub record Own (c : Connected) (t : Tale) : Type 0 where
   pub lengths : map length c.stream.receiving.buffers ≡ t.buffers
   pub due : c.stream.receiving.due ≡ (1 + length t.received) % 2 ^ 32
   pub good : AllGood c.stream.queue
+  pub emits : Emits c.stream t
+  pub track : Track c.stream t.story
+  pub ended : c.stream.ended ≡ t.ended
 
 next_due : (d n : ℕ) → d ≡ (1 + n) % 2 ^ 32 → (d + 1) % 2 ^ 32 ≡ (1 + (n + 1)) % 2 ^ 32
 next_due d n e = omega arith
@@ -140,6 +153,63 @@ good_is table peer s (Work (seen.Received octets solicited invalidate)) rule h =
 good_is table peer s (Work (seen.Fault fault)) rule h = h
 good_is table peer s (Work seen.Idle) rule h = h
 
+-- nothing is posted or emitted
+quiet : (s s' : StreamState) (t : Tale) (act : StreamAct Octets) → s'.queue ≡ s.queue → s'.next ≡ s.next → posted_by act ≡ [] → sent_by act ≡ [] → Emits s t → Emits s' (tale_after t act)
+quiet s s' t act queue next posted sent e = record {
+  begun = e.begun;
+  posted = ap (λ z. t.posted ++ z) posted ∙ append-nil t.posted ∙ e.posted ∙ ap (λ z. e.begun ++ z) (sym queue);
+  next = next ∙ e.next;
+  spells = ap (λ z. t.sent ++ z) sent ∙ append-nil t.sent ∙ e.spells;
+}
+
+emitting : (table : Table) (peer : List ℕ) (s : StreamState) (t : Tale) (act : StreamAct Octets) → Told table peer s act → Emits s t → Emits (stream_after s act) (tale_after t act)
+emitting table peer s t (Post m None) rule e = record {
+  begun = e.begun;
+  posted = ap (λ z. z ++ m ∷ []) e.posted ∙ append_assoc e.begun s.queue (m ∷ []);
+  next = e.next;
+  spells = append-nil t.sent ∙ e.spells;
+}
+emitting table peer s t (Emit (Frame from octets)) rule e =
+    let first = emits_first s from octets rule in
+    let queue : s.queue ≡ first.m ∷ first.ms = first.queue in
+    record {
+      begun = e.begun ++ first.m ∷ [];
+      posted = append-nil t.posted ∙ e.posted ∙ ap (λ z. e.begun ++ z) queue ∙ sym (append_assoc e.begun (first.m ∷ []) first.ms) ∙ ap (λ z. (e.begun ++ first.m ∷ []) ++ drop 1 z) (sym queue);
+      next = (λ i. msn_after_all (e.next i) (take 1 (queue i))) ∙ sym (msn_after_all-append 1 e.begun (first.m ∷ []));
+      spells = (λ i. e.spells i ++ first.octets_are i) ∙ ap (λ n. spelled 1 e.begun ++ frame_of (segment_of n first.m)) e.next ∙ sym (spelled-push 1 e.begun first.m);
+    }
+emitting table peer s t (Post m (Some refusal)) rule e = quiet s s t (Post m (Some refusal)) refl refl refl refl e
+emitting table peer s t (Emit Nothing) rule e = quiet s s t (Emit Nothing) refl refl refl refl e
+emitting table peer s t (Recv len None) rule e = quiet s (stream_after s (Recv len None)) t (Recv len None) refl refl refl refl e
+emitting table peer s t (Recv len (Some refusal)) rule e = quiet s s t (Recv len (Some refusal)) refl refl refl refl e
+emitting table peer s t (Deliver from octets Kept) rule e = quiet s (stream_after s (Deliver from octets Kept)) t (Deliver from octets Kept) refl refl refl refl e
+emitting table peer s t (Deliver from octets Dropped) rule e = quiet s s t (Deliver from octets Dropped) refl refl refl refl e
+emitting table peer s t (Work (seen.Done kind)) rule e = quiet s (stream_after s (Work (seen.Done kind))) t (Work (seen.Done kind)) refl refl refl refl e
+emitting table peer s t (Work (seen.Placed right stag to octets)) rule e = quiet s (stream_after s (Work (seen.Placed right stag to octets))) t (Work (seen.Placed right stag to octets)) refl refl refl refl e
+emitting table peer s t (Work (seen.Buffered msn mo len)) rule e = quiet s (stream_after s (Work (seen.Buffered msn mo len))) t (Work (seen.Buffered msn mo len)) refl refl refl refl e
+emitting table peer s t (Work seen.Passed) rule e = quiet s (stream_after s (Work seen.Passed)) t (Work seen.Passed) refl refl refl refl e
+emitting table peer s t (Work (seen.Received octets solicited invalidate)) rule e =
+    quiet s (stream_after s (Work (seen.Received octets solicited invalidate))) t (Work (seen.Received octets solicited invalidate)) refl refl refl refl e
+emitting table peer s t (Work (seen.Fault fault)) rule e = quiet s (stream_after s (Work (seen.Fault fault))) t (Work (seen.Fault fault)) refl refl refl refl e
+emitting table peer s t (Work seen.Idle) rule e = quiet s s t (Work seen.Idle) refl refl refl refl e
+
+ended_is : (s : StreamState) (act : StreamAct Octets) → (stream_after s act).ended ≡ ended_after s.ended act
+ended_is s (Work (seen.Fault fault)) = refl
+ended_is s (Work (seen.Done kind)) = refl
+ended_is s (Work (seen.Placed right stag to octets)) = refl
+ended_is s (Work (seen.Buffered msn mo len)) = refl
+ended_is s (Work seen.Passed) = refl
+ended_is s (Work (seen.Received octets solicited invalidate)) = refl
+ended_is s (Work seen.Idle) = refl
+ended_is s (Recv len None) = refl
+ended_is s (Recv len (Some refusal)) = refl
+ended_is s (Post m None) = refl
+ended_is s (Post m (Some refusal)) = refl
+ended_is s (Emit (Frame from octets)) = refl
+ended_is s (Emit Nothing) = refl
+ended_is s (Deliver from octets Kept) = refl
+ended_is s (Deliver from octets Dropped) = refl
+
 pub owning : (table : Table) (peer : List ℕ) (c : Connected) (t : Tale) (act : StreamAct Octets) → Told table peer c.stream act → Own c t → Own (connected_after c act) (tale_after t act)
 owning table peer c t act rule o = record {
   wire = ap (λ z. z ++ sent_by act) o.wire;
@@ -147,6 +217,9 @@ owning table peer c t act rule o = record {
   lengths = lengths_are table peer c.stream act rule ∙ ap (λ z. buffers_after z act) o.lengths;
   due = due_is c.stream act t.received o.due;
   good = good_is table peer c.stream act rule o.good;
+  emits = emitting table peer c.stream t act rule o.emits;
+  track = tracking table peer c.stream t.story act rule o.track;
+  ended = ended_is c.stream act ∙ ap (λ b. ended_after b act) o.ended;
 }
 
 -- what an act changes lay where it may

@@ -19,14 +19,16 @@ use Rattle.iw_events.specs.declared.act.StreamAct.{StreamAct}
 use Rattle.iw_events.specs.declared.act.StreamAct.TheVariants.{Recv, Post, Emit, Deliver, Work}
 use Rattle.iw_events.specs.declared.act.Shown.TheVariants.{Frame, Nothing}
 use Rattle.iw_events.specs.declared.act.Entry.{Entry}
-use Rattle.iw_world.specs.Words.{Octets, other, acts, stream_acts, stream_acts_by, openings, posted, received, sent, sent_by, came, table_after, buffers}
+use Rattle.iw_world.specs.Turns.{story}
+use Rattle.iw_world.specs.Words.{Octets, other, acts, stream_acts, stream_acts_by, openings, posted, received, ended, sent, sent_by, came, table_after, buffers}
 use Rattle.iw_world.specs.Rules.{Connected, connected, EndState, State, end_of, with_end, has_stream, stream_at, no_streams, fresh, start, Rule, StreamRule, connected_after, streams_after, end_after, after_entry, state_after, Follows}
 use Rattle.iw_world.proofs.Told.{Told, told}
 use Rattle.iw_world.proofs.Tales.{Tale, tale_of, tale_after, tale_same, tale_more, acts_mine, acts_other}
 use Rattle.iw_world.proofs.Lists.{IsGood, AllGood, small_segment}
 use Rattle.iw_world.proofs.Flow.{Flow, keeps_sending, keeps_receiving}
 use Rattle.iw_world.proofs.Steps.{sending, receiving, emits_first}
-use Rattle.iw_world.proofs.Owns.{Own, owning}
+use Rattle.iw_world.proofs.Tracks.{same_track}
+use Rattle.iw_world.proofs.Owns.{Emits, Own, owning}
 use Rattle.iw_world.proofs.Ends.{EndSeen, end_step, opens, at_same, at_other, number_there}
 
 abbrev tale : ℕ → List (Act Octets) → Tale
@@ -56,10 +58,13 @@ streamed table c t d u act rule p =
       back = receiving table d.stream u c.stream t act (subst (λ z. Told table z c.stream act) p.own_peer.wire now) p.back;
     }
 
+reopened_emits : (domain : ℕ) (t : Tale) → Emits (opened 0) t → Emits (opened domain) t
+reopened_emits domain t e = record { begun = e.begun; posted = e.posted; next = e.next; spells = e.spells }
+
 -- a stream that is opened is as one to which nothing has happened
 reopened : (domain : ℕ) (t : Tale) (d : Connected) (u : Tale) → Pair (connected 0) t d u → Pair (connected domain) t d u
 reopened domain t d u p = record {
-  own = record { wire = p.own.wire; sent = p.own.sent; lengths = p.own.lengths; due = p.own.due; good = p.own.good };
+  own = record { wire = p.own.wire; sent = p.own.sent; lengths = p.own.lengths; due = p.own.due; good = p.own.good; emits = reopened_emits domain t p.own.emits; track = same_track (opened 0) (opened domain) t.story t.story refl refl refl refl p.own.track.placed p.own.track.receiving p.own.track; ended = p.own.ended };
   own_peer = p.own_peer;
   out = keeps_sending (opened 0) (opened domain) t t d.stream u refl refl refl refl p.out;
   back = keeps_receiving d.stream u (opened 0) (opened domain) t t refl refl refl (λ h. absurd (false≢true h)) refl refl p.back;
@@ -230,8 +235,17 @@ no_flow = record {
 }
 
 no_own : Own (connected 0) (tale_of [])
-unfolding received sent buffers
-no_own = record { wire = refl; sent = refl; lengths = refl; due = refl; good = tt }
+unfolding posted received sent buffers story ended
+no_own = record {
+  wire = refl;
+  sent = refl;
+  lengths = refl;
+  due = refl;
+  good = tt;
+  emits = record { begun = []; posted = refl; next = refl; spells = refl };
+  track = record { frames = []; before = []; came = refl; point = refl; split = λ more. refl; turns = refl; placed = refl; receiving = refl };
+  ended = refl;
+}
 
 no_pair : Pair (connected 0) (tale_of []) (connected 0) (tale_of [])
 no_pair = record { own = no_own; own_peer = no_own; out = no_flow; back = no_flow }

@@ -3,5 +3,6 @@ pub mod FirstPath
 pub mod Fitting
 pub mod Rules
 pub mod Safe
+pub mod Turns
 pub mod Stops
 pub mod Bounds

@@ -1,5 +1,5 @@
 -- What a trace says has happened, by its entries alone.
-use Rattle.std.specs.Prelude.{ℕ, ◌+◌, ◌-◌, ◌%◌, ◌^◌, ◌==◌, List, [], ◌∷◌, ◌++◌, length, drop, Bool, true, if◌then◌else◌, Option, Some, None, Ok, Err, fold}
+use Rattle.std.specs.Prelude.{ℕ, ◌+◌, ◌-◌, ◌%◌, ◌^◌, ◌==◌, List, [], ◌∷◌, ◌++◌, length, drop, Bool, true, false, if◌then◌else◌, Option, Some, None, Ok, Err, fold}
 use Rattle.std.specs.List.{flat_map}
 use Rattle.iw_octets.specs.declared.stag.Stag.{Stag}
 use Rattle.iw_octets.specs.declared.message.Message.{Message}
@@ -104,6 +104,28 @@ received_by (Deliver from octets delivery) = []
 -- the Sends received, in order
 unfoldable pub received : List (StreamAct Octets) → List Sent
 received done = flat_map received_by done
+
+-- ---- the end of a stream
+
+abbrev pub ended_seen : Bool → Seen Octets → Bool
+ended_seen ended (seen.Fault fault) = true
+ended_seen ended (seen.Done kind) = ended
+ended_seen ended (seen.Placed right stag to octets) = ended
+ended_seen ended (seen.Buffered msn mo len) = ended
+ended_seen ended seen.Passed = ended
+ended_seen ended (seen.Received octets solicited invalidate) = ended
+ended_seen ended seen.Idle = ended
+
+abbrev pub ended_after : Bool → StreamAct Octets → Bool
+ended_after ended (Work step) = ended_seen ended step
+ended_after ended (Deliver from octets delivery) = ended
+ended_after ended (Emit shown) = ended
+ended_after ended (Post message refused) = ended
+ended_after ended (Recv len refused) = ended
+
+-- whether the stream has ended, which a fault alone does
+unfoldable pub ended : List (StreamAct Octets) → Bool
+ended done = fold ended_after false done
 
 -- ---- octets
 

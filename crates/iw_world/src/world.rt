@@ -4,7 +4,8 @@ ghost use Rattle.std.specs.Prelude.{◌≡◌, ℕ, ◌+◌, ◌<◌, ◌≤◌,
 ghost use Rattle.iw_events.specs.Events.{event_of};
 ghost use Rattle.iw_world.specs.Words.{other};
 ghost use Rattle.iw_world.specs.Rules.{start, after_entry, end_of, Rule, Follows};
-ghost use Rattle.iw_world.specs.Safe.{InOrder, Within, ShowsMemory};
+ghost use Rattle.iw_world.specs.Safe.{InOrder, Emission, NothingOnlyAtRest, Within, ShowsMemory};
+ghost use Rattle.iw_world.specs.Turns.{Turns, IdleOnlyAtRest};
 ghost use Rattle.iw_world.specs.Bounds.{IsShortState, LacksStream, AsksTooMuch};
 ghost use Rattle.iw_world.specs.Stops.{StopsAt};
 
@@ -73,6 +74,14 @@ impl<A: Allocator + Copy> World<A> {
         ensures follows { IfOk result (λ trace. Follows start trace.items) }
         // What was received is a prefix of what was sent.
         ensures in_order { IfOk result (λ trace. InOrder trace.items) }
+        // What was sent is the frames of what was posted.
+        ensures emission { IfOk result (λ trace. Emission trace.items) }
+        // Nothing is emitted only where all that was posted was sent.
+        ensures nothing { IfOk result (λ trace. NothingOnlyAtRest trace.items) }
+        // Each frame that came is judged, and has its turn, in order.
+        ensures turns { IfOk result (λ trace. Turns trace.items) }
+        // There is nothing to do only where every frame that came had its turn.
+        ensures idle { IfOk result (λ trace. IdleOnlyAtRest trace.items) }
         // What changed lay where it was allowed.
         ensures within { IfOk result (λ trace. Within trace.items) }
         // What is shown of the regions is what the entries made of them.

@@ -7,7 +7,7 @@ use Rattle.iw_world.specs.Words.{Octets, other, acts}
 use Rattle.iw_world.specs.Rules.{State, start, state_after, after_entry, end_of, Rule, Follows}
 use Rattle.iw_world.specs.Bounds.{IsShortState, LacksStream, AsksTooMuch}
 use Rattle.iw_world.proofs.Whole.{follows_push, state_after-push, seen_after}
-use Rattle.iw_world.proofs.Laws.{in_order, within_all, shows_memory, names_no_stream, names_streams, asks_not_sent}
+use Rattle.iw_world.proofs.Laws.{in_order, emission, nothing_at_rest, turns_all, idle_at_rest, within_all, shows_memory, names_no_stream, names_streams, asks_not_sent}
 use Rattle.iw_world.proofs.Shorts.{short_state}
 use Rattle.iw_world.proofs.world.World.run.Goals as goal
 
@@ -33,6 +33,18 @@ loop-event-preserved g c =
 
 pub returns-clause-in_order : goal.returns-clause-in_order
 returns-clause-in_order g c = in_order c.loop-event.trace.items c.loop-event.invariant.follows
+
+pub returns-clause-emission : goal.returns-clause-emission
+returns-clause-emission g c = emission c.loop-event.trace.items c.loop-event.invariant.follows
+
+pub returns-clause-turns : goal.returns-clause-turns
+returns-clause-turns g c = turns_all c.loop-event.trace.items c.loop-event.invariant.follows
+
+pub returns-clause-nothing : goal.returns-clause-nothing
+returns-clause-nothing g c = nothing_at_rest c.loop-event.trace.items c.loop-event.invariant.follows
+
+pub returns-clause-idle : goal.returns-clause-idle
+returns-clause-idle g c = idle_at_rest c.loop-event.trace.items c.loop-event.invariant.follows
 
 pub returns-clause-within : goal.returns-clause-within
 returns-clause-within g c = within_all c.loop-event.trace.items c.loop-event.invariant.follows
