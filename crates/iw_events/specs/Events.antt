@@ -8,7 +8,7 @@ use Rattle.iw_events.specs.declared.call.Event.{Event}
 use Rattle.iw_events.specs.declared.act.Act.{Act}
 use Rattle.iw_events.specs.declared.act.Act.TheVariants.{Domain, Register, Deregister, Open, Stream}
 use Rattle.iw_events.specs.declared.act.StreamAct.{StreamAct}
-use Rattle.iw_events.specs.declared.act.StreamAct.TheVariants.{Recv, Post, Emit, Deliver, Work}
+use Rattle.iw_events.specs.declared.act.StreamAct.TheVariants.{Recv, Post, Emit, Deliver, Raw, Work}
 use Rattle.iw_events.specs.declared.act.Entry.{Entry}
 use Rattle.std.specs.Prelude.{ℕ}
 
@@ -17,6 +17,7 @@ stream_call_of (Recv len refused) = stream_calls.Recv len
 stream_call_of (Post message refused) = stream_calls.Post message
 stream_call_of (Emit shown) = stream_calls.Emit
 stream_call_of (Deliver from octets delivery) = stream_calls.Deliver from (length octets)
+stream_call_of (Raw from octets delivery) = stream_calls.Raw from octets
 stream_call_of (Work seen) = stream_calls.Work
 
 -- the call of an act

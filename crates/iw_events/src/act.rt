@@ -74,6 +74,12 @@ pub enum StreamAct<O> {
         octets: O,
         delivery: Delivery,
     },
+    /// Octets that nobody need have emitted.
+    Raw {
+        from: u64,
+        octets: O,
+        delivery: Delivery,
+    },
     Work(Seen<O>),
 }
 

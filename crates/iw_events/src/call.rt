@@ -26,6 +26,8 @@ pub enum StreamCall<O> {
     Emit,
     /// Delivers `len` octets that the other end emitted, the first of them at the stream place `from`.
     Deliver { from: u64, len: u64 },
+    /// Delivers any octets, the first of them at the stream place `from`.
+    Raw { from: u64, octets: O },
     /// Does one step of work.
     Work,
 }

@@ -4,7 +4,7 @@ use Rattle.iw_octets.specs.declared.message.Message.TheVariants as messages
 use Rattle.iw_events.specs.declared.call.Call.{Call}
 use Rattle.iw_events.specs.declared.call.Call.TheVariants.{Domain, Register, Deregister, Open, Stream}
 use Rattle.iw_events.specs.declared.call.StreamCall.{StreamCall}
-use Rattle.iw_events.specs.declared.call.StreamCall.TheVariants.{Recv, Post, Emit, Deliver, Work}
+use Rattle.iw_events.specs.declared.call.StreamCall.TheVariants.{Recv, Post, Emit, Deliver, Raw, Work}
 use Rattle.iw_schedules.specs.declared.fault.FaultName.{FaultName}
 use Rattle.iw_schedules.specs.declared.fault.FaultName.TheVariants.{BadWord}
 use Rattle.iw_schedules.specs.declared.kinds.TheConstants.{MOST_OCTETS}
@@ -113,6 +113,13 @@ deliver_at words = do
   len ← field long_number from.1
   Ok (one (Stream stream.0 (Deliver from.0 len.0)), len.1)
 
+unfoldable pub raw_at : List (List ℕ) → Taken (List (Call (List ℕ)))
+raw_at words = do
+  stream ← field octet_number words
+  from ← field long_number stream.1
+  octets ← field octets_word from.1
+  Ok (one (Stream stream.0 (Raw from.0 octets.0)), octets.1)
+
 -- what stands behind each word that names a call
 abbrev pub behind : CallWord → List (List ℕ) → Taken (List (Call (List ℕ)))
 behind named.Domain words = domain_at words
@@ -125,6 +132,7 @@ behind named.Write words = write_at words
 behind named.Emit words = steps_at steps.Emit words
 behind named.Work words = steps_at steps.Work words
 behind named.Deliver words = deliver_at words
+behind named.Raw words = raw_at words
 
 unfoldable pub calls_at : List (List ℕ) → Taken (List (Call (List ℕ)))
 calls_at words = do

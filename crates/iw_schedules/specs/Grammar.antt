@@ -11,7 +11,7 @@ use Rattle.iw_events.specs.declared.call.End.{End}
 use Rattle.iw_events.specs.declared.call.Role.{Role}
 use Rattle.iw_events.specs.declared.call.Call.{Call}
 use Rattle.iw_events.specs.declared.call.Call.TheVariants.{Domain, Register, Deregister, Open, Stream}
-use Rattle.iw_events.specs.declared.call.StreamCall.TheVariants.{Recv, Post, Emit, Deliver, Work}
+use Rattle.iw_events.specs.declared.call.StreamCall.TheVariants.{Recv, Post, Emit, Deliver, Raw, Work}
 use Rattle.iw_schedules.specs.declared.fault.FaultName.{FaultName}
 use Rattle.iw_schedules.specs.declared.fault.ScheduleFault.{ScheduleFault}
 use Rattle.iw_schedules.specs.declared.fault.ScheduleFault.TheVariants.{Line, NoMemory}
@@ -88,6 +88,8 @@ pub data IsCall : List Word → List (Call (List ℕ)) → Type 0 where
   work_times : {a b : Word} {stream n : ℕ} → IsOctetNumber a stream → IsTimes b n → IsCall (codes "work" ∷ a ∷ b ∷ []) (replicate n (Stream stream Work))
   deliver : {a b c : Word} {stream from len : ℕ} → IsOctetNumber a stream → IsLongNumber b from → IsLongNumber c len
       → IsCall (codes "deliver" ∷ a ∷ b ∷ c ∷ []) (one (Stream stream (Deliver from len)))
+  raw : {a b c : Word} {stream from : ℕ} {octets : List ℕ} → IsOctetNumber a stream → IsLongNumber b from → IsOctets c octets
+      → IsCall (codes "raw" ∷ a ∷ b ∷ c ∷ []) (one (Stream stream (Raw from octets)))
 
 -- an end, and calls at it
 pub record IsLine (line : List ℕ) (events : Events) : Type 0 where

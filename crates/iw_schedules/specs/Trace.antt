@@ -11,7 +11,7 @@ use Rattle.iw_memory.specs.declared.refusal.NoRegion.{NoRegion}
 use Rattle.iw_events.specs.declared.act.Act.{Act}
 use Rattle.iw_events.specs.declared.act.Act.TheVariants.{Domain, Register, Deregister, Open, Stream}
 use Rattle.iw_events.specs.declared.act.StreamAct.{StreamAct}
-use Rattle.iw_events.specs.declared.act.StreamAct.TheVariants.{Recv, Post, Emit, Deliver, Work}
+use Rattle.iw_events.specs.declared.act.StreamAct.TheVariants.{Recv, Post, Emit, Deliver, Raw, Work}
 use Rattle.iw_events.specs.declared.act.Entry.{Entry}
 use Rattle.iw_schedules.specs.declared.words.CallWord.{CallWord}
 use Rattle.iw_schedules.specs.declared.words.CallWord.TheVariants as named
@@ -40,6 +40,7 @@ stream_words stream (Recv len refusal) = call_text named.Recv ∷ decimal stream
 stream_words stream (Post message refusal) = call_text (post_word message) ∷ decimal stream ∷ ok_or_refused (option_map post_refusal refusal)
 stream_words stream (Emit shown) = call_text named.Emit ∷ decimal stream ∷ shown_words shown
 stream_words stream (Deliver from octets delivery) = call_text named.Deliver ∷ decimal stream ∷ delivery_text delivery ∷ []
+stream_words stream (Raw from octets delivery) = call_text named.Raw ∷ decimal stream ∷ delivery_text delivery ∷ []
 stream_words stream (Work seen) = call_text named.Work ∷ decimal stream ∷ seen_words seen
 
 -- a call with its answer, behind the end

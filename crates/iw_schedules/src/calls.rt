@@ -3,7 +3,7 @@
 ghost use Rattle.std.specs.Prelude.{◌≡◌, length};
 ghost use Rattle.iw_schedules.specs.Reading.{Gives};
 ghost use Rattle.iw_schedules.specs.Kinds.{number_word, stag_word, octets_word};
-ghost use Rattle.iw_schedules.specs.Calls.{step_call, calls_of, next_word, field, octet_number, long_number, times_at, domain_at, register_at, deregister_at, open_at, recv_at, send_at, write_at, steps_at, deliver_at, calls_at};
+ghost use Rattle.iw_schedules.specs.Calls.{step_call, calls_of, next_word, field, octet_number, long_number, times_at, domain_at, register_at, deregister_at, open_at, recv_at, send_at, write_at, steps_at, deliver_at, raw_at, calls_at};
 
 use crate::fault::{FaultName, ReadError};
 use crate::first_path::SendKind;
@@ -216,6 +216,17 @@ fn deliver<A: Allocator>(words: &mut Pieces<'_>) -> Result<Calls<Bytes<A>>, Read
     Ok(Calls::One(Call::Stream { stream, call }))
 }
 
+#[tactic(auto, unfolding(crate::specs::Calls::raw_at))]
+fn raw<A: Allocator + Copy>(alloc: A, words: &mut Pieces<'_>) -> Result<Calls<Bytes<A>>, ReadError>
+    ensures { Gives (λ calls. (calls_of calls, words.new)) result (raw_at words.old) }
+{
+    let stream = octet_number_in(words)?;
+    let from = long_number_in(words)?;
+    let octets = octets_in(alloc, words)?;
+    let call = StreamCall::Raw { from, octets };
+    Ok(Calls::One(Call::Stream { stream, call }))
+}
+
 /// The calls that the next words stand for, the first of which names them.
 #[tactic(auto, unfolding(crate::specs::Calls::calls_at))]
 pub(crate) fn read_calls<A: Allocator + Copy>(
@@ -235,5 +246,6 @@ pub(crate) fn read_calls<A: Allocator + Copy>(
         CallWord::Emit => steps(Step::Emit, words),
         CallWord::Work => steps(Step::Work, words),
         CallWord::Deliver => deliver(words),
+        CallWord::Raw => raw(alloc, words),
     }
 }

@@ -31,7 +31,9 @@ BadWord: a invalidate 01000000
 BadWord: a store 01000000 0 aa
 BadWord: a read 0 01000000 0 4 01000000 0
 BadWord: a mulpdu 0 128
-BadWord: a raw 0 0 aa
+BadWord: a raws 0 0 aa
+BadWord: a raw 0 0
+BadWord: a raw 0 0 aa bb
 BadWord: a break 0
 BadWord: a open 0 1 initiator - -
 BadWord: a open 0 1 responder - -
@@ -77,6 +79,8 @@ BadWord: a emit 0 3\x20
 BadNumber: a work 0 -
 BadNumber: a deliver 0 0 18446744073709551616
 BadNumber: a deliver 0 -1 4
+BadNumber: a raw 0 18446744073709551616 -
+BadNumber: a raw 256 0 abc
 BadOctets: a register 1 0 r aa
 BadOctets: a register 1 0 wi aa
 BadOctets: a register 1 0 ww aa
@@ -97,7 +101,8 @@ BadOctets: a write 0 01000000 0 aa*99999999999999999999
 BadOctets: a write 0 01000000 0 aa*20000001
 BadOctets: a write 0 01000000 0 aabb*10000001
 BadOctets: a write 0 01000000 0 aa\r
-BadOctets: a write 0 01000000 0 --";
+BadOctets: a write 0 01000000 0 --
+BadOctets: a raw 0 18446744073709551615 abc";
 
 // The fault of a schedule, as it prints.
 fn fault_of(alloc: Global, text: &str) -> Result<String, Fail> {

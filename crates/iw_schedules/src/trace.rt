@@ -207,6 +207,10 @@ fn add_stream_act<A: Allocator + Copy>(
             add_call(text, CallWord::Deliver, stream)?;
             appending::word(text, delivery_name(*delivery))
         }
+        StreamAct::Raw { delivery, .. } => {
+            add_call(text, CallWord::Raw, stream)?;
+            appending::word(text, delivery_name(*delivery))
+        }
         StreamAct::Work(seen) => {
             add_call(text, CallWord::Work, stream)?;
             add_seen(text, seen)

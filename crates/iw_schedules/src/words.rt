@@ -19,11 +19,12 @@ pub(crate) enum CallWord {
     Emit,
     Work,
     Deliver,
+    Raw,
 }
 
 impl CallWord {
     /// Every one of them.
-    pub(crate) const ALL: [CallWord; 10] = [
+    pub(crate) const ALL: [CallWord; 11] = [
         CallWord::Domain,
         CallWord::Register,
         CallWord::Deregister,
@@ -34,6 +35,7 @@ impl CallWord {
         CallWord::Emit,
         CallWord::Work,
         CallWord::Deliver,
+        CallWord::Raw,
     ];
 
     pub(crate) fn text(self) -> &'static str
@@ -50,6 +52,7 @@ impl CallWord {
             CallWord::Emit => "emit",
             CallWord::Work => "work",
             CallWord::Deliver => "deliver",
+            CallWord::Raw => "raw",
         }
     }
 

@@ -1,4 +1,4 @@
-ghost use Rattle.std.specs.Prelude.{◌≡◌, ◌+◌, ◌-◌, ◌<◌, ◌≤◌, ◌^◌, ◌++◌, length, drop, true, false, Some, None, IfSome, IfNone, IfOk, IfErr, IsErr, OnOk, OnErr};
+ghost use Rattle.std.specs.Prelude.{◌≡◌, ◌+◌, ◌-◌, ◌<◌, ◌≤◌, ◌^◌, ◌++◌, length, drop, nat_lt, true, false, Some, None, IfSome, IfNone, IfOk, IfErr, IsErr, OnOk, OnErr};
 
 use crate::answer::{Delivery, Emission, Kind, PostRefusal, RecvRefusal, Step};
 use crate::first_path::{fits, reaches};
@@ -52,6 +52,13 @@ impl<A: Allocator> Model for Stream<A> {
     } };
 
     ghost invariant = { λ s. Keeps s.queue.items s.receiving s.inbox.items s.placed };
+}
+
+// Whether the last of n octets from a place on lies at `end` or behind it.
+fn is_beyond(end: u64, from: u64, n: u64) -> bool
+    ensures { result ≡ nat_lt end (from + n) }
+{
+    from > end || n > end - from
 }
 
 impl<A: Allocator> Stream<A> {
@@ -125,15 +132,14 @@ impl<A: Allocator> Stream<A> {
     pub fn deliver(&mut self, from: u64, octets: &[u8]) -> Result<Delivery, AllocError>
     where
         A: Copy,
-        requires point { self.old.point ≤ 2 ^ 62 }
-        requires from { from ≤ 2 ^ 62 }
+        requires { self.old.point ≤ 2 ^ 63 }
         ensures delivery { IfOk result (λ delivery. delivery ≡ delivery_of self.old from (length octets.now)) }
         ensures after { IfOk result (λ delivery. self.new ≡ after_deliver self.old from octets.now delivery) }
         ensures err { OnErr result (self.new ≡ self.old) }
     {
         let missing = self.point + self.inbox.len() as u64;
         if self.ended
-            || from + octets.len() as u64 > self.point + WINDOW
+            || is_beyond(self.point + WINDOW, from, octets.len() as u64)
             || !reaches(missing, from)
         {
             return Ok(Delivery::Dropped);
@@ -173,7 +179,7 @@ impl<A: Allocator> Stream<A> {
 
     /// Does one step: hands out a finished message, or judges the frame at the in-order point, or gives it its turn.
     pub fn work(&mut self, memory: &mut Memory<A>) -> Step<Octets<A>>
-        requires { self.old.point ≤ 2 ^ 62 }
+        requires { self.old.point ≤ 2 ^ 63 }
         ensures step { result ≡ work_step memory.old self.old }
         ensures after { self.new ≡ worked self.old result }
         ensures memory { memory.new ≡ table_worked memory.old self.old result }
@@ -237,7 +243,7 @@ impl<A: Allocator> Stream<A> {
     // Gives the frame at the in-order point, which was placed, its turn.
     fn turn(&mut self) -> Step<Octets<A>>
         requires placed { self.old.placed ≡ true }
-        requires point { self.old.point ≤ 2 ^ 62 }
+        requires point { self.old.point ≤ 2 ^ 63 }
         ensures step { result ≡ turned_step self.old (front self.old.inbox) }
         ensures after { self.new ≡ worked self.old result }
     {

@@ -10,7 +10,7 @@ use Rattle.iw_events.specs.declared.act.OpenRefusal.TheVariants.{NumberTaken, Ba
 use Rattle.iw_events.specs.declared.act.Act.{Act}
 use Rattle.iw_events.specs.declared.act.Act.TheVariants.{Domain, Register, Deregister, Open, Stream}
 use Rattle.iw_events.specs.declared.act.StreamAct.{StreamAct}
-use Rattle.iw_events.specs.declared.act.StreamAct.TheVariants.{Recv, Post, Emit, Deliver, Work}
+use Rattle.iw_events.specs.declared.act.StreamAct.TheVariants.{Recv, Post, Emit, Deliver, Raw, Work}
 use Rattle.iw_events.specs.declared.act.Shown.TheVariants.{Frame, Nothing}
 use Rattle.iw_events.specs.declared.act.Seen.TheVariants as seen
 use Rattle.iw_world.specs.Words.{Octets, openings, openings_by, table_after, table_by}
@@ -67,7 +67,9 @@ same_domain s (Post m (Some refusal)) = refl
 same_domain s (Emit (Frame from octets)) = refl
 same_domain s (Emit Nothing) = refl
 same_domain s (Deliver from octets Kept) = refl
+same_domain s (Raw from octets Kept) = refl
 same_domain s (Deliver from octets Dropped) = refl
+same_domain s (Raw from octets Dropped) = refl
 same_domain s (Work (seen.Done kind)) = refl
 same_domain s (Work (seen.Placed right stag to octets)) = refl
 same_domain s (Work (seen.Buffered msn mo len)) = refl

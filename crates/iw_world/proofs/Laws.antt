@@ -18,12 +18,12 @@ use Rattle.iw_events.specs.declared.call.Call.TheVariants as calls
 use Rattle.iw_events.specs.declared.act.Act.{Act}
 use Rattle.iw_events.specs.declared.act.Act.TheVariants.{Domain, Register, Deregister, Open, Stream}
 use Rattle.iw_events.specs.declared.act.StreamAct.{StreamAct}
-use Rattle.iw_events.specs.declared.act.StreamAct.TheVariants.{Recv, Post, Emit, Deliver, Work}
+use Rattle.iw_events.specs.declared.act.StreamAct.TheVariants.{Recv, Post, Emit, Deliver, Raw, Work}
 use Rattle.iw_events.specs.declared.act.Shown.TheVariants.{Frame, Nothing}
 use Rattle.iw_events.specs.declared.act.Seen.TheVariants as seen
 use Rattle.iw_events.specs.declared.act.Entry.{Entry}
 use Rattle.iw_world.specs.Words.{Octets, other, acts, stream_acts, openings, posted, sends, received, ended, sent, table_after}
-use Rattle.iw_world.specs.Safe.{IsPrefixOf, InOrder, AreFirstFrames, Emission, NothingDue, NothingAct, NothingOnlyAtRest, Within, WithinAct, WithinStream, ShowsMemory, ShowsRegion, domain_of}
+use Rattle.iw_world.specs.Safe.{IsPrefixOf, IsHonest, InOrder, AreFirstFrames, Emission, NothingDue, NothingAct, NothingOnlyAtRest, Within, WithinAct, WithinStream, ShowsMemory, ShowsRegion, domain_of}
 use Rattle.iw_world.specs.Turns.{story, standing, TurnsSeen, TurnsStream, TurnsAct, Turns, IdleStream, IdleAct, IdleOnlyAtRest}
 use Rattle.iw_world.specs.Rules.{Connected, EndState, State, end_of, has_stream, stream_at, start, shown_of, Rule, StreamRule, state_after, Follows}
 use Rattle.iw_world.specs.Bounds.{LacksStream, AsksTooMuch, AsksOver}
@@ -38,9 +38,9 @@ use Rattle.iw_world.proofs.Ends.{EndSeen, was_opened, unopened}
 use Rattle.iw_world.proofs.Whole.{Seen, Pair, seen_at, follows_split}
 
 -- what was received is a prefix of the Sends posted
-prefix_of : (past : List (Entry Octets)) (w : State) → Seen past w → (x : End) (n : ℕ) → IsPrefixOf (received (stream_acts n (acts (other x) past))) (sends (posted (stream_acts n (acts x past))))
-prefix_of past w k x n =
-    let f = (k.pairs x n).out in
+prefix_of : (past : List (Entry Octets)) (w : State) → Seen past w → (x : End) (n : ℕ) → IsHonest n past → IsPrefixOf (received (stream_acts n (acts (other x) past))) (sends (posted (stream_acts n (acts x past))))
+prefix_of past w k x n honest =
+    let f = (k.pairs x n).out (honest x) (honest (other x)) in
     let queue = (stream_at (end_of x w) n).stream.queue in (
       sends f.ahead ++ sends queue,
       ap (λ z. z ++ (sends f.ahead ++ sends queue)) f.received
@@ -51,7 +51,7 @@ prefix_of past w k x n =
     )
 
 pub in_order : (trace : List (Entry Octets)) → Follows start trace → InOrder trace
-in_order trace follows past future is x n = prefix_of past (state_after start past) (seen_at past future trace follows is) x n
+in_order trace follows past future is x n honest = prefix_of past (state_after start past) (seen_at past future trace follows is) x n honest
 
 -- what changed lay where it was allowed
 within_stream : (done : List (Act Octets)) (n domain : ℕ) (table : Table) (act : StreamAct Octets) → domain ≡ domain_of n done → table ≡ table_after done
@@ -68,6 +68,7 @@ within_stream done n domain table (Post m refused) d t h = tt
 within_stream done n domain table (Recv len refused) d t h = tt
 within_stream done n domain table (Emit shown) d t h = tt
 within_stream done n domain table (Deliver from octets delivery) d t h = tt
+within_stream done n domain table (Raw from octets delivery) d t h = tt
 
 within_act : (done : List (Act Octets)) (s peer : EndState) (act : Act Octets) → EndSeen s done → ((n : ℕ) → (u : Tale) × Pair (stream_at s n) (tale_of (stream_acts n done)) (stream_at peer n) u) → Rule s peer act → WithinAct done act
 within_act done s peer (Stream n act) k p rule =
@@ -115,6 +116,7 @@ nothing_stream c done table peer (Emit (Frame from octets)) rule o = tt
 nothing_stream c done table peer (Post m refused) rule o = tt
 nothing_stream c done table peer (Recv len refused) rule o = tt
 nothing_stream c done table peer (Deliver from octets delivery) rule o = tt
+nothing_stream c done table peer (Raw from octets delivery) rule o = tt
 nothing_stream c done table peer (Work step) rule o = tt
 
 nothing_act : (done : List (Act Octets)) (s peer : EndState) (act : Act Octets) → ((n : ℕ) → Own (stream_at s n) (tale_of (stream_acts n done))) → Rule s peer act → NothingAct done act
@@ -143,6 +145,7 @@ turns_stream done n s peer (Post m refused) k there rule track = tt
 turns_stream done n s peer (Recv len refused) k there rule track = tt
 turns_stream done n s peer (Emit shown) k there rule track = tt
 turns_stream done n s peer (Deliver from octets delivery) k there rule track = tt
+turns_stream done n s peer (Raw from octets delivery) k there rule track = tt
 
 turns_act : (done : List (Act Octets)) (s peer : EndState) (act : Act Octets) → EndSeen s done → ((n : ℕ) → Track (stream_at s n).stream (story (stream_acts n done))) → Rule s peer act → TurnsAct done act
 turns_act done s peer (Stream n act) k tracks rule = turns_stream done n s (stream_at peer n).wire act k rule.0 rule.2 (tracks n)
@@ -172,6 +175,7 @@ idle_stream s peer c done (Post m refused) rule o = tt
 idle_stream s peer c done (Recv len refused) rule o = tt
 idle_stream s peer c done (Emit shown) rule o = tt
 idle_stream s peer c done (Deliver from octets delivery) rule o = tt
+idle_stream s peer c done (Raw from octets delivery) rule o = tt
 
 idle_act : (done : List (Act Octets)) (s peer : EndState) (act : Act Octets) → ((n : ℕ) → Own (stream_at s n) (tale_of (stream_acts n done))) → Rule s peer act → IdleAct done act
 idle_act done s peer (Stream n act) owns rule = idle_stream s (stream_at peer n).wire (stream_at s n) (stream_acts n done) act rule.2 (owns n)

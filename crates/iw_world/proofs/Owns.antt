@@ -14,7 +14,7 @@ use Rattle.iw_stream.specs.Receiving.{Receiving, ahead_of}
 use Rattle.iw_stream.specs.Stream.{StreamState, Front, front, payload_of, turned_with}
 use Rattle.iw_stream.proofs.Inverse.{PlacesSend}
 use Rattle.iw_events.specs.declared.act.StreamAct.{StreamAct}
-use Rattle.iw_events.specs.declared.act.StreamAct.TheVariants.{Recv, Post, Emit, Deliver, Work}
+use Rattle.iw_events.specs.declared.act.StreamAct.TheVariants.{Recv, Post, Emit, Deliver, Raw, Work}
 use Rattle.iw_events.specs.declared.act.Shown.TheVariants.{Frame, Nothing}
 use Rattle.iw_events.specs.declared.act.Seen.TheVariants as seen
 use Rattle.iw_world.specs.Words.{Octets, posted_by, received_by, ended_after, sent_by, buffers_after, Sent}
@@ -87,7 +87,9 @@ lengths_are table peer s (Post m (Some refusal)) rule = refl
 lengths_are table peer s (Emit (Frame from octets)) rule = refl
 lengths_are table peer s (Emit Nothing) rule = refl
 lengths_are table peer s (Deliver from octets Kept) rule = refl
+lengths_are table peer s (Raw from octets Kept) rule = refl
 lengths_are table peer s (Deliver from octets Dropped) rule = refl
+lengths_are table peer s (Raw from octets Dropped) rule = refl
 lengths_are table peer s (Work (seen.Done kind)) rule = refl
 lengths_are table peer s (Work (seen.Placed right stag to octets)) rule = refl
 lengths_are table peer s (Work (seen.Buffered msn mo len)) rule = kept_lengths s.receiving msn mo len s refl rule
@@ -114,7 +116,9 @@ due_is s (Post m (Some refusal)) done e = same_due s.receiving.due done e
 due_is s (Emit (Frame from octets)) done e = same_due s.receiving.due done e
 due_is s (Emit Nothing) done e = same_due s.receiving.due done e
 due_is s (Deliver from octets Kept) done e = same_due s.receiving.due done e
+due_is s (Raw from octets Kept) done e = same_due s.receiving.due done e
 due_is s (Deliver from octets Dropped) done e = same_due s.receiving.due done e
+due_is s (Raw from octets Dropped) done e = same_due s.receiving.due done e
 
 same_sent : (n : ℕ) (sent : List ℕ) → n ≡ length sent → n ≡ length (sent ++ [])
 same_sent n sent e = e ∙ ap length (sym (append-nil sent))
@@ -134,7 +138,9 @@ sent_is s (Recv len (Some refusal)) sent e = same_sent s.sent sent e
 sent_is s (Post m None) sent e = same_sent s.sent sent e
 sent_is s (Post m (Some refusal)) sent e = same_sent s.sent sent e
 sent_is s (Deliver from octets Kept) sent e = same_sent s.sent sent e
+sent_is s (Raw from octets Kept) sent e = same_sent s.sent sent e
 sent_is s (Deliver from octets Dropped) sent e = same_sent s.sent sent e
+sent_is s (Raw from octets Dropped) sent e = same_sent s.sent sent e
 
 good_is : (table : Table) (peer : List ℕ) (s : StreamState) (act : StreamAct Octets) → Told table peer s act → AllGood s.queue → AllGood (stream_after s act).queue
 good_is table peer s (Post m None) rule h = good-push s.queue m h (accepted_good s m rule.0 rule.1)
@@ -144,7 +150,9 @@ good_is table peer s (Emit Nothing) rule h = h
 good_is table peer s (Recv len None) rule h = h
 good_is table peer s (Recv len (Some refusal)) rule h = h
 good_is table peer s (Deliver from octets Kept) rule h = h
+good_is table peer s (Raw from octets Kept) rule h = h
 good_is table peer s (Deliver from octets Dropped) rule h = h
+good_is table peer s (Raw from octets Dropped) rule h = h
 good_is table peer s (Work (seen.Done kind)) rule h = h
 good_is table peer s (Work (seen.Placed right stag to octets)) rule h = h
 good_is table peer s (Work (seen.Buffered msn mo len)) rule h = h
@@ -183,7 +191,9 @@ emitting table peer s t (Emit Nothing) rule e = quiet s s t (Emit Nothing) refl 
 emitting table peer s t (Recv len None) rule e = quiet s (stream_after s (Recv len None)) t (Recv len None) refl refl refl refl e
 emitting table peer s t (Recv len (Some refusal)) rule e = quiet s s t (Recv len (Some refusal)) refl refl refl refl e
 emitting table peer s t (Deliver from octets Kept) rule e = quiet s (stream_after s (Deliver from octets Kept)) t (Deliver from octets Kept) refl refl refl refl e
+emitting table peer s t (Raw from octets Kept) rule e = quiet s (stream_after s (Raw from octets Kept)) t (Raw from octets Kept) refl refl refl refl e
 emitting table peer s t (Deliver from octets Dropped) rule e = quiet s s t (Deliver from octets Dropped) refl refl refl refl e
+emitting table peer s t (Raw from octets Dropped) rule e = quiet s s t (Raw from octets Dropped) refl refl refl refl e
 emitting table peer s t (Work (seen.Done kind)) rule e = quiet s (stream_after s (Work (seen.Done kind))) t (Work (seen.Done kind)) refl refl refl refl e
 emitting table peer s t (Work (seen.Placed right stag to octets)) rule e = quiet s (stream_after s (Work (seen.Placed right stag to octets))) t (Work (seen.Placed right stag to octets)) refl refl refl refl e
 emitting table peer s t (Work (seen.Buffered msn mo len)) rule e = quiet s (stream_after s (Work (seen.Buffered msn mo len))) t (Work (seen.Buffered msn mo len)) refl refl refl refl e
@@ -208,7 +218,9 @@ ended_is s (Post m (Some refusal)) = refl
 ended_is s (Emit (Frame from octets)) = refl
 ended_is s (Emit Nothing) = refl
 ended_is s (Deliver from octets Kept) = refl
+ended_is s (Raw from octets Kept) = refl
 ended_is s (Deliver from octets Dropped) = refl
+ended_is s (Raw from octets Dropped) = refl
 
 pub owning : (table : Table) (peer : List ℕ) (c : Connected) (t : Tale) (act : StreamAct Octets) → Told table peer c.stream act → Own c t → Own (connected_after c act) (tale_after t act)
 owning table peer c t act rule o = record {
@@ -250,3 +262,4 @@ within table peer c t (Post m refused) rule o = tt
 within table peer c t (Recv len refused) rule o = tt
 within table peer c t (Emit shown) rule o = tt
 within table peer c t (Deliver from octets delivery) rule o = tt
+within table peer c t (Raw from octets delivery) rule o = tt

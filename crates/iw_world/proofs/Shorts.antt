@@ -4,12 +4,15 @@ use Rattle.std.proofs.lemmas.List.{append-nil, length_push}
 use Rattle.iw_events.specs.declared.call.End.{End}
 use Rattle.iw_events.specs.declared.act.Act.{Act}
 use Rattle.iw_events.specs.declared.act.Act.TheVariants.{Domain, Register, Deregister, Open, Stream}
+use Rattle.iw_events.specs.declared.act.StreamAct.{StreamAct}
+use Rattle.iw_events.specs.declared.act.StreamAct.TheVariants.{Recv, Post, Emit, Deliver, Raw, Work}
+use Rattle.iw_events.specs.declared.act.Seen.TheVariants as seen
 use Rattle.iw_events.specs.declared.act.Entry.{Entry}
 use Rattle.iw_world.specs.Words.{Octets, other, acts, stream_acts, stream_acts_by, sent, sent_by}
+use Rattle.iw_world.specs.Turns.{Story, story, story_after}
 use Rattle.iw_world.specs.Rules.{EndState, State, end_of, stream_at, start, Rule, after_entry, state_after, Follows}
 use Rattle.iw_world.specs.Bounds.{IsShortEnd, IsShortState}
 use Rattle.iw_world.proofs.Tales.{Tale, tale_of, tale_same, tale_more, acts_mine, acts_other}
-use Rattle.iw_world.proofs.Flow.{came_of_sent}
 use Rattle.iw_world.proofs.Whole.{Seen, Pair, emits_few, one_more, unsaid, seen_after, both, acts_none, acts_one}
 
 -- the octets emitted on a stream
@@ -36,6 +39,75 @@ one_frame s peer done (Stream m act) n p rule = go (eqb m n) refl
         let more : sent_on n (done ++ Stream m act ∷ []) ≡ length (sent (stream_acts n done) ++ sent_by act) =
         ap (λ (t : Tale). length t.sent) (tale_more n done (Stream m act) act (acts_one m n act e)) in
         omega (arith, more, length-append (sent (stream_acts n done)) (sent_by act), few)
+
+-- ---- how many frames had their turn
+
+abbrev turns_on : ℕ → List (Act Octets) → ℕ
+turns_on n done = (story (stream_acts n done)).turns
+
+one_turn : (t : Story) (act : StreamAct Octets) → (story_after t act).turns ≤ t.turns + 1
+one_turn t (Work (seen.Done kind)) = omega arith
+one_turn t (Work (seen.Placed right stag to octets)) = omega arith
+one_turn t (Work (seen.Buffered msn mo len)) = omega arith
+one_turn t (Work seen.Passed) = omega arith
+one_turn t (Work (seen.Received octets solicited invalidate)) = omega arith
+one_turn t (Work (seen.Fault fault)) = omega arith
+one_turn t (Work seen.Idle) = omega arith
+one_turn t (Deliver from octets delivery) = omega arith
+one_turn t (Raw from octets delivery) = omega arith
+one_turn t (Recv len None) = omega arith
+one_turn t (Recv len (Some refusal)) = omega arith
+one_turn t (Emit shown) = omega arith
+one_turn t (Post m refused) = omega arith
+
+same_turns : (n : ℕ) (done : List (Act Octets)) (act : Act Octets) → stream_acts_by n act ≡ [] → turns_on n (done ++ act ∷ []) ≤ turns_on n done + 1
+same_turns n done act none = let same : turns_on n (done ++ act ∷ []) ≡ turns_on n done = ap (λ (t : Tale). t.story.turns) (tale_same n done act none) in omega arith
+
+-- an act adds no more than one
+turns_more : (n : ℕ) (done : List (Act Octets)) (act : Act Octets) → turns_on n (done ++ act ∷ []) ≤ turns_on n done + 1
+turns_more n done (Domain pd refused) = same_turns n done (Domain pd refused) refl
+turns_more n done (Register pd base rights octets answer) = same_turns n done (Register pd base rights octets answer) refl
+turns_more n done (Deregister stag answer) = same_turns n done (Deregister stag answer) refl
+turns_more n done (Open m pd role private refused) = same_turns n done (Open m pd role private refused) refl
+turns_more n done (Stream m act) = go (eqb m n) refl
+  where
+    go : (b : Bool) → eqb m n ≡ b → turns_on n (done ++ Stream m act ∷ []) ≤ turns_on n done + 1
+    go false e = same_turns n done (Stream m act) (acts_none m n act e)
+    go true e =
+        let more : turns_on n (done ++ Stream m act ∷ []) ≡ (story_after (story (stream_acts n done)) act).turns =
+        ap (λ (t : Tale). t.story.turns) (tale_more n done (Stream m act) act (acts_one m n act e)) in
+        omega (arith, more, one_turn (story (stream_acts n done)) act)
+
+-- at most a turn an entry
+abbrev FewTurns : List (Entry Octets) → Type 0
+FewTurns trace = (x : End) (n : ℕ) → turns_on n (acts x trace) ≤ length trace
+
+turns_step : (trace : List (Entry Octets)) (e : Entry Octets) → FewTurns trace → FewTurns (trace ++ e ∷ [])
+turns_step trace e few =
+    let x : End = e.end in
+    let y : End = other e.end in
+    let longer : length (trace ++ e ∷ []) ≡ length trace + 1 = length_push trace e in
+    let F : End → Type 0 = λ v. (n : ℕ) → turns_on n (acts v (trace ++ e ∷ [])) ≤ length (trace ++ e ∷ []) in
+    let mine : F x = λ n.
+    let before : turns_on n (acts x trace) ≤ length trace = few x n in
+    let same : turns_on n (acts x (trace ++ e ∷ [])) ≡ turns_on n (acts x trace ++ e.act ∷ []) = ap (turns_on n) (acts_mine trace e) in
+    omega (arith, longer, turns_more n (acts x trace) e.act, before, same) in
+    let others : F y = λ n.
+    let before : turns_on n (acts y trace) ≤ length trace = few y n in
+    let same : turns_on n (acts y (trace ++ e ∷ [])) ≡ turns_on n (acts y trace) = ap (turns_on n) (acts_other trace e) in
+    omega (arith, longer, before, same) in
+    both F x mine others
+
+turns_onward : (past rest : List (Entry Octets)) → FewTurns past → FewTurns (past ++ rest)
+turns_onward past [] few = subst FewTurns (sym (append-nil past)) few
+turns_onward past (e ∷ rest) few = subst FewTurns (append_assoc past (e ∷ []) rest) (turns_onward (past ++ e ∷ []) rest (turns_step past e few))
+
+turns_none : FewTurns []
+unfolding acts stream_acts story
+turns_none x n = omega arith
+
+turns_all : (trace : List (Entry Octets)) → FewTurns trace
+turns_all trace = turns_onward [] trace turns_none
 
 -- at most a frame an entry
 abbrev Few : List (Entry Octets) → Type 0
@@ -78,9 +150,8 @@ short_end trace w k few bound x = record {
   streams = λ n.
       let p = k.pairs x n in
       let mine : sent_on n (acts x trace) ≤ 2 ^ 17 * length trace = few x n in
-      let others : sent_on n (acts (other x) trace) ≤ 2 ^ 17 * length trace = few (other x) n in
-      let came : length _ ≡ length (sent (stream_acts n (acts (other x) trace))) = ap length (came_of_sent _ _ _ _ p.back) in
-      record { sent = omega (arith, p.own.sent, mine, bound); point = omega (arith, p.back.point, came, length-append {A = ℕ}, others, bound) };
+      let had : turns_on n (acts x trace) ≤ length trace = turns_all trace x n in
+      record { sent = omega (arith, p.own.sent, mine, bound); point = omega (arith, p.own.track.point, p.own.track.near, p.own.track.turns, had, bound) };
   wires = λ n.
       let p = k.pairs x n in
       let mine : sent_on n (acts x trace) ≤ 2 ^ 17 * length trace = few x n in

@@ -4,7 +4,7 @@ use Rattle.std.specs.Prelude.{slice_get, slice_set, slice_index_or, nat_lt}
 use Rattle.std.proofs.lemmas.List.{append-nil}
 use Rattle.std.proofs.lemmas.Option.{same_Some}
 use Rattle.std.proofs.lemmas.Bool.Decides.{nat_tests}
-use Rattle.std.proofs.lemmas.Bool.{false≢true}
+use Rattle.std.proofs.lemmas.Bool.{false≢true, true≢false}
 use Rattle.iw_octets.specs.declared.message.Message.{Message}
 use Rattle.iw_octets.specs.declared.head.UntaggedHead.{UntaggedHead}
 use Rattle.iw_octets.specs.declared.segment.Segment.{Segment}
@@ -20,10 +20,10 @@ use Rattle.iw_stream.specs.Receiving.{Receiving, ahead_of, oldest}
 use Rattle.iw_stream.specs.Stream.{StreamState, Front, front, behind, payload_of, turned_with, post_refusal, first_emission, first_frame_of, emission_of, emitted, delivery_of}
 use Rattle.iw_stream.proofs.Inverse.{Fronts, PlacesSend, IsPassing}
 use Rattle.iw_events.specs.declared.act.StreamAct.{StreamAct}
-use Rattle.iw_events.specs.declared.act.StreamAct.TheVariants.{Recv, Post, Emit, Deliver, Work}
+use Rattle.iw_events.specs.declared.act.StreamAct.TheVariants.{Recv, Post, Emit, Deliver, Raw, Work}
 use Rattle.iw_events.specs.declared.act.Shown.TheVariants.{Frame, Nothing}
 use Rattle.iw_events.specs.declared.act.Seen.TheVariants as seen
-use Rattle.iw_world.specs.Words.{Octets}
+use Rattle.iw_world.specs.Words.{Octets, raw_after}
 use Rattle.iw_world.specs.Rules.{shown_of, stream_after}
 use Rattle.iw_world.specs.Fitting.{FitsMessage}
 use Rattle.iw_world.proofs.Told.{Told}
@@ -80,7 +80,9 @@ sending table peer s t r u (Emit Nothing) rule f = same_sender s s t r u (Emit N
 sending table peer s t r u (Recv len None) rule f = same_sender s (stream_after s (Recv len None)) t r u (Recv len None) refl refl refl refl f
 sending table peer s t r u (Recv len (Some refusal)) rule f = same_sender s s t r u (Recv len (Some refusal)) refl refl refl refl f
 sending table peer s t r u (Deliver from octets Kept) rule f = same_sender s (stream_after s (Deliver from octets Kept)) t r u (Deliver from octets Kept) refl refl refl refl f
+sending table peer s t r u (Raw from octets Kept) rule f = same_sender s (stream_after s (Raw from octets Kept)) t r u (Raw from octets Kept) refl refl refl refl f
 sending table peer s t r u (Deliver from octets Dropped) rule f = same_sender s s t r u (Deliver from octets Dropped) refl refl refl refl f
+sending table peer s t r u (Raw from octets Dropped) rule f = same_sender s s t r u (Raw from octets Dropped) refl refl refl refl f
 sending table peer s t r u (Work (seen.Done kind)) rule f = same_sender s (stream_after s (Work (seen.Done kind))) t r u (Work (seen.Done kind)) refl refl refl refl f
 sending table peer s t r u (Work (seen.Placed right stag to octets)) rule f = same_sender s (stream_after s (Work (seen.Placed right stag to octets))) t r u (Work (seen.Placed right stag to octets)) refl refl refl refl f
 sending table peer s t r u (Work (seen.Buffered msn mo len)) rule f = same_sender s (stream_after s (Work (seen.Buffered msn mo len))) t r u (Work (seen.Buffered msn mo len)) refl refl refl refl f
@@ -158,21 +160,22 @@ passes s t r u (Untagged head payload) rest fronts passing f =
     absurd (false≢true (sym passing.1 ∙ (untagged_first (msn_after_all 1 f.turned) next.m head payload mine).1))
 
 -- an act of the end that receives
-pub receiving : (table : Table) (s : StreamState) (t : Tale) (r : StreamState) (u : Tale) (act : StreamAct Octets) → Told table t.sent r act
+pub receiving : (table : Table) (s : StreamState) (t : Tale) (r : StreamState) (u : Tale) (act : StreamAct Octets) → raw_after false act ≡ false → Told table t.sent r act
     → Flow s t r u → Flow s t (stream_after r act) (tale_after u act)
-receiving table s t r u (Recv len None) rule f =
+receiving table s t r u (Recv len None) honest rule f =
     keeps_receiving s t r (stream_after r (Recv len None)) u (tale_after u (Recv len None)) refl refl refl
     (λ h. waiting_more r.receiving (stream_after r (Recv len None)).receiving (front r.inbox) (replicate len 0) refl refl (f.waiting h)) refl (append-nil u.received) f
-receiving table s t r u (Recv len (Some refusal)) rule f = same_receiver s t r r u (Recv len (Some refusal)) refl refl refl refl refl refl f
-receiving table s t r u (Deliver from octets Kept) rule f =
+receiving table s t r u (Recv len (Some refusal)) honest rule f = same_receiver s t r r u (Recv len (Some refusal)) refl refl refl refl refl refl f
+receiving table s t r u (Deliver from octets Kept) honest rule f =
     takes s t r (stream_after r (Deliver from octets Kept)) u (tale_after u (Deliver from octets Kept)) from octets (kept_from r from (length octets) rule.2) rule.1 refl refl refl refl refl (append-nil u.received) f
-receiving table s t r u (Deliver from octets Dropped) rule f = same_receiver s t r r u (Deliver from octets Dropped) refl refl refl refl refl refl f
-receiving table s t r u (Work (seen.Placed right stag to octets)) rule f =
+receiving table s t r u (Deliver from octets Dropped) honest rule f = same_receiver s t r r u (Deliver from octets Dropped) refl refl refl refl refl refl f
+receiving table s t r u (Raw from octets delivery) honest rule f = absurd (true≢false honest)
+receiving table s t r u (Work (seen.Placed right stag to octets)) honest rule f =
     keeps_receiving s t r (stream_after r (Work (seen.Placed right stag to octets))) u (tale_after u (Work (seen.Placed right stag to octets))) refl refl refl
     (λ h. subst (Waiting r.receiving) (sym rule.places.1.fronts.whole) tt) refl (append-nil u.received) f
-receiving table s t r u (Work (seen.Buffered msn mo len)) rule f = places_send s t r u msn mo len rule f
-receiving table s t r u (Work seen.Passed) rule f = passes s t r u rule.segment rule.rest rule.fronts rule.passing f
-receiving table s t r u (Work (seen.Received octets solicited invalidate)) rule f =
+receiving table s t r u (Work (seen.Buffered msn mo len)) honest rule f = places_send s t r u msn mo len rule f
+receiving table s t r u (Work seen.Passed) honest rule f = passes s t r u rule.segment rule.rest rule.fronts rule.passing f
+receiving table s t r u (Work (seen.Received octets solicited invalidate)) honest rule f =
     let c = rule.0.completes in
     let segment : Segment Octets = Untagged c.head c.payload in
     let next = next_of s t r u f segment c.rest c.fronts.whole in
@@ -187,10 +190,10 @@ receiving table s t r u (Work (seen.Received octets solicited invalidate)) rule 
     (ap behind c.fronts.whole) (ap (λ o. r.point + (length r.inbox - length (behind o))) c.fronts.whole) refl refl refl
     ((λ i. u.received ++ record { octets = all i; solicited = rule.1 i; invalidate = rule.2 i } ∷ [])
     ∙ ap (λ z. u.received ++ z) (sym (untagged_sends (msn_after_all 1 f.turned) next.m c.head c.payload mine waits.0)))
-receiving table s t r u (Work (seen.Done kind)) rule f = same_receiver s t r (stream_after r (Work (seen.Done kind))) u (Work (seen.Done kind)) refl refl refl refl refl refl f
-receiving table s t r u (Work (seen.Fault fault)) rule f = same_receiver s t r (stream_after r (Work (seen.Fault fault))) u (Work (seen.Fault fault)) refl refl refl refl refl refl f
-receiving table s t r u (Work seen.Idle) rule f = same_receiver s t r r u (Work seen.Idle) refl refl refl refl refl refl f
-receiving table s t r u (Post m None) rule f = same_receiver s t r (stream_after r (Post m None)) u (Post m None) refl refl refl refl refl refl f
-receiving table s t r u (Post m (Some refusal)) rule f = same_receiver s t r r u (Post m (Some refusal)) refl refl refl refl refl refl f
-receiving table s t r u (Emit (Frame from octets)) rule f = same_receiver s t r (stream_after r (Emit (Frame from octets))) u (Emit (Frame from octets)) refl refl refl refl refl refl f
-receiving table s t r u (Emit Nothing) rule f = same_receiver s t r r u (Emit Nothing) refl refl refl refl refl refl f
+receiving table s t r u (Work (seen.Done kind)) honest rule f = same_receiver s t r (stream_after r (Work (seen.Done kind))) u (Work (seen.Done kind)) refl refl refl refl refl refl f
+receiving table s t r u (Work (seen.Fault fault)) honest rule f = same_receiver s t r (stream_after r (Work (seen.Fault fault))) u (Work (seen.Fault fault)) refl refl refl refl refl refl f
+receiving table s t r u (Work seen.Idle) honest rule f = same_receiver s t r r u (Work seen.Idle) refl refl refl refl refl refl f
+receiving table s t r u (Post m None) honest rule f = same_receiver s t r (stream_after r (Post m None)) u (Post m None) refl refl refl refl refl refl f
+receiving table s t r u (Post m (Some refusal)) honest rule f = same_receiver s t r r u (Post m (Some refusal)) refl refl refl refl refl refl f
+receiving table s t r u (Emit (Frame from octets)) honest rule f = same_receiver s t r (stream_after r (Emit (Frame from octets))) u (Emit (Frame from octets)) refl refl refl refl refl refl f
+receiving table s t r u (Emit Nothing) honest rule f = same_receiver s t r r u (Emit Nothing) refl refl refl refl refl refl f

@@ -11,7 +11,7 @@ use Rattle.iw_events.specs.declared.act.Act.{Act}
 use Rattle.iw_events.specs.declared.act.StreamAct.{StreamAct}
 use Rattle.iw_events.specs.declared.act.Entry.{Entry}
 use Rattle.iw_world.specs.Turns.{Story, story, story_after, untold}
-use Rattle.iw_world.specs.Words.{Octets, other, acts, acts_if, stream_acts, stream_acts_by, openings, openings_by, posted, posted_by, Sent, received, received_by, ended, ended_after, sent, sent_by, came, came_after, table_after, table_by, buffers, buffers_after}
+use Rattle.iw_world.specs.Words.{Octets, other, acts, acts_if, stream_acts, stream_acts_by, openings, openings_by, posted, posted_by, Sent, received, received_by, has_raw, raw_after, ended, ended_after, sent, sent_by, came, came_after, table_after, table_by, buffers, buffers_after}
 
 -- what the acts of one end say of one of its streams
 pub record Tale : Type 0 where
@@ -22,9 +22,10 @@ pub record Tale : Type 0 where
   pub buffers : List ℕ
   pub story : Story
   pub ended : Bool
+  pub raw : Bool
 
 abbrev pub tale_of : List (StreamAct Octets) → Tale
-tale_of done = record { posted = posted done; received = received done; sent = sent done; came = came done; buffers = buffers done; story = story done; ended = ended done }
+tale_of done = record { posted = posted done; received = received done; sent = sent done; came = came done; buffers = buffers done; story = story done; ended = ended done; raw = has_raw done }
 
 abbrev pub tale_after : Tale → StreamAct Octets → Tale
 tale_after t act = record {
@@ -35,6 +36,7 @@ tale_after t act = record {
   buffers = buffers_after t.buffers act;
   story = story_after t.story act;
   ended = ended_after t.ended act;
+  raw = raw_after t.raw act;
 }
 
 flat_map-push : {X Y : Type 0} (f : X → List Y) (xs : List X) (x : X) → flat_map f (xs ++ x ∷ []) ≡ flat_map f xs ++ f x
@@ -45,7 +47,7 @@ fold-push f a [] x = refl
 fold-push f a (y ∷ ys) x = fold-push f (f a y) ys x
 
 pub tale-push : (done : List (StreamAct Octets)) (act : StreamAct Octets) → tale_of (done ++ act ∷ []) ≡ tale_after (tale_of done) act
-unfolding posted received sent came buffers story ended
+unfolding posted received sent came buffers story ended has_raw
 tale-push done act = λ i. record {
   posted = flat_map-push posted_by done act i;
   received = flat_map-push received_by done act i;
@@ -54,6 +56,7 @@ tale-push done act = λ i. record {
   buffers = fold-push buffers_after [] done act i;
   story = fold-push story_after untold done act i;
   ended = fold-push ended_after false done act i;
+  raw = fold-push raw_after false done act i;
 }
 
 -- ---- one more act of an end

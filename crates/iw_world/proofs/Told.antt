@@ -10,7 +10,7 @@ use Rattle.iw_stream.specs.Stream.{StreamState, front, payload_of}
 use Rattle.iw_stream.specs.Judging.{work_step, table_worked}
 use Rattle.iw_stream.proofs.Inverse.{Working, working, PlacesWrite, PlacesSend, Passes, Completes}
 use Rattle.iw_events.specs.declared.act.StreamAct.{StreamAct}
-use Rattle.iw_events.specs.declared.act.StreamAct.TheVariants.{Recv, Post, Emit, Deliver, Work}
+use Rattle.iw_events.specs.declared.act.StreamAct.TheVariants.{Recv, Post, Emit, Deliver, Raw, Work}
 use Rattle.iw_events.specs.declared.act.Seen.{Seen}
 use Rattle.iw_events.specs.declared.act.Seen.TheVariants as seen
 use Rattle.iw_world.specs.Words.{Octets}
@@ -72,6 +72,7 @@ Told table peer s (Recv len refused) = StreamRule table peer s (Recv len refused
 Told table peer s (Post message refused) = StreamRule table peer s (Post message refused)
 Told table peer s (Emit shown) = StreamRule table peer s (Emit shown)
 Told table peer s (Deliver from octets delivery) = StreamRule table peer s (Deliver from octets delivery)
+Told table peer s (Raw from octets delivery) = StreamRule table peer s (Raw from octets delivery)
 
 pub told : (table : Table) (peer : List ℕ) (s : StreamState) (act : StreamAct Octets) → StreamRule table peer s act → Told table peer s act
 told table peer s (Work step) rule = sees table s step rule
@@ -79,3 +80,4 @@ told table peer s (Recv len refused) rule = rule
 told table peer s (Post message refused) rule = rule
 told table peer s (Emit shown) rule = rule
 told table peer s (Deliver from octets delivery) rule = rule
+told table peer s (Raw from octets delivery) rule = rule

@@ -1,5 +1,6 @@
 -- The frames that came, one behind the other, and the one at the in-order point of a stream's state.
-use Rattle.std.proofs.Common.{◌≡◌, ℕ, zero, suc, ◌+◌, ◌-◌, ◌≤◌, ◌<◌, List, [], ◌∷◌, ◌++◌, length, take, drop, replicate, Some, None, false, refl, sym, ap, ◌∙◌, arith, append_assoc, length-append, length-drop, length-take}
+use Rattle.std.proofs.lemmas.Bool.Decides.{nat_tests}
+use Rattle.std.proofs.Common.{subst, ◌≡◌, ℕ, zero, suc, ◌+◌, ◌-◌, ◌*◌, ◌≤◌, ◌<◌, List, [], ◌∷◌, ◌++◌, length, take, drop, replicate, Some, None, false, refl, sym, ap, ◌∙◌, arith, append_assoc, length-append, length-drop, length-take}
 use Rattle.std.specs.Prelude.{slice_get}
 use Rattle.std.specs.Int.{w16, from_be_bytes}
 use Rattle.std.specs.Option.{option_map_or}
@@ -10,12 +11,12 @@ use Rattle.iw_memory.specs.Table.{Table}
 use Rattle.iw_stream.specs.declared.answer.Delivery.TheVariants.{Kept, Dropped}
 use Rattle.iw_stream.specs.Frame.{frame_len, read_frame}
 use Rattle.iw_stream.specs.Receiving.{Receiving}
-use Rattle.iw_stream.specs.Stream.{StreamState, Front, front, behind, turned_with}
+use Rattle.iw_stream.specs.Stream.{StreamState, Front, front, behind, turned_with, delivery_of}
 use Rattle.iw_stream.specs.Stream as stream
 use Rattle.iw_stream.proofs.Frames.{read_parts, read_from, read_frame-more}
 use Rattle.iw_stream.proofs.Fronts.{front_parts, front_from}
 use Rattle.iw_events.specs.declared.act.StreamAct.{StreamAct}
-use Rattle.iw_events.specs.declared.act.StreamAct.TheVariants.{Recv, Post, Emit, Deliver, Work}
+use Rattle.iw_events.specs.declared.act.StreamAct.TheVariants.{Recv, Post, Emit, Deliver, Raw, Work}
 use Rattle.iw_events.specs.declared.act.Shown.TheVariants.{Frame, Nothing}
 use Rattle.iw_events.specs.declared.act.Seen.TheVariants as seen
 use Rattle.iw_world.specs.Words.{Octets}
@@ -116,6 +117,8 @@ pub record Track (s : StreamState) (t : Story) : Type 0 where
   pub turns : t.turns ≡ length frames
   pub placed : t.placed ≡ s.placed
   pub receiving : t.receiving ≡ s.receiving
+  pub window : length s.inbox ≤ 262144
+  pub near : length before ≤ 262144 * length frames
 
 get_behind : (xs ys : List Carried) → slice_get (xs ++ ys) (length xs) ≡ slice_get ys 0
 get_behind [] ys = refl
@@ -162,6 +165,8 @@ turned s s' t t' carried rest e inbox point placed came turns told receiving k =
       turns = turns ∙ ap (λ n. n + 1) k.turns ∙ omega (arith, length-append k.frames (carried ∷ []));
       placed = told ∙ sym placed;
       receiving = receiving;
+      window = omega (arith, ap length (inbox ∙ left), ap length one.split, length-append one.octets rest, k.window);
+      near = omega (arith, k.near, k.window, ap length one.split, length-append one.octets rest, length-append k.before one.octets, length-append k.frames (carried ∷ []));
     }
 
 -- nothing of it changes but the buffers
@@ -175,11 +180,16 @@ same_track s s' t t' inbox point came turns placed receiving k = record {
   turns = turns ∙ k.turns;
   placed = placed;
   receiving = receiving;
+  window = subst (λ z. length z ≤ 262144) (sym inbox) k.window;
+  near = k.near;
 }
 
 -- what comes stands behind what came
-comes : (s : StreamState) (t : Story) (from : ℕ) (octets : Octets) → Track s t → Track (stream_after s (Deliver from octets Kept)) (story_after t (Deliver from octets Kept))
-comes s t from octets k =
+kept_within : (s : StreamState) (from n : ℕ) → Kept ≡ delivery_of s from n → from + n ≤ s.point + 262144
+kept_within s from n e = grind (arith, nat_tests)
+
+comes : (s : StreamState) (t : Story) (from : ℕ) (octets : Octets) → Kept ≡ delivery_of s from (length octets) → Track s t → Track (stream_after s (Deliver from octets Kept)) (story_after t (Deliver from octets Kept))
+comes s t from octets kept k =
     let all : length t.came ≡ s.point + length s.inbox = omega (arith, ap length k.came, length-append k.before s.inbox, k.point) in
     record {
       frames = k.frames;
@@ -190,11 +200,15 @@ comes s t from octets k =
       turns = k.turns;
       placed = k.placed;
       receiving = k.receiving;
+      window = omega (arith, length-append s.inbox (drop (s.point + length s.inbox - from) octets), length-drop (s.point + length s.inbox - from) octets, k.window, kept_within s from (length octets) kept);
+      near = k.near;
     }
 
 pub tracking : (table : Table) (peer : Octets) (s : StreamState) (t : Story) (act : StreamAct Octets) → Told table peer s act → Track s t → Track (stream_after s act) (story_after t act)
-tracking table peer s t (Deliver from octets Kept) rule k = comes s t from octets k
+tracking table peer s t (Deliver from octets Kept) rule k = comes s t from octets rule.2 k
+tracking table peer s t (Raw from octets Kept) rule k = comes s t from octets rule k
 tracking table peer s t (Deliver from octets Dropped) rule k = same_track s s t t refl refl refl refl k.placed k.receiving k
+tracking table peer s t (Raw from octets Dropped) rule k = same_track s s t t refl refl refl refl k.placed k.receiving k
 tracking table peer s t (Recv len None) rule k =
     same_track s (stream_after s (Recv len None)) t (story_after t (Recv len None)) refl refl refl refl k.placed (ap (λ (r : Receiving). record r { buffers = r.buffers ++ replicate len 0 ∷ [] }) k.receiving) k
 tracking table peer s t (Recv len (Some refusal)) rule k = k

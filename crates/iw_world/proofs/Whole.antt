@@ -3,7 +3,7 @@ use Rattle.std.proofs.Common.{◌≡◌, ℕ, zero, suc, ◌^◌, ◌<◌, ◌�
 use Rattle.std.specs.Prelude.{slice_index_or, unwrap_or, option_map}
 use Rattle.std.specs.Option.{option_map_or}
 use Rattle.std.proofs.lemmas.List.{append-nil}
-use Rattle.std.proofs.lemmas.Bool.{false≢true}
+use Rattle.std.proofs.lemmas.Bool.{false≢true, true≢false}
 use Rattle.iw_octets.specs.Segment.{segment_octets}
 use Rattle.iw_octets.specs.declared.message.Message.{Message}
 use Rattle.iw_memory.specs.Table.{Table}
@@ -16,11 +16,11 @@ use Rattle.iw_events.specs.declared.call.End.TheVariants.{A, B}
 use Rattle.iw_events.specs.declared.act.Act.{Act}
 use Rattle.iw_events.specs.declared.act.Act.TheVariants.{Domain, Register, Deregister, Open, Stream}
 use Rattle.iw_events.specs.declared.act.StreamAct.{StreamAct}
-use Rattle.iw_events.specs.declared.act.StreamAct.TheVariants.{Recv, Post, Emit, Deliver, Work}
+use Rattle.iw_events.specs.declared.act.StreamAct.TheVariants.{Recv, Post, Emit, Deliver, Raw, Work}
 use Rattle.iw_events.specs.declared.act.Shown.TheVariants.{Frame, Nothing}
 use Rattle.iw_events.specs.declared.act.Entry.{Entry}
 use Rattle.iw_world.specs.Turns.{story}
-use Rattle.iw_world.specs.Words.{Octets, other, acts, stream_acts, stream_acts_by, openings, posted, received, ended, sent, sent_by, came, table_after, buffers}
+use Rattle.iw_world.specs.Words.{Octets, other, acts, stream_acts, stream_acts_by, openings, posted, received, has_raw, raw_after, ended, sent, sent_by, came, table_after, buffers}
 use Rattle.iw_world.specs.Rules.{Connected, connected, EndState, State, end_of, with_end, has_stream, stream_at, no_streams, fresh, start, Rule, StreamRule, connected_after, streams_after, end_after, after_entry, state_after, Follows}
 use Rattle.iw_world.proofs.Told.{Told, told}
 use Rattle.iw_world.proofs.Tales.{Tale, tale_of, tale_after, tale_same, tale_more, acts_mine, acts_other}
@@ -38,14 +38,23 @@ tale n done = tale_of (stream_acts n done)
 pub record Pair (c : Connected) (t : Tale) (d : Connected) (u : Tale) : Type 0 where
   pub own : Own c t
   pub own_peer : Own d u
-  pub out : Flow c.stream t d.stream u
-  pub back : Flow d.stream u c.stream t
+  pub out : t.raw ≡ false → u.raw ≡ false → Flow c.stream t d.stream u
+  pub back : u.raw ≡ false → t.raw ≡ false → Flow d.stream u c.stream t
 
 swapped : {c d : Connected} {t u : Tale} → Pair c t d u → Pair d u c t
 swapped p = record { own = p.own_peer; own_peer = p.own; out = p.back; back = p.out }
 
 moved : {c c' : Connected} {t t' : Tale} (d : Connected) (u : Tale) → c ≡ c' → t ≡ t' → Pair c t d u → Pair c' t' d u
 moved {c = c} {c' = c'} {t = t} {t' = t'} d u a b p = subst (λ z. Pair c' z d u) b (subst (λ z. Pair z t d u) a p)
+
+-- an act that leaves a stream honest is not raw, and the stream was honest before
+calm : (raw : Bool) (act : StreamAct Octets) → raw_after raw act ≡ false → (raw ≡ false) × (raw_after false act ≡ false)
+calm raw (Raw from octets delivery) h = absurd (true≢false h)
+calm raw (Deliver from octets delivery) h = (h, refl)
+calm raw (Emit shown) h = (h, refl)
+calm raw (Post m refused) h = (h, refl)
+calm raw (Recv len refused) h = (h, refl)
+calm raw (Work step) h = (h, refl)
 
 -- an act of the stream
 streamed : (table : Table) (c : Connected) (t : Tale) (d : Connected) (u : Tale) (act : StreamAct Octets) → StreamRule table d.wire c.stream act → Pair c t d u → Pair (connected_after c act) (tale_after t act) d u
@@ -54,8 +63,10 @@ streamed table c t d u act rule p =
     record {
       own = owning table d.wire c t act now p.own;
       own_peer = p.own_peer;
-      out = sending table d.wire c.stream t d.stream u act now p.out;
-      back = receiving table d.stream u c.stream t act (subst (λ z. Told table z c.stream act) p.own_peer.wire now) p.back;
+      out = λ own other.
+          let h = calm t.raw act own in sending table d.wire c.stream t d.stream u act now (p.out h.0 other);
+      back = λ other own.
+          let h = calm t.raw act own in receiving table d.stream u c.stream t act h.1 (subst (λ z. Told table z c.stream act) p.own_peer.wire now) (p.back other h.0);
     }
 
 reopened_emits : (domain : ℕ) (t : Tale) → Emits (opened 0) t → Emits (opened domain) t
@@ -66,8 +77,8 @@ reopened : (domain : ℕ) (t : Tale) (d : Connected) (u : Tale) → Pair (connec
 reopened domain t d u p = record {
   own = record { wire = p.own.wire; sent = p.own.sent; lengths = p.own.lengths; due = p.own.due; good = p.own.good; emits = reopened_emits domain t p.own.emits; track = same_track (opened 0) (opened domain) t.story t.story refl refl refl refl p.own.track.placed p.own.track.receiving p.own.track; ended = p.own.ended };
   own_peer = p.own_peer;
-  out = keeps_sending (opened 0) (opened domain) t t d.stream u refl refl refl refl p.out;
-  back = keeps_receiving d.stream u (opened 0) (opened domain) t t refl refl refl (λ h. absurd (false≢true h)) refl refl p.back;
+  out = λ own other. keeps_sending (opened 0) (opened domain) t t d.stream u refl refl refl refl (p.out own other);
+  back = λ other own. keeps_receiving d.stream u (opened 0) (opened domain) t t refl refl refl (λ h. absurd (false≢true h)) refl refl (p.back other own);
 }
 
 same_stream : (s : EndState) (act : Act Octets) (n : ℕ) (done : List (Act Octets)) (d : Connected) (u : Tale) → slice_index_or (streams_after s.streams act) n None ≡ slice_index_or s.streams n None → stream_acts_by n act ≡ []
@@ -140,6 +151,7 @@ emits_few table peer c t (Emit Nothing) rule o = omega arith
 emits_few table peer c t (Recv len refused) rule o = omega arith
 emits_few table peer c t (Post m refused) rule o = omega arith
 emits_few table peer c t (Deliver from octets delivery) rule o = omega arith
+emits_few table peer c t (Raw from octets delivery) rule o = omega arith
 emits_few table peer c t (Work step) rule o = omega arith
 
 -- ---- both ends
@@ -243,12 +255,12 @@ no_own = record {
   due = refl;
   good = tt;
   emits = record { begun = []; posted = refl; next = refl; spells = refl };
-  track = record { frames = []; before = []; came = refl; point = refl; split = λ more. refl; turns = refl; placed = refl; receiving = refl };
+  track = record { frames = []; before = []; came = refl; point = refl; split = λ more. refl; turns = refl; placed = refl; receiving = refl; window = omega arith; near = omega arith };
   ended = refl;
 }
 
 no_pair : Pair (connected 0) (tale_of []) (connected 0) (tale_of [])
-no_pair = record { own = no_own; own_peer = no_own; out = no_flow; back = no_flow }
+no_pair = record { own = no_own; own_peer = no_own; out = λ own other. no_flow; back = λ other own. no_flow }
 
 none_at : (n : ℕ) → slice_index_or no_streams n None ≡ None
 unfolding no_streams

@@ -4,15 +4,15 @@ use Rattle.iw_events.specs.declared.call.End.{End}
 use Rattle.iw_events.specs.declared.call.Call.{Call}
 use Rattle.iw_events.specs.declared.call.Call.TheVariants.{Domain, Register, Deregister, Open, Stream}
 use Rattle.iw_events.specs.declared.call.StreamCall.{StreamCall}
-use Rattle.iw_events.specs.declared.call.StreamCall.TheVariants.{Recv, Post, Emit, Deliver, Work}
+use Rattle.iw_events.specs.declared.call.StreamCall.TheVariants.{Recv, Post, Emit, Deliver, Raw, Work}
 use Rattle.iw_stream.specs.Stream.{StreamState}
 use Rattle.iw_world.specs.Words.{Octets}
 use Rattle.iw_world.specs.Rules.{EndState, State, end_of, has_stream, stream_at, needs_peer}
 
--- at most 2^62 octets were emitted, and had their turn
+-- at most 2^62 octets were emitted, and at most 2^63 had their turn
 pub record IsShort (s : StreamState) : Type 0 where
   pub sent : s.sent ≤ 2 ^ 62
-  pub point : s.point ≤ 2 ^ 62
+  pub point : s.point ≤ 2 ^ 63
 
 pub record IsShortEnd (s : EndState) : Type 0 where
   pub streams : (n : ℕ) → IsShort (stream_at s n).stream
@@ -26,6 +26,7 @@ IsShortState w = (x : End) → IsShortEnd (end_of x w)
 -- a delivery of octets that were not emitted
 abbrev pub AsksOver : List ℕ → StreamCall Octets → Type 0
 AsksOver peer (Deliver from len) = length peer < from + len
+AsksOver peer (Raw from octets) = ⊥
 AsksOver peer (Recv len) = ⊥
 AsksOver peer (Post message) = ⊥
 AsksOver peer Emit = ⊥

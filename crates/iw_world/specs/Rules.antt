@@ -21,7 +21,7 @@ use Rattle.iw_events.specs.declared.act.OpenRefusal.TheVariants.{NumberTaken, Ba
 use Rattle.iw_events.specs.declared.act.Act.{Act}
 use Rattle.iw_events.specs.declared.act.Act.TheVariants.{Domain, Register, Deregister, Open, Stream}
 use Rattle.iw_events.specs.declared.act.StreamAct.{StreamAct}
-use Rattle.iw_events.specs.declared.act.StreamAct.TheVariants.{Recv, Post, Emit, Deliver, Work}
+use Rattle.iw_events.specs.declared.act.StreamAct.TheVariants.{Recv, Post, Emit, Deliver, Raw, Work}
 use Rattle.iw_events.specs.declared.act.Shown.{Shown}
 use Rattle.iw_events.specs.declared.act.Shown.TheVariants.{Frame, Nothing}
 use Rattle.iw_events.specs.declared.act.Seen.{Seen}
@@ -104,11 +104,13 @@ StreamRule table peer s (Post message refused) = FitsMessage message × (refused
 StreamRule table peer s (Emit shown) = shown ≡ shown_of (emission_of s) (emitted s)
 StreamRule table peer s (Deliver from octets delivery) =
     (from + length octets ≤ length peer) × (octets ≡ take (length octets) (drop from peer)) × (delivery ≡ delivery_of s from (length octets))
+StreamRule table peer s (Raw from octets delivery) = delivery ≡ delivery_of s from (length octets)
 StreamRule table peer s (Work step) = step ≡ seen_of (table_worked table s (work_step table s)) (work_step table s)
 
 -- a delivery needs the stream at the other end too
 abbrev pub needs_peer : StreamCall Octets → Bool
 needs_peer (stream_calls.Deliver from len) = true
+needs_peer (stream_calls.Raw from octets) = false
 needs_peer (stream_calls.Recv len) = false
 needs_peer (stream_calls.Post message) = false
 needs_peer stream_calls.Emit = false
@@ -156,6 +158,7 @@ stream_after s (Post message (Some refusal)) = s
 stream_after s (Emit (Frame from octets)) = after_emit s (emissions.Frame from (length octets))
 stream_after s (Emit Nothing) = s
 stream_after s (Deliver from octets delivery) = after_deliver s from octets delivery
+stream_after s (Raw from octets delivery) = after_deliver s from octets delivery
 stream_after s (Work step) = worked s (step_of step)
 
 abbrev pub connected_after : Connected → StreamAct Octets → Connected

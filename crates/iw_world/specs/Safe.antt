@@ -1,5 +1,5 @@
 -- What holds of every trace of two ends, in words of the trace alone.
-use Rattle.std.specs.Prelude.{◌≡◌, ◌⊎◌, true, ℕ, ◌+◌, ◌≤◌, List, ◌∷◌, ◌++◌, length, slice_get, slice_index_or, Some, Ok, option_map}
+use Rattle.std.specs.Prelude.{◌≡◌, ◌⊎◌, true, false, ℕ, ◌+◌, ◌≤◌, List, ◌∷◌, ◌++◌, length, slice_get, slice_index_or, Some, Ok, option_map}
 use Rattle.iw_memory.specs.Laws.{Allows}
 use Rattle.iw_memory.specs.Table.{region_at}
 use Rattle.iw_octets.specs.declared.message.Message.{Message}
@@ -13,16 +13,20 @@ use Rattle.iw_events.specs.declared.act.StreamAct.TheVariants.{Emit, Work}
 use Rattle.iw_events.specs.declared.act.Shown.TheVariants.{Nothing}
 use Rattle.iw_events.specs.declared.act.Seen.TheVariants as seen
 use Rattle.iw_events.specs.declared.act.Entry.{Entry}
-use Rattle.iw_world.specs.Words.{Octets, other, acts, stream_acts, openings, posted, sends, received, ended, sent, table_after, buffers, due}
+use Rattle.iw_world.specs.Words.{Octets, other, acts, stream_acts, openings, posted, sends, received, has_raw, ended, sent, table_after, buffers, due}
 
 abbrev pub IsPrefixOf : {A : Type 0} → List A → List A → Type 0
 IsPrefixOf {A} xs ys = (rest : List A) × (xs ++ rest ≡ ys)
 
 -- ---- receives
 
--- at every moment, what an end has received on a stream is a prefix of the Sends posted at the other end
+-- both ends of a stream were given nothing but what the other end sent there
+abbrev pub IsHonest : ℕ → List (Entry Octets) → Type 0
+IsHonest n trace = (x : End) → has_raw (stream_acts n (acts x trace)) ≡ false
+
+-- at every moment, what an end has received on an honest stream is a prefix of the Sends posted at the other end
 abbrev pub InOrder : List (Entry Octets) → Type 0
-InOrder trace = (past future : List (Entry Octets)) → trace ≡ past ++ future → (x : End) (n : ℕ) →
+InOrder trace = (past future : List (Entry Octets)) → trace ≡ past ++ future → (x : End) (n : ℕ) → IsHonest n past →
     IsPrefixOf (received (stream_acts n (acts (other x) past))) (sends (posted (stream_acts n (acts x past))))
 
 -- ---- what goes out

@@ -13,7 +13,7 @@ use Rattle.iw_stream.specs.Judging.{tagged_fault, untagged_fault}
 use Rattle.iw_events.specs.declared.act.Act.{Act}
 use Rattle.iw_events.specs.declared.act.Act.TheVariants.{Stream}
 use Rattle.iw_events.specs.declared.act.StreamAct.{StreamAct}
-use Rattle.iw_events.specs.declared.act.StreamAct.TheVariants.{Recv, Post, Emit, Deliver, Work}
+use Rattle.iw_events.specs.declared.act.StreamAct.TheVariants.{Recv, Post, Emit, Deliver, Raw, Work}
 use Rattle.iw_events.specs.declared.act.Seen.{Seen}
 use Rattle.iw_events.specs.declared.act.Seen.TheVariants as seen
 use Rattle.iw_events.specs.declared.act.Entry.{Entry}
@@ -74,6 +74,7 @@ story_seen t seen.Idle = t
 abbrev pub story_after : Story → StreamAct Octets → Story
 story_after t (Work step) = story_seen t step
 story_after t (Deliver from octets delivery) = record t { came = came_after t.came (Deliver from octets delivery) }
+story_after t (Raw from octets delivery) = record t { came = came_after t.came (Raw from octets delivery) }
 story_after t (Recv len None) = record t { receiving = with_buffer t.receiving (replicate len 0) }
 story_after t (Recv len (Some refusal)) = t
 story_after t (Emit shown) = t

@@ -11,7 +11,7 @@ use Rattle.iw_events.specs.declared.call.End.TheVariants.{A, B}
 use Rattle.iw_events.specs.declared.act.Act.{Act}
 use Rattle.iw_events.specs.declared.act.Act.TheVariants.{Domain, Register, Deregister, Open, Stream}
 use Rattle.iw_events.specs.declared.act.StreamAct.{StreamAct}
-use Rattle.iw_events.specs.declared.act.StreamAct.TheVariants.{Recv, Post, Emit, Deliver, Work}
+use Rattle.iw_events.specs.declared.act.StreamAct.TheVariants.{Recv, Post, Emit, Deliver, Raw, Work}
 use Rattle.iw_events.specs.declared.act.Shown.TheVariants.{Frame, Nothing}
 use Rattle.iw_events.specs.declared.act.Seen.{Seen}
 use Rattle.iw_events.specs.declared.act.Seen.TheVariants as seen
@@ -68,6 +68,7 @@ posted_by (Post message (Some refusal)) = []
 posted_by (Recv len refused) = []
 posted_by (Emit shown) = []
 posted_by (Deliver from octets delivery) = []
+posted_by (Raw from octets delivery) = []
 posted_by (Work step) = []
 
 -- the messages accepted, in order
@@ -100,10 +101,25 @@ received_by (Post message refused) = []
 received_by (Recv len refused) = []
 received_by (Emit shown) = []
 received_by (Deliver from octets delivery) = []
+received_by (Raw from octets delivery) = []
 
 -- the Sends received, in order
 unfoldable pub received : List (StreamAct Octets) → List Sent
 received done = flat_map received_by done
+
+-- ---- where octets come from
+
+abbrev pub raw_after : Bool → StreamAct Octets → Bool
+raw_after raw (Raw from octets delivery) = true
+raw_after raw (Deliver from octets delivery) = raw
+raw_after raw (Emit shown) = raw
+raw_after raw (Post message refused) = raw
+raw_after raw (Recv len refused) = raw
+raw_after raw (Work step) = raw
+
+-- whether octets came that need not be those that the other end sent
+unfoldable pub has_raw : List (StreamAct Octets) → Bool
+has_raw done = fold raw_after false done
 
 -- ---- the end of a stream
 
@@ -119,6 +135,7 @@ ended_seen ended seen.Idle = ended
 abbrev pub ended_after : Bool → StreamAct Octets → Bool
 ended_after ended (Work step) = ended_seen ended step
 ended_after ended (Deliver from octets delivery) = ended
+ended_after ended (Raw from octets delivery) = ended
 ended_after ended (Emit shown) = ended
 ended_after ended (Post message refused) = ended
 ended_after ended (Recv len refused) = ended
@@ -135,6 +152,7 @@ sent_by (Emit Nothing) = []
 sent_by (Post message refused) = []
 sent_by (Recv len refused) = []
 sent_by (Deliver from octets delivery) = []
+sent_by (Raw from octets delivery) = []
 sent_by (Work step) = []
 
 -- the octets emitted, in order
@@ -143,7 +161,9 @@ sent done = flat_map sent_by done
 
 abbrev pub came_after : List ℕ → StreamAct Octets → List ℕ
 came_after came (Deliver from octets Kept) = came ++ drop (length came - from) octets
+came_after came (Raw from octets Kept) = came ++ drop (length came - from) octets
 came_after came (Deliver from octets Dropped) = came
+came_after came (Raw from octets Dropped) = came
 came_after came (Emit shown) = came
 came_after came (Post message refused) = came
 came_after came (Recv len refused) = came
@@ -167,6 +187,7 @@ table_seen table seen.Idle = table
 abbrev pub table_by_stream : Table → StreamAct Octets → Table
 table_by_stream table (Work step) = table_seen table step
 table_by_stream table (Deliver from octets delivery) = table
+table_by_stream table (Raw from octets delivery) = table
 table_by_stream table (Emit shown) = table
 table_by_stream table (Post message refused) = table
 table_by_stream table (Recv len refused) = table
@@ -201,6 +222,7 @@ buffers_after lens (Recv len None) = lens ++ len ∷ []
 buffers_after lens (Recv len (Some refusal)) = lens
 buffers_after lens (Work step) = buffers_seen lens step
 buffers_after lens (Deliver from octets delivery) = lens
+buffers_after lens (Raw from octets delivery) = lens
 buffers_after lens (Emit shown) = lens
 buffers_after lens (Post message refused) = lens
 

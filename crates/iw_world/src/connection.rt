@@ -71,6 +71,7 @@ impl<A: Allocator + Copy> Connection<A> {
             StreamCall::Post { message } => self.post(message),
             StreamCall::Emit => self.emit(alloc),
             StreamCall::Deliver { from, len } => self.deliver(alloc, peer, *from, *len),
+            StreamCall::Raw { from, octets } => self.raw(*from, octets),
             StreamCall::Work => self.work(alloc, memory),
         }
     }
@@ -164,6 +165,23 @@ impl<A: Allocator + Copy> Connection<A> {
         let copy = Bytes::copy_from_slice(alloc, octets)?;
         let delivery = self.stream.deliver(from, octets)?;
         Ok(StreamAct::Deliver {
+            from,
+            octets: copy,
+            delivery,
+        })
+    }
+
+    fn raw(&mut self, from: u64, octets: &Bytes<A>) -> Result<StreamAct<Bytes<A>>, Failure>
+        requires { IsShort self.old.stream }
+        ensures rule { IfOk result (λ act. (table : Table) (peer : List ℕ) → StreamRule table peer self.old.stream act) }
+        ensures call { IfOk result (λ act. stream_call_of act ≡ StreamCall.Raw from octets.now) }
+        ensures state { IfOk result (λ act. self.new ≡ connected_after self.old act) }
+        ensures memory { IfOk result (λ act. (table : Table) → table_by_stream table act ≡ table) }
+        ensures failure { IfErr result (λ failure. failure ≡ Failure.NoMemory) }
+    {
+        let copy = octets.clone()?;
+        let delivery = self.stream.deliver(from, octets.as_slice())?;
+        Ok(StreamAct::Raw {
             from,
             octets: copy,
             delivery,

@@ -242,8 +242,11 @@ fn needs_peer<A: Allocator>(call: &StreamCall<Bytes<A>>) -> bool
 {
     match call {
         StreamCall::Deliver { .. } => true,
-        StreamCall::Recv { .. } | StreamCall::Post { .. } | StreamCall::Emit | StreamCall::Work =>
-            false,
+        StreamCall::Recv { .. }
+        | StreamCall::Post { .. }
+        | StreamCall::Emit
+        | StreamCall::Raw { .. }
+        | StreamCall::Work => false,
     }
 }
 
