@@ -1,0 +1,11 @@
+use Rattle.std.specs.Prelude.{Bool, true, false}
+use Rattle.iw_rdmap.specs.declared.head.Head.{Head}
+use Rattle.iw_rdmap.specs.declared.head.Head.TheVariants.{Write, Response, Send, Request, Terminate}
+
+-- what may be placed before the segments in front of it have come (RFC 5040 5.5): its payload goes to a place that its header names
+abbrev pub is_early : Head → Bool
+is_early (Write head) = true
+is_early (Response head) = true
+is_early (Send head) = true
+is_early (Request head request) = false
+is_early (Terminate head word) = false

@@ -1,0 +1,5 @@
+pub mod Early
+pub mod FirstPath
+pub mod Judging
+pub mod Operation
+pub mod Terminate

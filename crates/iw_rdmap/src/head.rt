@@ -1,0 +1,32 @@
+ghost use Rattle.std.specs.Prelude.{◌≡◌};
+ghost use Rattle.iw_rdmap.specs.Early.{is_early};
+
+use iw_octets::{ReadRequest, TaggedHead, TerminateWord, UntaggedHead};
+
+/// A segment whose header passed its checks, by what the segment is part of (RFC 5040 4.1, figure 4).
+///
+/// Each has its header as it was read.
+#[derive(Clone, Copy, Debug, PartialEq, Eq)]
+pub enum Head {
+    /// Part of a Write.
+    Write(TaggedHead),
+    /// Part of the response to a Read.
+    Response(TaggedHead),
+    /// Part of a Send of any kind; the header's opcode tells which.
+    Send(UntaggedHead),
+    /// A Read Request, whole.
+    Request(UntaggedHead, ReadRequest),
+    /// A Terminate, with the first word of its payload.
+    Terminate(UntaggedHead, TerminateWord),
+}
+
+/// Whether the segment may be placed before those in front of it have come (RFC 5040 5.5): exactly Writes, Read Responses
+/// and Sends may.
+pub fn early(head: &Head) -> bool
+    ensures { result ≡ is_early head.now }
+{
+    match head {
+        Head::Write(_) | Head::Response(_) | Head::Send(_) => true,
+        Head::Request(..) | Head::Terminate(..) => false,
+    }
+}

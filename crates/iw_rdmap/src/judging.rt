@@ -1,0 +1,141 @@
+ghost use Rattle.std.specs.Prelude.{◌≡◌, IfErr};
+ghost use Rattle.iw_rdmap.specs.Judging.{IsFront, judged, tagged_checked, untagged_checked, judged_request, judged_terminate};
+ghost use Rattle.iw_rdmap.specs.Terminate.{FitsFault};
+
+use crate::head::Head;
+use crate::operation::{RDMAP_VERSION, TaggedOperation, UntaggedOperation, rdmap_version};
+use crate::sizes::{FIRST_OCTETS, MAX_TERMINATE, READ_REQUEST, UNTAGGED_HEADER};
+use iw_octets::{Fault, ReadRequest, Segment, Short, TaggedHead, TerminateWord, UntaggedHead};
+
+const DDP_VERSION: u8 = 1;
+
+// The number of a queue's first message.
+const FIRST_MSN: u32 = 1;
+
+// The highest queue number.
+const LAST_QUEUE: u32 = 2;
+
+// How many Read Requests may be unanswered.
+const MOST_UNANSWERED: usize = 16;
+
+/// The checks of a tagged header up to that of its opcode: the operation, or the first fault.
+pub(crate) fn tagged_operation(head: &TaggedHead) -> Result<TaggedOperation, Fault>
+    ensures judged { result ≡ tagged_checked head.now }
+    ensures fits { IfErr result (λ fault. FitsFault fault) }
+{
+    if head.ddp_version != DDP_VERSION {
+        return Err(Fault::TAGGED_VERSION);
+    }
+    if rdmap_version(head.control) != RDMAP_VERSION {
+        return Err(Fault::OPERATION_VERSION);
+    }
+    TaggedOperation::of(head.control).ok_or(Fault::OPERATION_UNEXPECTED)
+}
+
+/// The checks of an untagged header up to that of its opcode: the operation, or the first fault.
+pub(crate) fn untagged_operation(head: &UntaggedHead) -> Result<UntaggedOperation, Fault>
+    ensures judged { result ≡ untagged_checked head.now }
+    ensures fits { IfErr result (λ fault. FitsFault fault) }
+{
+    if head.ddp_version != DDP_VERSION {
+        return Err(Fault::UNTAGGED_VERSION);
+    }
+    if head.queue > LAST_QUEUE {
+        return Err(Fault::UNTAGGED_INVALID_QUEUE);
+    }
+    if rdmap_version(head.control) != RDMAP_VERSION {
+        return Err(Fault::OPERATION_VERSION);
+    }
+    match UntaggedOperation::of(head.control) {
+        Some(operation) if operation.queue() == head.queue => Ok(operation),
+        _ => Err(Fault::OPERATION_UNEXPECTED),
+    }
+}
+
+// A Read Request behind the check of its opcode, with `n` octets of payload, of which these are the first.
+#[tactic(auto, unfolding(iw_octets::specs::Payload::read_request))]
+fn judge_request(
+    head: UntaggedHead,
+    payload: &[u8],
+    n: usize,
+    next: u32,
+    unanswered: usize,
+) -> Result<Head, Fault>
+    requires { IsFront READ_REQUEST payload.now n }
+    ensures judged { result ≡ judged_request head payload.now n next unanswered }
+    ensures fits { IfErr result (λ fault. FitsFault fault) }
+{
+    if head.msn != next {
+        return Err(Fault::UNTAGGED_MSN_RANGE);
+    }
+    if unanswered >= MOST_UNANSWERED {
+        return Err(Fault::UNTAGGED_NO_BUFFER);
+    }
+    if head.mo != 0 {
+        return Err(Fault::UNTAGGED_INVALID_OFFSET);
+    }
+    if n > READ_REQUEST || !head.last {
+        return Err(Fault::UNTAGGED_TOO_LONG);
+    }
+    match ReadRequest::read(payload) {
+        Ok((request, _)) => Ok(Head::Request(head, request)),
+        Err(Short) => Err(Fault::SEGMENT_SHORT),
+    }
+}
+
+// A Terminate behind the check of its opcode, with `n` octets of payload, of which these are the first.
+#[tactic(auto, unfolding(iw_octets::specs::Payload::read_word))]
+fn judge_terminate(head: UntaggedHead, payload: &[u8], n: usize) -> Result<Head, Fault>
+    requires { IsFront READ_REQUEST payload.now n }
+    ensures judged { result ≡ judged_terminate head payload.now n }
+    ensures fits { IfErr result (λ fault. FitsFault fault) }
+{
+    if head.msn != FIRST_MSN {
+        return Err(Fault::UNTAGGED_MSN_RANGE);
+    }
+    if head.mo != 0 {
+        return Err(Fault::UNTAGGED_INVALID_OFFSET);
+    }
+    if n > MAX_TERMINATE || !head.last {
+        return Err(Fault::UNTAGGED_TOO_LONG);
+    }
+    match TerminateWord::read(payload) {
+        Ok((word, _)) => Ok(Head::Terminate(head, word)),
+        Err(Short) => Err(Fault::SEGMENT_SHORT),
+    }
+}
+
+/// Judges a ULPDU of `len` octets by its header: what it is, or the first check that it fails, up to those that need a
+/// buffer, a region or an outstanding Read (RFC 5040 4 and 7.2, RFC 5041 4 and 7.1).
+///
+/// `first` are the first [`FIRST_OCTETS`] octets of the ULPDU, or all where it has fewer. `next` is the message sequence
+/// number of the Read Request that is due, `unanswered` the number of Read Requests that wait for their responses.
+///
+/// The faults, in their order: [`Fault::SEGMENT_SHORT`] where the ULPDU has no octets, or fewer than its header;
+/// DDP's version, the queue number, RDMAP's version, and an opcode that such a segment cannot have. Behind these, a Read
+/// Request that is not the next, that comes while 16 are unanswered, that is more or less than one segment with a Read
+/// Request header alone; a Terminate that is not the first, or more than one segment with at most 52 octets, or less than a
+/// Terminate's first word.
+pub fn judge(first: &[u8], len: u16, next: u32, unanswered: usize) -> Result<Head, Fault>
+    requires { IsFront FIRST_OCTETS first.now len }
+    ensures judged { result ≡ judged first.now len next unanswered }
+    ensures fits { IfErr result (λ fault. FitsFault fault) }
+{
+    match Segment::read(first) {
+        Err(Short) => Err(Fault::SEGMENT_SHORT),
+        Ok(Segment::Tagged(head, _)) => match tagged_operation(&head)? {
+            TaggedOperation::Write => Ok(Head::Write(head)),
+            TaggedOperation::ReadResponse => Ok(Head::Response(head)),
+        },
+        Ok(Segment::Untagged(head, payload)) => {
+            let n = usize::from(len) - UNTAGGED_HEADER;
+            match untagged_operation(&head)? {
+                UntaggedOperation::Send { .. } => Ok(Head::Send(head)),
+                UntaggedOperation::ReadRequest => {
+                    judge_request(head, payload, n, next, unanswered)
+                }
+                UntaggedOperation::Terminate => judge_terminate(head, payload, n),
+            }
+        }
+    }
+}

@@ -1,0 +1,21 @@
+//! What a DDP segment of an RDMAP stream is: its header's checks up to those that need a buffer, a region or an
+//! outstanding Read, and the payload of the Terminate that answers a faulty one (RFC 5040 4 and 7, RFC 5041 4 and 7).
+//! It takes no memory.
+#![tactic(auto)]
+
+mod first_path;
+mod head;
+mod judging;
+mod operation;
+mod sizes;
+mod terminating;
+
+pub use first_path::judge_first_path;
+pub use head::{Head, early};
+pub use judging::judge;
+pub use operation::{TaggedOperation, UntaggedOperation};
+pub use sizes::{FIRST_OCTETS, MAX_TERMINATE};
+pub use terminating::terminate;
+
+#[cfg(test)]
+mod tests;
