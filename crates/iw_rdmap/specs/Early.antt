@@ -2,7 +2,7 @@ use Rattle.std.specs.Prelude.{Bool, true, false}
 use Rattle.iw_rdmap.specs.declared.head.Head.{Head}
 use Rattle.iw_rdmap.specs.declared.head.Head.TheVariants.{Write, Response, Send, Request, Terminate}
 
--- what may be placed before the segments in front of it have come (RFC 5040 5.5): its payload goes to a place that its header names
+-- what may be placed before the segments in front of it have come: its payload goes to the place that its header names (RFC 5041 5.3, RFC 5040 5.5)
 abbrev pub is_early : Head → Bool
 is_early (Write head) = true
 is_early (Response head) = true

@@ -48,7 +48,8 @@ untagged_checked head =
     else expected (on_queue head.queue (untagged_operation (opcode_of head.control)))
 
 -- the checks of a Read Request with n octets of payload, in their order: it is the message that is due, fewer than 16 wait for their
--- responses, and it is one segment with a Read Request header as its payload (RFC 5041 4.3, 7.1, RFC 5040 4.4, 5.2.1)
+-- responses (which is as many as this endpoint takes), and it is one segment with a Read Request header as its payload (RFC 5041 4.3, 7.1,
+-- RFC 5040 4.4, 5.2.1)
 abbrev pub request_fault : UntaggedHead → ℕ → ℕ → ℕ → Option Fault
 request_fault head n next unanswered =
     if not (head.msn == next) then Some faults.UNTAGGED_MSN_RANGE

@@ -20,8 +20,9 @@ pub enum Head {
     Terminate(UntaggedHead, TerminateWord),
 }
 
-/// Whether the segment may be placed before those in front of it have come (RFC 5040 5.5): exactly Writes, Read Responses
-/// and Sends may.
+/// Whether the segment may be placed before those in front of it have come (RFC 5041 5.3, RFC 5040 5.5).
+///
+/// Exactly the parts of Writes, Read Responses and Sends may: Read Requests and Terminates have no place to go to.
 pub fn early(head: &Head) -> bool
     ensures { result ≡ is_early head.now }
 {

@@ -111,11 +111,17 @@ fn judge_terminate(head: UntaggedHead, payload: &[u8], n: usize) -> Result<Head,
 /// `first` are the first [`FIRST_OCTETS`] octets of the ULPDU, or all where it has fewer. `next` is the message sequence
 /// number of the Read Request that is due, `unanswered` the number of Read Requests that wait for their responses.
 ///
-/// The faults, in their order: [`Fault::SEGMENT_SHORT`] where the ULPDU has no octets, or fewer than its header;
-/// DDP's version, the queue number, RDMAP's version, and an opcode that such a segment cannot have. Behind these, a Read
-/// Request that is not the next, that comes while 16 are unanswered, that is more or less than one segment with a Read
-/// Request header alone; a Terminate that is not the first, or more than one segment with at most 52 octets, or less than a
-/// Terminate's first word.
+/// The fault is that of the first check that fails, in this order:
+/// - [`Fault::SEGMENT_SHORT`]: the ULPDU has no octets, or fewer than its header.
+/// - Of a tagged segment: [`Fault::TAGGED_VERSION`]; [`Fault::OPERATION_VERSION`]; [`Fault::OPERATION_UNEXPECTED`], the
+///   opcode is not that of a Write or a Read Response.
+/// - Of an untagged segment: [`Fault::UNTAGGED_VERSION`]; [`Fault::UNTAGGED_INVALID_QUEUE`], a queue number over 2;
+///   [`Fault::OPERATION_VERSION`]; [`Fault::OPERATION_UNEXPECTED`], the opcode is not one of the queue's.
+/// - Then of a Read Request: [`Fault::UNTAGGED_MSN_RANGE`], it is not `next`; [`Fault::UNTAGGED_NO_BUFFER`], 16 are
+///   unanswered; [`Fault::UNTAGGED_INVALID_OFFSET`], its offset is not 0; [`Fault::UNTAGGED_TOO_LONG`], more than 28 octets,
+///   or not the message's last segment; [`Fault::SEGMENT_SHORT`], fewer than 28.
+/// - Then of a Terminate: [`Fault::UNTAGGED_MSN_RANGE`], its number is not 1; [`Fault::UNTAGGED_INVALID_OFFSET`];
+///   [`Fault::UNTAGGED_TOO_LONG`], more than 52 octets, or not the last segment; [`Fault::SEGMENT_SHORT`], fewer than 4.
 pub fn judge(first: &[u8], len: u16, next: u32, unanswered: usize) -> Result<Head, Fault>
     requires { IsFront FIRST_OCTETS first.now len }
     ensures judged { result ≡ judged first.now len next unanswered }

@@ -1,0 +1,51 @@
+-- What the checks and the payload come to.
+use Rattle.std.specs.Prelude.{◌≡◌, ℕ, ◌<◌, Bool, true, false, List, ◌++◌, length, Some, None, Ok}
+use Rattle.iw_octets.specs.declared.fault.Fault.{Fault}
+use Rattle.iw_octets.specs.declared.head.UntaggedHead.{UntaggedHead}
+use Rattle.iw_octets.specs.Head.{untagged_octets}
+use Rattle.iw_octets.specs.Segment.{read_segment}
+use Rattle.iw_rdmap.specs.declared.head.Head.TheVariants as heads
+use Rattle.iw_rdmap.specs.declared.operation.TaggedOperation.{TaggedOperation}
+use Rattle.iw_rdmap.specs.declared.operation.UntaggedOperation.{UntaggedOperation}
+use Rattle.iw_rdmap.specs.declared.operation.UntaggedOperation.TheVariants.{Terminate}
+use Rattle.iw_rdmap.specs.FirstPath.{is_later, judged_first_path}
+use Rattle.iw_rdmap.specs.Judging.{IsFront, judged}
+use Rattle.iw_rdmap.specs.Operation.{rdmap_version, opcode_of, control_of, tagged_opcode, untagged_opcode, tagged_operation, untagged_operation, queue_of}
+use Rattle.iw_rdmap.specs.Terminate.{FitsFault, word_for, terminate_octets}
+
+-- a ULPDU's first octets, 46 of them or all, are judged as the whole ULPDU is
+abbrev pub FrontWillDo : Type 0
+FrontWillDo = (first behind : List ℕ) (next unanswered : ℕ) →
+    let ulpdu = first ++ behind in
+    IsFront 46 first (length ulpdu) → judged first (length ulpdu) next unanswered ≡ judged ulpdu (length ulpdu) next unanswered
+
+-- each operation is told by its octet, which has RDMAP's version, and no octet names a tagged operation and an untagged one
+pub record OperationsAreTold : Type 0 where
+  pub tagged : (operation : TaggedOperation) → tagged_operation (opcode_of (control_of (tagged_opcode operation))) ≡ Some operation
+  pub untagged : (operation : UntaggedOperation) → untagged_operation (opcode_of (control_of (untagged_opcode operation))) ≡ Some operation
+  pub tagged_version : (operation : TaggedOperation) → rdmap_version (control_of (tagged_opcode operation)) ≡ 1
+  pub untagged_version : (operation : UntaggedOperation) → rdmap_version (control_of (untagged_opcode operation)) ≡ 1
+  pub apart : (opcode : ℕ) (operation : TaggedOperation) → tagged_operation opcode ≡ Some operation → untagged_operation opcode ≡ None
+
+-- what the stream has is judged on the first path as ever, whichever Read Request is due and however many are unanswered
+abbrev pub FirstPathIsJudge : Type 0
+FirstPathIsJudge = (first : List ℕ) (len next unanswered : ℕ) → is_later (read_segment first) ≡ false →
+    judged_first_path first len ≡ judged first len next unanswered
+
+-- the header of a Terminate, which is its queue's first message and one segment (RFC 5040 5.4)
+abbrev pub terminate_head : UntaggedHead
+terminate_head = record {
+  last = true;
+  ddp_version = 1;
+  control = control_of (untagged_opcode Terminate);
+  tail = 0;
+  queue = queue_of Terminate;
+  msn = 1;
+  mo = 0;
+}
+
+-- the payload of a Terminate behind this header is judged as a Terminate that carries the fault
+abbrev pub TerminatesAreTold : Type 0
+TerminatesAreTold = (fault : Fault) (first : List ℕ) (len next unanswered : ℕ) (request : Bool) → FitsFault fault → fault.code < 256 →
+    let ulpdu = untagged_octets terminate_head ++ terminate_octets fault first len request in
+    judged ulpdu (length ulpdu) next unanswered ≡ Ok (heads.Terminate terminate_head (word_for fault request))
