@@ -32,7 +32,7 @@ is_later None = false
 is_later (Some (Tagged head payload)) = is_later_tagged (tagged_checked head)
 is_later (Some (Untagged head payload)) = is_later_untagged (untagged_checked head)
 
--- such an opcode is unexpected; all else is judged as ever, and what it is does not hang on Read Requests
+-- such an opcode is unexpected; all else is judged as ever: it is no Read Request, so that it does not matter which one is due
 abbrev pub judged_first_path : List ℕ → ℕ → Result Head Fault
 judged_first_path first len =
     if is_later (read_segment first) then Err faults.OPERATION_UNEXPECTED else judged first len 0 0

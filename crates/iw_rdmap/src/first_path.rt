@@ -1,7 +1,7 @@
 //! What holds only until Reads, Terminates and the other Sends are built into the stream.
-ghost use Rattle.std.specs.Prelude.{◌≡◌, IfErr};
-ghost use Rattle.iw_octets.specs.ShownSegment.{shown_segment};
+ghost use Rattle.std.specs.Prelude.{◌≡◌, ◌≤◌, IfOk, IfErr};
 ghost use Rattle.iw_rdmap.specs.FirstPath.{is_later_tagged, is_later_untagged, judged_first_path};
+ghost use Rattle.iw_rdmap.specs.Head.{header_octets};
 ghost use Rattle.iw_rdmap.specs.Judging.{IsFront, tagged_checked, untagged_checked};
 ghost use Rattle.iw_rdmap.specs.Terminate.{FitsFault};
 
@@ -40,6 +40,7 @@ fn is_later_untagged(head: &UntaggedHead) -> bool
 pub fn judge_first_path(first: &[u8], len: u16) -> Result<Head, Fault>
     requires { IsFront FIRST_OCTETS first.now len }
     ensures judged { result ≡ judged_first_path first.now len }
+    ensures header { IfOk result (λ head. header_octets head ≤ len) }
     ensures fits { IfErr result (λ fault. FitsFault fault) }
 {
     let later = match Segment::read(first) {

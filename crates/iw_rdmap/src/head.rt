@@ -1,6 +1,7 @@
 ghost use Rattle.std.specs.Prelude.{◌≡◌};
-ghost use Rattle.iw_rdmap.specs.Early.{is_early};
+ghost use Rattle.iw_rdmap.specs.Head.{header_octets, is_early};
 
+use crate::sizes::{TAGGED_HEADER, UNTAGGED_HEADER};
 use iw_octets::{ReadRequest, TaggedHead, TerminateWord, UntaggedHead};
 
 /// A segment whose header passed its checks, by what the segment is part of (RFC 5040 4.1, figure 4).
@@ -18,6 +19,18 @@ pub enum Head {
     Request(UntaggedHead, ReadRequest),
     /// A Terminate, with the first word of its payload.
     Terminate(UntaggedHead, TerminateWord),
+}
+
+impl Head {
+    /// How many octets of the ULPDU its DDP header has; the payload is all behind them (RFC 5041 4.2 to 4.4).
+    pub fn header_len(&self) -> usize
+        ensures { result ≡ header_octets self.now }
+    {
+        match self {
+            Head::Write(_) | Head::Response(_) => TAGGED_HEADER,
+            Head::Send(_) | Head::Request(..) | Head::Terminate(..) => UNTAGGED_HEADER,
+        }
+    }
 }
 
 /// Whether the segment may be placed before those in front of it have come (RFC 5041 5.3, RFC 5040 5.5).

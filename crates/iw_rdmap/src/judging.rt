@@ -1,4 +1,5 @@
-ghost use Rattle.std.specs.Prelude.{◌≡◌, IfErr};
+ghost use Rattle.std.specs.Prelude.{◌≡◌, ◌≤◌, IfOk, IfErr};
+ghost use Rattle.iw_rdmap.specs.Head.{header_octets};
 ghost use Rattle.iw_rdmap.specs.Judging.{IsFront, judged, tagged_checked, untagged_checked, judged_request, judged_terminate};
 ghost use Rattle.iw_rdmap.specs.Terminate.{FitsFault};
 
@@ -63,6 +64,7 @@ fn judge_request(
 ) -> Result<Head, Fault>
     requires { IsFront READ_REQUEST payload.now n }
     ensures judged { result ≡ judged_request head payload.now n next unanswered }
+    ensures header { IfOk result (λ head. header_octets head ≡ UNTAGGED_HEADER) }
     ensures fits { IfErr result (λ fault. FitsFault fault) }
 {
     if head.msn != next {
@@ -88,6 +90,7 @@ fn judge_request(
 fn judge_terminate(head: UntaggedHead, payload: &[u8], n: usize) -> Result<Head, Fault>
     requires { IsFront READ_REQUEST payload.now n }
     ensures judged { result ≡ judged_terminate head payload.now n }
+    ensures header { IfOk result (λ head. header_octets head ≡ UNTAGGED_HEADER) }
     ensures fits { IfErr result (λ fault. FitsFault fault) }
 {
     if head.msn != FIRST_MSN {
@@ -125,6 +128,7 @@ fn judge_terminate(head: UntaggedHead, payload: &[u8], n: usize) -> Result<Head,
 pub fn judge(first: &[u8], len: u16, next: u32, unanswered: usize) -> Result<Head, Fault>
     requires { IsFront FIRST_OCTETS first.now len }
     ensures judged { result ≡ judged first.now len next unanswered }
+    ensures header { IfOk result (λ head. header_octets head ≤ len) }
     ensures fits { IfErr result (λ fault. FitsFault fault) }
 {
     match Segment::read(first) {

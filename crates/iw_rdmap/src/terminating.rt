@@ -6,8 +6,12 @@ use crate::sizes::{MAX_TERMINATE, READ_REQUEST, TAGGED_HEADER, UNTAGGED_HEADER};
 use arrayvec::ArrayVec;
 use iw_octets::{Fault, TerminateWord, is_tagged};
 
-// The highest layer whose faults are those of a segment: DDP.
+// The layers whose faults are those of a segment, and the type of RDMAP's remote protection errors.
+const RDMAP: u8 = 0;
+
 const DDP: u8 = 1;
+
+const REMOTE_PROTECTION: u8 = 1;
 
 // The segment's length and its DDP header come with this fault.
 fn has_segment(fault: Fault) -> bool
@@ -20,9 +24,7 @@ fn has_segment(fault: Fault) -> bool
 fn has_request(fault: Fault, request: bool) -> bool
     ensures { result ≡ has_request fault request }
 {
-    request
-        && fault.layer == Fault::PROTECTION_INVALID_STAG.layer
-        && fault.kind == Fault::PROTECTION_INVALID_STAG.kind
+    request && fault.layer == RDMAP && fault.kind == REMOTE_PROTECTION
 }
 
 fn word_for(fault: Fault, request: bool) -> TerminateWord
@@ -61,9 +63,9 @@ fn append(payload: &mut ArrayVec<u8, MAX_TERMINATE>, octets: &[u8])
 /// The payload of the Terminate that a fault ends the stream with (RFC 5040 4.8).
 ///
 /// `first` are the first octets of the ULPDU of `len` octets that had the fault, and `request` says that it is a Read
-/// Request. With a fault of RDMAP or DDP come the ULPDU's length and its DDP header, reserved bits and all, as it came;
-/// with a remote protection error of a Read Request also its Read Request header. Nothing comes with
-/// [`Fault::SEGMENT_SHORT`] and with a fault of MPA, and then `first` is not looked at.
+/// Request. With a fault of RDMAP or DDP come the ULPDU's length and its DDP header, as it came, reserved bits and all;
+/// with a remote protection error of a Read Request also its Read Request header. `first` has to hold what comes. With
+/// [`Fault::SEGMENT_SHORT`] and with a fault of MPA nothing comes, and `first` may be any octets.
 #[tactic(auto, unfolding(iw_octets::specs::Payload::word_octets))]
 pub fn terminate(fault: Fault, first: &[u8], len: u16, request: bool) -> ArrayVec<u8, MAX_TERMINATE>
     requires fits { FitsFault fault }

@@ -296,7 +296,7 @@ fn opcodes(rt: HostRuntime) {
 }
 
 #[test]
-fn what_may_be_early(rt: HostRuntime) {
+fn what_is_asked_of_a_head(rt: HostRuntime) {
     let word = TerminateWord {
         layer: 2,
         kind: 0,
@@ -305,11 +305,21 @@ fn what_may_be_early(rt: HostRuntime) {
         has_ddp: false,
         has_request: false,
     };
-    assert!(rt; early(&Head::Write(tagged_head(true, 0x40))));
-    assert!(rt; early(&Head::Response(tagged_head(true, 0x42))));
-    assert!(rt; early(&Head::Send(untagged_head(0x43, 0))));
-    assert!(rt; !early(&Head::Request(untagged_head(0x41, 1), read_of_four())));
-    assert!(rt; !early(&Head::Terminate(untagged_head(0x47, 2), word)));
+    let rows = [
+        (Head::Write(tagged_head(true, 0x40)), 14, true),
+        (Head::Response(tagged_head(true, 0x42)), 14, true),
+        (Head::Send(untagged_head(0x43, 0)), 18, true),
+        (
+            Head::Request(untagged_head(0x41, 1), read_of_four()),
+            18,
+            false,
+        ),
+        (Head::Terminate(untagged_head(0x47, 2), word), 18, false),
+    ];
+    for (head, len, is_early) in rows {
+        assert_eq!(rt; head.header_len(), len);
+        assert_eq!(rt; early(&head), is_early);
+    }
 }
 
 // A Read Request from STag 01000000, tagged offset 0, of four octets for STag 01000000, tagged offset 100.

@@ -1,6 +1,15 @@
-use Rattle.std.specs.Prelude.{Bool, true, false}
+-- What callers ask of a segment that was judged.
+use Rattle.std.specs.Prelude.{ℕ, Bool, true, false}
 use Rattle.iw_rdmap.specs.declared.head.Head.{Head}
 use Rattle.iw_rdmap.specs.declared.head.Head.TheVariants.{Write, Response, Send, Request, Terminate}
+
+-- the octets of its DDP header (RFC 5041 4.2, 4.3)
+abbrev pub header_octets : Head → ℕ
+header_octets (Write head) = 14
+header_octets (Response head) = 14
+header_octets (Send head) = 18
+header_octets (Request head request) = 18
+header_octets (Terminate head word) = 18
 
 -- what may be placed before the segments in front of it have come: its payload goes to the place that its header names (RFC 5041 5.3, RFC 5040 5.5)
 abbrev pub is_early : Head → Bool
