@@ -1,0 +1,28 @@
+-- What may be said of the parts of a message, beside the calls.
+use Rattle.std.specs.Prelude.{ℕ, ◌≡◌, ◌<◌, ◌≤◌, ◌-◌, true, false, List, [], ◌∷◌, ◌++◌, length, take, drop, map, replicate, All}
+use Rattle.std.specs.List.{flat_map}
+use Rattle.iw_tagged.specs.declared.parts.Part.{Part}
+use Rattle.iw_tagged.specs.Parts.{parts, full_count}
+
+-- the octets of a message that a part has
+abbrev pub octets_of : List ℕ → Part → List ℕ
+octets_of message part = take part.n (drop part.offset message)
+
+-- the parts of a message of this length, one behind the other, are the message; only the last is marked; none has more than
+-- `size` octets, and none is empty but that of an empty message
+pub record Covers (len size : ℕ) : Type 0 where
+  pub joined : (message : List ℕ) → length message ≡ len → flat_map (octets_of message) (parts len size) ≡ message
+  pub marked : map (λ part. part.last) (parts len size) ≡ replicate (full_count len size) false ++ true ∷ []
+  pub fits : All (λ part. part.n ≤ size) (parts len size)
+  pub filled : 0 < len → All (λ part. 0 < part.n) (parts len size)
+
+abbrev pub PartsCover : Type 0
+PartsCover = (len size : ℕ) → 0 < size → Covers len size
+
+-- parts that the definition computes to, of the sizes that an ULPDU size leaves behind a header of 14 octets
+pub record KnownParts : Type 0 where
+  pub empty : parts 0 (128 - 14) ≡ record { offset = 0; n = 0; last = true } ∷ []
+  pub one : parts 114 (128 - 14) ≡ record { offset = 0; n = 114; last = true } ∷ []
+  pub one_more : parts 115 (128 - 14) ≡ record { offset = 0; n = 114; last = false } ∷ record { offset = 114; n = 1; last = true } ∷ []
+  pub two_full : parts 228 (128 - 14) ≡ record { offset = 0; n = 114; last = false } ∷ record { offset = 114; n = 114; last = true } ∷ []
+  pub two : parts 492 (502 - 14) ≡ record { offset = 0; n = 488; last = false } ∷ record { offset = 488; n = 4; last = true } ∷ []

@@ -1,0 +1,18 @@
+//! Tagged messages: how one is cut into segments, and how a segment is checked against registered memory and placed in
+//! it (RFC 5041 4.2, 5.2 and 7.1).
+//!
+//! No call takes memory.
+#![tactic(auto)]
+
+mod cutting;
+mod laws;
+mod parts;
+mod placing;
+
+pub use cutting::cut;
+pub use laws::{known_parts, parts_cover};
+pub use parts::{Cut, Part};
+pub use placing::{Placed, check, place};
+
+#[cfg(test)]
+mod tests;
