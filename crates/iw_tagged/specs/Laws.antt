@@ -1,8 +1,13 @@
--- What may be said of the parts of a message, beside the calls.
-use Rattle.std.specs.Prelude.{ℕ, ◌≡◌, ◌<◌, ◌≤◌, ◌-◌, true, false, List, [], ◌∷◌, ◌++◌, length, take, drop, map, replicate, All}
+-- What may be said of the definitions, beside the calls.
+use Rattle.std.specs.Prelude.{ℕ, None, ◌↔◌, ◌≡◌, ◌<◌, ◌≤◌, ◌-◌, true, false, List, [], ◌∷◌, ◌++◌, length, take, drop, map, replicate, All}
 use Rattle.std.specs.List.{flat_map}
+use Rattle.iw_octets.specs.declared.head.TaggedHead.{TaggedHead}
+use Rattle.iw_memory.specs.declared.rights.Right.{Right}
+use Rattle.iw_memory.specs.Table.{Table}
+use Rattle.iw_memory.specs.Laws.{Allows}
 use Rattle.iw_tagged.specs.declared.parts.Part.{Part}
 use Rattle.iw_tagged.specs.Parts.{parts, full_count}
+use Rattle.iw_tagged.specs.Placing.{placing_fault}
 
 -- the octets of a message that a part has
 abbrev pub octets_of : List ℕ → Part → List ℕ
@@ -26,3 +31,8 @@ pub record KnownParts : Type 0 where
   pub one_more : parts 115 (128 - 14) ≡ record { offset = 0; n = 114; last = false } ∷ record { offset = 114; n = 1; last = true } ∷ []
   pub two_full : parts 228 (128 - 14) ≡ record { offset = 0; n = 114; last = false } ∷ record { offset = 114; n = 114; last = true } ∷ []
   pub two : parts 492 (502 - 14) ≡ record { offset = 0; n = 488; last = false } ∷ record { offset = 488; n = 4; last = true } ∷ []
+
+-- a segment passes exactly where a peer in the stream's domain may use the region so
+abbrev pub PassesWhereAllowed : Type 0
+PassesWhereAllowed = (table : Table) (pd : ℕ) (head : TaggedHead) (n : ℕ) (right : Right) →
+    (placing_fault table pd head n right ≡ None) ↔ Allows table pd head.stag head.to n right

@@ -1,4 +1,4 @@
-ghost use Rattle.iw_tagged.specs.Laws.{PartsCover, KnownParts};
+ghost use Rattle.iw_tagged.specs.Laws.{PartsCover, KnownParts, PassesWhereAllowed};
 
 /// The parts of a message cover it, in order, without a gap and without an empty part but that of an empty message.
 pub fn parts_cover()
@@ -8,4 +8,9 @@ pub fn parts_cover()
 /// Parts worked by hand.
 pub fn known_parts()
     ensures { KnownParts }
+{}
+
+/// `check` answers `Ok` exactly where a peer in the stream's domain may use the region so (RFC 5042).
+pub fn passes_where_allowed()
+    ensures { PassesWhereAllowed }
 {}
