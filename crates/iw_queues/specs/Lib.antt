@@ -1,0 +1,5 @@
+pub mod Request
+pub mod Completions
+pub mod Queue
+pub mod Shown
+pub mod Inside

@@ -1,0 +1,82 @@
+ghost use Rattle.std.specs.Prelude.{◌≡◌, ◌≤◌, length};
+ghost use Rattle.iw_queues.specs.Request.{kind_of, payload, size_of, header_len};
+
+use bytes::Bytes;
+use iw_octets::{Message, ReadRequest};
+use std::alloc::Allocator;
+
+/// What is posted: a message with octets of this end, or a Read of octets of the peer. The payload's type is the parameter.
+#[derive(Debug, PartialEq, Eq, Drop)]
+pub enum Request<O> {
+    Message(Message<O>),
+    Read(ReadRequest),
+}
+
+/// What a posted message is.
+#[derive(Clone, Copy, Debug, PartialEq, Eq)]
+pub enum Kind {
+    Write,
+    Send,
+    Read,
+}
+
+/// Why a message is not posted: the first reason that holds, in the order of the variants.
+#[derive(Clone, Copy, Debug, PartialEq, Eq)]
+pub enum Refusal {
+    /// 256 messages are posted and not yet handed out.
+    Full,
+    /// The message has more than 16,777,216 octets, or is a Read of more.
+    TooLong,
+    NoMemory,
+}
+
+// DDP's header of a tagged segment, with RDMAP's octet in it (RFC 5041 4.1).
+const TAGGED_HEADER: usize = 14;
+
+// DDP's header of an untagged segment, with RDMAP's octets in it (RFC 5041 4.2).
+const UNTAGGED_HEADER: usize = 18;
+
+impl<A: Allocator> Request<Bytes<A>> {
+    pub fn kind(&self) -> Kind
+        ensures { result ≡ kind_of self.now }
+    {
+        match self {
+            Request::Message(Message::Write { .. }) => Kind::Write,
+            Request::Message(Message::Send { .. }) => Kind::Send,
+            Request::Read(_) => Kind::Read,
+        }
+    }
+
+    /// The octets that are sent with it: none of a Read.
+    pub fn payload(&self) -> &[u8]
+        ensures { result.now ≡ payload self.now }
+    {
+        match self {
+            Request::Message(Message::Write { octets, .. }) => octets.as_slice(),
+            Request::Message(Message::Send { octets, .. }) => octets.as_slice(),
+            Request::Read(_) => &[],
+        }
+    }
+
+    /// How many octets it moves: its own, or those that a Read asks for.
+    pub fn size(&self) -> usize
+        ensures { result ≡ size_of self.now }
+    {
+        match self {
+            Request::Message(Message::Write { octets, .. }) => octets.len(),
+            Request::Message(Message::Send { octets, .. }) => octets.len(),
+            Request::Read(read) => read.size as usize,
+        }
+    }
+
+    /// The octets of the header that stands before each of its parts: a Write is tagged, the others are untagged.
+    pub fn header_len(&self) -> usize
+        ensures len { result ≡ header_len self.now }
+        ensures small { result ≤ 18 }
+    {
+        match self {
+            Request::Message(Message::Write { .. }) => TAGGED_HEADER,
+            Request::Message(Message::Send { .. }) | Request::Read(_) => UNTAGGED_HEADER,
+        }
+    }
+}

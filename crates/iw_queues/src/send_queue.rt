@@ -1,0 +1,202 @@
+ghost use Rattle.std.specs.Prelude.{◌≡◌, ◌+◌, ◌<◌, ◌≤◌, ◌^◌, length, take, drop, OnOk, OnErr, IfOk, IfErr, IsErr, IsSome, IfSome, IfNone, slice_get};
+ghost use Rattle.std.specs.Option.{option_map};
+ghost use Rattle.iw_queues.specs.Request.{kind_of, payload};
+
+use crate::completions::{Completions, Done};
+use crate::request::{Kind, Refusal, Request};
+use bytes::Bytes;
+use std::alloc::{Allocator, Global};
+use std::collections::VecDeque;
+use std::marker::Model;
+
+/// How many messages may be posted and not yet handed out.
+const MAX_POSTED: usize = 256;
+
+/// How many octets a message may have, or a Read ask for.
+const MAX_OCTETS: usize = 16_777_216;
+
+/// A part of a message: `n` octets of its payload from `offset` on. The message's type is the parameter.
+#[derive(Clone, Copy, Debug, PartialEq, Eq)]
+pub struct Part<M> {
+    /// The message's ticket.
+    pub ticket: u64,
+    pub message: M,
+    pub offset: usize,
+    pub n: usize,
+    /// Whether it is the message's last part.
+    pub last: bool,
+}
+
+/// The messages posted at one end of a stream and not yet handed out, in posting order.
+///
+/// Each has a ticket: 0 for the first, and one more, modulo 2^64, for each next.
+#[derive(Drop)]
+pub struct SendQueue<A: Allocator = Global> {
+    // The messages that were sent to their end; it has room for each of the others.
+    sent: Completions<A>,
+    // The others.
+    unsent: VecDeque<Request<Bytes<A>>, A>,
+    // How many octets of the first of them were sent.
+    offset: usize,
+}
+
+impl<'a, A: Allocator> Part<&'a Request<Bytes<A>>> {
+    /// The part's octets, lent by the message.
+    pub fn octets(&self) -> &'a [u8]
+        requires { self.now.offset + self.now.n ≤ length (payload self.now.message.now) }
+        ensures { result.now ≡ take self.now.n (drop self.now.offset (payload self.now.message.now)) }
+    {
+        let (_, rest) = self.message.payload().split_at(self.offset);
+        let (octets, _) = rest.split_at(self.n);
+        octets
+    }
+}
+
+impl<A: Allocator> Model for SendQueue<A> {
+    ghost use Rattle.iw_queues.specs.Queue.{Queue};
+
+    ghost Value = { Queue };
+
+    ghost use Rattle.iw_queues.specs.Inside.{queue_of, Keeps};
+
+    ghost view = { λ q. queue_of q.sent q.unsent.items q.offset };
+
+    ghost invariant = { λ q. Keeps q.sent q.unsent.items q.offset };
+}
+
+impl<A: Allocator> SendQueue<A> {
+    ghost use Rattle.iw_queues.specs.Completions.{IsAwaited, finished};
+    ghost use Rattle.iw_queues.specs.Queue.{nothing_posted, post_refusal, ticket_behind, posted, next_part, part_sent, sent_with, done_in, oldest_in, handed_from, IsWithinLimits};
+    ghost use Rattle.iw_queues.specs.Shown.{shown};
+
+    /// A queue to which nothing was posted.
+    pub fn new(alloc: A) -> SendQueue<A>
+    where
+        A: Copy,
+        ensures { result ≡ nothing_posted }
+    {
+        SendQueue {
+            sent: Completions::new(alloc),
+            unsent: VecDeque::new(alloc),
+            offset: 0,
+        }
+    }
+
+    /// How many messages are posted and not yet handed out, at most 256.
+    pub fn len(&self) -> usize
+        ensures len { result ≡ length self.now.sent.messages + length self.now.unsent }
+        ensures limits { IsWithinLimits self.now }
+        ensures first { self.now.sent.first < 2 ^ 64 }
+    {
+        self.sent.len() + self.unsent.len()
+    }
+
+    /// Posts a message behind the others, and tells its ticket. `NoMemory` comes only where no other refusal applies.
+    /// An `Err` changes nothing, and has the message.
+    pub fn post(&mut self, message: Request<Bytes<A>>) -> Result<u64, (Refusal, Request<Bytes<A>>)>
+        // The refusal, where one applies, and otherwise want of memory alone.
+        ensures refused { IfSome (post_refusal self.old message) (λ refusal. IfErr result (λ e. e.0 ≡ refusal) × IsErr result) }
+        ensures memory { IfNone (post_refusal self.old message) (IfErr result (λ e. e.0 ≡ Refusal.NoMemory)) }
+        ensures back { IfErr result (λ e. e.1 ≡ message) }
+        ensures err { OnErr result (self.new ≡ self.old) }
+
+        ensures ticket { IfOk result (λ ticket. ticket ≡ ticket_behind self.old) }
+        ensures ok { OnOk result (self.new ≡ posted self.old message) }
+    {
+        let unsent = self.unsent.len();
+        let posted = self.sent.len() + unsent;
+        if posted >= MAX_POSTED {
+            return Err((Refusal::Full, message));
+        }
+        if message.size() > MAX_OCTETS {
+            return Err((Refusal::TooLong, message));
+        }
+        if self.sent.ready(unsent + 1).is_err() || self.unsent.reserve(1).is_err() {
+            return Err((Refusal::NoMemory, message));
+        }
+        let ticket = self.sent.next_ticket().wrapping_add(unsent as u64);
+        self.unsent.push_back_reserved(message);
+        Ok(ticket)
+    }
+
+    /// The part that is to be sent next, if a message is left to be sent. It only looks.
+    ///
+    /// `max` is the largest ULPDU that may be sent, in octets. A part is as long as the ULPDU allows behind the header, and
+    /// the last one what is left: none is empty but that of an empty message. A Read is one part without octets.
+    pub fn next_part(&self, max: usize) -> Option<Part<&Request<Bytes<A>>>>
+        requires { 128 ≤ max }
+        ensures part { shown result ≡ next_part self.now max }
+        ensures within { IfSome result (λ part. part.offset + part.n ≤ length (payload part.message.now)) }
+    {
+        let message = self.unsent.front()?;
+        let ticket = self.sent.next_ticket();
+        let room = max - message.header_len();
+        let left = message.payload().len() - self.offset;
+        Some(Part {
+            ticket,
+            message,
+            offset: self.offset,
+            n: left.min(room),
+            last: left <= room,
+        })
+    }
+
+    /// Says that the part that `next_part(max)` shows was sent. The last part of a Write or a Send finishes it.
+    pub fn part_sent(&mut self, max: usize)
+        requires max { 128 ≤ max }
+        requires part { IsSome (next_part self.old max) }
+        ensures { self.new ≡ part_sent self.old (next_part self.old max) }
+    {
+        let Some(message) = self.unsent.front() else {
+            return;
+        };
+        let room = max - message.header_len();
+        let left = message.payload().len() - self.offset;
+        if left > room {
+            self.offset += room;
+            return;
+        }
+        self.sent.add(message.kind());
+        let _ = self.unsent.pop_front();
+        self.offset = 0;
+    }
+
+    /// Finishes a Read, whose response has come whole.
+    pub fn finish(&mut self, ticket: u64)
+        requires { IsAwaited self.old.sent ticket }
+        ensures { self.new ≡ sent_with self.old (finished self.old.sent ticket) }
+    {
+        self.sent.finish(ticket);
+    }
+
+    /// Hands out the oldest message, if it is finished.
+    pub fn next(&mut self) -> Option<Done>
+        ensures done { result ≡ done_in self.old }
+        ensures after { self.new ≡ handed_from self.old result }
+    {
+        self.sent.next()
+    }
+
+    /// Gives up the oldest message, finished or not.
+    pub fn flush(&mut self) -> Option<Done>
+        ensures done { result ≡ oldest_in self.old }
+        ensures after { self.new ≡ handed_from self.old result }
+    {
+        if !self.sent.is_empty() {
+            return self.sent.flush();
+        }
+        // One that was not sent to its end is given up as if it were.
+        let kind = take_first(&mut self.unsent)?;
+        self.offset = 0;
+        self.sent.add(kind);
+        self.sent.flush()
+    }
+}
+
+// Takes the first message and tells what it is. Its octets are dropped.
+fn take_first<A: Allocator>(messages: &mut VecDeque<Request<Bytes<A>>, A>) -> Option<Kind>
+    ensures kind { result ≡ option_map kind_of (slice_get messages.old.items 0) }
+    ensures rest { messages.new.items ≡ drop 1 messages.old.items }
+{
+    Some(messages.pop_front()?.kind())
+}
