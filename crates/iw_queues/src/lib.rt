@@ -4,6 +4,7 @@
 #![tactic(auto)]
 
 mod completions;
+pub mod laws;
 mod request;
 mod send_queue;
 

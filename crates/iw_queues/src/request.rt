@@ -30,10 +30,10 @@ pub enum Refusal {
     NoMemory,
 }
 
-// DDP's header of a tagged segment, with RDMAP's octet in it (RFC 5041 4.1).
+// DDP's header of a tagged segment, with RDMAP's octet in it (RFC 5041 4.2).
 const TAGGED_HEADER: usize = 14;
 
-// DDP's header of an untagged segment, with RDMAP's octets in it (RFC 5041 4.2).
+// DDP's header of an untagged segment, with RDMAP's octets in it (RFC 5041 4.3).
 const UNTAGGED_HEADER: usize = 18;
 
 impl<A: Allocator> Request<Bytes<A>> {

@@ -1,0 +1,45 @@
+-- What holds of the segments that carry posted messages, and of what a queue has sent.
+use Rattle.std.specs.Prelude.{ℕ, ◌≡◌, ◌<◌, ◌≤◌, List, [], ◌∷◌, ◌++◌, length, Some}
+use Rattle.iw_octets.specs.declared.message.Message.{Message as PostedMessage}
+use Rattle.iw_octets.specs.declared.segment.Segment.{Segment}
+use Rattle.iw_queues.specs.declared.request.Request.{Request}
+use Rattle.iw_queues.specs.declared.request.Request.TheVariants.{Message}
+use Rattle.iw_queues.specs.declared.send_queue.Part.{Part}
+use Rattle.iw_queues.specs.Request.{payload}
+use Rattle.iw_queues.specs.Queue.{Queue, nothing_posted, posted, next_part, part_sent, IsWithinLimits}
+use Rattle.iw_queues.specs.Segments.{Numbers, first_numbers, numbers_after_all, numbers_behind, segment_of, AreSegments, AreSpelled}
+use Rattle.iw_queues.specs.Joined.{IsPrefixOf, payloads, joined, sends, Cell, count_writes, count_before, count_segments}
+
+-- joined, the parts of a message are its octets
+abbrev pub JoinsToMessage : Type 0
+JoinsToMessage = (numbers : Numbers) (message : PostedMessage (List ℕ)) (ss : List (Segment (List ℕ))) → AreSegments numbers (Message message) 0 ss
+    → payloads ss ≡ payload (Message message)
+
+-- segments that were delivered in order complete the first of the Sends, each whole
+abbrev pub CompletesInOrder : Type 0
+CompletesInOrder = (numbers : Numbers) (ms : List (Request (List ℕ))) (delivered later : List (Segment (List ℕ))) → AreSpelled numbers 0 ms (delivered ++ later)
+    → IsPrefixOf (joined [] delivered) (sends ms)
+
+-- each octet of the Writes before a Send that is complete was placed, and no octet was placed more often than it was posted
+pub record IsCovered (c : Cell) (ms : List (Request (List ℕ))) (delivered : List (Segment (List ℕ))) : Type 0 where
+  pub before : (k : ℕ) → k < length (joined [] delivered) → count_before c k ms ≤ count_segments c delivered
+  pub most : count_segments c delivered ≤ count_writes c ms
+
+abbrev pub CoversWrites : Type 0
+CoversWrites = (numbers : Numbers) (ms : List (Request (List ℕ))) (delivered later : List (Segment (List ℕ))) → AreSpelled numbers 0 ms (delivered ++ later)
+    → (c : Cell) → IsCovered c ms delivered
+
+-- these segments were sent of these messages, and go on with any that carry what is left in the queue
+pub record HasSent (ms : List (Request (List ℕ))) (sent : List (Segment (List ℕ))) (numbers : Numbers) (q : Queue) : Type 0 where
+  pub goes_on : (rest : List (Segment (List ℕ))) → AreSpelled numbers q.offset q.unsent rest → AreSpelled first_numbers 0 ms (sent ++ rest)
+  pub counted : numbers_after_all numbers q.unsent ≡ numbers_after_all first_numbers ms
+
+-- what is sent part by part is the beginning of segments that carry the posted messages, in order and whole
+pub record SendsInOrder : Type 0 where
+  pub start : HasSent [] [] first_numbers nothing_posted
+  pub post : (ms : List (Request (List ℕ))) (sent : List (Segment (List ℕ))) (numbers : Numbers) (q : Queue) (message : Request (List ℕ)) → IsWithinLimits q → HasSent ms sent numbers q
+      → HasSent (ms ++ message ∷ []) sent numbers (posted q message)
+  pub part : (ms : List (Request (List ℕ))) (sent : List (Segment (List ℕ))) (numbers : Numbers) (q : Queue) (max : ℕ) (shown : Part (Request (List ℕ))) → 128 ≤ max → max ≤ 64512
+      → next_part q max ≡ Some shown → HasSent ms sent numbers q → HasSent ms (sent ++ segment_of numbers shown ∷ []) (numbers_behind numbers shown) (part_sent q (Some shown))
+  pub whole : (ms : List (Request (List ℕ))) (sent : List (Segment (List ℕ))) (numbers : Numbers) (q : Queue) → HasSent ms sent numbers q
+      → (rest : List (Segment (List ℕ))) × AreSpelled first_numbers 0 ms (sent ++ rest)

@@ -1,0 +1,120 @@
+-- The segments that carry posted messages: any cut of the octets of each, one message behind the other.
+use Rattle.std.specs.Prelude.{ℕ, ◌≡◌, ◌+◌, ◌%◌, ◌^◌, ◌<◌, ◌≤◌, Bool, true, false, List, [], ◌∷◌, ◌++◌, length, take, drop, if◌then◌else◌, Option, is_some, ◌-◌}
+use Rattle.std.specs.Option.{option_map_or}
+use Rattle.iw_octets.specs.declared.message.Message.TheVariants.{Write, Send}
+use Rattle.iw_octets.specs.declared.payload.ReadRequest.{ReadRequest}
+use Rattle.iw_octets.specs.declared.segment.Segment.{Segment}
+use Rattle.iw_octets.specs.declared.segment.Segment.TheVariants.{Tagged, Untagged}
+use Rattle.iw_octets.specs.declared.stag.Stag.{Stag}
+use Rattle.iw_octets.specs.Payload.{request_octets}
+use Rattle.iw_octets.specs.Stag.{number_of}
+use Rattle.iw_queues.specs.declared.request.Request.{Request}
+use Rattle.iw_queues.specs.declared.request.Request.TheVariants.{Message, Read}
+use Rattle.iw_queues.specs.declared.send_queue.Part.{Part}
+use Rattle.iw_queues.specs.Request.{payload}
+
+-- ---- headers
+-- RDMAP's octet of a header: its version, 1, in the two high bits and the opcode in the four low ones (RFC 5040 4.1)
+abbrev pub control_of : ℕ → ℕ
+control_of opcode = 0x40 + opcode
+
+abbrev pub write_opcode : ℕ
+write_opcode = 0
+
+abbrev pub read_opcode : ℕ
+read_opcode = 1
+
+-- of a Send: solicited or not, with an STag to invalidate or without
+abbrev pub send_opcode : Bool → Bool → ℕ
+send_opcode false false = 3
+send_opcode false true = 4
+send_opcode true false = 5
+send_opcode true true = 6
+
+-- the message sequence numbers of the next Send and of the next Read: each queue counts its own (RFC 5041 4.3)
+pub record Numbers : Type 0 where
+  pub send : ℕ
+  pub read : ℕ
+
+abbrev pub first_numbers : Numbers
+first_numbers = record { send = 1; read = 1 }
+
+abbrev pub numbers_after : Numbers → Request (List ℕ) → Numbers
+numbers_after numbers (Message (Write stag to octets)) = numbers
+numbers_after numbers (Message (Send octets solicited invalidate)) = record numbers { send = (numbers.send + 1) % 2 ^ 32 }
+numbers_after numbers (Read request) = record numbers { read = (numbers.read + 1) % 2 ^ 32 }
+
+abbrev pub numbers_after_all : Numbers → List (Request (List ℕ)) → Numbers
+numbers_after_all numbers [] = numbers
+numbers_after_all numbers (m ∷ ms) = numbers_after_all (numbers_after numbers m) ms
+
+-- the segment with these octets of a Write, which stand from `offset` on in its payload (RFC 5041 4.2)
+abbrev pub write_segment : Stag → ℕ → ℕ → Bool → List ℕ → Segment (List ℕ)
+write_segment stag to offset last octets =
+    Tagged (record { last = last; ddp_version = 1; control = control_of write_opcode; stag = stag; to = (to + offset) % 2 ^ 64 }) octets
+
+-- the same of a Send, each segment of which has the opcode and the STag to invalidate (RFC 5040 4.1, RFC 5041 4.3)
+abbrev pub send_segment : ℕ → Bool → Option Stag → ℕ → Bool → List ℕ → Segment (List ℕ)
+send_segment msn solicited invalidate offset last octets =
+    Untagged (record {
+      last = last;
+      ddp_version = 1;
+      control = control_of (send_opcode solicited (is_some invalidate));
+      tail = option_map_or number_of invalidate 0;
+      queue = 0;
+      msn = msn;
+      mo = offset;
+    }) octets
+
+-- the one segment of a Read: its request, on queue number 1 (RFC 5040 5.2.1)
+abbrev pub request_segment : ℕ → ReadRequest → Segment (List ℕ)
+request_segment msn request =
+    Untagged (record { last = true; ddp_version = 1; control = control_of read_opcode; tail = 0; queue = 1; msn = msn; mo = 0 }) (request_octets request)
+
+-- the segment with these octets of a message, which stand from `offset` on in its payload; a Read has the octets of its request
+abbrev pub segment_with : Numbers → Request (List ℕ) → ℕ → Bool → List ℕ → Segment (List ℕ)
+segment_with numbers (Message (Write stag to payload)) offset last octets = write_segment stag to offset last octets
+segment_with numbers (Message (Send payload solicited invalidate)) offset last octets = send_segment numbers.send solicited invalidate offset last octets
+segment_with numbers (Read request) offset last octets = request_segment numbers.read request
+
+-- ---- cuts
+-- the largest ULPDU that is sent, in octets
+abbrev pub max_ulpdu : ℕ
+max_ulpdu = 64512
+
+-- these octets, from `offset` of their message on, in a segment of at most `room` octets that is not the last
+pub record IsFront (room : ℕ) (segment : ℕ → Bool → List ℕ → Segment (List ℕ)) (offset : ℕ) (octets : List ℕ) (s : Segment (List ℕ)) (front back : List ℕ) : Type 0 where
+  pub cut : octets ≡ front ++ back
+  pub filled : 0 < length front
+  pub fits : length front ≤ room
+  pub left : 0 < length back
+  pub is : s ≡ segment offset false front
+
+-- any cut of the octets: no part is empty, but one of no octets alone, and the last is marked
+abbrev pub IsCut : ℕ → (ℕ → Bool → List ℕ → Segment (List ℕ)) → ℕ → List ℕ → List (Segment (List ℕ)) → Type 0
+IsCut room segment offset octets [] = ⊥
+IsCut room segment offset octets (s ∷ []) = (length octets ≤ room) × (s ≡ segment offset true octets)
+IsCut room segment offset octets (s ∷ t ∷ ss) =
+    (front back : List ℕ) × IsFront room segment offset octets s front back × IsCut room segment (offset + length front) back (t ∷ ss)
+
+-- the segments of what is left of a message behind its first `offset` octets (RFC 5041 5.2)
+abbrev pub AreSegments : Numbers → Request (List ℕ) → ℕ → List (Segment (List ℕ)) → Type 0
+AreSegments numbers (Message (Write stag to octets)) offset ss = IsCut (max_ulpdu - 14) (write_segment stag to) offset (drop offset octets) ss
+AreSegments numbers (Message (Send octets solicited invalidate)) offset ss =
+    IsCut (max_ulpdu - 18) (send_segment numbers.send solicited invalidate) offset (drop offset octets) ss
+AreSegments numbers (Read request) offset ss = ss ≡ request_segment numbers.read request ∷ []
+
+-- the segments of these messages, one message behind the other, `offset` octets of the first having gone before (RFC 5041 5.3)
+abbrev pub AreSpelled : Numbers → ℕ → List (Request (List ℕ)) → List (Segment (List ℕ)) → Type 0
+AreSpelled numbers offset [] ss = ss ≡ []
+AreSpelled numbers offset (m ∷ ms) ss =
+    (mine later : List (Segment (List ℕ))) × (ss ≡ mine ++ later) × AreSegments numbers m offset mine × AreSpelled (numbers_after numbers m) 0 ms later
+
+-- ---- a part that is shown
+-- its segment, where the next Send and the next Read have these numbers
+abbrev pub segment_of : Numbers → Part (Request (List ℕ)) → Segment (List ℕ)
+segment_of numbers part = segment_with numbers part.message part.offset part.last (take part.n (drop part.offset (payload part.message)))
+
+-- the numbers behind it
+abbrev pub numbers_behind : Numbers → Part (Request (List ℕ)) → Numbers
+numbers_behind numbers part = if part.last then numbers_after numbers part.message else numbers
