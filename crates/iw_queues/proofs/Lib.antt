@@ -1,2 +1,4 @@
 pub mod Cuts
 pub mod Sending
+pub mod Filled
+pub mod Awaited

@@ -1,12 +1,14 @@
 -- What holds of the segments that carry posted messages, and of what a queue has sent.
-use Rattle.std.specs.Prelude.{ℕ, ◌≡◌, ◌<◌, ◌≤◌, List, [], ◌∷◌, ◌++◌, length, Some}
+use Rattle.std.specs.Prelude.{ℕ, ◌≡◌, ◌≢◌, ◌+◌, ◌^◌, true, false, ◌<◌, ◌≤◌, List, [], ◌∷◌, ◌++◌, length, Some}
 use Rattle.iw_octets.specs.declared.message.Message.{Message as PostedMessage}
 use Rattle.iw_octets.specs.declared.segment.Segment.{Segment}
 use Rattle.iw_queues.specs.declared.request.Request.{Request}
 use Rattle.iw_queues.specs.declared.request.Request.TheVariants.{Message}
+use Rattle.iw_queues.specs.declared.request.Kind.TheVariants as kinds
 use Rattle.iw_queues.specs.declared.send_queue.Part.{Part}
-use Rattle.iw_queues.specs.Request.{payload}
-use Rattle.iw_queues.specs.Queue.{Queue, nothing_posted, posted, next_part, part_sent, IsWithinLimits}
+use Rattle.iw_queues.specs.Request.{payload, kind_of, header_len}
+use Rattle.iw_queues.specs.Completions.{Outstanding, IsAwaited, finished}
+use Rattle.iw_queues.specs.Queue.{Queue, nothing_posted, posted, next_part, part_sent, done_in, handed_from, IsWithinLimits}
 use Rattle.iw_queues.specs.Segments.{Numbers, first_numbers, numbers_after_all, numbers_behind, segment_of, AreSegments, AreSpelled}
 use Rattle.iw_queues.specs.Joined.{IsPrefixOf, payloads, joined, sends, Cell, count_writes, count_before, count_segments}
 
@@ -43,3 +45,21 @@ pub record SendsInOrder : Type 0 where
       → next_part q max ≡ Some shown → HasSent ms sent numbers q → HasSent ms (sent ++ segment_of numbers shown ∷ []) (numbers_behind numbers shown) (part_sent q (Some shown))
   pub whole : (ms : List (Request (List ℕ))) (sent : List (Segment (List ℕ))) (numbers : Numbers) (q : Queue) → HasSent ms sent numbers q
       → (rest : List (Segment (List ℕ))) × AreSpelled first_numbers 0 ms (sent ++ rest)
+
+-- a part that is not the last fills the largest ULPDU, the last is what is left, and a part without octets is all of a message without octets
+pub record IsFilled (max : ℕ) (part : Part (Request (List ℕ))) : Type 0 where
+  pub full : part.last ≡ false → part.n + header_len part.message ≡ max
+  pub end : part.last ≡ true → part.offset + part.n ≡ length (payload part.message)
+  pub fits : part.n + header_len part.message ≤ max
+  pub empty : part.n ≡ 0 → payload part.message ≡ []
+
+abbrev pub FillsParts : Type 0
+FillsParts = (q : Queue) (max : ℕ) (part : Part (Request (List ℕ))) → 128 ≤ max → IsWithinLimits q → next_part q max ≡ Some part → IsFilled max part
+
+-- a Read is awaited from the sending of its request on until it is finished or handed out, whatever else is done
+pub record AwaitsReads : Type 0 where
+  pub sent : (q : Queue) (max : ℕ) (part : Part (Request (List ℕ))) → IsWithinLimits q → q.sent.first < 2 ^ 64 → next_part q max ≡ Some part → kind_of part.message ≡ kinds.Read
+      → IsAwaited (part_sent q (Some part)).sent part.ticket
+  pub others_sent : (q : Queue) (max ticket : ℕ) → IsAwaited q.sent ticket → IsAwaited (part_sent q (next_part q max)).sent ticket
+  pub others_finished : (c : Outstanding) (ticket other : ℕ) → c.first < 2 ^ 64 → ticket < 2 ^ 64 → other < 2 ^ 64 → ticket ≢ other → IsAwaited c ticket → IsAwaited (finished c other) ticket
+  pub handed_out : (q : Queue) (ticket : ℕ) → q.sent.first < 2 ^ 64 → ticket < 2 ^ 64 → IsAwaited q.sent ticket → IsAwaited (handed_from q (done_in q)).sent ticket

@@ -1,4 +1,4 @@
-ghost use Rattle.std.specs.Prelude.{◌≡◌, ◌+◌, ◌<◌, ◌≤◌, ◌↔◌, ◌^◌, [], length, IsTrue, OnOk};
+ghost use Rattle.std.specs.Prelude.{◌≡◌, ◌+◌, ◌<◌, ◌≤◌, ◌↔◌, ◌^◌, [], length, IsTrue, MatchBool, OnOk};
 
 use crate::request::Kind;
 use std::alloc::{AllocError, Allocator, Global};
@@ -87,7 +87,7 @@ impl<A: Allocator> Completions<A> {
         self.messages.reserve(n)
     }
 
-    /// Adds a message that was sent to its end. A Write and a Send are finished by that (RFC 5040 5.1), a Read is not.
+    /// Adds a message that was sent to its end. A Write and a Send are finished by that, a Read is not (RFC 5040 5.5).
     /// It takes the room of one message.
     pub fn add(&mut self, kind: Kind)
         requires { 0 < self.old.room }
@@ -98,6 +98,21 @@ impl<A: Allocator> Completions<A> {
             kind,
             finished: kind != Kind::Read,
         });
+    }
+
+    /// Whether this is the ticket of a Read that is not finished.
+    pub fn awaits(&self, ticket: u64) -> bool
+        ensures { MatchBool result (IsAwaited self.now.outstanding ticket) (¬ IsAwaited self.now.outstanding ticket) }
+    {
+        let place = ticket.wrapping_sub(self.first) as usize;
+        let awaited = Sent {
+            kind: Kind::Read,
+            finished: false,
+        };
+        match self.messages.get(place) {
+            Some(message) => *message == awaited,
+            None => false,
+        }
     }
 
     /// Finishes a Read, whose response has come whole.
@@ -113,7 +128,7 @@ impl<A: Allocator> Completions<A> {
         };
     }
 
-    /// Hands out the oldest message, if it is finished.
+    /// Hands out the oldest message, if it is finished: messages complete in posting order (RFC 5040 5.5).
     pub fn next(&mut self) -> Option<Done>
         ensures done { result ≡ done self.old.outstanding }
         ensures after { self.new.outstanding ≡ handed_out self.old.outstanding result }

@@ -1,5 +1,5 @@
 //! What holds of the segments that carry posted messages, in whatever parts each was cut.
-ghost use Rattle.iw_queues.specs.Laws.{JoinsToMessage, CompletesInOrder, CoversWrites, SendsInOrder};
+ghost use Rattle.iw_queues.specs.Laws.{JoinsToMessage, CompletesInOrder, CoversWrites, SendsInOrder, FillsParts, AwaitsReads};
 
 /// Joined, the parts of a message are its octets.
 pub fn parts_join_to_their_message()
@@ -20,4 +20,15 @@ pub fn writes_are_covered()
 /// carry the posted messages, in order and whole.
 pub fn parts_are_sent_in_order()
     ensures { SendsInOrder }
+{}
+
+/// No part is shorter than the ULPDU allows but a message's last, which is what is left, and none is empty but that of a
+/// message without octets.
+pub fn parts_are_filled()
+    ensures { FillsParts }
+{}
+
+/// A Read is awaited from the sending of its request on until it is finished or handed out.
+pub fn reads_are_awaited()
+    ensures { AwaitsReads }
 {}

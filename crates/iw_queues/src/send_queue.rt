@@ -1,4 +1,4 @@
-ghost use Rattle.std.specs.Prelude.{◌≡◌, ◌+◌, ◌<◌, ◌≤◌, ◌^◌, length, take, drop, OnOk, OnErr, IfOk, IfErr, IsErr, IsSome, IfSome, IfNone, slice_get};
+ghost use Rattle.std.specs.Prelude.{◌≡◌, ◌+◌, ◌<◌, ◌≤◌, ◌^◌, length, take, drop, OnOk, OnErr, IfOk, IfErr, IsErr, IsSome, IfSome, IfNone, IsTrue, MatchBool, ◌↔◌, slice_get};
 ghost use Rattle.std.specs.Option.{option_map};
 ghost use Rattle.iw_queues.specs.Request.{kind_of, payload};
 
@@ -91,6 +91,12 @@ impl<A: Allocator> SendQueue<A> {
         self.sent.len() + self.unsent.len()
     }
 
+    pub fn is_empty(&self) -> bool
+        ensures { IsTrue result ↔ (length self.now.sent.messages + length self.now.unsent ≡ 0) }
+    {
+        self.len() == 0
+    }
+
     /// Posts a message behind the others, and tells its ticket. `NoMemory` comes only where no other refusal applies.
     /// An `Err` changes nothing, and has the message.
     pub fn post(&mut self, message: Request<Bytes<A>>) -> Result<u64, (Refusal, Request<Bytes<A>>)>
@@ -161,6 +167,13 @@ impl<A: Allocator> SendQueue<A> {
         self.offset = 0;
     }
 
+    /// Whether this is the ticket of a Read that was sent and is neither finished nor handed out.
+    pub fn awaits(&self, ticket: u64) -> bool
+        ensures { MatchBool result (IsAwaited self.now.sent ticket) (¬ IsAwaited self.now.sent ticket) }
+    {
+        self.sent.awaits(ticket)
+    }
+
     /// Finishes a Read, whose response has come whole.
     pub fn finish(&mut self, ticket: u64)
         requires { IsAwaited self.old.sent ticket }
@@ -169,7 +182,7 @@ impl<A: Allocator> SendQueue<A> {
         self.sent.finish(ticket);
     }
 
-    /// Hands out the oldest message, if it is finished.
+    /// Hands out the oldest message, if it is finished: messages complete in posting order (RFC 5040 5.5).
     pub fn next(&mut self) -> Option<Done>
         ensures done { result ≡ done_in self.old }
         ensures after { self.new ≡ handed_from self.old result }
