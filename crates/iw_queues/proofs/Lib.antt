@@ -2,3 +2,4 @@ pub mod Cuts
 pub mod Sending
 pub mod Filled
 pub mod Awaited
+pub mod Order

@@ -1,5 +1,5 @@
 -- What a queue sends part by part is the beginning of segments that carry the posted messages.
-use Rattle.std.proofs.Common.{◌≡◌, ℕ, ◌+◌, ◌-◌, ◌<◌, ◌≤◌, ◌⊎◌, inl, inr, zero, suc, List, [], ◌∷◌, ◌++◌, length, take, drop, min, Bool, true, false, refl, sym, ap, ◌∙◌, subst, arith, append_assoc, leb, lit<, Some}
+use Rattle.std.proofs.Common.{◌≡◌, ℕ, ◌+◌, ◌-◌, ◌<◌, ◌≤◌, ◌⊎◌, inl, inr, zero, suc, List, [], ◌∷◌, ◌++◌, length, take, drop, min, Bool, true, false, refl, sym, ap, ◌∙◌, subst, arith, append_assoc, cond, leb, lit<, Some, None}
 use Rattle.std.proofs.lemmas.List.{append-nil, take-append-drop, drop-drop, take_all, length-drop, length-take-le}
 use Rattle.std.proofs.lemmas.Bool.{cases_lt}
 use Rattle.std.proofs.lemmas.Bool.Decides.{leb_tells}
@@ -7,10 +7,11 @@ use Rattle.iw_octets.specs.declared.message.Message.TheVariants.{Write, Send}
 use Rattle.iw_octets.specs.declared.segment.Segment.{Segment}
 use Rattle.iw_queues.specs.declared.request.Request.{Request}
 use Rattle.iw_queues.specs.declared.request.Request.TheVariants.{Message, Read}
+use Rattle.iw_queues.specs.declared.completions.Sent.{Sent}
 use Rattle.iw_queues.specs.declared.send_queue.Part.{Part}
-use Rattle.iw_queues.specs.Completions.{Outstanding, next_ticket}
+use Rattle.iw_queues.specs.Completions.{Outstanding, next_ticket, done_from}
 use Rattle.iw_queues.specs.Request.{payload, header_len}
-use Rattle.iw_queues.specs.Queue.{Queue, posted, part_from, next_part, part_sent, IsBegun, IsWithinLimits}
+use Rattle.iw_queues.specs.Queue.{Queue, posted, part_from, next_part, part_sent, handed_from, IsBegun, IsWithinLimits}
 use Rattle.iw_queues.specs.Segments.{Numbers, first_numbers, numbers_after, numbers_after_all, numbers_behind, segment_of, write_segment, send_segment, request_segment, IsCut, AreSegments, AreSpelled}
 use Rattle.iw_queues.specs.Laws.{HasSent, SendsInOrder}
 
@@ -159,10 +160,22 @@ some_spelled numbers offset (m ∷ ms) =
     let later = some_spelled (numbers_after numbers m) 0 ms in
     (mine.0 ++ later.0, (mine.0, later.0, refl, mine.1, later.1))
 
+-- ---- what is handed out changes nothing of this
+handed : (ms : List (Request (List ℕ))) (gone : List (Segment (List ℕ))) (numbers : Numbers) (q : Queue) (first : ℕ) (messages : List Sent) → HasSent ms gone numbers q
+    → HasSent ms gone numbers (handed_from (record q { sent = record { first = first; messages = messages } }) (done_from first messages))
+handed ms gone numbers q first [] h = record { goes_on = h.goes_on; counted = h.counted }
+handed ms gone numbers q first (m ∷ messages) h = go m.finished
+  where
+    go : (b : Bool) → HasSent ms gone numbers (handed_from (record q { sent = record { first = first; messages = m ∷ messages } }) (cond b (Some (record { ticket = first; kind = m.kind })) None))
+    go true = record { goes_on = h.goes_on; counted = h.counted }
+    go false = record { goes_on = h.goes_on; counted = h.counted }
+
 pub sends_in_order : SendsInOrder
 sends_in_order = record {
   start = record { goes_on = λ rest s. s; counted = refl };
   post = post_goes_on;
   part = λ ms gone numbers q max shown low high e h. part_goes_on ms gone numbers q.sent q.unsent q.offset max shown low high e h;
+  finish = λ ms gone numbers q ticket h. record { goes_on = h.goes_on; counted = h.counted };
+  next = λ ms gone numbers q h. handed ms gone numbers q q.sent.first q.sent.messages h;
   whole = λ ms gone numbers q h. let rest = some_spelled numbers q.offset q.unsent in (rest.0, h.goes_on rest.0 rest.1);
 }

@@ -1,14 +1,16 @@
 -- What holds of the segments that carry posted messages, and of what a queue has sent.
-use Rattle.std.specs.Prelude.{ℕ, ◌≡◌, ◌≢◌, ◌+◌, ◌^◌, true, false, ◌<◌, ◌≤◌, List, [], ◌∷◌, ◌++◌, length, Some}
+use Rattle.std.specs.Prelude.{ℕ, ◌≡◌, ◌≢◌, ◌+◌, ◌%◌, ◌^◌, map, true, false, ◌<◌, ◌≤◌, List, [], ◌∷◌, ◌++◌, length, Some}
 use Rattle.iw_octets.specs.declared.message.Message.{Message as PostedMessage}
 use Rattle.iw_octets.specs.declared.segment.Segment.{Segment}
 use Rattle.iw_queues.specs.declared.request.Request.{Request}
 use Rattle.iw_queues.specs.declared.request.Request.TheVariants.{Message}
+use Rattle.iw_queues.specs.declared.request.Kind.{Kind}
 use Rattle.iw_queues.specs.declared.request.Kind.TheVariants as kinds
+use Rattle.iw_queues.specs.declared.completions.Done.{Done}
 use Rattle.iw_queues.specs.declared.send_queue.Part.{Part}
 use Rattle.iw_queues.specs.Request.{payload, kind_of, header_len}
 use Rattle.iw_queues.specs.Completions.{Outstanding, IsAwaited, finished}
-use Rattle.iw_queues.specs.Queue.{Queue, nothing_posted, posted, next_part, part_sent, done_in, handed_from, IsWithinLimits}
+use Rattle.iw_queues.specs.Queue.{Queue, nothing_posted, posted, next_part, part_sent, sent_with, done_in, oldest_in, handed_from, IsWithinLimits}
 use Rattle.iw_queues.specs.Segments.{Numbers, first_numbers, numbers_after_all, numbers_behind, segment_of, AreSegments, AreSpelled}
 use Rattle.iw_queues.specs.Joined.{IsPrefixOf, payloads, joined, sends, Cell, count_writes, count_before, count_segments}
 
@@ -43,6 +45,9 @@ pub record SendsInOrder : Type 0 where
       → HasSent (ms ++ message ∷ []) sent numbers (posted q message)
   pub part : (ms : List (Request (List ℕ))) (sent : List (Segment (List ℕ))) (numbers : Numbers) (q : Queue) (max : ℕ) (shown : Part (Request (List ℕ))) → 128 ≤ max → max ≤ 64512
       → next_part q max ≡ Some shown → HasSent ms sent numbers q → HasSent ms (sent ++ segment_of numbers shown ∷ []) (numbers_behind numbers shown) (part_sent q (Some shown))
+  pub finish : (ms : List (Request (List ℕ))) (sent : List (Segment (List ℕ))) (numbers : Numbers) (q : Queue) (ticket : ℕ) → HasSent ms sent numbers q
+      → HasSent ms sent numbers (sent_with q (finished q.sent ticket))
+  pub next : (ms : List (Request (List ℕ))) (sent : List (Segment (List ℕ))) (numbers : Numbers) (q : Queue) → HasSent ms sent numbers q → HasSent ms sent numbers (handed_from q (done_in q))
   pub whole : (ms : List (Request (List ℕ))) (sent : List (Segment (List ℕ))) (numbers : Numbers) (q : Queue) → HasSent ms sent numbers q
       → (rest : List (Segment (List ℕ))) × AreSpelled first_numbers 0 ms (sent ++ rest)
 
@@ -63,3 +68,22 @@ pub record AwaitsReads : Type 0 where
   pub others_sent : (q : Queue) (max ticket : ℕ) → IsAwaited q.sent ticket → IsAwaited (part_sent q (next_part q max)).sent ticket
   pub others_finished : (c : Outstanding) (ticket other : ℕ) → c.first < 2 ^ 64 → ticket < 2 ^ 64 → other < 2 ^ 64 → ticket ≢ other → IsAwaited c ticket → IsAwaited (finished c other) ticket
   pub handed_out : (q : Queue) (ticket : ℕ) → q.sent.first < 2 ^ 64 → ticket < 2 ^ 64 → IsAwaited q.sent ticket → IsAwaited (handed_from q (done_in q)).sent ticket
+
+-- ---- order
+-- what the messages are that are not handed out, in posting order
+abbrev pub kinds_in : Queue → List Kind
+kinds_in q = map (λ m. m.kind) q.sent.messages ++ map kind_of q.unsent
+
+-- a message that is handed out is the oldest, and has the oldest ticket; the next one has the next ticket
+pub record IsHandedOut (q : Queue) (d : Done) : Type 0 where
+  pub kind : kinds_in q ≡ d.kind ∷ kinds_in (handed_from q (Some d))
+  pub ticket : d.ticket ≡ q.sent.first
+  pub next : (handed_from q (Some d)).sent.first ≡ (q.sent.first + 1) % 2 ^ 64
+
+-- messages are handed out in the order in which they were posted, finished or given up, whatever the order in which Reads finish
+pub record KeepsOrder : Type 0 where
+  pub posted : (q : Queue) (message : Request (List ℕ)) → kinds_in (posted q message) ≡ kinds_in q ++ kind_of message ∷ []
+  pub sent : (q : Queue) (max : ℕ) → kinds_in (part_sent q (next_part q max)) ≡ kinds_in q
+  pub finished : (q : Queue) (ticket : ℕ) → IsAwaited q.sent ticket → kinds_in (sent_with q (finished q.sent ticket)) ≡ kinds_in q
+  pub done : (q : Queue) (d : Done) → done_in q ≡ Some d → IsHandedOut q d
+  pub given_up : (q : Queue) (d : Done) → oldest_in q ≡ Some d → IsHandedOut q d

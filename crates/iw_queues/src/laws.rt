@@ -1,5 +1,5 @@
 //! What holds of the segments that carry posted messages, in whatever parts each was cut.
-ghost use Rattle.iw_queues.specs.Laws.{JoinsToMessage, CompletesInOrder, CoversWrites, SendsInOrder, FillsParts, AwaitsReads};
+ghost use Rattle.iw_queues.specs.Laws.{JoinsToMessage, CompletesInOrder, CoversWrites, SendsInOrder, FillsParts, AwaitsReads, KeepsOrder};
 
 /// Joined, the parts of a message are its octets.
 pub fn parts_join_to_their_message()
@@ -31,4 +31,9 @@ pub fn parts_are_filled()
 /// A Read is awaited from the sending of its request on until it is finished or handed out.
 pub fn reads_are_awaited()
     ensures { AwaitsReads }
+{}
+
+/// Messages are handed out in the order in which they were posted, whatever the order in which Reads finish.
+pub fn messages_keep_their_order()
+    ensures { KeepsOrder }
 {}
