@@ -1,0 +1,6 @@
+pub mod Counted
+pub mod Laid
+pub mod Rooms
+pub mod Written
+pub mod Octets
+pub mod Came

@@ -1,0 +1,30 @@
+-- How the octets of a frame are laid, piece by piece.
+use Rattle.std.specs.Prelude.{ℕ, ◌+◌, ◌-◌, ◌/◌, ◌%◌, ◌^◌, ◌≤◌, ◌<◌, ◌≡◌, ◌⊎◌, Bool, true, false, ◌&&◌, ◌==◌, if◌then◌else◌, List, [], ◌∷◌}
+use Rattle.iw_fpdu.specs.Places.{place_after}
+use Rattle.iw_fpdu.specs.Frame.{marker_octets}
+
+-- whether a piece of a frame may end or begin at a place: not within a marker
+abbrev pub IsEdge : Bool → ℕ → Type 0
+IsEdge true p = (p % 512 ≡ 0) ⊎ (4 ≤ p % 512)
+IsEdge false p = Unit {0}
+
+-- n places from a on, none of them a marker's
+abbrev pub IsRun : Bool → ℕ → ℕ → Type 0
+IsRun true a n = (4 ≤ a % 512) × (n + a % 512 ≤ 512)
+IsRun false a n = Unit {0}
+
+-- the marker at a place, if there is one
+unfoldable pub marker_before : Bool → ℕ → ℕ → List ℕ
+marker_before markers start at = if markers && (at % 512 == 0) then marker_octets start (at / 512) else []
+
+-- the marker that stands directly before a place, if there is one, where a frame begins at that place
+unfoldable pub marker_behind : Bool → ℕ → List ℕ
+marker_behind markers at = if markers && (at % 512 == 4) then 0 ∷ 0 ∷ 0 ∷ 0 ∷ [] else []
+
+-- n octets of the frame that begins at `start` may be laid from place `at` on behind `len` octets of `capacity`: the room is there, the markers among
+-- them can point to the start, and no place is too large
+pub record HasRoom (markers : Bool) (start at n len capacity : ℕ) : Type 0 where
+  pub edge : IsEdge markers at
+  pub room : len + (place_after markers at n - at) ≤ capacity
+  pub near : place_after markers at n ≤ start + 65128
+  pub low : place_after markers at n < 2 ^ 63 + 2 ^ 17

@@ -1,0 +1,143 @@
+ghost use Rattle.std.specs.Prelude.{◌≡◌, ◌<◌, ◌≤◌, ◌+◌, ◌-◌, ◌^◌, ℕ, length, drop, true, false, MatchBool, MatchOption};
+ghost use Rattle.std.specs.Bool.{OnTrue};
+ghost use Rattle.std.specs.Result.{result_err};
+ghost use Rattle.iw_ranges.specs.Arrived.{cell_at, has_come};
+ghost use Rattle.iw_fpdu.specs.Places.{IsStart};
+ghost use Rattle.iw_fpdu.specs.Found.{IsWhole, LacksOctet, IsKept, HoldsSpan, ulpdu_len, ulpdu, mismatch};
+
+use crate::check::check_span;
+use crate::layout::{Layout, end_of, index_of, place_of, span_of};
+use crate::pieces::Pieces;
+use iw_octets::gather;
+use iw_ranges::Islands;
+use std::alloc::{Allocator, Global};
+use std::marker::Model;
+
+/// What is wrong with a frame (RFC 5044 8, errors 2 and 3).
+#[derive(Clone, Copy, Debug, PartialEq, Eq)]
+pub enum Mismatch {
+    /// The CRC field is not the CRC of the octets before it.
+    CrcMismatch,
+    /// A marker does not point to the beginning of the frame.
+    MarkerMismatch,
+}
+
+/// A frame of which every octet came: its own, its markers', and those of the marker directly before it.
+#[derive(Drop)]
+pub struct Fpdu<'a, A: Allocator = Global> {
+    islands: &'a Islands<A>,
+    layout: Layout,
+    base: u64,
+    start: u64,
+    len: u16,
+}
+
+impl<'a, A: Allocator> Model for Fpdu<'a, A> {
+    ghost use Rattle.iw_fpdu.specs.Found.{Found};
+
+    ghost Value = { Found };
+
+    ghost use Rattle.iw_fpdu.specs.FoundView.{found_by, IsSound};
+
+    ghost view = { λ a. found_by a };
+
+    ghost invariant = { λ a. IsSound a };
+}
+
+/// Whether all octets at the frame places from `from` up to `to` came, where frame place 0 is place `base` of the stream.
+fn all_came<A: Allocator>(islands: &Islands<A>, base: u64, from: u64, to: u64) -> bool
+    requires { from < to }
+    ensures came { MatchBool result ((p : ℕ) → from ≤ p → p < to → has_come islands.now.arrived (base + p) ≡ true)
+        ((p : ℕ) × (from ≤ p) × (p < to) × (has_come islands.now.arrived (base + p) ≡ false)) }
+    ensures fits { OnTrue result (base + to < 2 ^ 64) }
+{
+    // Its contract has the limits: nothing comes as far behind the in-order point as the end of all places.
+    let _ = islands.floor();
+    match base.checked_add(to) {
+        Some(end) => islands.came(base + from, end),
+        None => false,
+    }
+}
+
+impl<'a, A: Allocator> Fpdu<'a, A> {
+    /// The frame that begins at frame place `start`, where frame place 0 is place `base` of the stream that came into
+    /// `islands`; `None` where an octet of it, of its markers or of the marker directly before it hasn't come.
+    pub fn read(
+        layout: Layout,
+        base: u64,
+        start: u64,
+        islands: &'a Islands<A>,
+    ) -> Option<Fpdu<'a, A>>
+        requires low { start < 2 ^ 63 }
+        requires start { IsStart layout.markers start }
+        requires length_kept { (p : ℕ) → start ≤ p → p < start + 2 → IsKept (cell_at islands.now.arrived (base + p)) }
+        ensures { MatchOption result (LacksOctet islands.now.arrived layout.markers base start)
+            (λ found. (found ≡ record { arrived = islands.now.arrived; layout = layout; base = base; start = start })
+            × IsWhole islands.now.arrived layout.markers base start) }
+    {
+        if !all_came(islands, base, start, start + 2) {
+            return None;
+        }
+        let at = base + start;
+        let len = u16::from_be_bytes([islands.octet(at), islands.octet(at + 1)]);
+        let from = span_of(layout.markers, start);
+        let to = end_of(layout.markers, start, len);
+        if !all_came(islands, base, from, to) {
+            return None;
+        }
+        Some(Fpdu {
+            islands,
+            layout,
+            base,
+            start,
+            len,
+        })
+    }
+
+    /// How many octets the ULPDU has.
+    pub fn len(&self) -> usize
+        ensures len { result ≡ ulpdu_len self.now }
+        ensures short { result < 2 ^ 16 }
+    {
+        usize::from(self.len)
+    }
+
+    /// The octets of the ULPDU from its octet `k` on, lent piece by piece, between the markers.
+    ///
+    /// None of the frame's octets was given up.
+    pub fn pieces(&self, k: usize) -> Pieces<'a>
+        requires { HoldsSpan self.now }
+        ensures { result ≡ drop k (ulpdu self.now) }
+    {
+        let k = k.min(usize::from(self.len));
+        let markers = self.layout.markers;
+        let index = index_of(markers, self.start) + 2 + k as u64;
+        let from = place_of(markers, index);
+        let to = end_of(markers, self.start, self.len);
+        let octets = self.islands.part(self.base + from, self.base + to);
+        Pieces::new(octets, from, markers, index, usize::from(self.len) - k)
+    }
+
+    /// Copies the octets of the ULPDU from its octet `k` on.
+    pub fn copy_from(&self, k: usize, out: &mut [u8])
+        requires held { HoldsSpan self.now }
+        requires room { length out.old ≡ ulpdu_len self.now - k }
+        ensures { out.new ≡ drop k (ulpdu self.now) }
+    {
+        gather(self.pieces(k), out);
+    }
+
+    /// Judges the CRC, where CRCs are used, and then the markers, where there are any: the octets as they came, the pad and
+    /// the reserved octets of the markers among what the CRC is over, and else not looked at.
+    ///
+    /// None of the frame's octets was given up.
+    pub fn check(&self) -> Result<(), Mismatch>
+        requires { HoldsSpan self.now }
+        ensures { result_err result ≡ mismatch self.now }
+    {
+        let from = span_of(self.layout.markers, self.start);
+        let to = end_of(self.layout.markers, self.start, self.len);
+        let octets = self.islands.part(self.base + from, self.base + to);
+        check_span(self.layout, self.start, self.len, octets)
+    }
+}

@@ -1,0 +1,119 @@
+ghost use Rattle.std.specs.Prelude.{◌≡◌, ◌<◌, ◌≤◌, ◌+◌, ◌*◌, ◌/◌, ◌^◌, false};
+ghost use Rattle.iw_fpdu.specs.Frame.{pad_len, frame_end, field_place};
+ghost use Rattle.iw_fpdu.specs.Laying.{IsRun};
+ghost use Rattle.iw_fpdu.specs.Places.{data_place, data_index, in_marker, span_start};
+
+/// From one marker to the next, in octets.
+pub(crate) const SPACING: u64 = 512;
+
+/// The octets of a marker.
+pub(crate) const MARKER: u64 = 4;
+
+/// What a direction of a connection has beside the ULPDUs.
+#[derive(Clone, Copy, Debug, PartialEq, Eq)]
+pub struct Layout {
+    /// There is a marker at each frame place that 512 divides (RFC 5044 4.3).
+    pub markers: bool,
+    /// CRCs are generated and checked (RFC 5044 4.4). Otherwise each CRC field is sent as zero and not looked at.
+    pub crc: bool,
+}
+
+impl Layout {
+    /// The frame place of data octet `k`: octet `k` of what the frames have without the markers.
+    pub fn place_of(self, k: u64) -> u64
+        requires { k < 2 ^ 63 }
+        ensures { result ≡ data_place self.markers k }
+    {
+        place_of(self.markers, k)
+    }
+
+    /// The frame place behind the frame that begins at frame place `start` with a ULPDU of `len` octets.
+    pub fn end_of(self, start: u64, len: u16) -> u64
+        requires { start < 2 ^ 63 }
+        ensures { result ≡ frame_end self.markers start len }
+    {
+        end_of(self.markers, start, len)
+    }
+}
+
+#[tactic(auto, unfolding(crate::specs::Places::data_place))]
+pub(crate) fn place_of(markers: bool, k: u64) -> u64
+    requires { k < 2 ^ 63 + 2 ^ 20 }
+    ensures value { result ≡ data_place markers k }
+    ensures bound { result ≤ k + k / 127 + 4 }
+{
+    if markers {
+        SPACING * (k / (SPACING - MARKER)) + MARKER + k % (SPACING - MARKER)
+    } else {
+        k
+    }
+}
+
+/// How many data octets stand before a place.
+#[tactic(auto, unfolding(crate::specs::Places::data_index))]
+pub(crate) fn index_of(markers: bool, place: u64) -> u64
+    ensures value { result ≡ data_index markers place }
+    ensures bound { result ≤ place }
+{
+    if markers {
+        (SPACING - MARKER) * (place / SPACING) + (place % SPACING).saturating_sub(MARKER)
+    } else {
+        place
+    }
+}
+
+/// Where the span of a frame begins: with the marker directly before it, or with the frame.
+#[tactic(auto, unfolding(crate::specs::Places::span_start))]
+pub(crate) fn span_of(markers: bool, start: u64) -> u64
+    ensures value { result ≡ span_start markers start }
+    ensures bound { result ≤ start }
+{
+    if markers && start % SPACING == MARKER {
+        start - MARKER
+    } else {
+        start
+    }
+}
+
+/// How many pad octets stand behind a ULPDU of this length.
+pub(crate) fn pad_of(len: u16) -> u64
+    ensures value { result ≡ pad_len len }
+    ensures few { result < 4 }
+{
+    (4 - (u64::from(len) + 2) % 4) % 4
+}
+
+/// The place of a frame's CRC field.
+pub(crate) fn field_of(markers: bool, start: u64, len: u16) -> u64
+    requires { start < 2 ^ 63 }
+    ensures value { result ≡ field_place markers start len }
+    ensures bound { result ≤ 2 ^ 63 + 2 ^ 62 }
+{
+    place_of(
+        markers,
+        index_of(markers, start) + (2 + u64::from(len) + pad_of(len)),
+    )
+}
+
+pub(crate) fn end_of(markers: bool, start: u64, len: u16) -> u64
+    requires { start < 2 ^ 63 }
+    ensures value { result ≡ frame_end markers start len }
+    ensures bound { result ≤ 2 ^ 63 + 2 ^ 62 }
+{
+    let size = 2 + u64::from(len) + pad_of(len) + 4;
+    place_of(markers, index_of(markers, start) + (size - 1)) + 1
+}
+
+/// How many of `len` octets go to `at` and the places behind it before the next marker.
+pub(crate) fn run_at(markers: bool, at: u64, len: usize) -> usize
+    requires { in_marker markers at ≡ false }
+    ensures within { result ≤ len }
+    ensures some { 0 < len → 0 < result }
+    ensures run { IsRun markers at result }
+{
+    if markers {
+        len.min((SPACING - at % SPACING) as usize)
+    } else {
+        len
+    }
+}

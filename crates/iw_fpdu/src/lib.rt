@@ -1,0 +1,16 @@
+//! Frames of MPA: FPDUs with pad, markers and CRC (RFC 5044 4).
+//!
+//! Frame places count the octets of one direction of a connection from the first that a frame or marker may have, behind the
+//! start-up frame. [`write_fpdu`] lays a ULPDU out at such a place; [`Fpdu`] is a frame among octets that came.
+#![tactic(auto)]
+
+mod check;
+mod fpdu;
+mod layout;
+mod pieces;
+mod write;
+
+pub use fpdu::{Fpdu, Mismatch};
+pub use layout::Layout;
+pub use pieces::Pieces;
+pub use write::{WriteRefusal, write_fpdu};

@@ -1,0 +1,204 @@
+ghost use Rattle.std.specs.Int.{w32, to_le_bytes};
+ghost use Rattle.std.specs.Prelude.{◌≡◌, ◌<◌, ◌≤◌, ◌+◌, ◌-◌, ◌/◌, ◌%◌, ◌^◌, ◌++◌, [], ◌∷◌, length, if◌then◌else◌, nat_lt, vec_len, vec_capacity, MatchOption, OnOk, OnErr, IfErr, IsOk};
+ghost use Rattle.iw_octets.specs.Crc.{after_octets, all_ones, crc32c};
+ghost use Rattle.iw_octets.specs.Pieces.{joined};
+ghost use Rattle.iw_fpdu.specs.Frame.{max_sent, bare_data, frame_end, frame_octets, field_place, laid, marker_octets};
+ghost use Rattle.iw_fpdu.specs.Laying.{HasRoom, IsEdge, marker_before, marker_behind};
+ghost use Rattle.iw_fpdu.specs.Places.{data_place, data_index, frame_start, place_after};
+
+use crate::layout::{Layout, MARKER, SPACING, end_of, index_of, pad_of, place_of, run_at};
+use iw_octets::Crc;
+use std::alloc::Allocator;
+
+/// The most octets that a ULPDU has which is sent.
+const MAX_SENT: usize = 64_512;
+
+/// Why a frame isn't written.
+#[derive(Clone, Copy, Debug, PartialEq, Eq)]
+pub enum WriteRefusal {
+    /// The ULPDU has more than 64,512 octets.
+    TooLong,
+    /// No memory could be had.
+    NoMemory,
+}
+
+/// The marker at a place: two reserved octets, and how far the frame's start lies before it.
+#[tactic(auto, using(crate::proofs::Counted::marker_value_is))]
+fn marker(start: u64, at: u64) -> [u8; 4]
+    requires marker { at % 512 ≡ 0 }
+    requires near { at - start < 2 ^ 16 }
+    ensures { result ≡ marker_octets start (at / 512) }
+{
+    let pointer = at.saturating_sub(start);
+    [0, 0, (pointer / 256) as u8, (pointer % 256) as u8]
+}
+
+/// Appends octets, for which there is room.
+fn append<A: Allocator>(out: &mut Vec<u8, A>, octets: &[u8])
+    requires { vec_len out.old + length octets.now ≤ vec_capacity out.old }
+    ensures items { out.new.items ≡ out.old.items ++ octets.now }
+    ensures len { vec_len out.new ≡ vec_len out.old + length octets.now }
+    ensures capacity { vec_capacity out.old ≤ vec_capacity out.new }
+{
+    let _ = out.extend_from_slice(octets);
+}
+
+/// Appends the marker at `at`, if there is one. Gives the place of the data octet that comes next.
+fn put_marker<A: Allocator>(markers: bool, start: u64, at: u64, out: &mut Vec<u8, A>) -> u64
+    requires low { at < 2 ^ 63 + 2 ^ 17 }
+    requires edge { IsEdge markers at }
+    requires near { at - start < 2 ^ 16 }
+    requires room { vec_len out.old + (data_place markers (data_index markers at) - at) ≤ vec_capacity out.old }
+    ensures place { result ≡ data_place markers (data_index markers at) }
+    ensures items { out.new.items ≡ out.old.items ++ marker_before markers start at }
+    ensures len { vec_len out.new ≡ vec_len out.old + (result - at) }
+    ensures capacity { vec_capacity out.old ≤ vec_capacity out.new }
+{
+    if markers && at % SPACING == 0 {
+        append(out, &marker(start, at));
+        at + MARKER
+    } else {
+        at
+    }
+}
+
+/// Appends octets of the frame that begins at `start`, the first of them at place `at` or behind a marker there, with the
+/// markers among them. Gives the place behind the last.
+fn put<A: Allocator>(markers: bool, start: u64, at: u64, octets: &[u8], out: &mut Vec<u8, A>) -> u64
+    requires { HasRoom markers start at (length octets.now) (vec_len out.old) (vec_capacity out.old) }
+    ensures place { result ≡ place_after markers at (length octets.now) }
+    ensures items { out.new.items ≡ out.old.items ++ laid markers start (data_index markers at) octets.now at (place_after markers at (length octets.now)) }
+    ensures len { vec_len out.new ≡ vec_len out.old + (result - at) }
+    ensures capacity { vec_capacity out.old ≤ vec_capacity out.new }
+{
+    let mut at = at;
+    let mut rest = octets;
+    while !rest.is_empty() {
+        at = put_marker(markers, start, at, out);
+        let run = run_at(markers, at, rest.len());
+        let (front, behind) = rest.split_at(run);
+        append(out, front);
+        at += run as u64;
+        rest = behind;
+    }
+    at
+}
+
+/// Appends the pieces one behind the other, as `put` does each.
+fn put_all<A: Allocator>(
+    markers: bool,
+    start: u64,
+    at: u64,
+    parts: &[&[u8]],
+    out: &mut Vec<u8, A>,
+) -> u64
+    requires { HasRoom markers start at (length (joined parts.now)) (vec_len out.old) (vec_capacity out.old) }
+    ensures place { result ≡ place_after markers at (length (joined parts.now)) }
+    ensures items { out.new.items ≡ out.old.items ++ laid markers start (data_index markers at) (joined parts.now) at (place_after markers at (length (joined parts.now))) }
+    ensures len { vec_len out.new ≡ vec_len out.old + (result - at) }
+    ensures capacity { vec_capacity out.old ≤ vec_capacity out.new }
+{
+    let mut at = at;
+    for part in parts {
+        at = put(markers, start, at, part, out);
+    }
+    at
+}
+
+/// How many octets the pieces have, or `None` where they have more than a ULPDU that is sent.
+fn len_of(parts: &[&[u8]]) -> Option<u16>
+    ensures { MatchOption result (max_sent < length (joined parts.now)) (λ n. (n ≡ length (joined parts.now)) × (n ≤ max_sent)) }
+{
+    let mut len = 0;
+    for part in parts {
+        if part.len() > MAX_SENT - len {
+            return None;
+        }
+        len += part.len();
+    }
+    Some(len as u16)
+}
+
+/// A ULPDU's length, as it stands before it.
+fn length_field(len: u16) -> [u8; 2]
+    ensures { result ≡ len / 256 ∷ len % 256 ∷ [] }
+{
+    [(len / 256) as u8, (len % 256) as u8]
+}
+
+/// Appends all of a frame that stands before its CRC field.
+fn put_bare<A: Allocator>(markers: bool, at: u64, len: u16, parts: &[&[u8]], out: &mut Vec<u8, A>)
+    requires place { at < 2 ^ 63 }
+    requires aligned { at % 4 ≡ 0 }
+    requires len { len ≡ length (joined parts.now) }
+    requires short { len ≤ max_sent }
+    requires room { vec_len out.old + (frame_end markers at len - at) ≤ vec_capacity out.old }
+    ensures items { out.new.items ≡ out.old.items ++ laid markers (frame_start markers at) (data_index markers at) (bare_data (joined parts.now)) at (field_place markers at len) }
+    ensures room { vec_len out.new + 4 ≤ vec_capacity out.new }
+{
+    let start = place_of(markers, index_of(markers, at));
+    let behind_length = put(markers, start, at, &length_field(len), out);
+    let behind_ulpdu = put_all(markers, start, behind_length, parts, out);
+    let zeros: &[u8] = &[0; 3];
+    let (pad, _) = zeros.split_at(pad_of(len) as usize);
+    let behind_pad = put(markers, start, behind_ulpdu, pad, out);
+    put_marker(markers, start, behind_pad, out);
+}
+
+/// The CRC so far of a frame that is written at `at`: over the marker directly before it, where that stands before `at`.
+#[tactic(auto, unfolding(crate::specs::Laying::marker_behind))]
+fn crc_before(markers: bool, at: u64) -> Crc
+    ensures { result ≡ after_octets all_ones (marker_behind markers at) }
+{
+    let mut crc = Crc::new();
+    if markers && at % SPACING == MARKER {
+        crc.add(&[0; 4]);
+    }
+    crc
+}
+
+/// The CRC field of a frame of which all before that field was written at `at`.
+fn crc_field(layout: Layout, at: u64, written: &[u8]) -> [u8; 4]
+    ensures { result ≡ (if layout.crc then to_le_bytes w32 (crc32c (marker_behind layout.markers at ++ written.now)) else 0 ∷ 0 ∷ 0 ∷ 0 ∷ []) }
+{
+    if !layout.crc {
+        return [0; 4];
+    }
+    let mut crc = crc_before(layout.markers, at);
+    crc.add(written);
+    crc.finish().to_le_bytes()
+}
+
+/// Appends the frame of a ULPDU that comes in parts, to stand from frame place `at` on: where there are markers and 512 divides
+/// `at`, a marker goes before the frame (RFC 5044 4.1 to 4.4).
+///
+/// A ULPDU of more than 64,512 octets is TooLong. A refusal leaves `out` as it was.
+pub fn write_fpdu<A: Allocator>(
+    layout: Layout,
+    at: u64,
+    parts: &[&[u8]],
+    out: &mut Vec<u8, A>,
+) -> Result<(), WriteRefusal>
+    requires place { at < 2 ^ 63 }
+    requires aligned { at % 4 ≡ 0 }
+    ensures ok { OnOk result (out.new.items ≡ out.old.items ++ frame_octets layout at (joined parts.now)) }
+    ensures err { OnErr result (out.new.items ≡ out.old.items) }
+    ensures sent { OnOk result (length (joined parts.now) ≤ max_sent) }
+    ensures refused { IfErr result (λ refusal. refusal ≡ (if nat_lt max_sent (length (joined parts.now)) then WriteRefusal.TooLong else WriteRefusal.NoMemory)) }
+    ensures memory { length (joined parts.now) ≤ max_sent
+        → vec_len out.old + length (frame_octets layout at (joined parts.now)) ≤ vec_capacity out.old → IsOk result }
+{
+    let Some(len) = len_of(parts) else {
+        return Err(WriteRefusal::TooLong);
+    };
+    let room = (end_of(layout.markers, at, len) - at) as usize;
+    if out.reserve(room).is_err() {
+        return Err(WriteRefusal::NoMemory);
+    }
+    let mark = out.len();
+    put_bare(layout.markers, at, len, parts, out);
+    let (_, written) = out.as_slice().split_at(mark);
+    let field = crc_field(layout, at, written);
+    append(out, &field);
+    Ok(())
+}
