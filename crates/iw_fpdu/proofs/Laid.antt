@@ -66,7 +66,7 @@ in_it : (p i : ℕ) → p % 512 ≡ i → i < 4 → in_marker true p ≡ true
 unfolding in_marker
 in_it p i e lt = grind (arith, nat_tests)
 
-marker_octet : (start origin : ℕ) (xs : List ℕ) (a i p : ℕ) → a % 512 ≡ 0 → i < 4 → p ≡ a + i → octet_at true start origin xs p ≡ get_or (marker_octets start (a / 512)) i 0
+pub marker_octet : (start origin : ℕ) (xs : List ℕ) (a i p : ℕ) → a % 512 ≡ 0 → i < 4 → p ≡ a + i → octet_at true start origin xs p ≡ get_or (marker_octets start (a / 512)) i 0
 marker_octet start origin xs a i p h lt e =
     let place : p % 512 ≡ i = omega arith in
     let base : p / 512 ≡ a / 512 = omega arith in

@@ -4,3 +4,4 @@ pub mod Rooms
 pub mod Written
 pub mod Octets
 pub mod Came
+pub mod Again

@@ -1,10 +1,13 @@
 -- What is read off the octets at places.
-use Rattle.std.proofs.Common.{◌≡◌, ℕ, ◌+◌, ◌-◌, ◌/◌, ◌%◌, ◌<◌, ◌≤◌, zero, suc, Bool, true, false, not, ◌&&◌, ◌||◌, cond, eqb, List, [], ◌∷◌, ◌++◌, map, take, drop, length, get_or, Some, None, min, refl, sym, ap, ◌∙◌, subst, arith, inl, inr}
+use Rattle.std.proofs.Common.{◌≡◌, ℕ, ◌+◌, ◌-◌, ◌/◌, ◌%◌, ◌^◌, ◌<◌, ◌≤◌, zero, suc, Bool, true, false, not, ◌&&◌, ◌||◌, cond, eqb, List, [], ◌∷◌, ◌++◌, map, take, drop, length, get_or, Some, None, min, refl, sym, ap, ◌∙◌, subst, arith, inl, inr}
 use Rattle.std.proofs.lemmas.List.{same_lists, get_or-drop, get_or-take, length-drop, length-take, map-append, get_or_default, drop_all, drop_at}
 use Rattle.std.proofs.lemmas.List.FromFn.{get_or-map-range_with_len, length-map-range_with_len}
 use Rattle.std.proofs.lemmas.Bool.{cases_lt, cases_eq}
-use Rattle.std.proofs.lemmas.Bool.Decides.{nat_tests}
-use Rattle.std.specs.Int.{w32, from_le_bytes}
+use Rattle.std.proofs.lemmas.Bool.Decides.{nat_tests, same_from_decides, Decides-eqb, Decides-like}
+use Rattle.std.specs.Int.{w32, from_le_bytes, to_le_bytes}
+use Rattle.std.specs.Str.{bytes_eq}
+use Rattle.std.proofs.lemmas.Nat.{le_bytes_4, from_le_bytes-to_le_bytes_4}
+use Rattle.std.proofs.lemmas.Slice.Eq.{bytes_eq-Decides}
 use Rattle.std.specs.List.{range_with_len, list_all}
 use Rattle.iw_octets.specs.Crc.{crc32c}
 use Rattle.iw_fpdu.specs.declared.layout.Layout.{Layout}
@@ -190,8 +193,8 @@ pub same_crc : (f g : ℕ → ℕ) (m : Bool) (start len : ℕ) → IsStart m st
 unfolding crc_agrees
 same_crc f g m start len s h =
     let before = same_octets f g (span_start m start) (field_place m start len) (λ p low high. agree_at f g m start len h p low (omega (arith, field_end m start len s))) in
-    ap (λ xs. eqb (from_le_bytes w32 xs) (crc32c (octets_at f (span_start m start) (field_place m start len)))) (same_frame_data f g m start len (2 + len + pad_len len) 4 s h (omega arith))
-    ∙ ap (λ xs. eqb (field_at g m start len) (crc32c xs)) before
+    ap (λ xs. bytes_eq xs (to_le_bytes w32 (crc32c (octets_at f (span_start m start) (field_place m start len))))) (same_frame_data f g m start len (2 + len + pad_len len) 4 s h (omega arith))
+    ∙ ap (λ xs. bytes_eq (field_at g m start len) (to_le_bytes w32 (crc32c xs))) before
 
 -- a place that is no marker's agrees
 pub no_marker_agrees : (octet : ℕ → ℕ) (start p : ℕ) → (p % 512 ≡ 0 → ⊥) → marker_agrees octet start p ≡ true
@@ -243,3 +246,15 @@ drop_data octet m i n k j e =
           let same : j ≡ k = omega arith in
           ap (drop k) (data_split octet m i j n (omega arith)) ∙ drop_at (data_at octet m i j) (data_at octet m (i + j) (n - j)) k (omega (arith, length_data octet m i j))
     ]
+
+pub same_bytes : (xs ys : List ℕ) → xs ≡ ys → bytes_eq xs ys ≡ true
+same_bytes xs ys e = (bytes_eq-Decides xs ys).1 e
+
+-- a field has a number's octets exactly where it reads as the number
+pub field_eq : (field : List ℕ) (n crc : ℕ) → length field ≡ 4 → ((i : ℕ) → get_or field i 0 < 256) → crc < 2 ^ 32 → n ≡ from_le_bytes w32 field → eqb n crc ≡ bytes_eq field (to_le_bytes w32 crc)
+field_eq field n crc four octets small e =
+    same_from_decides {P = n ≡ crc} (eqb n crc) (bytes_eq field (to_le_bytes w32 crc)) (Decides-eqb n crc)
+    (Decides-like {P = field ≡ to_le_bytes w32 crc} {Q = n ≡ crc} (bytes_eq field (to_le_bytes w32 crc))
+    (λ h. e ∙ ap (from_le_bytes w32) h ∙ from_le_bytes-to_le_bytes_4 crc small)
+    (λ same. sym (le_bytes_4 field crc four octets (sym same ∙ e)))
+    (bytes_eq-Decides field (to_le_bytes w32 crc)))

@@ -161,7 +161,7 @@ bare_written m at start b d e old one two three four head ulpdu pad edge start_i
     regroup : (o f g h k : List ℕ) → o ++ f ++ g ++ h ++ k ≡ o ++ (f ++ g ++ h ++ k)
     regroup o f g h k = simp append_assoc refl
 
-length_field : (layout : Layout) (start : ℕ) (ulpdu : List ℕ) → length (crc_field layout start ulpdu) ≡ 4
+pub length_field : (layout : Layout) (start : ℕ) (ulpdu : List ℕ) → length (crc_field layout start ulpdu) ≡ 4
 length_field layout start ulpdu = go layout.crc
   where
     go : (b : Bool) → length (cond b (to_le_bytes w32 (crc32c (covered layout.markers start ulpdu))) (0 ∷ 0 ∷ 0 ∷ 0 ∷ [])) ≡ 4

@@ -6,3 +6,4 @@ pub mod FoundView
 pub mod Laying
 pub mod PiecesOctet
 pub mod PiecesView
+pub mod Laws

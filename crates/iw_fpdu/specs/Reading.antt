@@ -1,7 +1,8 @@
 -- A frame, as it is read off what stands at the places of a direction: `octet p` stands at place p (RFC 5044 4.1 to 4.4).
 use Rattle.std.specs.Prelude.{ℕ, ◌+◌, ◌-◌, ◌*◌, ◌/◌, ◌%◌, ◌==◌, Bool, true, not, ◌&&◌, ◌||◌, if◌then◌else◌, List, map, Option, None, Some}
-use Rattle.std.specs.Int.{w32, from_le_bytes}
+use Rattle.std.specs.Int.{w32, to_le_bytes}
 use Rattle.std.specs.List.{range_with_len, list_all}
+use Rattle.std.specs.Str.{bytes_eq}
 use Rattle.iw_octets.specs.Crc.{crc32c}
 use Rattle.iw_fpdu.specs.declared.layout.Layout.{Layout}
 use Rattle.iw_fpdu.specs.declared.fpdu.Mismatch.{Mismatch}
@@ -30,14 +31,14 @@ abbrev pub end_at : (ℕ → ℕ) → Bool → ℕ → ℕ
 end_at octet markers start = frame_end markers start (length_at octet start)
 
 -- ---- the CRC
--- the number in the CRC field of a frame with a ULPDU of `len` octets, which comes low octet first
-abbrev pub field_at : (ℕ → ℕ) → Bool → ℕ → ℕ → ℕ
-field_at octet markers start len = from_le_bytes w32 (data_at octet markers (data_index markers start + (2 + len + pad_len len)) 4)
+-- the four octets of the CRC field of a frame with a ULPDU of `len` octets
+abbrev pub field_at : (ℕ → ℕ) → Bool → ℕ → ℕ → List ℕ
+field_at octet markers start len = data_at octet markers (data_index markers start + (2 + len + pad_len len)) 4
 
--- it is the CRC of every octet of the frame's span that stands before the field, as these octets came
+-- they are the CRC, low octet first, of every octet of the frame's span that stands before the field, as these octets came
 unfoldable pub crc_agrees : (ℕ → ℕ) → Bool → ℕ → ℕ → Bool
 crc_agrees octet markers start len =
-    field_at octet markers start len == crc32c (octets_at octet (span_start markers start) (field_place markers start len))
+    bytes_eq (field_at octet markers start len) (to_le_bytes w32 (crc32c (octets_at octet (span_start markers start) (field_place markers start len))))
 
 -- ---- the markers
 -- how far the marker at place p says the frame's first octet stands behind it; the two low bits count as zero, and the reserved octets are not looked at

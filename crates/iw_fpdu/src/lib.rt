@@ -6,6 +6,7 @@
 
 mod check;
 mod fpdu;
+pub mod laws;
 mod layout;
 mod pieces;
 mod write;

@@ -1,12 +1,13 @@
-use Rattle.std.proofs.Common.{◌≡◌, ◌+◌, ◌-◌, ◌≤◌, ℕ, List, [], eqb, length, take, drop, ap, ◌∙◌, sym, arith}
-use Rattle.std.proofs.lemmas.List.{take_at, append-nil}
-use Rattle.std.specs.Int.{w32, from_le_bytes}
+use Rattle.std.proofs.Common.{◌≡◌, ◌+◌, ◌-◌, ◌≤◌, ℕ, List, [], eqb, get_or, length, take, drop, ap, ◌∙◌, sym, arith}
+use Rattle.std.proofs.lemmas.List.{take_at, append-nil, get_or-drop}
+use Rattle.std.specs.Int.{w32, from_le_bytes, to_le_bytes}
+use Rattle.std.specs.Str.{bytes_eq}
 use Rattle.iw_octets.specs.Crc.{crc32c}
 use Rattle.iw_fpdu.specs.Places.{span_start, data_index}
 use Rattle.iw_fpdu.specs.Frame.{field_place, pad_len}
 use Rattle.iw_fpdu.specs.PiecesOctet.{octet_from}
 use Rattle.iw_fpdu.specs.Reading.{crc_agrees, octets_at, data_at, field_at}
-use Rattle.iw_fpdu.proofs.Octets.{span_low, data_low, field_end, field_run, cut_at, data_run}
+use Rattle.iw_fpdu.proofs.Octets.{span_low, data_low, field_end, field_eq, field_run, cut_at, data_run}
 use Rattle.iw_fpdu.proofs.check.does_crc_agree.Goals as goal
 
 pub overflow_sub-at : goal.overflow_sub-at
@@ -46,8 +47,10 @@ returns c =
     take_all c.split_at.result.1.now 4 (omega (arith, c.split_at.ensures.back_len, n_is, c.requires.span, end, low))
     ∙ ap (take 4) (c.split_at.ensures.back ∙ ap (λ n. drop n octets) n_is)
     ∙ sym (data_run (octet_from from octets) m (data_index m c.args.start + (2 + c.args.len + pad_len c.args.len)) 4 (field_run m c.args.start c.args.len c.requires.start) ∙ cut_at from octets fp 4 low (omega (arith, c.requires.span, end))) in
-    ap (λ x. eqb x c.crc32c.result) (c.number_in.ensures ∙ ap (from_le_bytes w32) field)
-    ∙ ap (eqb (field_at (octet_from from octets) m c.args.start c.args.len)) (c.crc32c.ensures ∙ ap crc32c before)
+    let four : length c.split_at.result.1.now ≡ 4 = omega (arith, c.split_at.ensures.back_len, n_is, c.requires.span, end, low) in
+    field_eq c.split_at.result.1.now c.number_in.result c.crc32c.result four (λ i. omega (arith, c.type_inv.octets (c.field_of.result - c.span_of.result + i), ap (λ ys. get_or ys i 0) c.split_at.ensures.back, get_or-drop (c.field_of.result - c.span_of.result) octets i 0)) c.crc32c.type_inv c.number_in.ensures
+    ∙ ap (λ xs. bytes_eq xs (to_le_bytes w32 c.crc32c.result)) field
+    ∙ ap (λ n. bytes_eq (field_at (octet_from from octets) m c.args.start c.args.len) (to_le_bytes w32 n)) (c.crc32c.ensures ∙ ap crc32c before)
   where
     take_all : (ys : List ℕ) (n : ℕ) → n ≡ length ys → ys ≡ take n ys
     take_all ys n e = sym (ap (take n) (sym (append-nil ys)) ∙ take_at ys [] n (sym e))
