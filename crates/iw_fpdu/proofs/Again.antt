@@ -1,23 +1,24 @@
 -- What was written is read again, and what was whole stays.
 use Rattle.std.proofs.Common.{◌≡◌, ℕ, ◌+◌, ◌-◌, ◌*◌, ◌/◌, ◌%◌, ◌<◌, ◌≤◌, Bool, true, false, not, ◌&&◌, cond, eqb, List, [], ◌∷◌, ◌++◌, map, take, drop, replicate, length, get_or, Option, Some, None, refl, sym, ap, ◌∙◌, subst, arith, inl, inr}
-use Rattle.std.proofs.lemmas.List.{same_lists, get_or-drop, get_or-take, get_or_default, get_or_append_left, append_assoc, append-nil, take_at, drop_at, length-take, length-drop, length-append}
+use Rattle.std.proofs.lemmas.List.{same_lists, get_or-map, get_or-drop, get_or-take, get_or_default, get_or_append_left, append_assoc, append-nil, take_at, drop_at, length-take, length-drop, length-append}
 use Rattle.std.proofs.lemmas.List.FromFn.{get_or-map-range_with_len, length-map-range_with_len}
 use Rattle.std.proofs.lemmas.Bool.{cases_eq, eq-eqb}
 use Rattle.std.specs.Int.{w32, to_le_bytes}
 use Rattle.std.specs.List.{range_with_len, list_all}
 use Rattle.std.specs.Str.{bytes_eq}
 use Rattle.iw_octets.specs.Crc.{crc32c}
-use Rattle.iw_ranges.specs.Arrived.{Arrived, Cell, Missing, Here, Gone, cell_at, is_missing, has_come, is_dropped, first_copy, taken_in, delivered}
+use Rattle.iw_ranges.specs.Arrived.{Arrived, Cell, Missing, Here, Gone, cell_at, is_missing, has_come, is_dropped, first_copy, taken_in, cells_between, delivered}
 use Rattle.iw_ranges.proofs.ByPlace.{cell_at-taken_in}
 use Rattle.iw_ranges.proofs.Keeps.{delivered_kept, delivered_dropped}
 use Rattle.iw_fpdu.specs.declared.layout.Layout.{Layout}
 use Rattle.iw_fpdu.specs.declared.fpdu.Mismatch.{Mismatch}
 use Rattle.iw_fpdu.specs.declared.fpdu.Mismatch.TheVariants.{CrcMismatch, MarkerMismatch}
-use Rattle.iw_fpdu.specs.Places.{data_place, data_index, in_marker, IsStart, span_start}
-use Rattle.iw_fpdu.specs.Frame.{max_sent, pad_len, frame_size, frame_end, field_place, marker_value, marker_octets, octet_at, laid, bare_data, covered, crc_field, frame_data, frame_octet}
+use Rattle.iw_fpdu.specs.Places.{data_place, data_index, in_marker, IsStart, frame_start, span_start}
+use Rattle.iw_fpdu.specs.Frame.{max_sent, pad_len, frame_size, frame_end, field_place, marker_value, marker_octets, octet_at, laid, bare_data, covered, crc_field, frame_data, frame_octet, frame_octets}
 use Rattle.iw_fpdu.specs.Reading.{octets_at, data_at, length_at, ulpdu_at, end_at, field_at, crc_agrees, pointer_at, marker_agrees, markers_agree, mismatch_at}
 use Rattle.iw_fpdu.specs.Found.{Found, octet_of, octet_in, IsWhole, ulpdu_len, ulpdu, mismatch}
-use Rattle.iw_fpdu.specs.Laws.{HoldsFrame, IsReadAgain, ReadsAgain, IsSame, StaysWhole, found_at}
+use Rattle.iw_fpdu.specs.Laws.{HoldsFrame, IsBetween, IsReadAgain, ReadsAgain, IsSame, StaysWhole, found_at}
+use Rattle.iw_fpdu.proofs.Follows.{begins, ends}
 use Rattle.iw_fpdu.proofs.Counted.{index_place, place_index, data_no_marker, after_bound, aligned_edge, marker_value_is}
 use Rattle.iw_fpdu.proofs.Laid.{octet_data, octet_marker, marker_octet}
 use Rattle.iw_fpdu.proofs.Written.{length_bare, length_field, index_below}
@@ -147,8 +148,9 @@ agrees_back layout start xs s short =
     let here = place_index true start (subst (λ m. in_marker m start ≡ false) t s.outside) in
     marker_back layout start xs t s.aligned p (omega (arith, far, here))))
 
-pub reads_again : ReadsAgain
-reads_again arrived layout base start xs s short holds =
+held_again : (arrived : Arrived) (layout : Layout) (base start : ℕ) (xs : List ℕ) → IsStart layout.markers start → length xs ≤ max_sent
+    → HoldsFrame arrived layout base start xs → IsReadAgain (found_at arrived layout base start) xs
+held_again arrived layout base start xs s short holds =
     let m = layout.markers in
     let n = length xs in
     let f : ℕ → ℕ = octet_in arrived base in
@@ -161,6 +163,32 @@ reads_again arrived layout base start xs s short holds =
       ulpdu = ap (data_at f m (data_index m start + 2)) len ∙ same_frame_data f g m start n 2 n s same (omega arith) ∙ ulpdu_back layout start xs;
       agrees = ap (mismatch_at layout f start) len ∙ same_mismatch f g layout start n s same ∙ agrees_back layout start xs s short;
     }
+
+-- the octets that are written, one by one
+written_holds : (arrived : Arrived) (layout : Layout) (base at : ℕ) (xs : List ℕ) → IsBetween layout.markers at
+    → map Here (frame_octets layout at xs) ≡ cells_between arrived (base + at) (base + frame_end layout.markers at (length xs))
+    → HoldsFrame arrived layout base (frame_start layout.markers at) xs
+unfolding frame_octets
+written_holds arrived layout base at xs between same = λ p low high.
+    let m = layout.markers in
+    let start = frame_start m at in
+    let end = frame_end m at (length xs) in
+    let from : at ≤ p = omega (arith, between.span, low) in
+    let before : p < end = omega (arith, high, ends m at (length xs)) in
+    let k : ℕ = p - at in
+    let long = length-map-range_with_len (frame_octet layout start xs) at (end - at) in
+    ap (cell_at arrived) (let e : base + p ≡ base + at + k = omega arith in e)
+    ∙ sym (get_or-map-range_with_len (cell_at arrived) (base + at) (base + end - (base + at)) k (base + at + k) Missing (omega arith) refl)
+    ∙ ap (λ cs. get_or cs k Missing) (sym same)
+    ∙ get_or-map Here (map (frame_octet layout start xs) (range_with_len at (end - at))) k 0 Missing (omega (arith, long))
+    ∙ ap Here (get_or-map-range_with_len (frame_octet layout start xs) at (end - at) k p 0 (omega arith) (omega arith))
+
+pub reads_again : ReadsAgain
+reads_again = record {
+  held = held_again;
+  written = λ arrived layout base at xs between short same.
+    held_again arrived layout base (frame_start layout.markers at) xs (begins layout.markers at between) short (written_holds arrived layout base at xs between same);
+}
 
 -- ---- more octets
 stays_as : (place q : ℕ) (octets : List ℕ) (c : Cell) → not (is_missing c) ≡ true → first_copy place octets q c ≡ c

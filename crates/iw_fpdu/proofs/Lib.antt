@@ -5,3 +5,5 @@ pub mod Written
 pub mod Octets
 pub mod Came
 pub mod Again
+pub mod Follows
+pub mod Known

@@ -1,16 +1,26 @@
--- What was written is read again, and what was whole stays as it was.
-use Rattle.std.specs.Prelude.{ℕ, ◌+◌, ◌<◌, ◌≤◌, ◌≡◌, List, length, None}
-use Rattle.iw_ranges.specs.Arrived.{Arrived, Here, cell_at, delivered}
+-- What was written is read again, what was whole stays as it was, and worked values of the definitions.
+use Rattle.std.specs.Prelude.{ℕ, ◌+◌, ◌<◌, ◌≤◌, ◌≡◌, ◌%◌, ◌&&◌, Bool, true, false, not, if◌then◌else◌, List, [], ◌∷◌, ◌++◌, length, map, replicate, Some, None}
+use Rattle.iw_ranges.specs.Arrived.{Arrived, Here, cell_at, cells_between, delivered}
 use Rattle.iw_fpdu.specs.declared.layout.Layout.{Layout}
-use Rattle.iw_fpdu.specs.Places.{IsStart, span_start}
-use Rattle.iw_fpdu.specs.Frame.{max_sent, frame_end, frame_octet}
+use Rattle.iw_fpdu.specs.declared.fpdu.Mismatch.TheVariants.{CrcMismatch, MarkerMismatch}
+use Rattle.iw_fpdu.specs.Places.{IsStart, data_place, frame_start, span_start}
+use Rattle.iw_fpdu.specs.Frame.{max_sent, marker_value, frame_end, frame_octet, frame_octets}
+use Rattle.iw_fpdu.specs.Reading.{crc_agrees, mismatch_at}
 use Rattle.iw_fpdu.specs.Found.{Found, IsWhole, ulpdu_len, ulpdu, mismatch}
 
--- at each place of its span there came, and is held, what was written of the frame of this ULPDU
-abbrev pub HoldsFrame : Arrived → Layout → ℕ → ℕ → List ℕ → Type 0
-HoldsFrame arrived layout base start octets =
-    (p : ℕ) → span_start layout.markers start ≤ p → p < frame_end layout.markers start (length octets) → cell_at arrived (base + p) ≡ Here (frame_octet layout start octets p)
+-- ---- one frame behind another
+-- where a frame is written with its whole span: at a multiple of four octets that isn't directly behind a marker
+pub record IsBetween (markers : Bool) (at : ℕ) : Type 0 where
+  pub aligned : at % 4 ≡ 0
+  pub span : span_start markers (frame_start markers at) ≡ at
 
+pub record FramesFollow : Type 0 where
+  pub first : (markers : Bool) → IsBetween markers 0
+  pub next : (markers : Bool) (start len : ℕ) → IsStart markers start → IsBetween markers (frame_end markers start len)
+  pub begins : (markers : Bool) (at : ℕ) → IsBetween markers at → IsStart markers (frame_start markers at)
+  pub ends : (markers : Bool) (at len : ℕ) → frame_end markers (frame_start markers at) len ≡ frame_end markers at len
+
+-- ---- what was written
 abbrev pub found_at : Arrived → Layout → ℕ → ℕ → Found
 found_at arrived layout base start = record { arrived = arrived; layout = layout; base = base; start = start }
 
@@ -20,18 +30,55 @@ pub record IsReadAgain (found : Found) (octets : List ℕ) : Type 0 where
   pub ulpdu : ulpdu found ≡ octets
   pub agrees : mismatch found ≡ None
 
--- at any place, with and without markers, with and without CRCs
-abbrev pub ReadsAgain : Type 0
-ReadsAgain = (arrived : Arrived) (layout : Layout) (base start : ℕ) (octets : List ℕ) → IsStart layout.markers start → length octets ≤ max_sent
-    → HoldsFrame arrived layout base start octets → IsReadAgain (found_at arrived layout base start) octets
+-- at each place of its span there came, and is held, what the frame of this ULPDU has there
+abbrev pub HoldsFrame : Arrived → Layout → ℕ → ℕ → List ℕ → Type 0
+HoldsFrame arrived layout base start octets =
+    (p : ℕ) → span_start layout.markers start ≤ p → p < frame_end layout.markers start (length octets) → cell_at arrived (base + p) ≡ Here (frame_octet layout start octets p)
 
--- a segment that comes later changes nothing of a frame that was whole
+-- with and without markers, with and without CRCs: at any place where a frame may begin, and in any octets that were written at any place
+pub record ReadsAgain : Type 0 where
+  pub held : (arrived : Arrived) (layout : Layout) (base start : ℕ) (octets : List ℕ) → IsStart layout.markers start → length octets ≤ max_sent
+    → HoldsFrame arrived layout base start octets → IsReadAgain (found_at arrived layout base start) octets
+  pub written : (arrived : Arrived) (layout : Layout) (base at : ℕ) (octets : List ℕ) → IsBetween layout.markers at → length octets ≤ max_sent
+    → map Here (frame_octets layout at octets) ≡ cells_between arrived (base + at) (base + frame_end layout.markers at (length octets))
+    → IsReadAgain (found_at arrived layout base (frame_start layout.markers at)) octets
+
+-- ---- what came before
 pub record IsSame (old new : Found) : Type 0 where
   pub whole : IsWhole new.arrived new.layout.markers new.base new.start
   pub len : ulpdu_len new ≡ ulpdu_len old
   pub ulpdu : ulpdu new ≡ ulpdu old
   pub mismatch : mismatch new ≡ mismatch old
 
+-- a segment that comes later changes nothing of a frame that was whole
 abbrev pub StaysWhole : Type 0
 StaysWhole = (found : Found) (place : ℕ) (octets : List ℕ) → IsStart found.layout.markers found.start → IsWhole found.arrived found.layout.markers found.base found.start
     → IsSame found (record found { arrived = delivered found.arrived place octets })
+
+-- ---- markers that are too far
+-- a marker 65,536 octets or more behind the frame's first never agrees, whatever stands there
+abbrev pub FarMarkersFail : Type 0
+FarMarkersFail = (layout : Layout) (octet : ℕ → ℕ) (start len p : ℕ) → ((q : ℕ) → octet q < 256) → layout.markers ≡ true
+    → p % 512 ≡ 0 → start + 65536 ≤ p → p < frame_end true start len
+    → mismatch_at layout octet start len ≡ (if layout.crc && not (crc_agrees octet layout.markers start len) then Some CrcMismatch else Some MarkerMismatch)
+
+-- ---- worked values
+-- the ULPDU of RFC 5044's figures 5 and 6: a Send with this message sequence number, and 24 octets of zero
+abbrev pub printed : ℕ → List ℕ
+printed msn = 0x41 ∷ 0x43 ∷ replicate 8 0 ++ (0 ∷ 0 ∷ 0 ∷ msn ∷ 0 ∷ 0 ∷ 0 ∷ 0 ∷ []) ++ replicate 24 0
+
+pub record KnownFrames : Type 0 where
+  pub figure_5 : frame_octets (record { markers = true; crc = true }) 0 (printed 1) ≡ (0 ∷ 0 ∷ 0 ∷ 0 ∷ 0 ∷ 0x2a ∷ []) ++ printed 1 ++ (0x52 ∷ 0x23 ∷ 0x99 ∷ 0x83 ∷ [])
+  pub figure_6 : frame_octets (record { markers = true; crc = true }) 492 (printed 2)
+    ≡ (0 ∷ 0x2a ∷ 0x41 ∷ 0x43 ∷ []) ++ replicate 8 0 ++ (0 ∷ 0 ∷ 0 ∷ 2 ∷ 0 ∷ 0 ∷ 0 ∷ 0 ∷ []) ++ (0 ∷ 0 ∷ 0 ∷ 0x14 ∷ []) ++ replicate 24 0 ++ (0x84 ∷ 0x92 ∷ 0x58 ∷ 0x98 ∷ [])
+  pub plain : frame_octets (record { markers = false; crc = false }) 20 (0x68 ∷ 0x69 ∷ []) ≡ 0 ∷ 2 ∷ 0x68 ∷ 0x69 ∷ 0 ∷ 0 ∷ 0 ∷ 0 ∷ []
+  pub last_before_marker : data_place true 507 ≡ 511
+  pub first_behind_marker : data_place true 508 ≡ 516
+  pub ends_behind_marker : frame_end true 4 600 ≡ 616
+  pub ends_before_marker : frame_end true 4 502 ≡ 512
+  pub longest_without : frame_end false 0 65535 ≡ 65544
+  pub longest_with : frame_end true 4 65535 ≡ 66064
+  pub first_pointer : marker_value 4 0 ≡ 0
+  pub next_pointer : marker_value 4 1 ≡ 508
+  pub markers_counted : marker_value 4 2 ≡ 1020
+  pub too_far : marker_value 4 129 ≡ 66044

@@ -26,5 +26,5 @@ marker_behind markers at = if markers && (at % 512 == 4) then 0 ∷ 0 ∷ 0 ∷ 
 pub record HasRoom (markers : Bool) (start at n len capacity : ℕ) : Type 0 where
   pub edge : IsEdge markers at
   pub room : len + (place_after markers at n - at) ≤ capacity
-  pub near : place_after markers at n ≤ start + 65128
+  pub near : place_after markers at n ≤ start + 2 ^ 16
   pub low : place_after markers at n < 2 ^ 63 + 2 ^ 17

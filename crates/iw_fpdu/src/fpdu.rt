@@ -3,7 +3,8 @@ ghost use Rattle.std.specs.Bool.{OnTrue};
 ghost use Rattle.std.specs.Result.{result_err};
 ghost use Rattle.iw_ranges.specs.Arrived.{cell_at, has_come};
 ghost use Rattle.iw_fpdu.specs.Places.{IsStart};
-ghost use Rattle.iw_fpdu.specs.Found.{IsWhole, LacksOctet, IsKept, HoldsSpan, ulpdu_len, ulpdu, mismatch};
+ghost use Rattle.iw_fpdu.specs.Reading.{end_at};
+ghost use Rattle.iw_fpdu.specs.Found.{octet_in, IsWhole, LacksOctet, IsKept, HoldsSpan, ulpdu_len, ulpdu, mismatch};
 
 use crate::check::check_span;
 use crate::layout::{Layout, end_of, index_of, place_of, span_of};
@@ -33,11 +34,13 @@ pub struct Fpdu<'a, A: Allocator = Global> {
 }
 
 impl<'a, A: Allocator> Model for Fpdu<'a, A> {
-    ghost use Rattle.iw_fpdu.specs.Found.{Found};
+    ghost use Rattle.iw_fpdu.specs.Reading.{end_at};
+ghost use Rattle.iw_fpdu.specs.Found.{Found};
 
     ghost Value = { Found };
 
-    ghost use Rattle.iw_fpdu.specs.FoundView.{found_by, IsSound};
+    ghost use Rattle.iw_fpdu.specs.Reading.{end_at};
+ghost use Rattle.iw_fpdu.specs.FoundView.{found_by, IsSound};
 
     ghost view = { λ a. found_by a };
 
@@ -100,6 +103,13 @@ impl<'a, A: Allocator> Fpdu<'a, A> {
         ensures short { result < 2 ^ 16 }
     {
         usize::from(self.len)
+    }
+
+    /// The frame place behind the frame.
+    pub fn end(&self) -> u64
+        ensures { result ≡ end_at (octet_in self.now.arrived self.now.base) self.now.layout.markers self.now.start }
+    {
+        end_of(self.layout.markers, self.start, self.len)
     }
 
     /// The octets of the ULPDU from its octet `k` on, lent piece by piece, between the markers.

@@ -1,5 +1,5 @@
 //! What holds of frames whatever is called.
-ghost use Rattle.iw_fpdu.specs.Laws.{ReadsAgain, StaysWhole};
+ghost use Rattle.iw_fpdu.specs.Laws.{FarMarkersFail, FramesFollow, KnownFrames, ReadsAgain, StaysWhole};
 
 /// What was written is read again, at any place, with and without markers and CRCs: the frame is whole, its ULPDU is the one
 /// that was written, and nothing is wrong with it.
@@ -10,4 +10,19 @@ pub fn written_frames_are_read_again()
 /// More octets that come do not change a whole frame.
 pub fn whole_frames_stay()
     ensures { StaysWhole }
+{}
+
+/// Where a frame ends the next is written, and its span begins.
+pub fn frames_follow_one_another()
+    ensures { FramesFollow }
+{}
+
+/// A marker that stands 65,536 octets or more behind the beginning of its frame cannot be right: no pointer says so much.
+pub fn far_markers_fail()
+    ensures { FarMarkersFail }
+{}
+
+/// The definitions give the frames that RFC 5044 prints (figures 5 and 6), and worked places and pointers.
+pub fn known_frames()
+    ensures { KnownFrames }
 {}

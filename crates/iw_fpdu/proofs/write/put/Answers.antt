@@ -14,7 +14,8 @@ loop-rest-init g c = (c.requires, refl, omega arith, omega arith, omega arith, r
 pub put_marker-at-requires-clause-near : goal.put_marker-at-requires-clause-near
 put_marker-at-requires-clause-near g c =
     let room = c.loop-rest.invariant.0 in
-    omega (arith, room.near, at_most_after c.args.markers c.loop-rest.at (length c.loop-rest.rest.now) room.edge)
+    let some : 0 < length c.loop-rest.rest.now = grind (arith, nat_tests, c.loop-rest-test.ensures) in
+    omega (arith, room.near, behind_edge c.args.markers c.loop-rest.at room.edge, after_high c.args.markers c.loop-rest.at (length c.loop-rest.rest.now) some)
 
 pub put_marker-at-requires-clause-low : goal.put_marker-at-requires-clause-low
 put_marker-at-requires-clause-low g c =

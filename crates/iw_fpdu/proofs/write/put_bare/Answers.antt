@@ -96,7 +96,7 @@ put_marker-requires-clause-near g c =
     let pad : length c.split_at.result.0.now ≡ pad_len len = c.split_at.ensures.front_len ∙ c.pad_of.ensures.value in
     let field = room_behind later (length c.split_at.result.0.now) c.put-behind_pad.result 4 (omega (arith, pad)) c.put-behind_pad.ensures.place c.put-behind_pad.ensures.len c.put-behind_pad.ensures.capacity in
     let p = c.put-behind_pad.result in
-    omega (arith, field.near, at_most_after m p 4 field.edge)
+    omega (arith, field.near, behind_edge m p field.edge, after_high m p 4 (omega arith))
 
 pub put_marker-requires-clause-room : goal.put_marker-requires-clause-room
 put_marker-requires-clause-room g c =
