@@ -6,7 +6,7 @@ use Rattle.iw_events.specs.declared.call.StreamCall.{StreamCall}
 use Rattle.iw_events.specs.declared.call.StreamCall.TheVariants as stream_calls
 use Rattle.iw_events.specs.declared.call.Event.{Event}
 use Rattle.iw_events.specs.declared.act.Act.{Act}
-use Rattle.iw_events.specs.declared.act.Act.TheVariants.{Domain, Register, Deregister, Open, Stream}
+use Rattle.iw_events.specs.declared.act.Act.TheVariants.{Domain, Register, Deregister, Invalidate, Store, Open, Stream}
 use Rattle.iw_events.specs.declared.act.StreamAct.{StreamAct}
 use Rattle.iw_events.specs.declared.act.StreamAct.TheVariants.{Recv, Post, Emit, Deliver, Raw, Work}
 use Rattle.iw_events.specs.declared.act.Entry.{Entry}
@@ -25,6 +25,8 @@ abbrev pub call_of : Act (List ℕ) → Call (List ℕ)
 call_of (Domain pd refused) = calls.Domain pd
 call_of (Register pd base rights octets answer) = calls.Register pd base rights octets
 call_of (Deregister stag answer) = calls.Deregister stag
+call_of (Invalidate stag refused) = calls.Invalidate stag
+call_of (Store stag to octets refused) = calls.Store stag to octets
 call_of (Open stream pd role private refused) = calls.Open stream pd role private
 call_of (Stream stream act) = calls.Stream stream (stream_call_of act)
 

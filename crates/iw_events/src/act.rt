@@ -1,5 +1,5 @@
 use crate::call::{End, Role};
-use iw_memory::{DomainRefusal, NoRegion, RegisterRefusal, Right, Rights};
+use iw_memory::{DomainRefusal, NoRegion, RegisterRefusal, Right, Rights, StoreRefusal};
 use iw_octets::{Fault, Message, Stag};
 use iw_stream::{Delivery, Kind, PostRefusal, RecvRefusal};
 
@@ -100,6 +100,16 @@ pub enum Act<O> {
     Deregister {
         stag: Stag,
         answer: Result<O, NoRegion>,
+    },
+    Invalidate {
+        stag: Stag,
+        refused: Option<NoRegion>,
+    },
+    Store {
+        stag: Stag,
+        to: u64,
+        octets: O,
+        refused: Option<StoreRefusal>,
     },
     Open {
         stream: u8,

@@ -50,6 +50,16 @@ pub enum Call<O> {
     Deregister {
         stag: Stag,
     },
+    /// Ends the use of a region by peers; it stays registered.
+    Invalidate {
+        stag: Stag,
+    },
+    /// Writes octets into a region, for its owner, from tagged offset `to` on.
+    Store {
+        stag: Stag,
+        to: u64,
+        octets: O,
+    },
     /// Opens a stream in a domain. The private data is not used for the role `Preset`.
     Open {
         stream: u8,

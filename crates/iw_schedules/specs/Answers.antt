@@ -9,6 +9,8 @@ use Rattle.iw_memory.specs.declared.refusal.DomainRefusal.{DomainRefusal}
 use Rattle.iw_memory.specs.declared.refusal.DomainRefusal.TheVariants as domains
 use Rattle.iw_memory.specs.declared.refusal.RegisterRefusal.{RegisterRefusal}
 use Rattle.iw_memory.specs.declared.refusal.RegisterRefusal.TheVariants as registers
+use Rattle.iw_memory.specs.declared.refusal.StoreRefusal.{StoreRefusal}
+use Rattle.iw_memory.specs.declared.refusal.StoreRefusal.TheVariants as stores
 use Rattle.iw_memory.specs.declared.rights.Right.{Right}
 use Rattle.iw_memory.specs.declared.rights.Right.TheVariants as rights
 use Rattle.iw_stream.specs.declared.answer.Kind.{Kind}
@@ -58,6 +60,10 @@ register_refusal registers.DomainFull = (2, codes "DomainFull")
 register_refusal registers.TooLong = (3, codes "TooLong")
 register_refusal registers.BaseWrap = (4, codes "BaseWrap")
 register_refusal registers.NoMemory = (5, codes "NoMemory")
+
+abbrev pub store_refusal : StoreRefusal → Numbered
+store_refusal stores.NoRegion = (1, codes "NoRegion")
+store_refusal stores.Outside = (2, codes "Outside")
 
 abbrev pub no_region : Numbered
 no_region = (1, codes "NoRegion")

@@ -2,7 +2,7 @@
 use Rattle.std.specs.Prelude.{ℕ, ◌-◌, ◌^◌, List, [], ◌∷◌, replicate, Result, Ok, Err}
 use Rattle.iw_octets.specs.declared.message.Message.TheVariants as messages
 use Rattle.iw_events.specs.declared.call.Call.{Call}
-use Rattle.iw_events.specs.declared.call.Call.TheVariants.{Domain, Register, Deregister, Open, Stream}
+use Rattle.iw_events.specs.declared.call.Call.TheVariants.{Domain, Register, Deregister, Invalidate, Store, Open, Stream}
 use Rattle.iw_events.specs.declared.call.StreamCall.{StreamCall}
 use Rattle.iw_events.specs.declared.call.StreamCall.TheVariants.{Recv, Post, Emit, Deliver, Raw, Work}
 use Rattle.iw_schedules.specs.declared.fault.FaultName.{FaultName}
@@ -16,7 +16,8 @@ use Rattle.iw_schedules.specs.declared.calls.Step.{Step}
 use Rattle.iw_schedules.specs.declared.calls.Step.TheVariants as steps
 use Rattle.iw_schedules.specs.Reading.{◌>>=◌}
 use Rattle.iw_schedules.specs.Kinds.{number_word, times_word, stag_word, octets_word, private_word}
-use Rattle.iw_schedules.specs.FirstPath.{role_word, options_word, rights_word, kind_word, is_solicited, invalidated_word}
+use Rattle.iw_schedules.specs.FirstPath.{role_word, options_word, kind_word, is_solicited, invalidated_word}
+use Rattle.iw_schedules.specs.Rights.{rights_word}
 use Rattle.iw_schedules.specs.Words.{call_word}
 
 -- a value, and the words behind it
@@ -63,6 +64,18 @@ unfoldable pub deregister_at : List (List ℕ) → Taken (List (Call (List ℕ))
 deregister_at words = do
   stag ← field stag_word words
   Ok (one (Deregister stag.0), stag.1)
+
+unfoldable pub invalidate_at : List (List ℕ) → Taken (List (Call (List ℕ)))
+invalidate_at words = do
+  stag ← field stag_word words
+  Ok (one (Invalidate stag.0), stag.1)
+
+unfoldable pub store_at : List (List ℕ) → Taken (List (Call (List ℕ)))
+store_at words = do
+  stag ← field stag_word words
+  to ← field long_number stag.1
+  octets ← field octets_word to.1
+  Ok (one (Store stag.0 to.0 octets.0), octets.1)
 
 unfoldable pub open_at : List (List ℕ) → Taken (List (Call (List ℕ)))
 open_at words = do
@@ -125,6 +138,8 @@ abbrev pub behind : CallWord → List (List ℕ) → Taken (List (Call (List ℕ
 behind named.Domain words = domain_at words
 behind named.Register words = register_at words
 behind named.Deregister words = deregister_at words
+behind named.Invalidate words = invalidate_at words
+behind named.Store words = store_at words
 behind named.Open words = open_at words
 behind named.Recv words = recv_at words
 behind named.Send words = send_at words

@@ -9,14 +9,14 @@ use Rattle.iw_octets.specs.declared.message.Message.TheVariants as messages
 use Rattle.iw_memory.specs.declared.refusal.RegisterRefusal.{RegisterRefusal}
 use Rattle.iw_memory.specs.declared.refusal.NoRegion.{NoRegion}
 use Rattle.iw_events.specs.declared.act.Act.{Act}
-use Rattle.iw_events.specs.declared.act.Act.TheVariants.{Domain, Register, Deregister, Open, Stream}
+use Rattle.iw_events.specs.declared.act.Act.TheVariants.{Domain, Register, Deregister, Invalidate, Store, Open, Stream}
 use Rattle.iw_events.specs.declared.act.StreamAct.{StreamAct}
 use Rattle.iw_events.specs.declared.act.StreamAct.TheVariants.{Recv, Post, Emit, Deliver, Raw, Work}
 use Rattle.iw_events.specs.declared.act.Entry.{Entry}
 use Rattle.iw_schedules.specs.declared.words.CallWord.{CallWord}
 use Rattle.iw_schedules.specs.declared.words.CallWord.TheVariants as named
 use Rattle.iw_schedules.specs.Words.{end_text, call_text}
-use Rattle.iw_schedules.specs.Answers.{Words, octets_text, stag_text, domain_refusal, register_refusal, no_region, open_refusal, recv_refusal, post_refusal, refused, ok_or_refused, delivery_text, shown_words, seen_words}
+use Rattle.iw_schedules.specs.Answers.{Words, octets_text, stag_text, domain_refusal, register_refusal, no_region, store_refusal, open_refusal, recv_refusal, post_refusal, refused, ok_or_refused, delivery_text, shown_words, seen_words}
 
 abbrev pub registered : Result Stag RegisterRefusal → Words
 registered (Ok stag) = stag_text stag ∷ []
@@ -35,6 +35,10 @@ post_word (messages.Send octets solicited invalidate) = named.Send
 abbrev pub call_on : CallWord → ℕ → Words
 call_on call n = call_text call ∷ decimal n ∷ []
 
+-- a call, and the STag that it names
+abbrev pub call_of_stag : CallWord → Stag → Words
+call_of_stag call stag = call_text call ∷ stag_text stag ∷ []
+
 abbrev pub stream_words : ℕ → StreamAct (List ℕ) → Words
 stream_words stream (Recv len refusal) = call_text named.Recv ∷ decimal stream ∷ ok_or_refused (option_map recv_refusal refusal)
 stream_words stream (Post message refusal) = call_text (post_word message) ∷ decimal stream ∷ ok_or_refused (option_map post_refusal refusal)
@@ -48,6 +52,8 @@ abbrev pub act_words : Act (List ℕ) → Words
 act_words (Domain pd refusal) = call_text named.Domain ∷ decimal pd ∷ ok_or_refused (option_map domain_refusal refusal)
 act_words (Register pd base rights octets answer) = call_text named.Register ∷ registered answer
 act_words (Deregister stag answer) = call_text named.Deregister ∷ stag_text stag ∷ deregistered answer
+act_words (Invalidate stag refusal) = call_text named.Invalidate ∷ stag_text stag ∷ ok_or_refused (option_map (λ missing. no_region) refusal)
+act_words (Store stag to octets refusal) = call_text named.Store ∷ stag_text stag ∷ ok_or_refused (option_map store_refusal refusal)
 act_words (Open stream pd role private refusal) = call_text named.Open ∷ decimal stream ∷ ok_or_refused (option_map open_refusal refusal)
 act_words (Stream stream act) = stream_words stream act
 

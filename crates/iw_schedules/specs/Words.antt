@@ -6,7 +6,7 @@ use Rattle.iw_events.specs.declared.call.End.TheVariants.{A, B}
 use Rattle.iw_schedules.specs.declared.fault.FaultName.{FaultName}
 use Rattle.iw_schedules.specs.declared.fault.FaultName.TheVariants.{BadWord}
 use Rattle.iw_schedules.specs.declared.words.CallWord.{CallWord}
-use Rattle.iw_schedules.specs.declared.words.CallWord.TheVariants.{Domain, Register, Deregister, Open, Recv, Send, Write, Emit, Work, Deliver, Raw}
+use Rattle.iw_schedules.specs.declared.words.CallWord.TheVariants.{Domain, Register, Deregister, Invalidate, Store, Open, Recv, Send, Write, Emit, Work, Deliver, Raw}
 
 -- the one of these that has this text
 abbrev pub one_of : {X : Type 0} → (X → List ℕ) → List X → List ℕ → Result X FaultName
@@ -28,6 +28,8 @@ abbrev pub call_text : CallWord → List ℕ
 call_text Domain = codes "domain"
 call_text Register = codes "register"
 call_text Deregister = codes "deregister"
+call_text Invalidate = codes "invalidate"
+call_text Store = codes "store"
 call_text Open = codes "open"
 call_text Recv = codes "recv"
 call_text Send = codes "send"
@@ -38,7 +40,7 @@ call_text Deliver = codes "deliver"
 call_text Raw = codes "raw"
 
 abbrev pub call_words : List CallWord
-call_words = Domain ∷ Register ∷ Deregister ∷ Open ∷ Recv ∷ Send ∷ Write ∷ Emit ∷ Work ∷ Deliver ∷ Raw ∷ []
+call_words = Domain ∷ Register ∷ Deregister ∷ Invalidate ∷ Store ∷ Open ∷ Recv ∷ Send ∷ Write ∷ Emit ∷ Work ∷ Deliver ∷ Raw ∷ []
 
 unfoldable pub call_word : List ℕ → Result CallWord FaultName
 call_word word = one_of call_text call_words word

@@ -9,6 +9,7 @@ mod kinds;
 mod laws;
 mod pieces;
 mod refusals;
+mod rights;
 mod schedule;
 mod trace;
 mod words;

@@ -1,11 +1,11 @@
 //! The refusals of each call, with their numbers.
 
 ghost use Rattle.std.specs.Prelude.{◌≡◌};
-ghost use Rattle.iw_schedules.specs.Answers.{domain_refusal, register_refusal, open_refusal, recv_refusal, post_refusal, no_region};
+ghost use Rattle.iw_schedules.specs.Answers.{domain_refusal, register_refusal, open_refusal, recv_refusal, post_refusal, no_region, store_refusal};
 ghost use Rattle.iw_schedules.specs.Shown.{shown_refusal};
 
 use iw_events::OpenRefusal;
-use iw_memory::{DomainRefusal, NoRegion, RegisterRefusal};
+use iw_memory::{DomainRefusal, NoRegion, RegisterRefusal, StoreRefusal};
 use iw_stream::{PostRefusal, RecvRefusal};
 
 /// A refusal's number and name.
@@ -45,10 +45,20 @@ pub(crate) fn of_register(refusal: RegisterRefusal) -> Refusal
     }
 }
 
-pub(crate) fn of_deregister(_refusal: NoRegion) -> Refusal
+/// Of `deregister`, and of `invalidate`.
+pub(crate) fn of_missing(_refusal: NoRegion) -> Refusal
     ensures { shown_refusal result ≡ no_region }
 {
     Refusal::new(1, "NoRegion")
+}
+
+pub(crate) fn of_store(refusal: StoreRefusal) -> Refusal
+    ensures { shown_refusal result ≡ store_refusal refusal }
+{
+    match refusal {
+        StoreRefusal::NoRegion => Refusal::new(1, "NoRegion"),
+        StoreRefusal::Outside => Refusal::new(2, "Outside"),
+    }
 }
 
 pub(crate) fn of_open(refusal: OpenRefusal) -> Refusal

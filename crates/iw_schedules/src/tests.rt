@@ -27,8 +27,9 @@ BadWord: a fly 0
 BadWord: a fly x y
 BadWord: a accept 0 -
 BadWord: a reject 0 -
-BadWord: a invalidate 01000000
-BadWord: a store 01000000 0 aa
+BadWord: a invalidate
+BadWord: a invalidate 01000000 0
+BadWord: a store 01000000 0
 BadWord: a read 0 01000000 0 4 01000000 0
 BadWord: a mulpdu 0 128
 BadWord: a raws 0 0 aa
@@ -81,8 +82,14 @@ BadNumber: a deliver 0 0 18446744073709551616
 BadNumber: a deliver 0 -1 4
 BadNumber: a raw 0 18446744073709551616 -
 BadNumber: a raw 256 0 abc
-BadOctets: a register 1 0 r aa
-BadOctets: a register 1 0 wi aa
+BadNumber: a invalidate 0100
+BadNumber: a store 01000000 - aa
+BadOctets: a store 01000000 0 a
+BadOctets: a register 1 0 rw aa
+BadOctets: a register 1 0 iw aa
+BadOctets: a register 1 0 wrsir aa
+BadOctets: a register 1 0 wrsi- aa
+BadOctets: a register 1 0 -w aa
 BadOctets: a register 1 0 ww aa
 BadOctets: a register 1 0 W aa
 BadOctets: a register 1 0  aa

@@ -1,6 +1,6 @@
 ghost use Rattle.std.specs.Prelude.{◌≡◌, ◌++◌, IfOk, OnOk, string_bytes};
 ghost use Rattle.iw_schedules.specs.Answers.{kind_text, right_text, send_text, delivery_text, fault_words, shown_words, done_words, placed_words, buffered_words, received_words, seen_words};
-ghost use Rattle.iw_schedules.specs.Trace.{registered, deregistered, post_word, call_on, stream_words, act_words, entry_text, trace_text};
+ghost use Rattle.iw_schedules.specs.Trace.{registered, deregistered, post_word, call_on, call_of_stag, stream_words, act_words, entry_text, trace_text};
 ghost use Rattle.iw_schedules.specs.Appended.{with_words};
 
 use crate::words::{CallWord, end_name};
@@ -183,6 +183,18 @@ fn add_call<A: Allocator>(
     Ok(())
 }
 
+// The word of a call, and the STag that it names.
+fn add_named<A: Allocator + Copy>(
+    text: &mut String<A>,
+    call: CallWord,
+    stag: Stag,
+) -> Result<(), AllocError>
+    ensures { OnOk result (string_bytes text.new ≡ with_words (string_bytes text.old) (call_of_stag call stag)) }
+{
+    appending::word(text, call.text())?;
+    appending::stag(text, stag)
+}
+
 fn add_stream_act<A: Allocator + Copy>(
     text: &mut String<A>,
     stream: u8,
@@ -241,7 +253,7 @@ fn add_deregistered<A: Allocator + Copy>(
             appending::word(text, "ok")?;
             appending::octets(text, octets.as_slice())
         }
-        Err(refusal) => appending::refusal(text, refusals::of_deregister(*refusal)),
+        Err(refusal) => appending::refusal(text, refusals::of_missing(*refusal)),
     }
 }
 
@@ -258,9 +270,16 @@ fn add_act<A: Allocator + Copy>(text: &mut String<A>, act: &Act<Bytes<A>>) -> Re
             add_registered(text, *answer)
         }
         Act::Deregister { stag, answer } => {
-            appending::word(text, CallWord::Deregister.text())?;
-            appending::stag(text, *stag)?;
+            add_named(text, CallWord::Deregister, *stag)?;
             add_deregistered(text, answer)
+        }
+        Act::Invalidate { stag, refused } => {
+            add_named(text, CallWord::Invalidate, *stag)?;
+            appending::outcome(text, refused.map(refusals::of_missing))
+        }
+        Act::Store { stag, refused, .. } => {
+            add_named(text, CallWord::Store, *stag)?;
+            appending::outcome(text, refused.map(refusals::of_store))
         }
         Act::Open {
             stream,

@@ -12,6 +12,8 @@ pub(crate) enum CallWord {
     Domain,
     Register,
     Deregister,
+    Invalidate,
+    Store,
     Open,
     Recv,
     Send,
@@ -24,10 +26,12 @@ pub(crate) enum CallWord {
 
 impl CallWord {
     /// Every one of them.
-    pub(crate) const ALL: [CallWord; 11] = [
+    pub(crate) const ALL: [CallWord; 13] = [
         CallWord::Domain,
         CallWord::Register,
         CallWord::Deregister,
+        CallWord::Invalidate,
+        CallWord::Store,
         CallWord::Open,
         CallWord::Recv,
         CallWord::Send,
@@ -45,6 +49,8 @@ impl CallWord {
             CallWord::Domain => "domain",
             CallWord::Register => "register",
             CallWord::Deregister => "deregister",
+            CallWord::Invalidate => "invalidate",
+            CallWord::Store => "store",
             CallWord::Open => "open",
             CallWord::Recv => "recv",
             CallWord::Send => "send",

@@ -1,6 +1,7 @@
 -- What one more act does to the streams of an end, and to what its acts say of them.
 use Rattle.std.proofs.Common.{◌≡◌, ◌≢◌, ℕ, zero, suc, ◌<◌, List, [], ◌∷◌, ◌++◌, length, Option, Some, None, Bool, true, false, cond, eqb, refl, sym, ap, ◌∙◌, subst, arith, eqb-true}
-use Rattle.std.specs.Prelude.{slice_set, slice_index_or, unwrap_or, is_some, not}
+use Rattle.std.specs.Prelude.{slice_set, slice_index_or, unwrap_or, is_some, not, nat_le}
+use Rattle.std.proofs.lemmas.Bool.Decides.{nat_tests}
 use Rattle.std.proofs.lemmas.List.{append-nil, get_or-set_same, get_or-set_other, length-set}
 use Rattle.std.proofs.lemmas.Bool.{eq-eqb, false≢true}
 use Rattle.iw_memory.specs.Table.{is_added}
@@ -8,13 +9,13 @@ use Rattle.iw_stream.specs.declared.answer.Delivery.TheVariants.{Kept, Dropped}
 use Rattle.iw_stream.specs.Stream.{StreamState}
 use Rattle.iw_events.specs.declared.act.OpenRefusal.TheVariants.{NumberTaken, BadNumber, NoDomain}
 use Rattle.iw_events.specs.declared.act.Act.{Act}
-use Rattle.iw_events.specs.declared.act.Act.TheVariants.{Domain, Register, Deregister, Open, Stream}
+use Rattle.iw_events.specs.declared.act.Act.TheVariants.{Domain, Register, Deregister, Invalidate, Store, Open, Stream}
 use Rattle.iw_events.specs.declared.act.StreamAct.{StreamAct}
 use Rattle.iw_events.specs.declared.act.StreamAct.TheVariants.{Recv, Post, Emit, Deliver, Raw, Work}
 use Rattle.iw_events.specs.declared.act.Shown.TheVariants.{Frame, Nothing}
 use Rattle.iw_events.specs.declared.act.Seen.TheVariants as seen
 use Rattle.iw_world.specs.Words.{Octets, openings, openings_by, table_after, table_by}
-use Rattle.iw_world.specs.Rules.{Connected, connected, EndState, has_stream, stream_at, open_refusal, Rule, stream_after, connected_after, streams_after, end_after}
+use Rattle.iw_world.specs.Rules.{Connected, connected, EndState, stream_numbers, has_stream, stream_at, open_refusal, Rule, stream_after, connected_after, streams_after, end_after}
 use Rattle.iw_world.specs.Safe.{domain_of}
 use Rattle.iw_world.proofs.Tales.{table-push, openings-push}
 
@@ -47,16 +48,16 @@ opens_same n done act e = openings-push n done act ∙ ap (λ z. openings n done
 -- the fields that an opening needs
 pub record Opens (s : EndState) (n : ℕ) : Type 0 where
   pub fresh : has_stream s n ≡ false
-  pub number : n ≡ 0
+  pub number : n < 64
 
 pub opens : (s : EndState) (n pd : ℕ) → None ≡ open_refusal s n pd → Opens s n
-opens s n pd e = go (has_stream s n) (eqb n 0) refl refl (is_added s.table pd) e
+opens s n pd e = go (has_stream s n) (nat_le stream_numbers n) refl refl (is_added s.table pd) e
   where
-    go : (has zero_is : Bool) → has_stream s n ≡ has → eqb n 0 ≡ zero_is → (added : Bool)
-        → None ≡ cond has (Some NumberTaken) (cond (not zero_is) (Some BadNumber) (cond (not added) (Some NoDomain) None)) → Opens s n
+    go : (has beyond : Bool) → has_stream s n ≡ has → nat_le stream_numbers n ≡ beyond → (added : Bool)
+        → None ≡ cond has (Some NumberTaken) (cond beyond (Some BadNumber) (cond (not added) (Some NoDomain) None)) → Opens s n
     go true b h z added e' = cc
-    go false false h z added e' = cc
-    go false true h z added e' = record { fresh = h; number = eqb-true n 0 z }
+    go false true h z added e' = cc
+    go false false h z added e' = record { fresh = h; number = grind (arith, nat_tests) }
 
 -- a stream keeps its domain
 pub same_domain : (s : StreamState) (act : StreamAct Octets) → (stream_after s act).domain ≡ s.domain
@@ -117,6 +118,8 @@ number_after s peer done (Domain pd None) n k rule = keeps_number s done (Domain
 number_after s peer done (Domain pd (Some refusal)) n k rule = keeps_number s done (Domain pd (Some refusal)) n k refl refl
 number_after s peer done (Register pd base rights octets answer) n k rule = keeps_number s done (Register pd base rights octets answer) n k refl refl
 number_after s peer done (Deregister stag answer) n k rule = keeps_number s done (Deregister stag answer) n k refl refl
+number_after s peer done (Invalidate stag refused) n k rule = keeps_number s done (Invalidate stag refused) n k refl refl
+number_after s peer done (Store stag to octets refused) n k rule = keeps_number s done (Store stag to octets refused) n k refl refl
 number_after s peer done (Open m pd role private (Some refusal)) n k rule = keeps_number s done (Open m pd role private (Some refusal)) n k refl refl
 number_after s peer done (Open m pd role private None) n k rule = go (eqb m n) refl
   where
@@ -157,6 +160,8 @@ numbers_after s (Domain pd None) = refl
 numbers_after s (Domain pd (Some refusal)) = refl
 numbers_after s (Register pd base rights octets answer) = refl
 numbers_after s (Deregister stag answer) = refl
+numbers_after s (Invalidate stag refused) = refl
+numbers_after s (Store stag to octets refused) = refl
 numbers_after s (Open m pd role private None) = length-set s.streams m (Some (connected pd))
 numbers_after s (Open m pd role private (Some refusal)) = refl
 numbers_after s (Stream m act) = length-set s.streams m (Some (connected_after (stream_at s m) act))

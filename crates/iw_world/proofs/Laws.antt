@@ -16,7 +16,7 @@ use Rattle.iw_events.specs.declared.call.End.{End}
 use Rattle.iw_events.specs.declared.call.Call.{Call}
 use Rattle.iw_events.specs.declared.call.Call.TheVariants as calls
 use Rattle.iw_events.specs.declared.act.Act.{Act}
-use Rattle.iw_events.specs.declared.act.Act.TheVariants.{Domain, Register, Deregister, Open, Stream}
+use Rattle.iw_events.specs.declared.act.Act.TheVariants.{Domain, Register, Deregister, Invalidate, Store, Open, Stream}
 use Rattle.iw_events.specs.declared.act.StreamAct.{StreamAct}
 use Rattle.iw_events.specs.declared.act.StreamAct.TheVariants.{Recv, Post, Emit, Deliver, Raw, Work}
 use Rattle.iw_events.specs.declared.act.Shown.TheVariants.{Frame, Nothing}
@@ -78,6 +78,8 @@ within_act done s peer (Stream n act) k p rule =
 within_act done s peer (Domain pd refused) k p rule = tt
 within_act done s peer (Register pd base rights octets answer) k p rule = tt
 within_act done s peer (Deregister stag answer) k p rule = tt
+within_act done s peer (Invalidate stag refused) k p rule = tt
+within_act done s peer (Store stag to octets refused) k p rule = tt
 within_act done s peer (Open n pd role private refused) k p rule = tt
 
 -- an entry, in the state that those before it leave
@@ -124,6 +126,8 @@ nothing_act done s peer (Stream n act) owns rule = nothing_stream (stream_at s n
 nothing_act done s peer (Domain pd refused) owns rule = tt
 nothing_act done s peer (Register pd base rights octets answer) owns rule = tt
 nothing_act done s peer (Deregister stag answer) owns rule = tt
+nothing_act done s peer (Invalidate stag refused) owns rule = tt
+nothing_act done s peer (Store stag to octets refused) owns rule = tt
 nothing_act done s peer (Open n pd role private refused) owns rule = tt
 
 pub nothing_at_rest : (trace : List (Entry Octets)) → Follows start trace → NothingOnlyAtRest trace
@@ -152,6 +156,8 @@ turns_act done s peer (Stream n act) k tracks rule = turns_stream done n s (stre
 turns_act done s peer (Domain pd refused) k tracks rule = tt
 turns_act done s peer (Register pd base rights octets answer) k tracks rule = tt
 turns_act done s peer (Deregister stag answer) k tracks rule = tt
+turns_act done s peer (Invalidate stag refused) k tracks rule = tt
+turns_act done s peer (Store stag to octets refused) k tracks rule = tt
 turns_act done s peer (Open n pd role private refused) k tracks rule = tt
 
 pub turns_all : (trace : List (Entry Octets)) → Follows start trace → Turns trace
@@ -182,6 +188,8 @@ idle_act done s peer (Stream n act) owns rule = idle_stream s (stream_at peer n)
 idle_act done s peer (Domain pd refused) owns rule = tt
 idle_act done s peer (Register pd base rights octets answer) owns rule = tt
 idle_act done s peer (Deregister stag answer) owns rule = tt
+idle_act done s peer (Invalidate stag refused) owns rule = tt
+idle_act done s peer (Store stag to octets refused) owns rule = tt
 idle_act done s peer (Open n pd role private refused) owns rule = tt
 
 pub idle_at_rest : (trace : List (Entry Octets)) → Follows start trace → IdleOnlyAtRest trace
@@ -198,6 +206,8 @@ shown_region (Some r) octets missing e = let same : octets ≡ r.octets = cc in 
 shows_region : (done : List (Act Octets)) (s peer : EndState) (act : Act Octets) → EndSeen s done → Rule s peer act → ShowsRegion done act
 shows_region done s peer (Deregister stag (Ok octets)) k rule = subst (λ t. option_map (λ r. r.octets) (region_at t stag) ≡ Some octets) k.table (shown_region (region_at s.table stag) octets (record {}) rule)
 shows_region done s peer (Deregister stag (Err refusal)) k rule = tt
+shows_region done s peer (Invalidate stag refused) k rule = tt
+shows_region done s peer (Store stag to octets refused) k rule = tt
 shows_region done s peer (Domain pd refused) k rule = tt
 shows_region done s peer (Register pd base rights octets answer) k rule = tt
 shows_region done s peer (Open n pd role private refused) k rule = tt
@@ -225,6 +235,8 @@ names_no_stream s peer own others (calls.Stream n call) k j h = elim h [
 names_no_stream s peer own others (calls.Domain pd) k j h = h
 names_no_stream s peer own others (calls.Register pd base rights octets) k j h = h
 names_no_stream s peer own others (calls.Deregister stag) k j h = h
+names_no_stream s peer own others (calls.Invalidate stag) k j h = h
+names_no_stream s peer own others (calls.Store stag to octets) k j h = h
 names_no_stream s peer own others (calls.Open n pd role private) k j h = h
 
 pub names_streams : (s peer : EndState) (own others : List (Act Octets)) (call : Call Octets) → EndSeen s own → EndSeen peer others → AsksTooMuch s peer call → ¬ NamesNoStream own others call
@@ -235,6 +247,8 @@ names_streams s peer own others (calls.Stream n call) k j h names = elim names [
 names_streams s peer own others (calls.Domain pd) k j h names = h
 names_streams s peer own others (calls.Register pd base rights octets) k j h names = h
 names_streams s peer own others (calls.Deregister stag) k j h names = h
+names_streams s peer own others (calls.Invalidate stag) k j h names = h
+names_streams s peer own others (calls.Store stag to octets) k j h names = h
 names_streams s peer own others (calls.Open n pd role private) k j h names = h
 
 pub asks_not_sent : (s peer : EndState) (others : List (Act Octets)) (call : Call Octets) → ((n : ℕ) → (stream_at peer n).wire ≡ sent (stream_acts n others)) → AsksTooMuch s peer call → AsksNotSent others call
@@ -242,4 +256,6 @@ asks_not_sent s peer others (calls.Stream n call) wires h = subst (λ z. AsksOve
 asks_not_sent s peer others (calls.Domain pd) wires h = h
 asks_not_sent s peer others (calls.Register pd base rights octets) wires h = h
 asks_not_sent s peer others (calls.Deregister stag) wires h = h
+asks_not_sent s peer others (calls.Invalidate stag) wires h = h
+asks_not_sent s peer others (calls.Store stag to octets) wires h = h
 asks_not_sent s peer others (calls.Open n pd role private) wires h = h

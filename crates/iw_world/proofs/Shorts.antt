@@ -3,7 +3,7 @@ use Rattle.std.proofs.Common.{◌≡◌, ℕ, ◌+◌, ◌*◌, ◌^◌, ◌≤�
 use Rattle.std.proofs.lemmas.List.{append-nil, length_push}
 use Rattle.iw_events.specs.declared.call.End.{End}
 use Rattle.iw_events.specs.declared.act.Act.{Act}
-use Rattle.iw_events.specs.declared.act.Act.TheVariants.{Domain, Register, Deregister, Open, Stream}
+use Rattle.iw_events.specs.declared.act.Act.TheVariants.{Domain, Register, Deregister, Invalidate, Store, Open, Stream}
 use Rattle.iw_events.specs.declared.act.StreamAct.{StreamAct}
 use Rattle.iw_events.specs.declared.act.StreamAct.TheVariants.{Recv, Post, Emit, Deliver, Raw, Work}
 use Rattle.iw_events.specs.declared.act.Seen.TheVariants as seen
@@ -29,6 +29,8 @@ one_frame s peer done (Domain pd None) n p rule = same_sent n done (Domain pd No
 one_frame s peer done (Domain pd (Some refusal)) n p rule = same_sent n done (Domain pd (Some refusal)) refl
 one_frame s peer done (Register pd base rights octets answer) n p rule = same_sent n done (Register pd base rights octets answer) refl
 one_frame s peer done (Deregister stag answer) n p rule = same_sent n done (Deregister stag answer) refl
+one_frame s peer done (Invalidate stag refused) n p rule = same_sent n done (Invalidate stag refused) refl
+one_frame s peer done (Store stag to octets refused) n p rule = same_sent n done (Store stag to octets refused) refl
 one_frame s peer done (Open m pd role private refused) n p rule = same_sent n done (Open m pd role private refused) refl
 one_frame s peer done (Stream m act) n p rule = go (eqb m n) refl
   where
@@ -68,6 +70,8 @@ turns_more : (n : ℕ) (done : List (Act Octets)) (act : Act Octets) → turns_o
 turns_more n done (Domain pd refused) = same_turns n done (Domain pd refused) refl
 turns_more n done (Register pd base rights octets answer) = same_turns n done (Register pd base rights octets answer) refl
 turns_more n done (Deregister stag answer) = same_turns n done (Deregister stag answer) refl
+turns_more n done (Invalidate stag refused) = same_turns n done (Invalidate stag refused) refl
+turns_more n done (Store stag to octets refused) = same_turns n done (Store stag to octets refused) refl
 turns_more n done (Open m pd role private refused) = same_turns n done (Open m pd role private refused) refl
 turns_more n done (Stream m act) = go (eqb m n) refl
   where

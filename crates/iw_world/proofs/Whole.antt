@@ -14,7 +14,7 @@ use Rattle.iw_stream.specs.Stream.{opened}
 use Rattle.iw_events.specs.declared.call.End.{End}
 use Rattle.iw_events.specs.declared.call.End.TheVariants.{A, B}
 use Rattle.iw_events.specs.declared.act.Act.{Act}
-use Rattle.iw_events.specs.declared.act.Act.TheVariants.{Domain, Register, Deregister, Open, Stream}
+use Rattle.iw_events.specs.declared.act.Act.TheVariants.{Domain, Register, Deregister, Invalidate, Store, Open, Stream}
 use Rattle.iw_events.specs.declared.act.StreamAct.{StreamAct}
 use Rattle.iw_events.specs.declared.act.StreamAct.TheVariants.{Recv, Post, Emit, Deliver, Raw, Work}
 use Rattle.iw_events.specs.declared.act.Shown.TheVariants.{Frame, Nothing}
@@ -105,6 +105,8 @@ acted s peer done (Domain pd None) n u k rule p = same_stream s (Domain pd None)
 acted s peer done (Domain pd (Some refusal)) n u k rule p = same_stream s (Domain pd (Some refusal)) n done (stream_at peer n) u refl refl p
 acted s peer done (Register pd base rights octets answer) n u k rule p = same_stream s (Register pd base rights octets answer) n done (stream_at peer n) u refl refl p
 acted s peer done (Deregister stag answer) n u k rule p = same_stream s (Deregister stag answer) n done (stream_at peer n) u refl refl p
+acted s peer done (Invalidate stag refused) n u k rule p = same_stream s (Invalidate stag refused) n done (stream_at peer n) u refl refl p
+acted s peer done (Store stag to octets refused) n u k rule p = same_stream s (Store stag to octets refused) n done (stream_at peer n) u refl refl p
 acted s peer done (Open m pd role private (Some refusal)) n u k rule p = same_stream s (Open m pd role private (Some refusal)) n done (stream_at peer n) u refl refl p
 acted s peer done (Open m pd role private None) n u k rule p = go (eqb m n) refl
   where

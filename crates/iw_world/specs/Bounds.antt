@@ -2,7 +2,7 @@
 use Rattle.std.specs.Prelude.{◌≡◌, ℕ, ◌+◌, ◌<◌, ◌≤◌, ◌^◌, ◌⊎◌, true, false, List, length}
 use Rattle.iw_events.specs.declared.call.End.{End}
 use Rattle.iw_events.specs.declared.call.Call.{Call}
-use Rattle.iw_events.specs.declared.call.Call.TheVariants.{Domain, Register, Deregister, Open, Stream}
+use Rattle.iw_events.specs.declared.call.Call.TheVariants.{Domain, Register, Deregister, Invalidate, Store, Open, Stream}
 use Rattle.iw_events.specs.declared.call.StreamCall.{StreamCall}
 use Rattle.iw_events.specs.declared.call.StreamCall.TheVariants.{Recv, Post, Emit, Deliver, Raw, Work}
 use Rattle.iw_stream.specs.Stream.{StreamState}
@@ -38,6 +38,8 @@ LacksStream s peer (Stream n call) = (has_stream s n ≡ false) ⊎ ((needs_peer
 LacksStream s peer (Domain pd) = ⊥
 LacksStream s peer (Register pd base rights octets) = ⊥
 LacksStream s peer (Deregister stag) = ⊥
+LacksStream s peer (Invalidate stag) = ⊥
+LacksStream s peer (Store stag to octets) = ⊥
 LacksStream s peer (Open n pd role private) = ⊥
 
 -- the call has its streams, and delivers octets that were not emitted
@@ -47,4 +49,6 @@ AsksTooMuch s peer (Stream n call) =
 AsksTooMuch s peer (Domain pd) = ⊥
 AsksTooMuch s peer (Register pd base rights octets) = ⊥
 AsksTooMuch s peer (Deregister stag) = ⊥
+AsksTooMuch s peer (Invalidate stag) = ⊥
+AsksTooMuch s peer (Store stag to octets) = ⊥
 AsksTooMuch s peer (Open n pd role private) = ⊥

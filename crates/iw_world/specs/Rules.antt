@@ -1,10 +1,10 @@
 -- The state of both ends, which answer is right in a state, and what each entry leaves of it.
-use Rattle.std.specs.Prelude.{◌≡◌, ℕ, ◌+◌, ◌≤◌, List, [], ◌∷◌, ◌++◌, length, take, drop, replicate, slice_index_or, slice_set, Bool, true, false, not, is_some, unwrap_or, if◌then◌else◌, Option, Some, None, Ok, Err, Result}
+use Rattle.std.specs.Prelude.{◌≡◌, ℕ, ◌+◌, ◌≤◌, List, [], ◌∷◌, ◌++◌, length, take, drop, replicate, slice_index_or, slice_set, Bool, true, false, not, nat_le, is_some, unwrap_or, if◌then◌else◌, Option, Some, None, Ok, Err, Result}
 use Rattle.std.specs.Option.{option_map_or}
 use Rattle.iw_octets.specs.declared.stag.Stag.{Stag}
 use Rattle.iw_memory.specs.declared.refusal.NoRegion.{NoRegion}
 use Rattle.iw_memory.specs.declared.refusal.RegisterRefusal.{RegisterRefusal}
-use Rattle.iw_memory.specs.Table.{Table, empty, is_added, domain_refusal, register_refusal, next_stag, region_at, octets_at}
+use Rattle.iw_memory.specs.Table.{Table, empty, is_added, domain_refusal, register_refusal, store_refusal, next_stag, region_at, octets_at}
 use Rattle.iw_stream.specs.declared.answer.Step.{Step}
 use Rattle.iw_stream.specs.declared.answer.Step.TheVariants as steps
 use Rattle.iw_stream.specs.declared.answer.Emission.{Emission}
@@ -19,7 +19,7 @@ use Rattle.iw_events.specs.Events.{stream_call_of}
 use Rattle.iw_events.specs.declared.act.OpenRefusal.{OpenRefusal}
 use Rattle.iw_events.specs.declared.act.OpenRefusal.TheVariants.{NumberTaken, BadNumber, NoDomain}
 use Rattle.iw_events.specs.declared.act.Act.{Act}
-use Rattle.iw_events.specs.declared.act.Act.TheVariants.{Domain, Register, Deregister, Open, Stream}
+use Rattle.iw_events.specs.declared.act.Act.TheVariants.{Domain, Register, Deregister, Invalidate, Store, Open, Stream}
 use Rattle.iw_events.specs.declared.act.StreamAct.{StreamAct}
 use Rattle.iw_events.specs.declared.act.StreamAct.TheVariants.{Recv, Post, Emit, Deliver, Raw, Work}
 use Rattle.iw_events.specs.declared.act.Shown.{Shown}
@@ -29,7 +29,6 @@ use Rattle.iw_events.specs.declared.act.Seen.TheVariants as seen
 use Rattle.iw_events.specs.declared.act.Entry.{Entry}
 use Rattle.iw_world.specs.Words.{Octets, other, sent_by, table_by}
 use Rattle.iw_world.specs.Fitting.{FitsMessage}
-use Rattle.iw_world.specs.FirstPath.{is_stream_number}
 
 -- ---- states
 
@@ -51,7 +50,7 @@ pub record State : Type 0 where
   pub a : EndState
   pub b : EndState
 
--- how many stream numbers an end has
+-- how many stream numbers an end has, from 0 on
 abbrev pub stream_numbers : ℕ
 stream_numbers = 64
 
@@ -119,7 +118,7 @@ needs_peer stream_calls.Work = false
 abbrev pub open_refusal : EndState → ℕ → ℕ → Option OpenRefusal
 open_refusal s n pd =
     if has_stream s n then Some NumberTaken
-    else if not (is_stream_number n) then Some BadNumber
+    else if nat_le stream_numbers n then Some BadNumber
     else if not (is_added s.table pd) then Some NoDomain
     else None
 
@@ -129,11 +128,16 @@ register_answer table pd base len = option_map_or Err (register_refusal table pd
 abbrev pub deregister_answer : Table → Stag → Result Octets NoRegion
 deregister_answer table stag = option_map_or (λ r. Ok r.octets) (region_at table stag) (Err (record {}))
 
+abbrev pub invalidate_refusal : Table → Stag → Option NoRegion
+invalidate_refusal table stag = option_map_or (λ r. None) (region_at table stag) (Some (record {}))
+
 -- the right answer at an end, the other end being peer
 abbrev pub Rule : EndState → EndState → Act Octets → Type 0
 Rule s peer (Domain pd refused) = refused ≡ domain_refusal s.table pd
 Rule s peer (Register pd base rights octets answer) = answer ≡ register_answer s.table pd base (length octets)
 Rule s peer (Deregister stag answer) = answer ≡ deregister_answer s.table stag
+Rule s peer (Invalidate stag refused) = refused ≡ invalidate_refusal s.table stag
+Rule s peer (Store stag to octets refused) = refused ≡ store_refusal s.table stag to (length octets)
 Rule s peer (Open n pd role private refused) = refused ≡ open_refusal s n pd
 Rule s peer (Stream n act) =
     (has_stream s n ≡ true) × (needs_peer (stream_call_of act) ≡ true → has_stream peer n ≡ true) × StreamRule s.table (stream_at peer n).wire (stream_at s n).stream act
@@ -171,6 +175,8 @@ streams_after streams (Stream n act) = slice_set streams n (Some (connected_afte
 streams_after streams (Domain pd refused) = streams
 streams_after streams (Register pd base rights octets answer) = streams
 streams_after streams (Deregister stag answer) = streams
+streams_after streams (Invalidate stag refused) = streams
+streams_after streams (Store stag to octets refused) = streams
 
 -- the end behind an opening
 abbrev pub opened_end : EndState → ℕ → ℕ → Option OpenRefusal → EndState

@@ -1,7 +1,7 @@
 -- Why a run of events has no trace.
 use Rattle.std.specs.Prelude.{◌≡◌, ℕ, ◌+◌, ◌⊎◌, true, List, [], ◌∷◌, ◌++◌, map, length}
 use Rattle.iw_events.specs.declared.call.Call.{Call}
-use Rattle.iw_events.specs.declared.call.Call.TheVariants.{Domain, Register, Deregister, Open, Stream}
+use Rattle.iw_events.specs.declared.call.Call.TheVariants.{Domain, Register, Deregister, Invalidate, Store, Open, Stream}
 use Rattle.iw_events.specs.declared.call.Event.{Event}
 use Rattle.iw_events.specs.declared.act.Act.{Act}
 use Rattle.iw_events.specs.declared.act.Entry.{Entry}
@@ -22,6 +22,8 @@ NamesNoStream own peer (Stream n call) = IsUnopened own n ⊎ ((needs_peer call 
 NamesNoStream own peer (Domain pd) = ⊥
 NamesNoStream own peer (Register pd base rights octets) = ⊥
 NamesNoStream own peer (Deregister stag) = ⊥
+NamesNoStream own peer (Invalidate stag) = ⊥
+NamesNoStream own peer (Store stag to octets) = ⊥
 NamesNoStream own peer (Open n pd role private) = ⊥
 
 -- the call delivers octets that the other end has not emitted
@@ -30,6 +32,8 @@ AsksNotSent peer (Stream n call) = AsksOver (sent (stream_acts n peer)) call
 AsksNotSent peer (Domain pd) = ⊥
 AsksNotSent peer (Register pd base rights octets) = ⊥
 AsksNotSent peer (Deregister stag) = ⊥
+AsksNotSent peer (Invalidate stag) = ⊥
+AsksNotSent peer (Store stag to octets) = ⊥
 AsksNotSent peer (Open n pd role private) = ⊥
 
 -- the events before the n-th have answers that follow the rules, and the n-th names a stream that was never opened

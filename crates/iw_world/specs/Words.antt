@@ -4,12 +4,12 @@ use Rattle.std.specs.List.{flat_map}
 use Rattle.iw_octets.specs.declared.stag.Stag.{Stag}
 use Rattle.iw_octets.specs.declared.message.Message.{Message}
 use Rattle.iw_octets.specs.declared.message.Message.TheVariants.{Write, Send}
-use Rattle.iw_memory.specs.Table.{Table, empty, put, added, registered, deregistered}
+use Rattle.iw_memory.specs.Table.{Table, empty, put, added, registered, deregistered, invalidated}
 use Rattle.iw_stream.specs.declared.answer.Delivery.TheVariants.{Kept, Dropped}
 use Rattle.iw_events.specs.declared.call.End.{End}
 use Rattle.iw_events.specs.declared.call.End.TheVariants.{A, B}
 use Rattle.iw_events.specs.declared.act.Act.{Act}
-use Rattle.iw_events.specs.declared.act.Act.TheVariants.{Domain, Register, Deregister, Open, Stream}
+use Rattle.iw_events.specs.declared.act.Act.TheVariants.{Domain, Register, Deregister, Invalidate, Store, Open, Stream}
 use Rattle.iw_events.specs.declared.act.StreamAct.{StreamAct}
 use Rattle.iw_events.specs.declared.act.StreamAct.TheVariants.{Recv, Post, Emit, Deliver, Raw, Work}
 use Rattle.iw_events.specs.declared.act.Shown.TheVariants.{Frame, Nothing}
@@ -41,6 +41,8 @@ stream_acts_by n (Stream number act) = if number == n then act ∷ [] else []
 stream_acts_by n (Domain pd refused) = []
 stream_acts_by n (Register pd base rights octets answer) = []
 stream_acts_by n (Deregister stag answer) = []
+stream_acts_by n (Invalidate stag refused) = []
+stream_acts_by n (Store stag to octets refused) = []
 stream_acts_by n (Open number pd role private refused) = []
 
 unfoldable pub stream_acts : ℕ → List (Act Octets) → List (StreamAct Octets)
@@ -55,6 +57,8 @@ openings_by n (Stream number act) = []
 openings_by n (Domain pd refused) = []
 openings_by n (Register pd base rights octets answer) = []
 openings_by n (Deregister stag answer) = []
+openings_by n (Invalidate stag refused) = []
+openings_by n (Store stag to octets refused) = []
 
 -- the domains that the stream was opened in: one, where it was opened
 unfoldable pub openings : ℕ → List (Act Octets) → List ℕ
@@ -199,10 +203,14 @@ table_by table (Register pd base rights octets (Ok stag)) = registered table pd 
 table_by table (Register pd base rights octets (Err refusal)) = table
 table_by table (Deregister stag (Ok octets)) = deregistered table stag
 table_by table (Deregister stag (Err refusal)) = table
+table_by table (Invalidate stag None) = invalidated table stag
+table_by table (Invalidate stag (Some refusal)) = table
+table_by table (Store stag to octets None) = put table stag to octets
+table_by table (Store stag to octets (Some refusal)) = table
 table_by table (Open number pd role private refused) = table
 table_by table (Stream number act) = table_by_stream table act
 
--- the regions of an end: what was registered, less what was deregistered, with what was placed
+-- the regions of an end: what was registered, less what was deregistered, with what was stored and placed, and what was invalidated not valid
 unfoldable pub table_after : List (Act Octets) → Table
 table_after done = fold table_by empty done
 

@@ -7,7 +7,6 @@ ghost use Rattle.iw_events.specs.Events.{call_of, stream_call_of};
 
 use crate::connection::Connection;
 use crate::fault::Failure;
-use crate::first_path::is_stream_number;
 use bytes::Bytes;
 use iw_events::{Act, Call, OpenRefusal, StreamAct, StreamCall};
 use iw_memory::{Memory, RegisterRefusal, Rights, Stag};
@@ -99,6 +98,8 @@ impl<A: Allocator + Copy> Endpoint<A> {
                 octets,
             } => self.register(alloc, *pd, *base, *rights, octets),
             Call::Deregister { stag } => self.deregister(*stag),
+            Call::Invalidate { stag } => Ok(self.invalidate(*stag)),
+            Call::Store { stag, to, octets } => self.store(*stag, *to, octets),
             Call::Open {
                 stream,
                 pd,
@@ -189,6 +190,31 @@ impl<A: Allocator + Copy> Endpoint<A> {
         }
     }
 
+    fn invalidate(&mut self, stag: Stag) -> Act<Bytes<A>>
+        ensures rule { Rule self.old self.old result }
+        ensures call { call_of result ≡ Call.Invalidate stag }
+        ensures state { self.new ≡ end_after self.old result }
+    {
+        let refused = self.memory.invalidate(stag).err();
+        Act::Invalidate { stag, refused }
+    }
+
+    fn store(&mut self, stag: Stag, to: u64, octets: &Bytes<A>) -> Result<Act<Bytes<A>>, Failure>
+        ensures rule { IfOk result (λ act. Rule self.old self.old act) }
+        ensures call { IfOk result (λ act. call_of act ≡ Call.Store stag to octets.now) }
+        ensures state { IfOk result (λ act. self.new ≡ end_after self.old act) }
+        ensures failure { IfErr result (λ failure. failure ≡ Failure.NoMemory) }
+    {
+        let copy = octets.clone()?;
+        let refused = self.memory.store(stag, to, octets.as_slice()).err();
+        Ok(Act::Store {
+            stag,
+            to,
+            octets: copy,
+            refused,
+        })
+    }
+
     // Opens a stream in a domain, or tells why not.
     fn open(&mut self, alloc: A, number: u8, pd: u8) -> Option<OpenRefusal>
         ensures rule { result ≡ open_refusal self.old number pd }
@@ -197,7 +223,7 @@ impl<A: Allocator + Copy> Endpoint<A> {
         if self.has_stream(number) {
             return Some(OpenRefusal::NumberTaken);
         }
-        if !is_stream_number(number) {
+        if number as usize >= STREAM_NUMBERS {
             return Some(OpenRefusal::BadNumber);
         }
         if !self.memory.has_domain(pd) {
