@@ -21,13 +21,12 @@ enum Ending {
 }
 
 /// The schedules, by the names of their files, `NAME.schedule`. The trace of one that has a trace is in `NAME.trace`.
-const ROWS: [(&str, Ending); 14] = [
+const ROWS: [(&str, Ending); 13] = [
     ("first", Ending::Completed),
     ("one-write", Ending::Completed),
     ("empty-messages", Ending::Completed),
     ("octets-stay", Ending::Completed),
     ("past-the-last-offset", Ending::Faulted),
-    ("hostile-write", Ending::Faulted),
     ("empty", Ending::Completed),
     ("unknown-word", Ending::Refused("line 2: BadWord")),
     ("number-too-large", Ending::Refused("line 1: BadNumber")),

@@ -1,13 +1,12 @@
 -- Each kind of word is read as the grammar says, and nothing else is.
-use Rattle.std.proofs.Common.{◌≡◌, ℕ, ◌*◌, ◌<◌, ◌≤◌, Bool, true, false, cond, ◌&&◌, ltb, leb, eqb, List, [], ◌∷◌, ◌++◌, length, Option, Some, None, Result, Ok, Err, refl, sym, ap, subst, ◌∙◌, codes, arith, append_assoc, not, suc}
-use Rattle.std.specs.Prelude.{MatchOption, nat_lt}
-use Rattle.std.proofs.lemmas.Bool.Decides.{nat_tests}
+use Rattle.std.proofs.Common.{◌≡◌, ℕ, ◌*◌, ◌<◌, ◌≤◌, Bool, true, false, cond, ◌&&◌, ltb, leb, eqb, List, [], ◌∷◌, ◌++◌, length, Option, Some, None, Result, Ok, Err, refl, sym, ap, subst, ◌∙◌, codes, arith}
+use Rattle.std.specs.Prelude.{MatchOption}
 use Rattle.std.specs.List.{repeat, AllPass}
 use Rattle.std.proofs.lemmas.List.{append-nil, length-append}
 use Rattle.std.proofs.lemmas.List.Elements.{All-head, All-tail}
 use Rattle.std.specs.Str.{bytes_eq}
 use Rattle.std.specs.Str.Parse.{digits_value}
-use Rattle.std.proofs.lemmas.Bool.{false≢true, true≢false, ltb-true, lt-ltb, leb-true, le-leb, eqb-true, ne_eqb}
+use Rattle.std.proofs.lemmas.Bool.{ltb-true, lt-ltb, leb-true, le-leb, eqb-true, ne_eqb}
 use Rattle.std.proofs.lemmas.Slice.Eq.{bytes_eq-Decides}
 use Rattle.hex.specs.declared.error.FromHexError.{FromHexError}
 use Rattle.hex.specs.Hex.{decode_of, decode_sized, is_hex_digit}
@@ -25,13 +24,12 @@ use Rattle.iw_schedules.specs.declared.kinds.TheConstants.{MOST_OCTETS, MOST_PRI
 use Rattle.iw_schedules.specs.Reading.{◌>>=◌, or_fault}
 use Rattle.iw_schedules.specs.Pieces.{split_at_first}
 use Rattle.iw_schedules.specs.Kinds.{is_decimal, number_word, times_word, stag_word, hex_word, count_word, octets_word, private_word}
-use Rattle.iw_schedules.specs.FirstPath.{role_word, options_word, kind_word, is_solicited, invalidated_word, IsRole, IsOptions, IsKind}
-use Rattle.iw_schedules.specs.Rights.{no_rights, letter_if, letters_of, letter_at, lettered, rights_word, IsRights}
-use Rattle.iw_schedules.specs.Rights.IsRights.{none_granted, granted}
+use Rattle.iw_schedules.specs.FirstPath.{role_word, options_word, rights_word, only_write, kind_word, is_solicited, invalidated_word, IsRole, IsOptions, IsRights, IsKind}
 use Rattle.iw_schedules.specs.Grammar.{Word, IsNumber, IsTimes, IsHex, IsStag, IsOctets, IsPrivate}
 use Rattle.iw_schedules.specs.Grammar.IsOctets.{none, once, repeated}
 use Rattle.iw_schedules.specs.FirstPath.IsRole.{preset}
 use Rattle.iw_schedules.specs.FirstPath.IsOptions.{no_options}
+use Rattle.iw_schedules.specs.FirstPath.IsRights.{no_right, write_right}
 use Rattle.iw_schedules.specs.FirstPath.IsKind.{plain}
 
 -- ---- steps
@@ -210,91 +208,23 @@ private_again word octets is = rw (octets_again word octets is.digits, le-leb (l
 
 -- ---- rights
 
--- a letter that stands at the front, and what stands behind it, are the word
-letter_told : (letter : ℕ) (word : Word) → letter_if (letter_at letter word).0 letter ++ (letter_at letter word).1 ≡ word
-letter_told letter [] = refl
-letter_told letter (x ∷ xs) =
-    let some : nat_lt 0 (length (x ∷ xs)) ≡ true = grind (arith, nat_tests) in rw some (go (eqb x letter) refl)
-  where
-    go : (b : Bool) → eqb x letter ≡ b → letter_if (cond {A = Bool × Word} b (true, xs) (false, x ∷ xs)).0 letter ++ (cond {A = Bool × Word} b (true, xs) (false, x ∷ xs)).1 ≡ x ∷ xs
-    go true e = ap (λ y. y ∷ xs) (sym (eqb-true x letter e))
-    go false e = refl
-
-nothing_left : (word : Word) → eqb (length word) 0 ≡ true → word ≡ []
-nothing_left word e = go word (eqb-true (length word) 0 e)
-  where
-    some : (n : ℕ) → suc n ≡ 0 → ⊥
-    some n h = omega (arith, h)
-
-    go : (word : Word) → length word ≡ 0 → word ≡ []
-    go [] h = refl
-    go (x ∷ xs) h = absurd (some (length xs) h)
-
-something : (word : Word) → eqb (length word) 0 ≡ false → 0 < length word
-something [] e = absurd (true≢false e)
-something (x ∷ xs) e = omega arith
-
-lettered_is : (word : Word) (rights : Rights) → 0 < length word → lettered word ≡ Ok rights → IsRights word rights
-unfolding lettered
-lettered_is word rights some e =
-    let w = letter_at 119 word in
-    let r = letter_at 114 w.1 in
-    let s = letter_at 115 r.1 in
-    let i = letter_at 105 s.1 in
-    let found : Rights = record { write = w.0; read = r.0; sink = s.0; invalidate = i.0 } in
-    let all : letters_of found ++ i.1 ≡ word =
-    append_assoc (letter_if w.0 119 ++ letter_if r.0 114 ++ letter_if s.0 115) (letter_if i.0 105) i.1
-    ∙ ap (λ z. (letter_if w.0 119 ++ letter_if r.0 114 ++ letter_if s.0 115) ++ z) (letter_told 105 s.1)
-    ∙ append_assoc (letter_if w.0 119 ++ letter_if r.0 114) (letter_if s.0 115) s.1
-    ∙ ap (λ z. (letter_if w.0 119 ++ letter_if r.0 114) ++ z) (letter_told 115 r.1)
-    ∙ append_assoc (letter_if w.0 119) (letter_if r.0 114) r.1
-    ∙ ap (λ z. letter_if w.0 119 ++ z) (letter_told 114 w.1)
-    ∙ letter_told 119 word in
-    go (eqb (length i.1) 0) refl found all e
-  where
-    go : (b : Bool) → eqb (length (letter_at 105 (letter_at 115 (letter_at 114 (letter_at 119 word).1).1).1).1) 0 ≡ b → (found : Rights)
-        → letters_of found ++ (letter_at 105 (letter_at 115 (letter_at 114 (letter_at 119 word).1).1).1).1 ≡ word
-        → cond (not b) (Err BadOctets) (Ok found) ≡ Ok rights → IsRights word rights
-    go false h found all e = absurd cc
-    go true h found all e =
-        let left = nothing_left _ h in
-        let is : letters_of found ≡ word = sym (append-nil (letters_of found)) ∙ ap (λ z. letters_of found ++ z) (sym left) ∙ all in
-        let same : found ≡ rights = cc in
-        subst (IsRights word) same (subst (λ z. IsRights z found) is (granted (subst (λ z. 0 < length z) (sym is) some)))
-
-rights_told : (word : Word) (rights : Rights) (d n : Bool) → bytes_eq word (codes "-") ≡ d → eqb (length word) 0 ≡ n → cond d (Ok no_rights) (cond n (Err BadOctets) (lettered word)) ≡ Ok rights → IsRights word rights
-rights_told word rights true n is_d is_n e =
-    let same = (bytes_eq-Decides word (codes "-")).0 is_d in
-    let value : no_rights ≡ rights = cc in
-    subst (λ x. IsRights x rights) (sym same) (subst (IsRights (codes "-")) value none_granted)
-rights_told word rights false true is_d is_n e = absurd cc
-rights_told word rights false false is_d is_n e = lettered_is word rights (something word is_n) e
+rights_told : (word : Word) (rights : Rights) (w d : Bool) → bytes_eq word (codes "w") ≡ w → bytes_eq word (codes "-") ≡ d → rights_word word ≡ Ok rights → IsRights word rights
+rights_told word rights true d is_w is_d e =
+    let same : word ≡ codes "w" = (bytes_eq-Decides word (codes "w")).0 is_w in
+    let value : only_write true ≡ rights = cc (rw is_w at e) in
+    subst (λ x. IsRights x rights) (sym same) (subst (λ r. IsRights (codes "w") r) value write_right)
+rights_told word rights false true is_w is_d e =
+    let same : word ≡ codes "-" = (bytes_eq-Decides word (codes "-")).0 is_d in
+    let value : only_write false ≡ rights = cc (rw (is_w, is_d) at e) in
+    subst (λ x. IsRights x rights) (sym same) (subst (λ r. IsRights (codes "-") r) value no_right)
+rights_told word rights false false is_w is_d e = absurd (cc (rw (is_w, is_d) at e))
 
 pub rights_is : (word : Word) (rights : Rights) → rights_word word ≡ Ok rights → IsRights word rights
-rights_is word rights e = rights_told word rights (bytes_eq word (codes "-")) (eqb (length word) 0) refl refl e
-
-letters_again : (w r s i : Bool) → 0 < length (letters_of (record { write = w; read = r; sink = s; invalidate = i })) → rights_word (letters_of (record { write = w; read = r; sink = s; invalidate = i })) ≡ Ok (record { write = w; read = r; sink = s; invalidate = i })
-unfolding lettered
-letters_again false false false false h = absurd (omega (arith, h))
-letters_again true false false false h = refl
-letters_again false true false false h = refl
-letters_again true true false false h = refl
-letters_again false false true false h = refl
-letters_again true false true false h = refl
-letters_again false true true false h = refl
-letters_again true true true false h = refl
-letters_again false false false true h = refl
-letters_again true false false true h = refl
-letters_again false true false true h = refl
-letters_again true true false true h = refl
-letters_again false false true true h = refl
-letters_again true false true true h = refl
-letters_again false true true true h = refl
-letters_again true true true true h = refl
+rights_is word rights e = rights_told word rights (bytes_eq word (codes "w")) (bytes_eq word (codes "-")) refl refl e
 
 pub rights_again : (word : Word) (rights : Rights) → IsRights word rights → rights_word word ≡ Ok rights
-rights_again word all none_granted = refl
-rights_again word all (granted {rights} some) = letters_again rights.write rights.read rights.sink rights.invalidate some
+rights_again word rights no_right = refl
+rights_again word rights write_right = refl
 
 -- ---- fixed words of the first path
 

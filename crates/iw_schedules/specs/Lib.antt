@@ -1,7 +1,6 @@
 pub mod FaultText
 pub mod Reading
 pub mod Pieces
-pub mod Rights
 pub mod Words
 pub mod FirstPath
 pub mod Kinds

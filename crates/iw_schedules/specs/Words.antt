@@ -39,8 +39,9 @@ call_text Work = codes "work"
 call_text Deliver = codes "deliver"
 call_text Raw = codes "raw"
 
+-- those that a schedule may say so far
 abbrev pub call_words : List CallWord
-call_words = Domain ∷ Register ∷ Deregister ∷ Invalidate ∷ Store ∷ Open ∷ Recv ∷ Send ∷ Write ∷ Emit ∷ Work ∷ Deliver ∷ Raw ∷ []
+call_words = Domain ∷ Register ∷ Deregister ∷ Open ∷ Recv ∷ Send ∷ Write ∷ Emit ∷ Work ∷ Deliver ∷ []
 
 unfoldable pub call_word : List ℕ → Result CallWord FaultName
 call_word word = one_of call_text call_words word

@@ -3,12 +3,11 @@
 ghost use Rattle.std.specs.Prelude.{◌≡◌, length};
 ghost use Rattle.iw_schedules.specs.Reading.{Gives};
 ghost use Rattle.iw_schedules.specs.Kinds.{number_word, stag_word, octets_word};
-ghost use Rattle.iw_schedules.specs.Calls.{step_call, calls_of, next_word, field, octet_number, long_number, times_at, domain_at, register_at, deregister_at, invalidate_at, store_at, open_at, recv_at, send_at, write_at, steps_at, deliver_at, raw_at, calls_at};
+ghost use Rattle.iw_schedules.specs.Calls.{step_call, calls_of, next_word, field, octet_number, long_number, times_at, domain_at, register_at, deregister_at, open_at, recv_at, send_at, write_at, steps_at, deliver_at, calls_at};
 
 use crate::fault::{FaultName, ReadError};
 use crate::first_path::SendKind;
 use crate::pieces::Pieces;
-use crate::rights::read_rights;
 use crate::words::CallWord;
 use crate::{first_path, kinds};
 use bytes::Bytes;
@@ -116,7 +115,7 @@ fn register<A: Allocator + Copy>(
 {
     let pd = octet_number_in(words)?;
     let base = long_number_in(words)?;
-    let rights = read_rights(next(words)?)?;
+    let rights = first_path::rights(next(words)?)?;
     let octets = octets_in(alloc, words)?;
     Ok(Calls::One(Call::Register {
         pd,
@@ -132,27 +131,6 @@ fn deregister<A: Allocator>(words: &mut Pieces<'_>) -> Result<Calls<Bytes<A>>, R
 {
     let stag = stag_in(words)?;
     Ok(Calls::One(Call::Deregister { stag }))
-}
-
-#[tactic(auto, unfolding(crate::specs::Calls::invalidate_at))]
-fn invalidate<A: Allocator>(words: &mut Pieces<'_>) -> Result<Calls<Bytes<A>>, ReadError>
-    ensures { Gives (λ calls. (calls_of calls, words.new)) result (invalidate_at words.old) }
-{
-    let stag = stag_in(words)?;
-    Ok(Calls::One(Call::Invalidate { stag }))
-}
-
-#[tactic(auto, unfolding(crate::specs::Calls::store_at))]
-fn store<A: Allocator + Copy>(
-    alloc: A,
-    words: &mut Pieces<'_>,
-) -> Result<Calls<Bytes<A>>, ReadError>
-    ensures { Gives (λ calls. (calls_of calls, words.new)) result (store_at words.old) }
-{
-    let stag = stag_in(words)?;
-    let to = long_number_in(words)?;
-    let octets = octets_in(alloc, words)?;
-    Ok(Calls::One(Call::Store { stag, to, octets }))
 }
 
 #[tactic(auto, unfolding(crate::specs::Calls::open_at))]
@@ -238,17 +216,6 @@ fn deliver<A: Allocator>(words: &mut Pieces<'_>) -> Result<Calls<Bytes<A>>, Read
     Ok(Calls::One(Call::Stream { stream, call }))
 }
 
-#[tactic(auto, unfolding(crate::specs::Calls::raw_at))]
-fn raw<A: Allocator + Copy>(alloc: A, words: &mut Pieces<'_>) -> Result<Calls<Bytes<A>>, ReadError>
-    ensures { Gives (λ calls. (calls_of calls, words.new)) result (raw_at words.old) }
-{
-    let stream = octet_number_in(words)?;
-    let from = long_number_in(words)?;
-    let octets = octets_in(alloc, words)?;
-    let call = StreamCall::Raw { from, octets };
-    Ok(Calls::One(Call::Stream { stream, call }))
-}
-
 /// The calls that the next words stand for, the first of which names them.
 #[tactic(auto, unfolding(crate::specs::Calls::calls_at))]
 pub(crate) fn read_calls<A: Allocator + Copy>(
@@ -261,8 +228,6 @@ pub(crate) fn read_calls<A: Allocator + Copy>(
         CallWord::Domain => domain(words),
         CallWord::Register => register(alloc, words),
         CallWord::Deregister => deregister(words),
-        CallWord::Invalidate => invalidate(words),
-        CallWord::Store => store(alloc, words),
         CallWord::Open => open(alloc, words),
         CallWord::Recv => recv(words),
         CallWord::Send => send(alloc, words),
@@ -270,6 +235,8 @@ pub(crate) fn read_calls<A: Allocator + Copy>(
         CallWord::Emit => steps(Step::Emit, words),
         CallWord::Work => steps(Step::Work, words),
         CallWord::Deliver => deliver(words),
-        CallWord::Raw => raw(alloc, words),
+        CallWord::Invalidate | CallWord::Store | CallWord::Raw => {
+            Err(ReadError::Fault(FaultName::BadWord))
+        }
     }
 }

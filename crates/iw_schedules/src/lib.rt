@@ -9,7 +9,6 @@ mod kinds;
 mod laws;
 mod pieces;
 mod refusals;
-mod rights;
 mod schedule;
 mod trace;
 mod words;

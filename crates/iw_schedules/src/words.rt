@@ -25,13 +25,11 @@ pub(crate) enum CallWord {
 }
 
 impl CallWord {
-    /// Every one of them.
-    pub(crate) const ALL: [CallWord; 13] = [
+    /// Those that a schedule may say so far. Traces have words for all.
+    pub(crate) const ALL: [CallWord; 10] = [
         CallWord::Domain,
         CallWord::Register,
         CallWord::Deregister,
-        CallWord::Invalidate,
-        CallWord::Store,
         CallWord::Open,
         CallWord::Recv,
         CallWord::Send,
@@ -39,7 +37,6 @@ impl CallWord {
         CallWord::Emit,
         CallWord::Work,
         CallWord::Deliver,
-        CallWord::Raw,
     ];
 
     pub(crate) fn text(self) -> &'static str

@@ -1,7 +1,6 @@
 -- What one more act does to the streams of an end, and to what its acts say of them.
 use Rattle.std.proofs.Common.{◌≡◌, ◌≢◌, ℕ, zero, suc, ◌<◌, List, [], ◌∷◌, ◌++◌, length, Option, Some, None, Bool, true, false, cond, eqb, refl, sym, ap, ◌∙◌, subst, arith, eqb-true}
-use Rattle.std.specs.Prelude.{slice_set, slice_index_or, unwrap_or, is_some, not, nat_le}
-use Rattle.std.proofs.lemmas.Bool.Decides.{nat_tests}
+use Rattle.std.specs.Prelude.{slice_set, slice_index_or, unwrap_or, is_some, not}
 use Rattle.std.proofs.lemmas.List.{append-nil, get_or-set_same, get_or-set_other, length-set}
 use Rattle.std.proofs.lemmas.Bool.{eq-eqb, false≢true}
 use Rattle.iw_memory.specs.Table.{is_added}
@@ -15,7 +14,7 @@ use Rattle.iw_events.specs.declared.act.StreamAct.TheVariants.{Recv, Post, Emit,
 use Rattle.iw_events.specs.declared.act.Shown.TheVariants.{Frame, Nothing}
 use Rattle.iw_events.specs.declared.act.Seen.TheVariants as seen
 use Rattle.iw_world.specs.Words.{Octets, openings, openings_by, table_after, table_by}
-use Rattle.iw_world.specs.Rules.{Connected, connected, EndState, stream_numbers, has_stream, stream_at, open_refusal, Rule, stream_after, connected_after, streams_after, end_after}
+use Rattle.iw_world.specs.Rules.{Connected, connected, EndState, has_stream, stream_at, open_refusal, Rule, stream_after, connected_after, streams_after, end_after}
 use Rattle.iw_world.specs.Safe.{domain_of}
 use Rattle.iw_world.proofs.Tales.{table-push, openings-push}
 
@@ -51,13 +50,13 @@ pub record Opens (s : EndState) (n : ℕ) : Type 0 where
   pub number : n < 64
 
 pub opens : (s : EndState) (n pd : ℕ) → None ≡ open_refusal s n pd → Opens s n
-opens s n pd e = go (has_stream s n) (nat_le stream_numbers n) refl refl (is_added s.table pd) e
+opens s n pd e = go (has_stream s n) (eqb n 0) refl refl (is_added s.table pd) e
   where
-    go : (has beyond : Bool) → has_stream s n ≡ has → nat_le stream_numbers n ≡ beyond → (added : Bool)
-        → None ≡ cond has (Some NumberTaken) (cond beyond (Some BadNumber) (cond (not added) (Some NoDomain) None)) → Opens s n
+    go : (has zero_is : Bool) → has_stream s n ≡ has → eqb n 0 ≡ zero_is → (added : Bool)
+        → None ≡ cond has (Some NumberTaken) (cond (not zero_is) (Some BadNumber) (cond (not added) (Some NoDomain) None)) → Opens s n
     go true b h z added e' = cc
-    go false true h z added e' = cc
-    go false false h z added e' = record { fresh = h; number = grind (arith, nat_tests) }
+    go false false h z added e' = cc
+    go false true h z added e' = record { fresh = h; number = omega (arith, eqb-true n 0 z) }
 
 -- a stream keeps its domain
 pub same_domain : (s : StreamState) (act : StreamAct Octets) → (stream_after s act).domain ≡ s.domain

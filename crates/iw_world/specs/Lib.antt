@@ -1,4 +1,5 @@
 pub mod Words
+pub mod FirstPath
 pub mod Fitting
 pub mod Rules
 pub mod Safe

@@ -1,5 +1,5 @@
 -- The state of both ends, which answer is right in a state, and what each entry leaves of it.
-use Rattle.std.specs.Prelude.{◌≡◌, ℕ, ◌+◌, ◌≤◌, List, [], ◌∷◌, ◌++◌, length, take, drop, replicate, slice_index_or, slice_set, Bool, true, false, not, nat_le, is_some, unwrap_or, if◌then◌else◌, Option, Some, None, Ok, Err, Result}
+use Rattle.std.specs.Prelude.{◌≡◌, ℕ, ◌+◌, ◌≤◌, List, [], ◌∷◌, ◌++◌, length, take, drop, replicate, slice_index_or, slice_set, Bool, true, false, not, is_some, unwrap_or, if◌then◌else◌, Option, Some, None, Ok, Err, Result}
 use Rattle.std.specs.Option.{option_map_or}
 use Rattle.iw_octets.specs.declared.stag.Stag.{Stag}
 use Rattle.iw_memory.specs.declared.refusal.NoRegion.{NoRegion}
@@ -29,6 +29,7 @@ use Rattle.iw_events.specs.declared.act.Seen.TheVariants as seen
 use Rattle.iw_events.specs.declared.act.Entry.{Entry}
 use Rattle.iw_world.specs.Words.{Octets, other, sent_by, table_by}
 use Rattle.iw_world.specs.Fitting.{FitsMessage}
+use Rattle.iw_world.specs.FirstPath.{is_stream_number}
 
 -- ---- states
 
@@ -118,7 +119,7 @@ needs_peer stream_calls.Work = false
 abbrev pub open_refusal : EndState → ℕ → ℕ → Option OpenRefusal
 open_refusal s n pd =
     if has_stream s n then Some NumberTaken
-    else if nat_le stream_numbers n then Some BadNumber
+    else if not (is_stream_number n) then Some BadNumber
     else if not (is_added s.table pd) then Some NoDomain
     else None
 

@@ -7,6 +7,7 @@ ghost use Rattle.iw_events.specs.Events.{call_of, stream_call_of};
 
 use crate::connection::Connection;
 use crate::fault::Failure;
+use crate::first_path::is_stream_number;
 use bytes::Bytes;
 use iw_events::{Act, Call, OpenRefusal, StreamAct, StreamCall};
 use iw_memory::{Memory, RegisterRefusal, Rights, Stag};
@@ -223,7 +224,7 @@ impl<A: Allocator + Copy> Endpoint<A> {
         if self.has_stream(number) {
             return Some(OpenRefusal::NumberTaken);
         }
-        if number as usize >= STREAM_NUMBERS {
+        if !is_stream_number(number) {
             return Some(OpenRefusal::BadNumber);
         }
         if !self.memory.has_domain(pd) {
