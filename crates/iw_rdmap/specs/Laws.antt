@@ -1,14 +1,16 @@
 -- What the checks and the payload come to.
 use Rattle.std.specs.Prelude.{◌≡◌, ℕ, ◌<◌, Bool, true, false, List, ◌++◌, length, Some, None, Ok}
 use Rattle.iw_octets.specs.declared.fault.Fault.{Fault}
+use Rattle.iw_octets.specs.declared.head.TaggedHead.{TaggedHead}
 use Rattle.iw_octets.specs.declared.head.UntaggedHead.{UntaggedHead}
+use Rattle.iw_octets.specs.declared.segment.Segment.TheVariants.{Tagged, Untagged}
 use Rattle.iw_octets.specs.Head.{untagged_octets}
 use Rattle.iw_octets.specs.Segment.{read_segment}
 use Rattle.iw_rdmap.specs.declared.head.Head.TheVariants as heads
 use Rattle.iw_rdmap.specs.declared.operation.TaggedOperation.{TaggedOperation}
 use Rattle.iw_rdmap.specs.declared.operation.UntaggedOperation.{UntaggedOperation}
 use Rattle.iw_rdmap.specs.declared.operation.UntaggedOperation.TheVariants.{Terminate}
-use Rattle.iw_rdmap.specs.FirstPath.{is_later, judged_first_path}
+use Rattle.iw_rdmap.specs.FirstPath.{is_later, judged_first_path, plain_tagged, plain_untagged}
 use Rattle.iw_rdmap.specs.Judging.{IsFront, judged}
 use Rattle.iw_rdmap.specs.Operation.{rdmap_version, opcode_of, control_of, tagged_opcode, untagged_opcode, tagged_operation, untagged_operation, queue_of}
 use Rattle.iw_rdmap.specs.Terminate.{FitsFault, word_for, terminate_octets}
@@ -27,10 +29,12 @@ pub record OperationsAreTold : Type 0 where
   pub untagged_version : (operation : UntaggedOperation) → rdmap_version (control_of (untagged_opcode operation)) ≡ 1
   pub apart : (opcode : ℕ) (operation : TaggedOperation) → tagged_operation opcode ≡ Some operation → untagged_operation opcode ≡ None
 
--- what the stream has is judged on the first path as ever, whichever Read Request is due and however many are unanswered
-abbrev pub FirstPathIsJudge : Type 0
-FirstPathIsJudge = (first : List ℕ) (len next unanswered : ℕ) → is_later (read_segment first) ≡ false →
-    judged_first_path first len ≡ judged first len next unanswered
+-- what the stream has is judged on the first path as ever, whichever Read Request is due and however many are unanswered; and its checks
+-- are those of one list for a tagged header, and of one for an untagged header
+pub record FirstPathIsJudge : Type 0 where
+  pub same : (first : List ℕ) (len next unanswered : ℕ) → is_later (read_segment first) ≡ false → judged_first_path first len ≡ judged first len next unanswered
+  pub tagged : (first payload : List ℕ) (head : TaggedHead) (len : ℕ) → read_segment first ≡ Some (Tagged head payload) → judged_first_path first len ≡ plain_tagged head
+  pub untagged : (first payload : List ℕ) (head : UntaggedHead) (len : ℕ) → read_segment first ≡ Some (Untagged head payload) → judged_first_path first len ≡ plain_untagged head
 
 -- the header of a Terminate, which is its queue's first message and one segment (RFC 5040 5.4)
 abbrev pub terminate_head : UntaggedHead

@@ -15,7 +15,7 @@ pub fn terminates_are_told()
     ensures { TerminatesAreTold }
 {}
 
-/// What the stream has is judged on the first path as ever.
+/// What the stream has is judged on the first path as ever, by the checks of one list for each kind of header.
 pub fn first_path_is_judge()
     ensures { FirstPathIsJudge }
 {}
