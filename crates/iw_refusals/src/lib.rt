@@ -7,3 +7,4 @@ mod memory;
 mod ranges;
 #[cfg(test)]
 mod replay;
+mod untagged;
