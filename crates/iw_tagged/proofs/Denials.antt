@@ -1,9 +1,10 @@
 -- What is not denied, is placed whole.
-use Rattle.std.proofs.Common.{◌≡◌, ℕ, ◌-◌, IsSomeAnd, [], length, drop, Option, Some, None, refl, sym, arith, inl, inr, length-drop}
+use Rattle.std.proofs.Common.{◌≡◌, ℕ, ◌-◌, IsSomeAnd, List, [], length, drop, Option, Some, None, refl, sym, arith, inl, inr, length-drop, ap, ◌∙◌, Bor}
 use Rattle.std.proofs.lemmas.List.{length-take}
 use Rattle.std.proofs.lemmas.Option.{none-some}
 use Rattle.std.specs.Option.{option_map, option_map_or}
 use Rattle.iw_octets.specs.declared.stag.Stag.{Stag}
+use Rattle.iw_octets.specs.Pieces.{AddUpTo, JoinTo}
 use Rattle.iw_memory.specs.declared.refusal.Deny.{Deny}
 use Rattle.iw_memory.specs.declared.rights.Right.{Right}
 use Rattle.iw_memory.specs.Region.{Region, octets_from}
@@ -33,3 +34,10 @@ length-octets_at table pd stag to n right none = elim (allows table pd stag to n
     found : (o : Option Region) → IsSomeAnd o (λ r. Serves r to n right) → length (option_map_or (λ r. octets_from r to n) o []) ≡ n
     found None holds = absurd holds
     found (Some r) holds = served r to n right holds
+
+pub length-part : (part : List ℕ) (table : Table) (pd : ℕ) (stag : Stag) (to n : ℕ) (right : Right) → part ≡ octets_at table stag to n → denial table pd stag to n right ≡ None → length part ≡ n
+length-part part table pd stag to n right is none = ap length is ∙ length-octets_at table pd stag to n right none
+
+-- pieces whose lengths add up to n join to n octets
+pub length-joined : {S : Type 0} (steps : S → Option (Bor (List ℕ)) → S → Type 0) (pieces : S) (n : ℕ) (octets : List ℕ) → AddUpTo steps pieces n → JoinTo steps pieces octets → length octets ≡ n
+length-joined steps pieces n octets adds joins = ap length joins.2 ∙ adds.fills joins.0 joins.1

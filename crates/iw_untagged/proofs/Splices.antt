@@ -22,3 +22,8 @@ splice-more old at front more fits =
     let rest : drop (k + length more) (edge ++ drop k old) ≡ drop (k + length more) old = drop-append-drop k old edge (k + length more) (omega arith) long in
     let ends : k + length more ≡ at + length (front ++ more) = omega (arith, length-append front more) in
     (λ i. (read i ++ more) ++ rest i) ∙ (λ i. append_assoc (take at old) front more i ++ drop (ends i) old)
+
+-- the same, where it is known only of equals that they are written
+pub splice-next : (old buffer new given piece all : List ℕ) (at end : ℕ) → buffer ≡ splice old at given → end ≡ at + length given → new ≡ splice buffer end piece → all ≡ given ++ piece → at + length given + length piece ≤ length old → new ≡ splice old at all
+splice-next old buffer new given piece all at end was here is more fits =
+    is ∙ (λ i. splice (was i) (here i) piece) ∙ splice-more old at given piece fits ∙ ap (splice old at) (sym more)

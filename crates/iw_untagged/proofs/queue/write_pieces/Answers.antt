@@ -3,7 +3,7 @@ use Rattle.std.specs.Iterator.{Yields}
 use Rattle.iw_octets.specs.Octets.{splice}
 use Rattle.iw_octets.specs.Pieces.{joined, AddUpTo}
 use Rattle.iw_octets.proofs.Runs.{next_fits, joined_push}
-use Rattle.iw_untagged.proofs.Splices.{splice-nothing, length-splice, splice-more}
+use Rattle.iw_untagged.proofs.Splices.{splice-nothing, length-splice, splice-next}
 use Rattle.iw_untagged.proofs.queue.write_pieces.Goals as goal
 
 -- where pieces were written behind one another, there is room for the next
@@ -41,9 +41,7 @@ loop-piece-preserved g c =
     let left = room_left steps c.args.pieces c.args.n c.loop-piece.yielded c.loop-piece.piece-iterator c.in-Some.piece c.next.new.self c.args.buffer.now c.loop-piece.buffer c.args.at c.requires.fills given_by step c.requires.room c.loop-piece.invariant.1 in
     let given : List ℕ = joined c.loop-piece.yielded in
     let piece : List ℕ = c.in-Some.piece.now in
-    let more : joined (c.loop-piece.yielded ++ c.in-Some.piece ∷ []) ≡ given ++ piece = joined_push c.loop-piece.yielded c.in-Some.piece in
-    let start : c.write_at.new.self ≡ splice (splice c.args.buffer.now c.args.at given) (c.args.at + length given) piece =
-    c.write_at.ensures ∙ (λ i. splice (c.loop-piece.invariant.1 i) (c.loop-piece.invariant.0 i) piece) in (
+    let more : joined (c.loop-piece.yielded ++ c.in-Some.piece ∷ []) ≡ given ++ piece = joined_push c.loop-piece.yielded c.in-Some.piece in (
       omega (arith, c.loop-piece.invariant.0, ap length more, length-append given piece),
-      start ∙ splice-more c.args.buffer.now c.args.at given piece left.0 ∙ ap (splice c.args.buffer.now c.args.at) (sym more),
+      splice-next c.args.buffer.now c.loop-piece.buffer c.write_at.new.self given piece (joined (c.loop-piece.yielded ++ c.in-Some.piece ∷ [])) c.args.at c.loop-piece.end c.loop-piece.invariant.1 c.loop-piece.invariant.0 c.write_at.ensures more left.0,
     )
