@@ -4,6 +4,8 @@
 #[cfg(test)]
 mod memory;
 #[cfg(test)]
+mod queues;
+#[cfg(test)]
 mod ranges;
 #[cfg(test)]
 mod replay;
