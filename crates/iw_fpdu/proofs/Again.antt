@@ -187,7 +187,7 @@ pub reads_again : ReadsAgain
 reads_again = record {
   held = held_again;
   written = λ arrived layout base at xs between short same.
-    held_again arrived layout base (frame_start layout.markers at) xs (begins layout.markers at between) short (written_holds arrived layout base at xs between same);
+      held_again arrived layout base (frame_start layout.markers at) xs (begins layout.markers at between) short (written_holds arrived layout base at xs between same);
 }
 
 -- ---- more octets

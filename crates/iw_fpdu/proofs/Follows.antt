@@ -16,8 +16,11 @@ unfolding data_place
 place_aligned true k h = omega arith
 place_aligned false k h = h
 
+pub starts : (m : Bool) (at : ℕ) → at % 4 ≡ 0 → IsStart m (frame_start m at)
+starts m at h = record { aligned = place_aligned m (data_index m at) (index_aligned m at h); outside = data_no_marker m (data_index m at) }
+
 pub begins : (m : Bool) (at : ℕ) → IsBetween m at → IsStart m (frame_start m at)
-begins m at h = record { aligned = place_aligned m (data_index m at) (index_aligned m at h.aligned); outside = data_no_marker m (data_index m at) }
+begins m at h = starts m at h.aligned
 
 -- not directly behind a marker
 between : (m : Bool) (at : ℕ) → at % 4 ≡ 0 → (m ≡ true → at % 512 ≢ 4) → IsBetween m at
@@ -47,10 +50,10 @@ pub frames_follow : FramesFollow
 frames_follow = record {
   first = λ m. between m 0 refl (λ t h. omega arith);
   next = λ m start len s.
-    let i = data_index m start + (2 + len + pad_len len) in
-    let end : frame_end m start len ≡ data_place m i + 4 = field_end m start len s in
-    let aligned : data_place m i % 4 ≡ 0 = place_aligned m i (omega (arith, index_aligned m start s.aligned)) in
-    between m (frame_end m start len) (omega (arith, end, aligned)) (λ t h. behind_field i (subst (λ x. (data_place x i + 4) % 512 ≡ 4) t (sym (ap (λ p. p % 512) end) ∙ h)));
+      let i = data_index m start + (2 + len + pad_len len) in
+      let end : frame_end m start len ≡ data_place m i + 4 = field_end m start len s in
+      let aligned : data_place m i % 4 ≡ 0 = place_aligned m i (omega (arith, index_aligned m start s.aligned)) in
+      between m (frame_end m start len) (omega (arith, end, aligned)) (λ t h. behind_field i (subst (λ x. (data_place x i + 4) % 512 ≡ 4) t (sym (ap (λ p. p % 512) end) ∙ h)));
   begins = begins;
   ends = ends;
 }

@@ -38,10 +38,10 @@ HoldsFrame arrived layout base start octets =
 -- with and without markers, with and without CRCs: at any place where a frame may begin, and in any octets that were written at any place
 pub record ReadsAgain : Type 0 where
   pub held : (arrived : Arrived) (layout : Layout) (base start : ℕ) (octets : List ℕ) → IsStart layout.markers start → length octets ≤ max_sent
-    → HoldsFrame arrived layout base start octets → IsReadAgain (found_at arrived layout base start) octets
+      → HoldsFrame arrived layout base start octets → IsReadAgain (found_at arrived layout base start) octets
   pub written : (arrived : Arrived) (layout : Layout) (base at : ℕ) (octets : List ℕ) → IsBetween layout.markers at → length octets ≤ max_sent
-    → map Here (frame_octets layout at octets) ≡ cells_between arrived (base + at) (base + frame_end layout.markers at (length octets))
-    → IsReadAgain (found_at arrived layout base (frame_start layout.markers at)) octets
+      → map Here (frame_octets layout at octets) ≡ cells_between arrived (base + at) (base + frame_end layout.markers at (length octets))
+      → IsReadAgain (found_at arrived layout base (frame_start layout.markers at)) octets
 
 -- ---- what came before
 pub record IsSame (old new : Found) : Type 0 where
@@ -70,7 +70,7 @@ printed msn = 0x41 ∷ 0x43 ∷ replicate 8 0 ++ (0 ∷ 0 ∷ 0 ∷ msn ∷ 0 �
 pub record KnownFrames : Type 0 where
   pub figure_5 : frame_octets (record { markers = true; crc = true }) 0 (printed 1) ≡ (0 ∷ 0 ∷ 0 ∷ 0 ∷ 0 ∷ 0x2a ∷ []) ++ printed 1 ++ (0x52 ∷ 0x23 ∷ 0x99 ∷ 0x83 ∷ [])
   pub figure_6 : frame_octets (record { markers = true; crc = true }) 492 (printed 2)
-    ≡ (0 ∷ 0x2a ∷ 0x41 ∷ 0x43 ∷ []) ++ replicate 8 0 ++ (0 ∷ 0 ∷ 0 ∷ 2 ∷ 0 ∷ 0 ∷ 0 ∷ 0 ∷ []) ++ (0 ∷ 0 ∷ 0 ∷ 0x14 ∷ []) ++ replicate 24 0 ++ (0x84 ∷ 0x92 ∷ 0x58 ∷ 0x98 ∷ [])
+      ≡ (0 ∷ 0x2a ∷ 0x41 ∷ 0x43 ∷ []) ++ replicate 8 0 ++ (0 ∷ 0 ∷ 0 ∷ 2 ∷ 0 ∷ 0 ∷ 0 ∷ 0 ∷ []) ++ (0 ∷ 0 ∷ 0 ∷ 0x14 ∷ []) ++ replicate 24 0 ++ (0x84 ∷ 0x92 ∷ 0x58 ∷ 0x98 ∷ [])
   pub plain : frame_octets (record { markers = false; crc = false }) 20 (0x68 ∷ 0x69 ∷ []) ≡ 0 ∷ 2 ∷ 0x68 ∷ 0x69 ∷ 0 ∷ 0 ∷ 0 ∷ 0 ∷ []
   pub last_before_marker : data_place true 507 ≡ 511
   pub first_behind_marker : data_place true 508 ≡ 516

@@ -35,12 +35,12 @@ pub struct Fpdu<'a, A: Allocator = Global> {
 
 impl<'a, A: Allocator> Model for Fpdu<'a, A> {
     ghost use Rattle.iw_fpdu.specs.Reading.{end_at};
-ghost use Rattle.iw_fpdu.specs.Found.{Found};
+    ghost use Rattle.iw_fpdu.specs.Found.{Found};
 
     ghost Value = { Found };
 
     ghost use Rattle.iw_fpdu.specs.Reading.{end_at};
-ghost use Rattle.iw_fpdu.specs.FoundView.{found_by, IsSound};
+    ghost use Rattle.iw_fpdu.specs.FoundView.{found_by, IsSound};
 
     ghost view = { λ a. found_by a };
 
