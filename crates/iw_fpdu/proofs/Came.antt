@@ -3,7 +3,10 @@ use Rattle.std.proofs.Common.{◌≡◌, ℕ, ◌+◌, ◌-◌, ◌<◌, ◌≤�
 use Rattle.std.proofs.lemmas.List.{get_or-map, length-map}
 use Rattle.std.proofs.lemmas.List.FromFn.{get_or-map-range_with_len, length-map-range_with_len}
 use Rattle.std.specs.Prelude.{MatchBool}
-use Rattle.iw_ranges.specs.Arrived.{Arrived, Cell, Missing, Here, Gone, cell_at, is_missing, has_come, cells_between, IsHere}
+use Rattle.iw_ranges.specs.Arrived.{Arrived, Cell, Missing, Here, Gone, cell_at, is_missing, has_come, cells_between, IsHere, nothing, delivery, delivered}
+use Rattle.iw_ranges.specs.declared.Delivery.{Delivery}
+use Rattle.iw_ranges.specs.declared.Delivery.TheVariants.{Kept}
+use Rattle.iw_ranges.proofs.ByPlace.{cell_at-nothing, kept_gone}
 use Rattle.iw_fpdu.specs.Places.{span_start}
 use Rattle.iw_fpdu.specs.Frame.{frame_end}
 use Rattle.iw_fpdu.specs.PiecesOctet.{octet_from}
@@ -48,3 +51,18 @@ came_from false a base from to low high e f h = (h.0 - base, omega (arith, h.1),
 
 pub octet_is : (a : Arrived) (base p q x : ℕ) → q ≡ base + p → cell_at a q ≡ Here x → octet_in a base p ≡ x
 octet_is a base p q x e h = ap octet_of (ap (cell_at a) (sym e) ∙ h)
+
+-- nothing that came was given up yet
+not_gone : (cell : Cell) → (cell ≡ Gone → ⊥) → IsKept cell
+not_gone Missing h = tt
+not_gone (Here x) h = tt
+not_gone Gone h = absurd (h refl)
+
+pub first_kept : (old new : Arrived) (place : ℕ) (octets : List ℕ) (answer : Delivery) → old ≡ nothing → answer ≡ Kept → answer ≡ delivery old place (length octets) → new ≡ delivered old place octets
+    → (p : ℕ) → IsKept (cell_at new p)
+first_kept old new place octets answer empty kept is after p =
+    not_gone (cell_at new p)
+    (λ gone.
+    let before : cell_at old p ≡ Gone = kept_gone old new place octets answer p kept is after gone in
+    let none : cell_at old p ≡ Missing = ap (λ (a : Arrived). cell_at a p) empty ∙ cell_at-nothing p in
+    absurd (cc (sym none ∙ before)))

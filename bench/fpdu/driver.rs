@@ -1,0 +1,72 @@
+// Times writing and checking of frames with markers, beside a copy and the bare CRC of the same octets, prints the ratios, and
+// ends with status 1 where a limit is missed. It reads the processor's time of this thread, in which other work shows little.
+
+#[repr(C)]
+struct Time {
+    seconds: i64,
+    nanoseconds: i64,
+}
+
+unsafe extern "C" {
+    fn clock_gettime(clock: i32, time: *mut Time) -> i32;
+    fn fpdu_copies(rounds: usize, octets: *const u8, n: usize) -> usize;
+    fn fpdu_writes(crc: bool, rounds: usize, octets: *const u8, n: usize) -> usize;
+    fn fpdu_sums(rounds: usize, octets: *const u8, n: usize) -> u32;
+    fn fpdu_checks(crc: bool, rounds: usize, octets: *const u8, n: usize) -> usize;
+}
+
+const THREAD_TIME: i32 = 3;
+const SIZES: [usize; 3] = [128, 1_400, 64_000];
+const TURNS: usize = 25;
+
+/// The processor's time of this thread, in nanoseconds.
+fn now() -> f64 {
+    let mut time = Time { seconds: 0, nanoseconds: 0 };
+    assert_eq!(unsafe { clock_gettime(THREAD_TIME, &mut time) }, 0);
+    time.seconds as f64 * 1e9 + time.nanoseconds as f64
+}
+
+fn time(mut work: impl FnMut()) -> f64 {
+    let start = now();
+    work();
+    now() - start
+}
+
+fn main() {
+    let mut missed = 0;
+    for size in SIZES {
+        let octets: Vec<u8> = (0..size).map(|i| (i * 7 + 3) as u8).collect();
+        let (at, n) = (octets.as_ptr(), octets.len());
+        let rounds = 12_000_000 / size;
+        // The least of several turns, taken one after the other.
+        let mut least = [f64::MAX; 6];
+        for _ in 0..TURNS {
+            let times = [
+                time(|| assert_eq!(unsafe { fpdu_copies(rounds, at, n) }, rounds)),
+                time(|| assert_eq!(unsafe { fpdu_writes(false, rounds, at, n) }, rounds)),
+                time(|| {
+                    std::hint::black_box(unsafe { fpdu_sums(rounds, at, n) });
+                }),
+                time(|| assert_eq!(unsafe { fpdu_writes(true, rounds, at, n) }, rounds)),
+                time(|| assert_eq!(unsafe { fpdu_checks(false, rounds, at, n) }, rounds)),
+                time(|| assert_eq!(unsafe { fpdu_checks(true, rounds, at, n) }, rounds)),
+            ];
+            for (least, time) in least.iter_mut().zip(times) {
+                *least = least.min(time / rounds as f64);
+            }
+        }
+        let [copy, write, sum, write_crc, check, check_crc] = least;
+        println!("{size} octets: copy {copy:.1} ns, CRC {sum:.1} ns");
+        println!("  writing {:.2} copies; with CRC {:.2} CRCs, {:.2} of copy and CRC", write / copy, write_crc / sum, write_crc / (copy + sum));
+        println!("  reading and checking {:.2} copies; with CRC {:.2} CRCs", check / copy, check_crc / sum);
+        if size == 1_400 && write > 2.5 * copy {
+            println!("  missed: writing without CRC at most 2.5 copies");
+            missed += 1;
+        }
+        if size >= 1_400 && check_crc > 1.3 * sum {
+            println!("  missed: checking with CRC at most 1.3 CRCs");
+            missed += 1;
+        }
+    }
+    std::process::exit(if missed == 0 { 0 } else { 1 });
+}
