@@ -1,6 +1,6 @@
 -- A frame, as it is written: what stands before the CRC field, and the field.
-use Rattle.std.proofs.Common.{◌≡◌, ℕ, ◌+◌, ◌-◌, ◌/◌, ◌%◌, ◌<◌, ◌≤◌, zero, suc, Bool, true, false, not, cond, eqb, List, [], ◌∷◌, ◌++◌, take, drop, length, replicate, refl, sym, ap, ◌∙◌, arith, inl, inr}
-use Rattle.std.proofs.lemmas.List.{append_assoc, append-nil, length-append, length-replicate, drop_at, take_at, get_or_append_left}
+use Rattle.std.proofs.Common.{◌≡◌, ℕ, ◌+◌, ◌-◌, ◌/◌, ◌%◌, ◌<◌, ◌≤◌, zero, suc, Bool, true, false, not, cond, eqb, List, [], ◌∷◌, ◌++◌, take, drop, length, replicate, refl, sym, ap, ◌∙◌, subst, arith, inl, inr}
+use Rattle.std.proofs.lemmas.List.{take-replicate, append_assoc, append-nil, length-append, length-replicate, drop_at, take_at, get_or_append_left}
 use Rattle.std.proofs.lemmas.List.FromFn.{length-map-range_with_len}
 use Rattle.std.proofs.lemmas.Bool.{cases_lt, cases_eq}
 use Rattle.std.proofs.lemmas.Bool.Decides.{nat_tests}
@@ -10,19 +10,11 @@ use Rattle.iw_fpdu.specs.declared.layout.Layout.{Layout}
 use Rattle.iw_fpdu.specs.Places.{data_place, data_index, in_marker, place_after, frame_start, span_start}
 use Rattle.iw_fpdu.specs.Frame.{marker_value, octet_at, laid, pad_len, frame_end, field_place, bare_data, covered, crc_field, frame_data, frame_octet, frame_octets}
 use Rattle.iw_fpdu.specs.Laying.{IsRun, IsEdge, marker_before, marker_behind}
-use Rattle.iw_fpdu.proofs.Counted.{index_place, index_mono, place_mono, place_index, no_in_marker, edge_inside, edge_marker, run_data, behind_edge, after_edge, at_most_after, index_after, after_some, aligned_edge, marker_value_is, four_in_row, index_aligned, after_after}
-use Rattle.iw_fpdu.proofs.Laid.{laid_three, map_range, laid_split, laid_none, laid_shift, laid_run, laid_behind, laid_marker, octet_data, octet_marker}
+use Rattle.iw_fpdu.proofs.Counted.{place_after_none, run_place, four_behind, index_place, index_mono, place_mono, place_index, no_in_marker, edge_inside, edge_marker, run_data, behind_edge, after_edge, at_most_after, index_after, after_some, aligned_edge, marker_value_is, four_in_row, index_aligned, after_after}
+use Rattle.iw_fpdu.proofs.Laid.{laid_three, laid_turn, map_range, laid_split, laid_none, laid_shift, laid_run, laid_behind, laid_marker, octet_data, octet_marker}
 
 pub length_bare : (ulpdu : List ℕ) → length (bare_data ulpdu) ≡ 2 + length ulpdu + pad_len (length ulpdu)
 length_bare ulpdu = simp (length-append, length-replicate) (omega arith)
-
--- pad octets, cut from zeros
-pub pad_is : (n k : ℕ) (pad zeros : List ℕ) → pad ≡ take k zeros → k ≡ n → n < 4 → zeros ≡ 0 ∷ 0 ∷ 0 ∷ [] → pad ≡ replicate n 0
-pad_is zero k pad zeros cut e lt z = cut ∙ ap (λ i. take i zeros) e ∙ ap (take 0) z
-pad_is (suc zero) k pad zeros cut e lt z = cut ∙ ap (λ i. take i zeros) e ∙ ap (take 1) z
-pad_is (suc (suc zero)) k pad zeros cut e lt z = cut ∙ ap (λ i. take i zeros) e ∙ ap (take 2) z
-pad_is (suc (suc (suc zero))) k pad zeros cut e lt z = cut ∙ ap (λ i. take i zeros) e ∙ ap (take 3) z
-pad_is (suc (suc (suc (suc n)))) k pad zeros cut e lt z = absurd (omega arith)
 
 -- what is laid up to the place of the next data octet ends in the marker before it, if there is one
 pub laid_up : (m : Bool) (start : ℕ) (xs : List ℕ) (a : ℕ) → IsEdge m a
@@ -229,3 +221,65 @@ whole_written layout at len ulpdu old bare new field written aligned n_is bare_i
 pub holds : (b : Bool) → not b ≡ false → b ≡ true
 holds true e = refl
 holds false e = cc
+
+-- a length field stands behind a marker or in a row, and so does a pad
+two_in_row : (m : Bool) (at : ℕ) → at % 4 ≡ 0 → IsRun m (data_place m (data_index m at)) 2
+unfolding data_place data_index
+two_in_row true at h = (omega arith, omega arith)
+two_in_row false at h = tt
+
+pub two_behind : (m : Bool) (at : ℕ) → at % 4 ≡ 0 → place_after m at 2 ≡ data_place m (data_index m at) + 2
+two_behind m at h =
+    after_some m at 2 1 (omega arith) ∙ ap (λ x. x + 1) (run_data m (data_index m at) 2 1 (two_in_row m at h) (omega arith)) ∙ omega arith
+
+pub laid_two : (m : Bool) (start a b at : ℕ) → IsEdge m at → at % 4 ≡ 0
+    → laid m start (data_index m at) (a ∷ b ∷ []) at (place_after m at 2) ≡ marker_before m start at ++ (a ∷ b ∷ [])
+laid_two m start a b at edge h =
+    let p = data_place m (data_index m at) in
+    let run = two_in_row m at h in
+    ap (laid m start (data_index m at) (a ∷ b ∷ []) at) (two_behind m at h)
+    ∙ laid_turn m start (a ∷ b ∷ []) at p 2 (p + 2) edge refl (omega arith) (omega arith) run (omega arith)
+    ∙ ap (λ ys. marker_before m start at ++ ((a ∷ b ∷ []) ++ ys)) (laid_none m start (data_index m (p + 2)) [] (p + 2) (p + 2) (omega arith))
+
+pad_in_row : (m : Bool) (at pad : ℕ) → IsEdge m at → 0 < pad → pad < 4 → (data_index m at + pad) % 4 ≡ 0 → IsRun m at pad
+unfolding data_index
+pad_in_row true at pad (inl z) some few h = absurd (omega arith)
+pad_in_row true at pad (inr inside) some few h = (inside, omega arith)
+pad_in_row false at pad edge some few h = tt
+
+-- the place behind the pad, and the one behind the CRC field, which is no nearer than four octets
+pub pad_behind : (m : Bool) (at pad : ℕ) → IsEdge m at → pad < 4 → (data_index m at + pad) % 4 ≡ 0 → (place_after m at pad ≡ at + pad) × (at + pad + 4 ≤ place_after m at (pad + 4))
+pad_behind m at pad edge few h =
+    let behind : place_after m at pad ≡ at + pad = elim (cases_lt 0 pad) [ inl some ↦ row some | inr none ↦ place_after_none m at pad (omega arith) ∙ omega arith ] in
+    let after = after_after m at pad 4 in
+    let field = four_behind m (place_after m at pad) (omega (arith, index_after m at pad, h)) in
+    (behind, omega (arith, after, field, behind, behind_edge m (place_after m at pad) (after_edge m at pad edge)))
+  where
+    row : 0 < pad → place_after m at pad ≡ at + pad
+    row some =
+        let run = pad_in_row m at pad edge some few h in
+        let here : data_place m (data_index m at) ≡ at = place_index m at (ap (in_marker m) (let e : at ≡ at + 0 = omega arith in e) ∙ (run_place m at pad 0 run some).0) in
+        let last = run_data m (data_index m at) pad (pad - 1) (subst (λ x. IsRun m x pad) (sym here) run) (omega arith) in
+        omega (arith, after_some m at pad (pad - 1) (omega arith), last, here)
+
+pub laid_pad : (m : Bool) (start at pad : ℕ) → IsEdge m at → pad < 4 → (data_index m at + pad) % 4 ≡ 0 → laid m start (data_index m at) (replicate pad 0) at (place_after m at pad) ≡ replicate pad 0
+laid_pad m start at pad edge few h =
+    ap (laid m start (data_index m at) (replicate pad 0) at) (pad_behind m at pad edge few h).0
+    ∙ elim (cases_lt 0 pad) [
+      | inl some ↦
+          laid_run m start (replicate pad 0) at pad (omega (arith, length-replicate {A = ℕ} pad 0)) (pad_in_row m at pad edge some few h) ∙ take-replicate pad pad 0 (omega arith)
+      | inr none ↦ laid_none m start (data_index m at) (replicate pad 0) at (at + pad) (omega arith) ∙ sym (ap (λ n. replicate n 0) (let e : pad ≡ 0 = omega arith in e))
+    ]
+
+four_zeros : (pad : ℕ) → pad < 4 → replicate {A = ℕ} 4 0 ≡ replicate pad 0 ++ replicate (4 - pad) 0
+four_zeros zero lt = refl
+four_zeros (suc zero) lt = refl
+four_zeros (suc (suc zero)) lt = refl
+four_zeros (suc (suc (suc zero))) lt = refl
+four_zeros (suc (suc (suc (suc n)))) lt = absurd (omega arith)
+
+-- four zeros, cut to the pad
+pub cut_pad : (old new : List ℕ) (n pad : ℕ) → new ≡ old ++ (0 ∷ 0 ∷ 0 ∷ 0 ∷ []) → n ≡ length old + pad → pad < 4 → take n new ≡ old ++ replicate pad 0
+cut_pad old new n pad e f few =
+    ap (take n) (e ∙ ap (λ (ys : List ℕ). old ++ ys) (four_zeros pad few) ∙ sym (append_assoc old (replicate pad 0) (replicate (4 - pad) 0)))
+    ∙ take_at (old ++ replicate pad 0) (replicate (4 - pad) 0) n (simp (length-append, length-replicate) (omega arith))

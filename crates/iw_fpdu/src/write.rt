@@ -1,5 +1,5 @@
 ghost use Rattle.std.specs.Int.{w32, to_le_bytes};
-ghost use Rattle.std.specs.Prelude.{◌≡◌, ◌<◌, ◌≤◌, ◌+◌, ◌-◌, ◌/◌, ◌%◌, ◌^◌, ◌++◌, [], ◌∷◌, length, if◌then◌else◌, nat_lt, vec_len, vec_capacity, MatchOption, OnOk, OnErr, IfErr, IsOk};
+ghost use Rattle.std.specs.Prelude.{◌≡◌, ◌<◌, ◌≤◌, ◌+◌, ◌-◌, ◌/◌, ◌%◌, ◌^◌, ◌++◌, [], ◌∷◌, length, if◌then◌else◌, nat_lt, replicate, vec_len, vec_capacity, MatchOption, OnOk, OnErr, IfErr, IsOk};
 ghost use Rattle.iw_octets.specs.Crc.{after_octets, all_ones, crc32c};
 ghost use Rattle.iw_octets.specs.Pieces.{joined};
 ghost use Rattle.iw_fpdu.specs.Frame.{max_sent, bare_data, frame_end, frame_octets, field_place, laid, marker_octets};
@@ -34,6 +34,7 @@ fn marker(start: u64, at: u64) -> [u8; 4]
 }
 
 /// Appends octets, for which there is room.
+#[inline(always)]
 fn append<A: Allocator>(out: &mut Vec<u8, A>, octets: &[u8])
     requires { vec_len out.old + length octets.now ≤ vec_capacity out.old }
     ensures items { out.new.items ≡ out.old.items ++ octets.now }
@@ -44,6 +45,7 @@ fn append<A: Allocator>(out: &mut Vec<u8, A>, octets: &[u8])
 }
 
 /// Appends the marker at `at`, if there is one. Gives the place of the data octet that comes next.
+#[inline(always)]
 fn put_marker<A: Allocator>(markers: bool, start: u64, at: u64, out: &mut Vec<u8, A>) -> u64
     requires low { at < 2 ^ 63 + 2 ^ 17 }
     requires edge { IsEdge markers at }
@@ -64,6 +66,7 @@ fn put_marker<A: Allocator>(markers: bool, start: u64, at: u64, out: &mut Vec<u8
 
 /// Appends octets of the frame that begins at `start`, the first of them at place `at` or behind a marker there, with the
 /// markers among them. Gives the place behind the last.
+#[inline(always)]
 fn put<A: Allocator>(markers: bool, start: u64, at: u64, octets: &[u8], out: &mut Vec<u8, A>) -> u64
     requires { HasRoom markers start at (length octets.now) (vec_len out.old) (vec_capacity out.old) }
     ensures place { result ≡ place_after markers at (length octets.now) }
@@ -119,11 +122,43 @@ fn len_of(parts: &[&[u8]]) -> Option<u16>
     Some(len as u16)
 }
 
-/// A ULPDU's length, as it stands before it.
-fn length_field(len: u16) -> [u8; 2]
-    ensures { result ≡ len / 256 ∷ len % 256 ∷ [] }
+/// Appends the length field of a frame, behind the marker at `at`, if there is one. Gives the place behind it.
+#[inline(always)]
+fn put_length<A: Allocator>(
+    markers: bool,
+    start: u64,
+    at: u64,
+    len: u16,
+    out: &mut Vec<u8, A>,
+) -> u64
+    requires room { HasRoom markers start at 2 (vec_len out.old) (vec_capacity out.old) }
+    requires aligned { at % 4 ≡ 0 }
+    ensures place { result ≡ place_after markers at 2 }
+    ensures items { out.new.items ≡ out.old.items ++ laid markers start (data_index markers at) (len / 256 ∷ len % 256 ∷ []) at (place_after markers at 2) }
+    ensures len { vec_len out.new ≡ vec_len out.old + (result - at) }
+    ensures capacity { vec_capacity out.old ≤ vec_capacity out.new }
 {
-    [(len / 256) as u8, (len % 256) as u8]
+    let place = put_marker(markers, start, at, out);
+    append(out, &[(len / 256) as u8, (len % 256) as u8]);
+    place + 2
+}
+
+/// Appends the pad, which comes up to a multiple of four octets, so that no marker stands in it or before it; there is room for
+/// the CRC field behind it. Gives the place behind it.
+#[inline(always)]
+fn put_pad<A: Allocator>(markers: bool, start: u64, at: u64, pad: u64, out: &mut Vec<u8, A>) -> u64
+    requires room { HasRoom markers start at (pad + 4) (vec_len out.old) (vec_capacity out.old) }
+    requires few { pad < 4 }
+    requires aligned { (data_index markers at + pad) % 4 ≡ 0 }
+    ensures place { result ≡ place_after markers at pad }
+    ensures items { out.new.items ≡ out.old.items ++ laid markers start (data_index markers at) (replicate pad 0) at (place_after markers at pad) }
+    ensures len { vec_len out.new ≡ vec_len out.old + (result - at) }
+    ensures capacity { vec_capacity out.old ≤ vec_capacity out.new }
+{
+    let len = out.len() + pad as usize;
+    append(out, &[0; 4]);
+    out.truncate(len);
+    at + pad
 }
 
 /// Appends all of a frame that stands before its CRC field.
@@ -137,11 +172,9 @@ fn put_bare<A: Allocator>(markers: bool, at: u64, len: u16, parts: &[&[u8]], out
     ensures room { vec_len out.new + 4 ≤ vec_capacity out.new }
 {
     let start = place_of(markers, index_of(markers, at));
-    let behind_length = put(markers, start, at, &length_field(len), out);
+    let behind_length = put_length(markers, start, at, len, out);
     let behind_ulpdu = put_all(markers, start, behind_length, parts, out);
-    let zeros: &[u8] = &[0; 3];
-    let (pad, _) = zeros.split_at(pad_of(len) as usize);
-    let behind_pad = put(markers, start, behind_ulpdu, pad, out);
+    let behind_pad = put_pad(markers, start, behind_ulpdu, pad_of(len), out);
     put_marker(markers, start, behind_pad, out);
 }
 

@@ -1,0 +1,25 @@
+use Rattle.std.proofs.Common.{◌≡◌, ◌+◌, ◌≤◌, ◌<◌, ◌++◌, ◌∷◌, [], length, take, replicate, ap, ◌∙◌, sym, refl, subst, arith}
+use Rattle.iw_fpdu.specs.Places.{data_place, data_index, place_after}
+use Rattle.iw_fpdu.proofs.Counted.{at_most_after, after_mono}
+use Rattle.iw_fpdu.proofs.Written.{pad_behind, laid_pad, cut_pad}
+use Rattle.iw_fpdu.proofs.write.put_pad.Goals as goal
+
+pub append-requires : goal.append-requires
+append-requires g c =
+    let room = c.requires.room in
+    omega (arith, room.room, pad_behind c.args.markers c.args.at c.args.pad room.edge c.requires.few c.requires.aligned)
+
+pub returns-clause-items : goal.returns-clause-items
+returns-clause-items g c =
+    let m = c.args.markers in
+    let old = c.args.out.now.items in
+    let cut : c.truncate.new.self.items ≡ old ++ replicate c.args.pad 0 =
+    c.truncate.ensures.items ∙ cut_pad old c.append.new.out.items _ c.args.pad c.append.ensures.items (omega (arith, c.len.ensures, c.args.out.now.ok.0)) c.requires.few in
+    cut ∙ ap (λ ys. old ++ ys) (sym (laid_pad m c.args.start c.args.at c.args.pad c.requires.room.edge c.requires.few c.requires.aligned))
+
+pub overflow_add-result : goal.overflow_add-result
+overflow_add-result g c =
+    omega (arith, c.requires.room.low, pad_behind c.args.markers c.args.at c.args.pad c.requires.room.edge c.requires.few c.requires.aligned)
+
+pub returns-clause-place : goal.returns-clause-place
+returns-clause-place g c = omega (arith, pad_behind c.args.markers c.args.at c.args.pad c.requires.room.edge c.requires.few c.requires.aligned)
