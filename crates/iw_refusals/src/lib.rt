@@ -9,4 +9,5 @@ mod queues;
 mod ranges;
 #[cfg(test)]
 mod replay;
+#[cfg(test)]
 mod untagged;
