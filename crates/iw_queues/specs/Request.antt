@@ -23,7 +23,7 @@ size_of (Message (Write stag to octets)) = length octets
 size_of (Message (Send octets solicited invalidate)) = length octets
 size_of (Read request) = request.size
 
--- the octets of the header before each of its parts: tagged, or untagged (RFC 5041 4.1, 4.2)
+-- the octets of the header before each of its parts: tagged, or untagged (RFC 5041 4.2, 4.3)
 abbrev pub header_len : Request (List ℕ) → ℕ
 header_len (Message (Write stag to octets)) = 14
 header_len (Message (Send octets solicited invalidate)) = 18
