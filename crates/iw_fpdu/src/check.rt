@@ -7,7 +7,7 @@ ghost use Rattle.iw_fpdu.specs.Places.{IsStart, span_start};
 ghost use Rattle.iw_fpdu.specs.Reading.{crc_agrees, markers_agree, mismatch_at};
 
 use crate::fpdu::Mismatch;
-use crate::layout::{Layout, SPACING, end_of, field_of, span_of};
+use crate::layout::{Layout, SPACING, span_of};
 use iw_octets::crc32c;
 
 /// A CRC field's number, whose lowest octet comes first.
@@ -20,13 +20,11 @@ fn number_in(field: &[u8]) -> u32
 
 /// Whether the CRC field is the CRC of the octets of the span before it.
 fn does_crc_agree(markers: bool, start: u64, len: u16, octets: &[u8]) -> bool
-    requires low { start < 2 ^ 63 }
     requires start { IsStart markers start }
     requires span { span_start markers start + length octets.now ≡ frame_end markers start len }
     ensures { result ≡ crc_agrees (octet_from (span_start markers start) octets.now) markers start len }
 {
-    let at = (field_of(markers, start, len) - span_of(markers, start)) as usize;
-    let (before, field) = octets.split_at(at);
+    let (before, field) = octets.split_at(octets.len() - 4);
     number_in(field) == crc32c(before)
 }
 
@@ -46,7 +44,7 @@ fn do_markers_agree(start: u64, len: u16, octets: &[u8]) -> bool
     ensures { result ≡ markers_agree (octet_from (span_start true start) octets.now) start len }
 {
     let from = span_of(true, start);
-    let end = end_of(true, start, len);
+    let end = from + octets.len() as u64;
     let mut place = from.div_ceil(SPACING) * SPACING;
     while place < end {
         let value = pointer(octets, (place - from) as usize);

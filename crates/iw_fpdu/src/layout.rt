@@ -1,5 +1,5 @@
 ghost use Rattle.std.specs.Prelude.{◌≡◌, ◌<◌, ◌≤◌, ◌+◌, ◌*◌, ◌/◌, ◌^◌, false};
-ghost use Rattle.iw_fpdu.specs.Frame.{pad_len, frame_end, field_place};
+ghost use Rattle.iw_fpdu.specs.Frame.{pad_len, frame_end};
 ghost use Rattle.iw_fpdu.specs.Laying.{IsRun};
 ghost use Rattle.iw_fpdu.specs.Places.{data_place, data_index, in_marker, span_start};
 
@@ -81,18 +81,6 @@ pub(crate) fn pad_of(len: u16) -> u64
     ensures few { result < 4 }
 {
     (4 - (u64::from(len) + 2) % 4) % 4
-}
-
-/// The place of a frame's CRC field.
-pub(crate) fn field_of(markers: bool, start: u64, len: u16) -> u64
-    requires { start < 2 ^ 63 }
-    ensures value { result ≡ field_place markers start len }
-    ensures bound { result ≤ 2 ^ 63 + 2 ^ 62 }
-{
-    place_of(
-        markers,
-        index_of(markers, start) + (2 + u64::from(len) + pad_of(len)),
-    )
 }
 
 pub(crate) fn end_of(markers: bool, start: u64, len: u16) -> u64

@@ -19,7 +19,7 @@ loop-place-init c =
 
 pub pointer-value-requires : goal.pointer-value-requires
 pointer-value-requires c =
-    let room = marker_within c.args.start c.args.len c.loop-place.place c.loop-place.invariant.0 (omega (arith, c.loop-place-test.true, c.end_of-end.ensures.value)) in
+    let room = marker_within c.args.start c.args.len c.loop-place.place c.loop-place.invariant.0 (omega (arith, c.loop-place-test.true, c.requires.span, c.span_of-from.ensures.value, c.loop-place.invariant.1)) in
     omega (arith, room, c.requires.span, c.span_of-from.ensures.value, c.loop-place.invariant.1)
 
 pub returns-then-from-saturating_sub : goal.returns-then-from-saturating_sub
@@ -36,7 +36,7 @@ returns-then-from-saturating_sub c =
     let other : eqb (pointer_at octet place) (place - c.args.start) ≡ false = grind (arith, nat_tests, value, c.if-from-saturating_sub.true, c.from.ensures, c.saturating_sub.ensures) in
     sym
     (one_fails (marker_agrees octet c.args.start) (span_start true c.args.start) (frame_end true c.args.start c.args.len - span_start true c.args.start) place (omega (arith, from, c.loop-place.invariant.1))
-    (omega (arith, c.loop-place-test.true, c.end_of-end.ensures.value, from, c.loop-place.invariant.1)) (marker_agrees_is octet c.args.start place c.loop-place.invariant.0 ∙ other))
+    (omega (arith, c.loop-place-test.true, from, c.loop-place.invariant.1)) (marker_agrees_is octet c.args.start place c.loop-place.invariant.0 ∙ other))
 
 pub loop-place-preserved : goal.loop-place-preserved
 loop-place-preserved c =
@@ -50,7 +50,7 @@ loop-place-preserved c =
     let same : eqb (pointer_at octet place) (place - c.args.start) ≡ true = grind (arith, nat_tests, value, c.if-from-saturating_sub.false, c.from.ensures, c.saturating_sub.ensures) in (
       omega (arith, c.loop-place.invariant.0),
       omega (arith, c.loop-place.invariant.1),
-      omega (arith, c.loop-place-test.true, c.end_of-end.ensures.bound),
+      omega (arith, c.loop-place-test.true, c.requires.span, c.span_of-from.ensures.value),
       λ q low high.
           elim (cases_lt q place) [
             | inl before ↦ c.loop-place.invariant.3 q low before
@@ -69,4 +69,4 @@ returns c =
     let from = c.span_of-from.ensures.value in
     sym
     (all_hold (marker_agrees octet c.args.start) (span_start true c.args.start) (frame_end true c.args.start c.args.len - span_start true c.args.start)
-    (λ q low high. ap (λ f. marker_agrees (octet_from f c.args.octets.now) c.args.start q) (sym from) ∙ c.loop-place.invariant.3 q (omega (arith, from)) (omega (arith, c.loop-place-test.false, c.end_of-end.ensures.value))))
+    (λ q low high. ap (λ f. marker_agrees (octet_from f c.args.octets.now) c.args.start q) (sym from) ∙ c.loop-place.invariant.3 q (omega (arith, from)) (omega (arith, c.loop-place-test.false, c.requires.span, from))))

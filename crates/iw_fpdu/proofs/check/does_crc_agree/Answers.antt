@@ -10,20 +10,21 @@ use Rattle.iw_fpdu.specs.Reading.{crc_agrees, octets_at, data_at, field_at}
 use Rattle.iw_fpdu.proofs.Octets.{span_low, data_low, field_end, field_eq, field_run, cut_at, data_run}
 use Rattle.iw_fpdu.proofs.check.does_crc_agree.Goals as goal
 
-pub overflow_sub-at : goal.overflow_sub-at
-overflow_sub-at c =
-    omega (arith, c.field_of.ensures.value, c.span_of.ensures.bound, data_low c.args.markers c.args.start (2 + c.args.len + pad_len c.args.len) c.requires.start)
-
-pub split_at-requires : goal.split_at-requires
-split_at-requires c = omega (arith, c.field_of.ensures.value, c.span_of.ensures.value, c.requires.span, field_end c.args.markers c.args.start c.args.len c.requires.start)
+pub overflow_sub-octets : goal.overflow_sub-octets
+overflow_sub-octets c =
+    omega (
+      arith,
+      c.requires.span,
+      field_end c.args.markers c.args.start c.args.len c.requires.start,
+      span_low c.args.markers c.args.start,
+      data_low c.args.markers c.args.start (2 + c.args.len + pad_len c.args.len) c.requires.start,
+    )
 
 pub number_in-requires : goal.number_in-requires
 number_in-requires c =
     omega (
       arith,
       c.split_at.ensures.back_len,
-      c.field_of.ensures.value,
-      c.span_of.ensures.value,
       c.requires.span,
       field_end c.args.markers c.args.start c.args.len c.requires.start,
       span_low c.args.markers c.args.start,
@@ -39,7 +40,7 @@ returns c =
     let fp = field_place m c.args.start c.args.len in
     let end = field_end m c.args.start c.args.len c.requires.start in
     let low : from ≤ fp = omega (arith, span_low m c.args.start, data_low m c.args.start (2 + c.args.len + pad_len c.args.len) c.requires.start) in
-    let n_is : c.field_of.result - c.span_of.result ≡ fp - from = omega (arith, c.field_of.ensures.value, c.span_of.ensures.value) in
+    let n_is : length octets - 4 ≡ fp - from = omega (arith, c.requires.span, end) in
     let before : c.split_at.result.0.now ≡ octets_at (octet_from from octets) from fp =
     c.split_at.ensures.front ∙ ap (λ n. take n octets) n_is
     ∙ sym (ap (octets_at (octet_from from octets) from) (let e : fp ≡ from + (fp - from) = omega arith in e) ∙ cut_at from octets from (fp - from) (omega arith) (omega (arith, c.requires.span, end)) ∙ ap (λ n. take (fp - from) (drop n octets)) (let e : from - from ≡ 0 = omega arith in e)) in
@@ -48,7 +49,7 @@ returns c =
     ∙ ap (take 4) (c.split_at.ensures.back ∙ ap (λ n. drop n octets) n_is)
     ∙ sym (data_run (octet_from from octets) m (data_index m c.args.start + (2 + c.args.len + pad_len c.args.len)) 4 (field_run m c.args.start c.args.len c.requires.start) ∙ cut_at from octets fp 4 low (omega (arith, c.requires.span, end))) in
     let four : length c.split_at.result.1.now ≡ 4 = omega (arith, c.split_at.ensures.back_len, n_is, c.requires.span, end, low) in
-    field_eq c.split_at.result.1.now c.number_in.result c.crc32c.result four (λ i. omega (arith, c.type_inv.octets (c.field_of.result - c.span_of.result + i), ap (λ ys. get_or ys i 0) c.split_at.ensures.back, get_or-drop (c.field_of.result - c.span_of.result) octets i 0)) c.crc32c.type_inv c.number_in.ensures
+    field_eq c.split_at.result.1.now c.number_in.result c.crc32c.result four (λ i. omega (arith, c.type_inv.octets (length octets - 4 + i), ap (λ ys. get_or ys i 0) c.split_at.ensures.back, get_or-drop (length octets - 4) octets i 0)) c.crc32c.type_inv c.number_in.ensures
     ∙ ap (λ xs. bytes_eq xs (to_le_bytes w32 c.crc32c.result)) field
     ∙ ap (λ n. bytes_eq (field_at (octet_from from octets) m c.args.start c.args.len) (to_le_bytes w32 n)) (c.crc32c.ensures ∙ ap crc32c before)
   where
