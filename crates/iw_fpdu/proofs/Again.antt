@@ -1,28 +1,26 @@
 -- What was written is read again, and what was whole stays.
-use Rattle.std.proofs.Common.{◌≡◌, ℕ, ◌+◌, ◌-◌, ◌*◌, ◌/◌, ◌%◌, ◌<◌, ◌≤◌, Bool, true, false, not, ◌&&◌, cond, eqb, List, [], ◌∷◌, ◌++◌, map, take, drop, replicate, length, get_or, Option, Some, None, refl, sym, ap, ◌∙◌, subst, arith, inl, inr}
+use Rattle.std.proofs.Common.{◌≡◌, ℕ, ◌+◌, ◌-◌, ◌/◌, ◌%◌, ◌<◌, ◌≤◌, Bool, true, false, not, ◌&&◌, cond, List, [], ◌∷◌, ◌++◌, map, take, drop, replicate, length, get_or, Some, None, refl, sym, ap, ◌∙◌, subst, arith, inl, inr}
 use Rattle.std.proofs.lemmas.List.{same_lists, get_or-map, get_or-drop, get_or-take, get_or_default, get_or_append_left, append_assoc, append-nil, take_at, drop_at, length-take, length-drop, length-append}
 use Rattle.std.proofs.lemmas.List.FromFn.{get_or-map-range_with_len, length-map-range_with_len}
 use Rattle.std.proofs.lemmas.Bool.{cases_eq, eq-eqb}
 use Rattle.std.specs.Int.{w32, to_le_bytes}
-use Rattle.std.specs.List.{range_with_len, list_all}
-use Rattle.std.specs.Str.{bytes_eq}
+use Rattle.std.specs.List.{range_with_len}
 use Rattle.iw_octets.specs.Crc.{crc32c}
-use Rattle.iw_ranges.specs.Arrived.{Arrived, Cell, Missing, Here, Gone, cell_at, is_missing, has_come, is_dropped, first_copy, taken_in, cells_between, delivered}
+use Rattle.iw_ranges.specs.Arrived.{Arrived, Cell, Missing, Here, Gone, cell_at, is_missing, has_come, is_dropped, first_copy, cells_between, delivered}
 use Rattle.iw_ranges.proofs.ByPlace.{cell_at-taken_in}
 use Rattle.iw_ranges.proofs.Keeps.{delivered_kept, delivered_dropped}
 use Rattle.iw_fpdu.specs.declared.layout.Layout.{Layout}
-use Rattle.iw_fpdu.specs.declared.fpdu.Mismatch.{Mismatch}
 use Rattle.iw_fpdu.specs.declared.fpdu.Mismatch.TheVariants.{CrcMismatch, MarkerMismatch}
 use Rattle.iw_fpdu.specs.Places.{data_place, data_index, in_marker, IsStart, frame_start, span_start}
 use Rattle.iw_fpdu.specs.Frame.{max_sent, pad_len, frame_size, frame_end, field_place, marker_value, marker_octets, octet_at, laid, bare_data, covered, crc_field, frame_data, frame_octet, frame_octets}
-use Rattle.iw_fpdu.specs.Reading.{octets_at, data_at, length_at, ulpdu_at, end_at, field_at, crc_agrees, pointer_at, marker_agrees, markers_agree, mismatch_at}
-use Rattle.iw_fpdu.specs.Found.{Found, octet_of, octet_in, IsWhole, ulpdu_len, ulpdu, mismatch}
-use Rattle.iw_fpdu.specs.Laws.{HoldsFrame, IsBetween, IsReadAgain, ReadsAgain, IsSame, StaysWhole, found_at}
+use Rattle.iw_fpdu.specs.Reading.{octets_at, data_at, length_at, field_at, crc_agrees, pointer_at, marker_agrees, markers_agree, mismatch_at}
+use Rattle.iw_fpdu.specs.Found.{octet_of, octet_in}
+use Rattle.iw_fpdu.specs.Laws.{HoldsFrame, IsBetween, IsReadAgain, ReadsAgain, StaysWhole, found_at}
 use Rattle.iw_fpdu.proofs.Follows.{begins, ends}
 use Rattle.iw_fpdu.proofs.Counted.{index_place, place_index, data_no_marker, after_bound, aligned_edge, marker_value_is}
 use Rattle.iw_fpdu.proofs.Laid.{octet_data, octet_marker, marker_octet}
 use Rattle.iw_fpdu.proofs.Written.{length_bare, length_field, index_below}
-use Rattle.iw_fpdu.proofs.Octets.{span_low, second_place, length_data, same_octets, all_hold, Agree, agree, same_frame_data, same_length, same_mismatch, no_marker_agrees, marker_agrees_is, same_bytes}
+use Rattle.iw_fpdu.proofs.Octets.{second_place, same_octets, all_hold, Agree, agree, same_frame_data, same_length, same_mismatch, no_marker_agrees, marker_agrees_is, same_bytes}
 
 -- ---- a written frame
 length_frame : (layout : Layout) (start : ℕ) (xs : List ℕ) → length (frame_data layout start xs) ≡ frame_size (length xs)
@@ -61,7 +59,7 @@ data_back layout start xs i n fits =
         ∙ get_or_default whole (i + k) 0 d (omega (arith, length_frame layout start xs))
         ∙ sym (get_or-take n (drop i whole) k d inside ∙ get_or-drop i whole k d)
 
-length_back : (layout : Layout) (start : ℕ) (xs : List ℕ) → IsStart layout.markers start → length_at (frame_octet layout start xs) start ≡ length xs
+pub length_back : (layout : Layout) (start : ℕ) (xs : List ℕ) → IsStart layout.markers start → length_at (frame_octet layout start xs) start ≡ length xs
 length_back layout start xs s =
     let m = layout.markers in
     let octet : ℕ → ℕ = frame_octet layout start xs in
@@ -70,7 +68,7 @@ length_back layout start xs s =
     let two : octet (start + 1) ≡ length xs % 256 = ap octet (sym (second_place m start s)) ∙ octet_back layout start xs 1 in
     omega (arith, one, two)
 
-ulpdu_back : (layout : Layout) (start : ℕ) (xs : List ℕ) → data_at (frame_octet layout start xs) layout.markers (data_index layout.markers start + 2) (length xs) ≡ xs
+pub ulpdu_back : (layout : Layout) (start : ℕ) (xs : List ℕ) → data_at (frame_octet layout start xs) layout.markers (data_index layout.markers start + 2) (length xs) ≡ xs
 ulpdu_back layout start xs =
     data_back layout start xs 2 (length xs) (omega arith)
     ∙ ap (take (length xs)) (append_assoc xs (replicate (pad_len (length xs)) 0) (crc_field layout start xs))
@@ -138,7 +136,7 @@ none_wrong true false a c e f = ap (λ x. cond (not x) (Some CrcMismatch) None) 
 none_wrong false true a c e f = ap (λ x. cond (not x) (Some MarkerMismatch) None) (f refl)
 none_wrong false false a c e f = refl
 
-agrees_back : (layout : Layout) (start : ℕ) (xs : List ℕ) → IsStart layout.markers start → length xs ≤ 64512 → mismatch_at layout (frame_octet layout start xs) start (length xs) ≡ None
+pub agrees_back : (layout : Layout) (start : ℕ) (xs : List ℕ) → IsStart layout.markers start → length xs ≤ 64512 → mismatch_at layout (frame_octet layout start xs) start (length xs) ≡ None
 unfolding mismatch_at markers_agree
 agrees_back layout start xs s short =
     none_wrong layout.crc layout.markers _ _ (crc_back layout start xs)

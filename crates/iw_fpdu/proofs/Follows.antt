@@ -1,11 +1,11 @@
 -- One frame behind another.
-use Rattle.std.proofs.Common.{◌≡◌, ◌≢◌, ◌⊎◌, ℕ, ◌+◌, ◌-◌, ◌*◌, ◌/◌, ◌%◌, ◌<◌, ◌≤◌, Bool, true, false, cond, eqb, refl, sym, ap, ◌∙◌, subst, arith, inl, inr}
+use Rattle.std.proofs.Common.{◌≡◌, ◌≢◌, ℕ, ◌+◌, ◌-◌, ◌%◌, Bool, true, false, cond, eqb, refl, sym, ap, ◌∙◌, subst, arith, inl, inr}
 use Rattle.std.proofs.lemmas.Bool.{cases_eq}
 use Rattle.std.proofs.lemmas.Bool.Decides.{nat_tests}
-use Rattle.iw_fpdu.specs.Places.{data_place, data_index, in_marker, place_after, IsStart, frame_start, span_start}
-use Rattle.iw_fpdu.specs.Frame.{pad_len, frame_size, frame_end, field_place}
+use Rattle.iw_fpdu.specs.Places.{data_place, data_index, IsStart, frame_start, span_start}
+use Rattle.iw_fpdu.specs.Frame.{pad_len, frame_size, frame_end}
 use Rattle.iw_fpdu.specs.Laws.{IsBetween, FramesFollow}
-use Rattle.iw_fpdu.proofs.Counted.{index_place, place_index, data_no_marker, no_in_marker, after_marker, edge_inside, edge_marker, aligned_edge, index_aligned}
+use Rattle.iw_fpdu.proofs.Counted.{place_index, data_no_marker, no_in_marker, after_marker, edge_inside, edge_marker, aligned_edge, index_aligned}
 use Rattle.iw_fpdu.proofs.Octets.{field_end}
 
 pub ends : (m : Bool) (at len : ℕ) → frame_end m (frame_start m at) len ≡ frame_end m at len

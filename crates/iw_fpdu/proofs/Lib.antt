@@ -7,3 +7,4 @@ pub mod Came
 pub mod Again
 pub mod Follows
 pub mod Known
+pub mod Sequences

@@ -1,12 +1,14 @@
 -- What was written is read again, what was whole stays as it was, and worked values of the definitions.
-use Rattle.std.specs.Prelude.{ℕ, ◌+◌, ◌<◌, ◌≤◌, ◌≡◌, ◌%◌, ◌&&◌, Bool, true, false, not, if◌then◌else◌, List, [], ◌∷◌, ◌++◌, length, map, replicate, Some, None}
-use Rattle.iw_ranges.specs.Arrived.{Arrived, Here, cell_at, cells_between, delivered}
+use Rattle.std.specs.Prelude.{ℕ, ◌+◌, ◌<◌, ◌≤◌, ◌≡◌, ◌%◌, ◌-◌, ◌&&◌, Bool, true, false, not, if◌then◌else◌, List, [], ◌∷◌, ◌++◌, length, map, drop, replicate, All, Some, None}
+use Rattle.iw_ranges.specs.Arrived.{Arrived, Here, cell_at, has_come, cells_between, delivered}
 use Rattle.iw_fpdu.specs.declared.layout.Layout.{Layout}
 use Rattle.iw_fpdu.specs.declared.fpdu.Mismatch.TheVariants.{CrcMismatch, MarkerMismatch}
 use Rattle.iw_fpdu.specs.Places.{IsStart, data_place, frame_start, span_start}
 use Rattle.iw_fpdu.specs.Frame.{max_sent, marker_value, frame_end, frame_octet, frame_octets}
 use Rattle.iw_fpdu.specs.Reading.{crc_agrees, mismatch_at}
-use Rattle.iw_fpdu.specs.Found.{Found, IsWhole, ulpdu_len, ulpdu, mismatch}
+use Rattle.iw_fpdu.specs.Reading.{end_at}
+use Rattle.iw_fpdu.specs.Found.{Found, octet_in, IsWhole, LacksOctet, ulpdu_len, ulpdu, mismatch}
+use Rattle.iw_fpdu.specs.Sequence.{Carried, intact, sequence, place_behind, first_frame, frames_of}
 
 -- ---- one frame behind another
 -- where a frame is written with its whole span: at a multiple of four octets that isn't directly behind a marker
@@ -42,6 +44,63 @@ pub record ReadsAgain : Type 0 where
   pub written : (arrived : Arrived) (layout : Layout) (base at : ℕ) (octets : List ℕ) → IsBetween layout.markers at → length octets ≤ max_sent
       → map Here (frame_octets layout at octets) ≡ cells_between arrived (base + at) (base + frame_end layout.markers at (length octets))
       → IsReadAgain (found_at arrived layout base (frame_start layout.markers at)) octets
+
+-- ---- frames one behind another
+-- the first frame of octets is the same whatever comes behind them
+abbrev pub FirstStays : Type 0
+FirstStays = (layout : Layout) (at : ℕ) (octets more : List ℕ) (carried : Carried) (rest : List ℕ) → IsBetween layout.markers at
+    → first_frame layout at octets ≡ Some (carried, rest) → first_frame layout at (octets ++ more) ≡ Some (carried, rest ++ more)
+
+-- a frame that was written is the first of any octets that begin with it
+abbrev pub WrittenIsFirst : Type 0
+WrittenIsFirst = (layout : Layout) (at : ℕ) (u rest : List ℕ) → IsBetween layout.markers at → length u ≤ max_sent
+    → first_frame layout at (frame_octets layout at u ++ rest) ≡ Some (intact u, rest)
+
+-- the frame takes octets away, and where it ends the next is written
+pub record FirstTakes (layout : Layout) (at : ℕ) (octets rest : List ℕ) : Type 0 where
+  pub shorter : length rest < length octets
+  pub next : IsBetween layout.markers (at + (length octets - length rest))
+
+abbrev pub FirstLeavesLess : Type 0
+FirstLeavesLess = (layout : Layout) (at : ℕ) (octets : List ℕ) (carried : Carried) (rest : List ℕ) → IsBetween layout.markers at
+    → first_frame layout at octets ≡ Some (carried, rest) → FirstTakes layout at octets rest
+
+-- these octets are held from frame place `at` on, and the next has not come
+pub record StandFrom (arrived : Arrived) (base at : ℕ) (octets : List ℕ) : Type 0 where
+  pub held : map Here octets ≡ cells_between arrived (base + at) (base + at + length octets)
+  pub missing : has_come arrived (base + at + length octets) ≡ false
+
+-- the frame among octets that came is the first of those that stand there without a gap
+pub record FoundIsFirst : Type 0 where
+  pub whole : (arrived : Arrived) (layout : Layout) (base at : ℕ) (octets : List ℕ) → IsBetween layout.markers at → StandFrom arrived base at octets
+      → IsWhole arrived layout.markers base (frame_start layout.markers at)
+      → first_frame layout at octets
+      ≡ Some (
+        record { mismatch = mismatch (found_at arrived layout base (frame_start layout.markers at)); ulpdu = ulpdu (found_at arrived layout base (frame_start layout.markers at)) },
+        drop (end_at (octet_in arrived base) layout.markers (frame_start layout.markers at) - at) octets,
+      )
+  pub lacking : (arrived : Arrived) (layout : Layout) (base at : ℕ) (octets : List ℕ) → IsBetween layout.markers at → StandFrom arrived base at octets
+      → LacksOctet arrived layout.markers base (frame_start layout.markers at) → first_frame layout at octets ≡ None
+
+-- frames that were written one behind another are those that are read, in order, and the next is written where the last ends
+pub record SequenceIsRead (layout : Layout) (at : ℕ) (us : List (List ℕ)) : Type 0 where
+  pub frames : frames_of layout at (sequence layout at us) ≡ map intact us
+  pub place : place_behind layout at us ≡ at + length (sequence layout at us)
+  pub next : IsBetween layout.markers (place_behind layout at us)
+
+abbrev pub SequencesAreRead : Type 0
+SequencesAreRead = (layout : Layout) (at : ℕ) (us : List (List ℕ)) → IsBetween layout.markers at → All (λ u. length u ≤ max_sent) us → SequenceIsRead layout at us
+
+abbrev pub SequencesJoin : Type 0
+SequencesJoin = (layout : Layout) (at : ℕ) (us vs : List (List ℕ)) → sequence layout at (us ++ vs) ≡ sequence layout at us ++ sequence layout (place_behind layout at us) vs
+
+pub record FramesInSequence : Type 0 where
+  pub stays : FirstStays
+  pub written : WrittenIsFirst
+  pub takes : FirstLeavesLess
+  pub found : FoundIsFirst
+  pub read : SequencesAreRead
+  pub join : SequencesJoin
 
 -- ---- what came before
 pub record IsSame (old new : Found) : Type 0 where

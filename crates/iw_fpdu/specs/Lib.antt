@@ -6,4 +6,5 @@ pub mod FoundView
 pub mod Laying
 pub mod PiecesOctet
 pub mod PiecesView
+pub mod Sequence
 pub mod Laws

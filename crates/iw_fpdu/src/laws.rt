@@ -1,5 +1,5 @@
 //! What holds of frames whatever is called.
-ghost use Rattle.iw_fpdu.specs.Laws.{FarMarkersFail, FramesFollow, KnownFrames, ReadsAgain, StaysWhole};
+ghost use Rattle.iw_fpdu.specs.Laws.{FarMarkersFail, FramesFollow, FramesInSequence, KnownFrames, ReadsAgain, StaysWhole};
 
 /// What was written is read again, at any place, with and without markers and CRCs: the frame is whole, its ULPDU is the one
 /// that was written, and nothing is wrong with it.
@@ -15,6 +15,12 @@ pub fn whole_frames_stay()
 /// Where a frame ends the next is written, and its span begins.
 pub fn frames_follow_one_another()
     ensures { FramesFollow }
+{}
+
+/// Frames are read off octets in sequence: the first is the one that was written there, whatever comes behind it, and what is
+/// found among octets that came is the first of those without a gap.
+pub fn frames_are_read_in_sequence()
+    ensures { FramesInSequence }
 {}
 
 /// A marker that stands 65,536 octets or more behind the beginning of its frame cannot be right: no pointer says so much.

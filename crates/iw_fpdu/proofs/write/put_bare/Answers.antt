@@ -1,4 +1,4 @@
-use Rattle.std.proofs.Common.{◌≡◌, ◌+◌, ◌%◌, ◌/◌, length, ◌++◌, [], ◌∷◌, replicate, sym, ap, ◌∙◌, subst, arith, refl}
+use Rattle.std.proofs.Common.{◌≡◌, ◌+◌, ◌%◌, ◌/◌, length, ◌++◌, [], ◌∷◌, replicate, sym, ap, ◌∙◌, arith}
 use Rattle.std.proofs.lemmas.List.{length-replicate}
 use Rattle.iw_octets.specs.Pieces.{joined}
 use Rattle.iw_fpdu.specs.Places.{data_place, data_index, place_after, frame_start}

@@ -1,8 +1,7 @@
-use Rattle.std.proofs.Common.{◌≡◌, ◌+◌, ◌≤◌, ◌<◌, ◌++◌, ◌∷◌, [], ◌/◌, ◌%◌, ap, ◌∙◌, sym, subst, arith}
+use Rattle.std.proofs.Common.{◌++◌, ◌∷◌, [], ◌/◌, ◌%◌, ap, ◌∙◌, sym, arith}
 use Rattle.std.proofs.lemmas.List.{append_assoc}
-use Rattle.iw_fpdu.specs.Places.{data_place, data_index, place_after}
-use Rattle.iw_fpdu.specs.Laying.{IsRun, marker_before}
-use Rattle.iw_fpdu.proofs.Counted.{after_high, behind_edge, data_no_marker}
+use Rattle.iw_fpdu.specs.Laying.{marker_before}
+use Rattle.iw_fpdu.proofs.Counted.{after_high, behind_edge}
 use Rattle.iw_fpdu.proofs.Written.{two_behind, laid_two}
 use Rattle.iw_fpdu.proofs.write.put_length.Goals as goal
 

@@ -1,6 +1,4 @@
-use Rattle.std.proofs.Common.{◌≡◌, ◌+◌, ◌≤◌, ◌<◌, ◌++◌, ◌∷◌, [], length, take, replicate, ap, ◌∙◌, sym, refl, subst, arith}
-use Rattle.iw_fpdu.specs.Places.{data_place, data_index, place_after}
-use Rattle.iw_fpdu.proofs.Counted.{at_most_after, after_mono}
+use Rattle.std.proofs.Common.{◌≡◌, ◌++◌, replicate, ap, ◌∙◌, sym, arith}
 use Rattle.iw_fpdu.proofs.Written.{pad_behind, laid_pad, cut_pad}
 use Rattle.iw_fpdu.proofs.write.put_pad.Goals as goal
 
