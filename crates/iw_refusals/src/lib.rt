@@ -11,3 +11,5 @@ mod ranges;
 mod replay;
 #[cfg(test)]
 mod untagged;
+#[cfg(test)]
+mod world;
