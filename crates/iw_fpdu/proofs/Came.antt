@@ -11,7 +11,9 @@ use Rattle.iw_fpdu.specs.Places.{span_start}
 use Rattle.iw_fpdu.specs.Frame.{frame_end}
 use Rattle.iw_fpdu.specs.PiecesOctet.{octet_from}
 use Rattle.iw_fpdu.specs.Reading.{end_at}
-use Rattle.iw_fpdu.specs.Found.{Found, octet_of, octet_in, IsKept, HoldsSpan, IsRead}
+use Rattle.iw_fpdu.specs.Found.{Found, octet_of, octet_in, IsWhole, is_whole, IsKept, HoldsSpan, IsRead}
+use Rattle.iw_fpdu.specs.Laws.{TellsWhole}
+use Rattle.iw_fpdu.proofs.Octets.{all_each, all_hold}
 
 pub here_of : (c : Cell) → not (is_missing c) ≡ true → IsKept c → IsHere c
 here_of Missing e h = cc
@@ -66,3 +68,10 @@ first_kept old new place octets answer empty kept is after p =
     let before : cell_at old p ≡ Gone = kept_gone old new place octets answer p kept is after gone in
     let none : cell_at old p ≡ Missing = ap (λ (a : Arrived). cell_at a p) empty ∙ cell_at-nothing p in
     absurd (cc (sym none ∙ before)))
+
+pub tells_whole : TellsWhole
+unfolding is_whole
+tells_whole arrived markers base start =
+    let from = span_start markers start in
+    let n = end_at (octet_in arrived base) markers start - from in
+    (λ h p low high. all_each (λ q. has_come arrived (base + q)) from n p h low (omega arith), λ whole. all_hold (λ q. has_come arrived (base + q)) from n (λ p low high. whole p low (omega arith)))

@@ -149,6 +149,22 @@ all_hold p from (suc n) h =
     ap (λ b. b && list_all p (range_with_len (from + 1) n)) (h from (omega arith) (omega arith))
     ∙ all_hold p (from + 1) n (λ k low high. h k (omega arith) (omega arith))
 
+pub all_each : (p : ℕ → Bool) (from n k : ℕ) → list_all p (range_with_len from n) ≡ true → from ≤ k → k < from + n → p k ≡ true
+all_each p from zero k h low high = absurd (omega arith)
+all_each p from (suc n) k h low high =
+    elim (cases_eq k from) [
+      | inl here ↦ ap p here ∙ first (p from) (list_all p (range_with_len (from + 1) n)) h
+      | inr later ↦ all_each p (from + 1) n k (rest (p from) (list_all p (range_with_len (from + 1) n)) h) (omega arith) (omega arith)
+    ]
+  where
+    first : (b c : Bool) → (b && c) ≡ true → b ≡ true
+    first true c e = refl
+    first false c e = e
+
+    rest : (b c : Bool) → (b && c) ≡ true → c ≡ true
+    rest true c e = e
+    rest false c e = cc
+
 pub one_fails : (p : ℕ → Bool) (from n k : ℕ) → from ≤ k → k < from + n → p k ≡ false → list_all p (range_with_len from n) ≡ false
 one_fails p from zero k low high e = absurd (omega arith)
 one_fails p from (suc n) k low high e =

@@ -1,5 +1,6 @@
 -- A frame among octets that came.
-use Rattle.std.specs.Prelude.{ℕ, ◌+◌, ◌<◌, ◌≤◌, ◌≡◌, ◌^◌, Bool, true, false, List, Option}
+use Rattle.std.specs.Prelude.{ℕ, ◌+◌, ◌-◌, ◌<◌, ◌≤◌, ◌≡◌, ◌^◌, Bool, true, false, List, Option}
+use Rattle.std.specs.List.{range_with_len, list_all}
 use Rattle.iw_ranges.specs.Arrived.{Arrived, Cell, Missing, Here, Gone, cell_at, has_come}
 use Rattle.iw_fpdu.specs.declared.layout.Layout.{Layout}
 use Rattle.iw_fpdu.specs.declared.fpdu.Mismatch.{Mismatch}
@@ -27,6 +28,11 @@ octet_in arrived base p = octet_of (cell_at arrived (base + p))
 abbrev pub IsWhole : Arrived → Bool → ℕ → ℕ → Type 0
 IsWhole arrived markers base start =
     (p : ℕ) → span_start markers start ≤ p → p < end_at (octet_in arrived base) markers start → has_come arrived (base + p) ≡ true
+
+-- the same as a test
+unfoldable pub is_whole : Arrived → Bool → ℕ → ℕ → Bool
+is_whole arrived markers base start =
+    list_all (λ p. has_come arrived (base + p)) (range_with_len (span_start markers start) (end_at (octet_in arrived base) markers start - span_start markers start))
 
 -- an octet of the span that hasn't come
 abbrev pub LacksOctet : Arrived → Bool → ℕ → ℕ → Type 0

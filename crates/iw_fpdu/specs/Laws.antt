@@ -1,13 +1,13 @@
 -- What was written is read again, what was whole stays as it was, and worked values of the definitions.
 use Rattle.std.specs.Prelude.{ℕ, ◌+◌, ◌<◌, ◌≤◌, ◌≡◌, ◌%◌, ◌-◌, ◌&&◌, Bool, true, false, not, if◌then◌else◌, List, [], ◌∷◌, ◌++◌, length, map, drop, replicate, All, Some, None}
+use Rattle.std.specs.Bool.{Decides}
 use Rattle.iw_ranges.specs.Arrived.{Arrived, Here, cell_at, has_come, cells_between, delivered}
 use Rattle.iw_fpdu.specs.declared.layout.Layout.{Layout}
 use Rattle.iw_fpdu.specs.declared.fpdu.Mismatch.TheVariants.{CrcMismatch, MarkerMismatch}
 use Rattle.iw_fpdu.specs.Places.{IsStart, data_place, frame_start, span_start}
 use Rattle.iw_fpdu.specs.Frame.{max_sent, marker_value, frame_end, frame_octet, frame_octets}
-use Rattle.iw_fpdu.specs.Reading.{crc_agrees, mismatch_at}
-use Rattle.iw_fpdu.specs.Reading.{end_at}
-use Rattle.iw_fpdu.specs.Found.{Found, octet_in, IsWhole, LacksOctet, ulpdu_len, ulpdu, mismatch}
+use Rattle.iw_fpdu.specs.Reading.{crc_agrees, end_at, mismatch_at}
+use Rattle.iw_fpdu.specs.Found.{Found, octet_in, IsWhole, LacksOctet, is_whole, ulpdu_len, ulpdu, mismatch}
 use Rattle.iw_fpdu.specs.Sequence.{Carried, intact, sequence, place_behind, first_frame, frames_of}
 
 -- ---- one frame behind another
@@ -21,6 +21,11 @@ pub record FramesFollow : Type 0 where
   pub next : (markers : Bool) (start len : ℕ) → IsStart markers start → IsBetween markers (frame_end markers start len)
   pub begins : (markers : Bool) (at : ℕ) → IsBetween markers at → IsStart markers (frame_start markers at)
   pub ends : (markers : Bool) (at len : ℕ) → frame_end markers (frame_start markers at) len ≡ frame_end markers at len
+
+-- ---- whole frames
+-- the test says what it is a test of
+abbrev pub TellsWhole : Type 0
+TellsWhole = (arrived : Arrived) (markers : Bool) (base start : ℕ) → Decides (is_whole arrived markers base start) (IsWhole arrived markers base start)
 
 -- ---- what was written
 abbrev pub found_at : Arrived → Layout → ℕ → ℕ → Found

@@ -1,5 +1,5 @@
 //! What holds of frames whatever is called.
-ghost use Rattle.iw_fpdu.specs.Laws.{FarMarkersFail, FramesFollow, FramesInSequence, KnownFrames, ReadsAgain, StaysWhole};
+ghost use Rattle.iw_fpdu.specs.Laws.{FarMarkersFail, FramesFollow, FramesInSequence, KnownFrames, ReadsAgain, StaysWhole, TellsWhole};
 
 /// What was written is read again, at any place, with and without markers and CRCs: the frame is whole, its ULPDU is the one
 /// that was written, and nothing is wrong with it.
@@ -31,4 +31,9 @@ pub fn far_markers_fail()
 /// The definitions give the frames that RFC 5044 prints (figures 5 and 6), and worked places and pointers.
 pub fn known_frames()
     ensures { KnownFrames }
+{}
+
+/// Whether a frame is whole can be told by a test of each place of its span.
+pub fn wholeness_can_be_told()
+    ensures { TellsWhole }
 {}
