@@ -2,6 +2,8 @@
 #![tactic(auto)]
 
 #[cfg(test)]
+mod fpdu;
+#[cfg(test)]
 mod memory;
 #[cfg(test)]
 mod queues;
