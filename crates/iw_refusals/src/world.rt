@@ -1,10 +1,11 @@
 use bytes::Bytes;
-use iw_events::{Call, End, Event, Role, StreamCall};
+use iw_events::{Call, End, Entry, Event, Role, StreamCall};
 use iw_memory::{Rights, Stag};
 use iw_schedules::print_trace;
 use iw_testing::FailsAt;
 use iw_world::{World, WorldFault};
 use std::alloc::{AllocError, Allocator};
+use std::process::Abort;
 use std::test::Fail;
 
 const STAG: Stag = Stag {
@@ -112,6 +113,15 @@ fn raw<A: Allocator>(
     on_stream(events, StreamCall::Raw { from, octets })
 }
 
+fn run<A: Allocator + Copy>(
+    rt: &impl Abort,
+    alloc: A,
+    events: &[Event<Bytes<A>>],
+) -> Result<Vec<Entry<Bytes<A>>, A>, WorldFault> {
+    assert!(rt; events.len() < 100);
+    World::run(alloc, events)
+}
+
 // The first allocation of a run is refused, then the second alone, and so on until none is left to refuse.
 #[test]
 fn a_refused_allocation_ends_the_run(rt: HostRuntime) -> Result<(), Fail> {
@@ -121,7 +131,7 @@ fn a_refused_allocation_ends_the_run(rt: HostRuntime) -> Result<(), Fail> {
     let mut refusals = 0u64;
     for n in 0..1_000u64 {
         heap.refuse_after(n);
-        match World::run(alloc, events.as_slice()) {
+        match run(&rt, alloc, events.as_slice()) {
             Ok(trace) => {
                 assert!(rt; !heap.has_refused());
                 heap.refuse_after(u64::MAX - 1);
