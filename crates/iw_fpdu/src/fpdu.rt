@@ -31,6 +31,7 @@ pub struct Fpdu<'a, A: Allocator = Global> {
     base: u64,
     start: u64,
     len: u16,
+    end: u64,
 }
 
 impl<'a, A: Allocator> Model for Fpdu<'a, A> {
@@ -94,6 +95,7 @@ impl<'a, A: Allocator> Fpdu<'a, A> {
             base,
             start,
             len,
+            end: to,
         })
     }
 
@@ -109,7 +111,7 @@ impl<'a, A: Allocator> Fpdu<'a, A> {
     pub fn end(&self) -> u64
         ensures { result ≡ end_at (octet_in self.now.arrived self.now.base) self.now.layout.markers self.now.start }
     {
-        end_of(self.layout.markers, self.start, self.len)
+        self.end
     }
 
     /// The octets of the ULPDU from its octet `k` on, lent piece by piece, between the markers.
@@ -123,8 +125,7 @@ impl<'a, A: Allocator> Fpdu<'a, A> {
         let markers = self.layout.markers;
         let index = index_of(markers, self.start) + 2 + k as u64;
         let from = place_of(markers, index);
-        let to = end_of(markers, self.start, self.len);
-        let octets = self.islands.part(self.base + from, self.base + to);
+        let octets = self.islands.part(self.base + from, self.base + self.end);
         Pieces::new(octets, from, markers, index, usize::from(self.len) - k)
     }
 
@@ -146,8 +147,7 @@ impl<'a, A: Allocator> Fpdu<'a, A> {
         ensures { result_err result ≡ mismatch self.now }
     {
         let from = span_of(self.layout.markers, self.start);
-        let to = end_of(self.layout.markers, self.start, self.len);
-        let octets = self.islands.part(self.base + from, self.base + to);
+        let octets = self.islands.part(self.base + from, self.base + self.end);
         check_span(self.layout, self.start, self.len, octets)
     }
 }

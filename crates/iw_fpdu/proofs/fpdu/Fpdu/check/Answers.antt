@@ -15,23 +15,23 @@ overflow_add-self-inside g c =
     let a = c.self.inside in
     omega (
       arith,
-      c.self.invariant.fits,
-      c.end_of-to.ensures.value,
-      ap (frame_end a.layout.markers a.start) c.self.invariant.len,
+      c.self.invariant.read.fits,
+      c.self.invariant.end,
+      ap (frame_end a.layout.markers a.start) c.self.invariant.read.len,
       c.span_of-from.ensures.bound,
-      length_within a.layout.markers a.start a.len c.self.invariant.start,
+      length_within a.layout.markers a.start a.len c.self.invariant.read.start,
     )
 
 pub part-octets-requires : goal.part-octets-requires
 part-octets-requires g c = λ p low high.
     let held = subst HoldsSpan (sym c.self.view_is) c.requires in
-    here_in (found_by c.self.inside) c.self.inside.len c.self.invariant held p (omega (arith, c.span_of-from.ensures.value)) (omega (arith, c.end_of-to.ensures.value))
+    here_in (found_by c.self.inside) c.self.inside.len c.self.invariant.read held p (omega (arith, c.span_of-from.ensures.value)) (omega (arith, c.self.invariant.end))
 
 pub check_span-requires-clause-span : goal.check_span-requires-clause-span
 check_span-requires-clause-span g c =
     let a = c.self.inside in
-    let long = length_part a.islands.now.arrived (a.base + c.span_of-from.result) (a.base + c.end_of-to.result) c.part-octets.result.now c.part-octets.ensures in
-    omega (arith, long, c.span_of-from.ensures.value, c.end_of-to.ensures.value, span_low a.layout.markers a.start, length_within a.layout.markers a.start a.len c.self.invariant.start)
+    let long = length_part a.islands.now.arrived (a.base + c.span_of-from.result) (a.base + a.end) c.part-octets.result.now c.part-octets.ensures in
+    omega (arith, long, c.span_of-from.ensures.value, c.self.invariant.end, span_low a.layout.markers a.start, length_within a.layout.markers a.start a.len c.self.invariant.read.start)
 
 pub returns : goal.returns
 returns g c =
@@ -39,10 +39,10 @@ returns g c =
     let m = a.layout.markers in
     let from = span_start m a.start in
     let octets = c.part-octets.result.now in
-    let same = c.part-octets.ensures ∙ ap (λ x. cells_between a.islands.now.arrived (a.base + x) (a.base + c.end_of-to.result)) c.span_of-from.ensures.value
-    ∙ ap (λ x. cells_between a.islands.now.arrived (a.base + from) (a.base + x)) c.end_of-to.ensures.value in
+    let same = c.part-octets.ensures ∙ ap (λ x. cells_between a.islands.now.arrived (a.base + x) (a.base + a.end)) c.span_of-from.ensures.value
+    ∙ ap (λ x. cells_between a.islands.now.arrived (a.base + from) (a.base + x)) c.self.invariant.end in
     c.check_span.ensures
-    ∙ same_mismatch (octet_from from octets) (octet_in a.islands.now.arrived a.base) a.layout a.start a.len c.self.invariant.start
+    ∙ same_mismatch (octet_from from octets) (octet_in a.islands.now.arrived a.base) a.layout a.start a.len c.self.invariant.read.start
     (agree (octet_from from octets) (octet_in a.islands.now.arrived a.base) m a.start a.len (λ p low high. part_agrees a.islands.now.arrived a.base from (frame_end m a.start a.len) octets same p low high))
-    ∙ ap (mismatch_at a.layout (octet_in a.islands.now.arrived a.base) a.start) c.self.invariant.len
+    ∙ ap (mismatch_at a.layout (octet_in a.islands.now.arrived a.base) a.start) c.self.invariant.read.len
     ∙ ap mismatch c.self.view_is

@@ -18,9 +18,9 @@ overflow_add-self-inside g c =
     let least : k' ≤ a.len = omega (arith, c.min-k.ensures, c.from.ensures) in
     let index : c.index_of.result + 2 + k' ≡ data_index m a.start + (2 + k') = omega (arith, c.index_of.ensures.value) in
     let from : c.place_of-from.result ≡ data_place m (data_index m a.start + (2 + k')) = c.place_of-from.ensures.value ∙ ap (data_place m) index in
-    let to : c.end_of-to.result ≡ frame_end m a.start a.len = c.end_of-to.ensures.value in
-    let low : c.place_of-from.result < c.end_of-to.result = omega (arith, from, to, data_high m a.start a.len (2 + k') (omega arith)) in
-    omega (arith, low, to, c.self.invariant.fits, ap (frame_end m a.start) c.self.invariant.len)
+    let to : a.end ≡ frame_end m a.start a.len = c.self.invariant.end in
+    let low : c.place_of-from.result < a.end = omega (arith, from, to, data_high m a.start a.len (2 + k') (omega arith)) in
+    omega (arith, low, to, c.self.invariant.read.fits, ap (frame_end m a.start) c.self.invariant.read.len)
 
 pub part-octets-requires : goal.part-octets-requires
 part-octets-requires g c = λ p high_enough low_enough.
@@ -30,10 +30,10 @@ part-octets-requires g c = λ p high_enough low_enough.
     let least : k' ≤ a.len = omega (arith, c.min-k.ensures, c.from.ensures) in
     let index : c.index_of.result + 2 + k' ≡ data_index m a.start + (2 + k') = omega (arith, c.index_of.ensures.value) in
     let from : c.place_of-from.result ≡ data_place m (data_index m a.start + (2 + k')) = c.place_of-from.ensures.value ∙ ap (data_place m) index in
-    let to : c.end_of-to.result ≡ frame_end m a.start a.len = c.end_of-to.ensures.value in
-    let low : c.place_of-from.result < c.end_of-to.result = omega (arith, from, to, data_high m a.start a.len (2 + k') (omega arith)) in
+    let to : a.end ≡ frame_end m a.start a.len = c.self.invariant.end in
+    let low : c.place_of-from.result < a.end = omega (arith, from, to, data_high m a.start a.len (2 + k') (omega arith)) in
     let held = subst HoldsSpan (sym c.self.view_is) c.requires in
-    here_in (found_by c.self.inside) a.len c.self.invariant held p (omega (arith, from, span_low m a.start, data_low m a.start (2 + k') c.self.invariant.start)) (omega (arith, to))
+    here_in (found_by c.self.inside) a.len c.self.invariant.read held p (omega (arith, from, span_low m a.start, data_low m a.start (2 + k') c.self.invariant.read.start)) (omega (arith, to))
 
 pub new-requires-clause-reaches : goal.new-requires-clause-reaches
 new-requires-clause-reaches g c = λ k lt.
@@ -43,9 +43,9 @@ new-requires-clause-reaches g c = λ k lt.
     let least : k' ≤ a.len = omega (arith, c.min-k.ensures, c.from.ensures) in
     let index : c.index_of.result + 2 + k' ≡ data_index m a.start + (2 + k') = omega (arith, c.index_of.ensures.value) in
     let from : c.place_of-from.result ≡ data_place m (data_index m a.start + (2 + k')) = c.place_of-from.ensures.value ∙ ap (data_place m) index in
-    let to : c.end_of-to.result ≡ frame_end m a.start a.len = c.end_of-to.ensures.value in
-    let low : c.place_of-from.result < c.end_of-to.result = omega (arith, from, to, data_high m a.start a.len (2 + k') (omega arith)) in
-    let long = length_part a.islands.now.arrived (a.base + c.place_of-from.result) (a.base + c.end_of-to.result) c.part-octets.result.now c.part-octets.ensures in
+    let to : a.end ≡ frame_end m a.start a.len = c.self.invariant.end in
+    let low : c.place_of-from.result < a.end = omega (arith, from, to, data_high m a.start a.len (2 + k') (omega arith)) in
+    let long = length_part a.islands.now.arrived (a.base + c.place_of-from.result) (a.base + a.end) c.part-octets.result.now c.part-octets.ensures in
     let place : data_place m (c.index_of.result + 2 + k' + k) ≡ data_place m (data_index m a.start + (2 + k' + k)) = ap (data_place m) (omega (arith, index)) in
     omega (arith, long, place, to, low, data_high m a.start a.len (2 + k' + k) (omega (arith, c.from-2.ensures, lt)))
 
@@ -57,8 +57,8 @@ returns g c =
     let least : k' ≤ a.len = omega (arith, c.min-k.ensures, c.from.ensures) in
     let index : c.index_of.result + 2 + k' ≡ data_index m a.start + (2 + k') = omega (arith, c.index_of.ensures.value) in
     let from : c.place_of-from.result ≡ data_place m (data_index m a.start + (2 + k')) = c.place_of-from.ensures.value ∙ ap (data_place m) index in
-    let to : c.end_of-to.result ≡ frame_end m a.start a.len = c.end_of-to.ensures.value in
-    let low : c.place_of-from.result < c.end_of-to.result = omega (arith, from, to, data_high m a.start a.len (2 + k') (omega arith)) in
+    let to : a.end ≡ frame_end m a.start a.len = c.self.invariant.end in
+    let low : c.place_of-from.result < a.end = omega (arith, from, to, data_high m a.start a.len (2 + k') (omega arith)) in
     let i = c.index_of.result + 2 + k' in
     let n = c.from-2.result - k' in
     let octet : ℕ → ℕ = octet_in a.islands.now.arrived a.base in
@@ -66,11 +66,11 @@ returns g c =
     c.new.ensures
     ∙ same_data (octet_from c.place_of-from.result c.part-octets.result.now) octet m i n (λ j lt.
     let place : data_place m (i + j) ≡ data_place m (data_index m a.start + (2 + k' + j)) = ap (data_place m) (omega (arith, index)) in
-    part_agrees a.islands.now.arrived a.base c.place_of-from.result c.end_of-to.result c.part-octets.result.now c.part-octets.ensures (data_place m (i + j))
+    part_agrees a.islands.now.arrived a.base c.place_of-from.result a.end c.part-octets.result.now c.part-octets.ensures (data_place m (i + j))
     (omega (arith, c.place_of-from.ensures.value, place_mono m i (i + j) (omega arith)))
     (omega (arith, place, to, data_high m a.start a.len (2 + k' + j) (omega (arith, len, lt)))))
     ∙ ap (λ x. data_at octet m x n) (let e : i ≡ data_index m a.start + 2 + k' = omega (arith, index) in e)
     ∙ ap (λ x. data_at octet m (data_index m a.start + 2 + k') (x - k')) len
     ∙ sym (drop_data octet m (data_index m a.start + 2) a.len c.args.k k' (omega (arith, c.min-k.ensures, c.from.ensures)))
-    ∙ ap (λ x. drop c.args.k (data_at octet m (data_index m a.start + 2) x)) c.self.invariant.len
+    ∙ ap (λ x. drop c.args.k (data_at octet m (data_index m a.start + 2) x)) c.self.invariant.read.len
     ∙ ap (λ (f : Found). drop c.args.k (ulpdu f)) c.self.view_is
