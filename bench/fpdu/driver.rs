@@ -63,7 +63,7 @@ fn main() {
             println!("  missed: writing without CRC at most 2.5 copies");
             missed += 1;
         }
-        if size >= 1_400 && check_crc > 1.3 * sum {
+        if check_crc > 1.3 * sum {
             println!("  missed: checking with CRC at most 1.3 CRCs");
             missed += 1;
         }
