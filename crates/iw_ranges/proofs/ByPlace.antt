@@ -13,10 +13,10 @@ use Rattle.iw_ranges.specs.Laws.{KeepsFirstCopies, AddsPlaces, GivesUpPlaces, St
 use Rattle.iw_ranges.proofs.Keeps.{taken_none, taken_some, not_copied}
 
 -- ---- a stream that is drawn shows what it is drawn from
-below : (a : Arrived) (p : ℕ) → p < a.floor → cell_at a p ≡ Gone
+pub below : (a : Arrived) (p : ℕ) → p < a.floor → cell_at a p ≡ Gone
 below a p h = let t : nat_lt p a.floor ≡ true = grind (arith, nat_tests) in ap (λ b. cond b Gone (get_or a.cells (p - a.floor) Missing)) t
 
-behind : (a : Arrived) (p : ℕ) → a.floor ≤ p → cell_at a p ≡ get_or a.cells (p - a.floor) Missing
+pub behind : (a : Arrived) (p : ℕ) → a.floor ≤ p → cell_at a p ≡ get_or a.cells (p - a.floor) Missing
 behind a p h = let t : nat_lt p a.floor ≡ false = grind (arith, nat_tests) in ap (λ b. cond b Gone (get_or a.cells (p - a.floor) Missing)) t
 
 past : (a : Arrived) (p : ℕ) → end_of a ≤ p → cell_at a p ≡ Missing
@@ -47,7 +47,7 @@ cell_at-taken_in a place octets p =
           ∙ sym (not_copied place p octets (cell_at a p) (let out : in_segment place (length octets) p ≡ false = grind (arith, nat_tests) in out))
     ]
 
-not_dropped : (a : Arrived) (place n : ℕ) → delivery a place n ≡ Kept → is_dropped a place n ≡ false
+pub not_dropped : (a : Arrived) (place n : ℕ) → delivery a place n ≡ Kept → is_dropped a place n ≡ false
 not_dropped a place n kept = go (is_dropped a place n) refl
   where
     go : (v : Bool) → is_dropped a place n ≡ v → is_dropped a place n ≡ false

@@ -7,3 +7,4 @@ pub mod Counts
 pub mod Keeps
 pub mod Moves
 pub mod ByPlace
+pub mod InOrder

@@ -60,7 +60,7 @@ drop_range a n zero b m e f = ap (range_with_len a) (omega arith) ∙ ap (λ x. 
 drop_range a zero (suc k) b m e f = absurd (omega arith)
 drop_range a (suc n) (suc k) b m e f = drop_range (a + 1) n k b m (omega arith) (omega arith)
 
-cells_from : (f : ℕ → Cell) (floor top to : ℕ) → floor ≤ to → to ≤ top → map f (range_with_len to (top - to)) ≡ drop (to - floor) (map f (range_with_len floor (top - floor)))
+pub cells_from : (f : ℕ → Cell) (floor top to : ℕ) → floor ≤ to → to ≤ top → map f (range_with_len to (top - to)) ≡ drop (to - floor) (map f (range_with_len floor (top - floor)))
 cells_from f floor top to low high =
     ap (map f) (sym (drop_range floor (top - floor) (to - floor) to (top - to) (omega arith) (omega arith))) ∙ sym (drop-map f (to - floor) (range_with_len floor (top - floor)))
 

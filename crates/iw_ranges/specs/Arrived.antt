@@ -1,5 +1,5 @@
 -- What came of a stream, place by place, and what each call makes of it.
-use Rattle.std.specs.Prelude.{ℕ, ◌≡◌, ◌≤◌, ◌+◌, ◌-◌, ◌^◌, zero, suc, Bool, true, false, ◌&&◌, ◌||◌, not, nat_lt, nat_le, List, [], length, map, drop, max, if◌then◌else◌, slice_index, slice_index_or}
+use Rattle.std.specs.Prelude.{ℕ, ◌≡◌, ◌≤◌, ◌+◌, ◌-◌, ◌^◌, zero, suc, Bool, true, false, ◌&&◌, ◌||◌, not, nat_lt, nat_le, List, [], ◌∷◌, length, map, drop, max, if◌then◌else◌, slice_index, slice_index_or}
 use Rattle.std.specs.List.{range_with_len}
 use Rattle.iw_ranges.specs.declared.Delivery.{Delivery}
 use Rattle.iw_ranges.specs.declared.Delivery.TheVariants.{Kept, Dropped}
@@ -50,6 +50,17 @@ drawn floor end cell = record { floor = floor; cells = map cell (range_with_len 
 -- the cells from place `from` up to place `to`
 abbrev pub cells_between : Arrived → ℕ → ℕ → List Cell
 cells_between a from to = map (cell_at a) (range_with_len from (to - from))
+
+-- the octets that are held side by side from the first of these places on
+unfoldable pub held : List Cell → List ℕ
+held [] = []
+held (Missing ∷ cells) = []
+held (Here x ∷ cells) = x ∷ held cells
+held (Gone ∷ cells) = []
+
+-- the octets that came without a gap from the in-order point on, as far as they are held
+abbrev pub in_order : Arrived → List ℕ
+in_order a = held a.cells
 
 -- ---- a segment: n octets from `place` on
 abbrev pub in_segment : ℕ → ℕ → ℕ → Bool

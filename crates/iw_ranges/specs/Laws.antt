@@ -1,7 +1,8 @@
 -- What the calls leave, said of each place.
-use Rattle.std.specs.Prelude.{ℕ, ◌≡◌, List, length, nat_lt, if◌then◌else◌}
+use Rattle.std.specs.Prelude.{ℕ, ◌≡◌, ◌≤◌, ◌+◌, ◌-◌, ◌++◌, false, List, length, map, drop, nat_lt, if◌then◌else◌}
 use Rattle.iw_ranges.specs.declared.Delivery.TheVariants.{Kept}
-use Rattle.iw_ranges.specs.Arrived.{Arrived, Gone, cell_at, has_come, come_after, first_copy, given_up, delivery, delivered, advanced, released}
+use Rattle.iw_ranges.specs.Arrived.{Arrived, Here, Gone, cell_at, has_come, cells_between, in_order, come_after, first_copy, given_up, delivery, delivered, taken_in, advanced, released}
+use Rattle.iw_ranges.specs.InOrder.{IsHeld, IsOf}
 
 -- a segment that is kept leaves each octet that came before as it was, and else the segment's
 abbrev pub KeepsFirstCopies : Type 0
@@ -22,3 +23,14 @@ StaysCome = (a : Arrived) (from to p : ℕ) → has_come (released a from to) p 
 
 abbrev pub GivesUpBefore : Type 0
 GivesUpBefore = (a : Arrived) (to p : ℕ) → cell_at (advanced a to) p ≡ (if nat_lt p to then Gone else cell_at a p)
+
+-- what came in order stands behind the in-order point, and the place behind it didn't come; a segment only adds to its end, the in-order point takes
+-- away its front, in either order; and from the beginning of the stream on it is the first octets that were sent, where each one that came was sent
+pub record InOrderGrows : Type 0 where
+  pub stands : (a : Arrived) → map Here (in_order a) ≡ cells_between a a.floor (a.floor + length (in_order a))
+  pub ends : (a : Arrived) → IsHeld a → has_come a (a.floor + length (in_order a)) ≡ false
+  pub takes : (a : Arrived) (place : ℕ) (octets : List ℕ) → (more : List ℕ) × (in_order (taken_in a place octets) ≡ in_order a ++ more)
+  pub moves : (a : Arrived) (to : ℕ) → a.floor ≤ to → to ≤ a.floor + length (in_order a) → in_order (advanced a to) ≡ drop (to - a.floor) (in_order a)
+  pub moves_takes : (a : Arrived) (place : ℕ) (octets : List ℕ) (to : ℕ) → a.floor ≤ to → to ≤ a.floor + length (in_order a)
+      → advanced (taken_in a place octets) to ≡ taken_in (advanced a to) place octets
+  pub first : (a : Arrived) (sent : List ℕ) → a.floor ≡ 0 → IsOf a sent → (rest : List ℕ) × (in_order a ++ rest ≡ sent)

@@ -3,3 +3,4 @@ pub mod Spans
 pub mod Fields
 pub mod Parts
 pub mod Laws
+pub mod InOrder

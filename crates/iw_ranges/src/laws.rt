@@ -1,5 +1,5 @@
 //! What the calls of [`Islands`](crate::Islands) leave, said of each place of the stream.
-ghost use Rattle.iw_ranges.specs.Laws.{KeepsFirstCopies, AddsPlaces, GivesUpPlaces, StaysCome, GivesUpBefore};
+ghost use Rattle.iw_ranges.specs.Laws.{KeepsFirstCopies, AddsPlaces, GivesUpPlaces, StaysCome, GivesUpBefore, InOrderGrows};
 
 /// Of an octet that came twice the first copy stays.
 pub fn first_copies_stay()
@@ -24,4 +24,9 @@ pub fn released_places_stay_come()
 /// What lies before the in-order point is given up, and all else stays as it is.
 pub fn the_in_order_point_gives_up_what_is_before()
     ensures { GivesUpBefore }
+{}
+
+/// What came in order stands behind the in-order point without a gap, and grows at its end with each segment.
+pub fn what_is_in_order_grows()
+    ensures { InOrderGrows }
 {}
