@@ -10,11 +10,13 @@ use Rattle.iw_octets.specs.declared.head.UntaggedHead.{UntaggedHead}
 use Rattle.iw_octets.specs.declared.payload.TerminateWord.{TerminateWord}
 use Rattle.iw_octets.specs.Head.{is_tagged, untagged_fields}
 use Rattle.iw_octets.specs.Payload.{request_fields, word_fields}
+use Rattle.iw_octets.specs.Segment.{read_segment}
 use Rattle.iw_octets.proofs.Front.{read_segment-long_tagged, read_segment-long_untagged, read_segment-append}
 use Rattle.iw_rdmap.specs.declared.head.Head.{Head}
 use Rattle.iw_rdmap.specs.declared.head.Head.TheVariants as heads
 use Rattle.iw_rdmap.specs.declared.operation.UntaggedOperation.{UntaggedOperation}
 use Rattle.iw_rdmap.specs.declared.operation.UntaggedOperation.TheVariants.{Send, ReadRequest, Terminate}
+use Rattle.iw_rdmap.specs.FirstPath.{is_later, judged_first_path}
 use Rattle.iw_rdmap.specs.Judging.{IsFront, judged, judged_segment, judged_untagged, untagged_checked, terminate_fault, fault_or}
 
 -- the first fault of a Read Request's checks that fail
@@ -60,6 +62,13 @@ untagged_front head payload behind n next unanswered (Ok ReadRequest) h k =
 untagged_front head payload behind n next unanswered (Ok Terminate) h k =
     ap (λ word. fault_or (terminate_fault head n) (heads.Terminate head word)) (sym (word_front payload behind k))
 
+-- octets that are not all of a ULPDU are 46 or more
+front_long : (first : List ℕ) (b : ℕ) (bs : List ℕ) → IsFront 46 first (length (first ++ (b ∷ bs))) → 46 ≤ length first
+front_long first b bs front =
+    let enough = front.enough in
+    let total : length (first ++ (b ∷ bs)) ≡ length first + length (b ∷ bs) = length-append first (b ∷ bs) in
+    omega arith
+
 pub front_judged : (first behind : List ℕ) (next unanswered : ℕ) → IsFront 46 first (length (first ++ behind)) →
     judged first (length (first ++ behind)) next unanswered ≡ judged (first ++ behind) (length (first ++ behind)) next unanswered
 front_judged first [] next unanswered front = ap (λ xs. judged xs (length (first ++ [])) next unanswered) (sym (append-nil first))
@@ -69,10 +78,7 @@ front_judged first (b ∷ bs) next unanswered front = go (is_tagged (get_or firs
     ulpdu = first ++ (b ∷ bs)
 
     long : 46 ≤ length first
-    long =
-        let enough = front.enough in
-        let total : length (first ++ (b ∷ bs)) ≡ length first + length (b ∷ bs) = length-append first (b ∷ bs) in
-        omega arith
+    long = front_long first b bs front
 
     go : (tagged : Bool) → is_tagged (get_or first 0 0) ≡ tagged → judged first (length (first ++ (b ∷ bs))) next unanswered ≡ judged (first ++ (b ∷ bs)) (length (first ++ (b ∷ bs))) next unanswered
     go true tagged =
@@ -89,3 +95,27 @@ front_judged first (b ∷ bs) next unanswered front = go (is_tagged (get_or firs
         ap (λ s. judged_segment s len next unanswered) read
         ∙ untagged_front (untagged_fields first) (drop 18 first) (b ∷ bs) (len - 18) next unanswered (untagged_checked (untagged_fields first)) (omega arith) (omega (arith, length-drop 18 first))
         ∙ sym (ap (λ s. judged_segment s len next unanswered) whole)
+
+-- whether the stream lacks the operation is told by the header
+front_later : (first behind : List ℕ) → IsFront 46 first (length (first ++ behind)) → is_later (read_segment first) ≡ is_later (read_segment (first ++ behind))
+front_later first [] front = ap (λ xs. is_later (read_segment xs)) (sym (append-nil first))
+front_later first (b ∷ bs) front = go (is_tagged (get_or first 0 0)) refl
+  where
+    long : 46 ≤ length first
+    long = front_long first b bs front
+
+    go : (tagged : Bool) → is_tagged (get_or first 0 0) ≡ tagged → is_later (read_segment first) ≡ is_later (read_segment (first ++ (b ∷ bs)))
+    go true tagged =
+        let read = read_segment-long_tagged first (omega (arith, long)) tagged in
+        ap is_later read ∙ sym (ap is_later (read_segment-append first (b ∷ bs) _ read))
+    go false untagged =
+        let read = read_segment-long_untagged first (omega (arith, long)) untagged in
+        ap is_later read ∙ sym (ap is_later (read_segment-append first (b ∷ bs) _ read))
+
+-- the first octets of a ULPDU are judged on the first path as the whole of it is
+pub first_path_front : (first behind : List ℕ) →
+    let ulpdu = first ++ behind in
+    IsFront 46 first (length ulpdu) → judged_first_path first (length ulpdu) ≡ judged_first_path ulpdu (length ulpdu)
+first_path_front first behind front =
+    ap (λ (later : Bool). if later then Err faults.OPERATION_UNEXPECTED else judged first (length (first ++ behind)) 0 0) (front_later first behind front)
+    ∙ ap (λ (head : Result Head Fault). if is_later (read_segment (first ++ behind)) then Err faults.OPERATION_UNEXPECTED else head) (front_judged first behind 0 0 front)

@@ -30,11 +30,13 @@ pub record OperationsAreTold : Type 0 where
   pub apart : (opcode : ℕ) (operation : TaggedOperation) → tagged_operation opcode ≡ Some operation → untagged_operation opcode ≡ None
 
 -- what the stream has is judged on the first path as ever, whichever Read Request is due and however many are unanswered; and its checks
--- are those of one list for a tagged header, and of one for an untagged header
+-- are those of one list for a tagged header, and of one for an untagged header; a ULPDU's first octets, 46 of them or all, are judged as the
+-- whole ULPDU is
 pub record FirstPathIsJudge : Type 0 where
   pub same : (first : List ℕ) (len next unanswered : ℕ) → is_later (read_segment first) ≡ false → judged_first_path first len ≡ judged first len next unanswered
   pub tagged : (first payload : List ℕ) (head : TaggedHead) (len : ℕ) → read_segment first ≡ Some (Tagged head payload) → judged_first_path first len ≡ plain_tagged head
   pub untagged : (first payload : List ℕ) (head : UntaggedHead) (len : ℕ) → read_segment first ≡ Some (Untagged head payload) → judged_first_path first len ≡ plain_untagged head
+  pub front : (first behind : List ℕ) → let ulpdu = first ++ behind in IsFront 46 first (length ulpdu) → judged_first_path first (length ulpdu) ≡ judged_first_path ulpdu (length ulpdu)
 
 -- the header of a Terminate, which is its queue's first message and one segment (RFC 5040 5.4)
 abbrev pub terminate_head : UntaggedHead

@@ -15,7 +15,8 @@ pub fn terminates_are_told()
     ensures { TerminatesAreTold }
 {}
 
-/// What the stream has is judged on the first path as ever, by the checks of one list for each kind of header.
+/// What the stream has is judged on the first path as ever, by the checks of one list for each kind of header, and a
+/// ULPDU's first octets as the whole of it.
 pub fn first_path_is_judge()
     ensures { FirstPathIsJudge }
 {}
