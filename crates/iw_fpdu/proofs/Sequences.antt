@@ -2,15 +2,15 @@
 use Rattle.std.specs.Prelude.{All}
 use Rattle.std.specs.Option.{option_map_or}
 use Rattle.std.proofs.lemmas.List.Elements.{All-head, All-tail}
-use Rattle.std.proofs.Common.{◌≡◌, zero, suc, append_assoc, ℕ, ◌+◌, ◌-◌, ◌<◌, ◌≤◌, Bool, true, false, not, ltb, List, [], ◌∷◌, ◌++◌, map, drop, length, get_or, Option, Some, None, refl, sym, ap, ◌∙◌, subst, arith, inl, inr, length-append, length-drop}
-use Rattle.std.proofs.lemmas.List.{get_or_append_left, get_or-map, drop-append-le, drop_at}
+use Rattle.std.proofs.Common.{◌≡◌, zero, suc, append_assoc, ℕ, ◌+◌, ◌-◌, ◌%◌, ◌^◌, ◌<◌, ◌≤◌, Bool, true, false, not, ltb, List, [], ◌∷◌, ◌++◌, map, take, drop, length, get_or, Option, Some, None, refl, sym, ap, ◌∙◌, subst, arith, inl, inr, length-append, length-drop, length-take}
+use Rattle.std.proofs.lemmas.List.{get_or_append_left, get_or-map, take-append-drop, drop-append-le, drop_at}
 use Rattle.std.proofs.lemmas.List.FromFn.{get_or-map-range_with_len, length-map-range_with_len}
 use Rattle.std.proofs.lemmas.Bool.{cases_lt, le-ltb, lt-ltb, cond-true, cond-false, true≢false}
 use Rattle.std.proofs.lemmas.Option.{none-some, some_pair_parts}
 use Rattle.iw_ranges.specs.Arrived.{Arrived, Missing, Here, cell_at, is_missing, has_come, cells_between}
 use Rattle.iw_fpdu.specs.declared.layout.Layout.{Layout}
 use Rattle.iw_fpdu.specs.Places.{IsStart, data_index, frame_start, span_start}
-use Rattle.iw_fpdu.specs.Frame.{max_sent, frame_end, frame_octet, frame_octets}
+use Rattle.iw_fpdu.specs.Frame.{max_sent, frame_size, frame_end, frame_octet, frame_octets}
 use Rattle.iw_fpdu.specs.PiecesOctet.{octet_from}
 use Rattle.iw_fpdu.specs.Reading.{data_at, length_at, ulpdu_at, end_at, mismatch_at}
 use Rattle.iw_fpdu.specs.Found.{octet_in, IsWhole, LacksOctet, ulpdu, mismatch}
@@ -18,6 +18,7 @@ use Rattle.iw_fpdu.specs.Sequence.{Carried, intact, carried_at, sequence, place_
 use Rattle.iw_fpdu.specs.Laws.{IsBetween, FirstTakes, StandFrom, found_at, FramesInSequence}
 use Rattle.iw_fpdu.proofs.Octets.{span_low, Agree, agree, same_frame_data, same_length, same_mismatch, length_within}
 use Rattle.iw_fpdu.proofs.Came.{part_agrees}
+use Rattle.iw_fpdu.proofs.Counted.{after_bound, start_bound, aligned_edge}
 use Rattle.iw_fpdu.proofs.Follows.{begins, ends, frames_follow}
 use Rattle.iw_fpdu.proofs.Again.{length_back, ulpdu_back, agrees_back}
 
@@ -102,6 +103,40 @@ first_stays layout at octets more carried rest b e =
     let behind : drop (end_at new m start - at) (octets ++ more) ≡ rest ++ more =
     ap (λ k. drop (k - at) (octets ++ more)) same.end ∙ drop-append-le (end_at old m start - at) octets more (omega (arith, p.fits)) ∙ ap (λ z. z ++ more) (sym p.rest_is) in
     first_from layout at (octets ++ more) b fits ∙ (λ i. Some ((same.carried ∙ sym p.carried_is) i, behind i))
+
+-- ---- the frame alone
+-- the octets of the first frame, which are that frame whatever comes behind them
+pub record Alone (layout : Layout) (at : ℕ) (octets : List ℕ) (carried : Carried) (rest : List ℕ) : Type 0 where
+  pub one : List ℕ
+  pub split : one ++ rest ≡ octets
+  pub again : (more : List ℕ) → first_frame layout at (one ++ more) ≡ Some (carried, more)
+
+pub first_alone : (layout : Layout) (at : ℕ) (octets : List ℕ) (carried : Carried) (rest : List ℕ) → IsBetween layout.markers at
+    → first_frame layout at octets ≡ Some (carried, rest) → Alone layout at octets carried rest
+first_alone layout at octets carried rest b e =
+    let p = first_parts layout at octets carried rest e in
+    let m : Bool = layout.markers in
+    let start : ℕ = frame_start m at in
+    let old : ℕ → ℕ = octet_from at octets in
+    let n : ℕ = length_at old start in
+    let end : ℕ = end_at old m start in
+    let one : List ℕ = take (end - at) octets in
+    let low : at + 2 ≤ end = omega (arith, field_fits layout at n b, b.span, span_low m start) in
+    let size : length one ≡ end - at = omega (arith, length-take (end - at) octets, p.fits) in
+    let split : one ++ rest ≡ octets = ap (λ z. one ++ z) p.rest_is ∙ take-append-drop (end - at) octets in
+    record {
+      one = one;
+      split = split;
+      again = λ more.
+          let new : ℕ → ℕ = octet_from at (one ++ more) in
+          let same : Same layout new old start = same_first layout new old start n (begins m at b) refl
+          (λ q from to.
+          let in_one : q - at < length one = omega (arith, size, from, to, b.span, low) in
+          get_or_append_left one more 0 (q - at) in_one ∙ sym (get_or_append_left one rest 0 (q - at) in_one) ∙ ap (λ z. get_or z (q - at) 0) split) in
+          let fits : end_at new m start ≤ at + length (one ++ more) = omega (arith, same.end, size, low, length-append one more) in
+          let behind : drop (end_at new m start - at) (one ++ more) ≡ more = drop_at one more (end_at new m start - at) (omega (arith, size, same.end)) in
+          first_from layout at (one ++ more) b fits ∙ (λ i. Some ((same.carried ∙ sym p.carried_is) i, behind i));
+    }
 
 -- ---- a frame that was written
 pub length_written : (layout : Layout) (at : ℕ) (u : List ℕ) → length (frame_octets layout at u) ≡ frame_end layout.markers at (length u) - at
@@ -305,3 +340,10 @@ frames_in_sequence = record {
   read = λ layout at us b short. record { frames = frames_written layout at us b short; place = place_is layout at us b; next = between_behind layout at us b };
   join = sequences_join;
 }
+
+-- a frame that is written is short
+pub written_few : (layout : Layout) (at : ℕ) (u : List ℕ) → at % 4 ≡ 0 → length u ≤ max_sent → length (frame_octets layout at u) ≤ 2 ^ 17
+written_few layout at u aligned short =
+    let edge = aligned_edge layout.markers at aligned in
+    let n : ℕ = frame_size (length u) in
+    omega (arith, length_written layout at u, after_bound layout.markers at n edge (omega (arith, short)), start_bound layout.markers at edge)

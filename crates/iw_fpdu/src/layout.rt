@@ -1,7 +1,7 @@
 ghost use Rattle.std.specs.Prelude.{◌≡◌, ◌<◌, ◌≤◌, ◌+◌, ◌*◌, ◌/◌, ◌^◌, false};
 ghost use Rattle.iw_fpdu.specs.Frame.{pad_len, frame_end};
 ghost use Rattle.iw_fpdu.specs.Laying.{IsRun};
-ghost use Rattle.iw_fpdu.specs.Places.{data_place, data_index, in_marker, span_start};
+ghost use Rattle.iw_fpdu.specs.Places.{data_place, data_index, frame_start, in_marker, span_start};
 
 /// From one marker to the next, in octets.
 pub(crate) const SPACING: u64 = 512;
@@ -25,6 +25,14 @@ impl Layout {
         ensures { result ≡ data_place self.markers k }
     {
         place_of(self.markers, k)
+    }
+
+    /// The frame place where the frame that is written at frame place `at` begins: there, or behind the marker there.
+    pub fn start_of(self, at: u64) -> u64
+        requires { at < 2 ^ 63 }
+        ensures { result ≡ frame_start self.markers at }
+    {
+        place_of(self.markers, index_of(self.markers, at))
     }
 
     /// The frame place behind the frame that begins at frame place `start` with a ULPDU of `len` octets.
