@@ -3,3 +3,4 @@ pub mod Sending
 pub mod Filled
 pub mod Awaited
 pub mod Order
+pub mod Limits
