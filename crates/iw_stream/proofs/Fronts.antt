@@ -1,52 +1,86 @@
--- The frame at the front, with its segment.
-use Rattle.std.proofs.Common.{◌≡◌, ℕ, List, ◌++◌, Option, Some, None, Ok, Err, refl, sym, ap, ◌∙◌, subst}
-use Rattle.std.proofs.lemmas.Option.{none-some, some_pair_parts}
-use Rattle.std.specs.Prelude.{Result}
-use Rattle.std.specs.Result.{result_ok}
-use Rattle.std.specs.Borrow.{Bor}
-use Rattle.iw_octets.specs.declared.head.Short.{Short}
-use Rattle.iw_octets.specs.declared.segment.Segment.{Segment}
-use Rattle.iw_octets.specs.declared.segment.Segment.TheVariants.{Tagged, Untagged}
-use Rattle.iw_octets.specs.ShownSegment.{shown_segment}
-use Rattle.iw_octets.specs.Segment.{read_segment}
-use Rattle.iw_stream.specs.Lent.{lent}
-use Rattle.iw_stream.specs.Frame.{read_frame}
-use Rattle.iw_stream.specs.Receiving.{Receiving}
-use Rattle.iw_stream.specs.Stream.{Front, front, parsed}
-use Rattle.iw_stream.specs.Kept.{IsPlaced}
-use Rattle.iw_stream.proofs.Frames.{read_frame-more}
+-- The frame at the in-order point is the first of the octets that came without a gap.
+use Rattle.std.proofs.Common.{◌≡◌, ℕ, ◌+◌, ◌<◌, ◌≤◌, ◌^◌, Bool, true, false, length, Option, Some, None, sym, ap, ◌∙◌, subst, arith, inl, inr}
+use Rattle.std.specs.Prelude.{MatchOption, IfSome, IfNone}
+use Rattle.std.proofs.lemmas.Bool.{cases_lt, true≢false}
+use Rattle.iw_ranges.specs.Arrived.{Arrived, Cell, Missing, Here, Gone, IsWithinLimits, cells_between, has_come, in_order, window}
+use Rattle.iw_ranges.specs.InOrder.{IsHeld, is_gone}
+use Rattle.iw_ranges.proofs.InOrder.{octet_at, stands, ends}
+use Rattle.iw_fpdu.specs.declared.layout.Layout.{Layout}
+use Rattle.iw_fpdu.specs.Places.{frame_start}
+use Rattle.iw_fpdu.specs.Found.{Found, IsKept, IsWhole, LacksOctet, ulpdu_len}
+use Rattle.iw_fpdu.specs.Laws.{IsBetween, StandFrom, found_at}
+use Rattle.iw_fpdu.specs.Sequence.{first_frame}
+use Rattle.iw_fpdu.proofs.Follows.{begins}
+use Rattle.iw_fpdu.proofs.Octets.{span_low, span_near, length_within}
+use Rattle.iw_fpdu.proofs.Sequences.{frames_in_sequence}
+use Rattle.iw_stream.specs.Front.{IsFirst, end_of}
 
-pub lent_shown : (read : Result (Segment (Bor (List ℕ))) Short) → lent (result_ok read) ≡ shown_segment read
-lent_shown (Ok (Tagged head payload)) = refl
-lent_shown (Ok (Untagged head payload)) = refl
-lent_shown (Err short) = refl
+pub stand : (a : Arrived) → IsHeld a → StandFrom a 0 a.floor (in_order a)
+stand a kept =
+    let from : a.floor ≡ 0 + a.floor = omega arith in
+    let to : a.floor + length (in_order a) ≡ 0 + a.floor + length (in_order a) = omega arith in
+    record { held = stands a ∙ (λ i. cells_between a (from i) (to i)); missing = ap (has_come a) (sym to) ∙ ends a kept }
 
--- a frame was read, and its ULPDU as a segment
-pub front_parts : (octets : List ℕ) (segment : Option (Segment (List ℕ))) (rest : List ℕ) → front octets ≡ Some (segment, rest)
-    → (ulpdu : List ℕ) × (read_frame octets ≡ Some (ulpdu, rest)) × (segment ≡ read_segment ulpdu)
-unfolding front
-front_parts octets segment rest e = go (read_frame octets) e
+here_missing : (x : ℕ) → Here x ≡ Missing → ⊥
+here_missing x e = cc
+
+pub in_window : (a : Arrived) → IsWithinLimits a → length (in_order a) ≤ window
+in_window a limits = elim (cases_lt window (length (in_order a))) [
+  | inl past ↦ absurd (here_missing _ (sym (octet_at a (a.floor + window) (omega arith) (omega arith)) ∙ limits.octets (a.floor + window) (omega arith)))
+  | inr fits ↦ fits
+]
+
+pub kept_cell : (c : Cell) → is_gone c ≡ false → IsKept c
+kept_cell Missing e = tt
+kept_cell (Here x) e = tt
+kept_cell Gone e = absurd (true≢false e)
+
+pub start_near : (m : Bool) (at : ℕ) → IsBetween m at → (at ≤ frame_start m at) × (frame_start m at ≤ at + 4)
+start_near m at b = (omega (arith, b.span, span_low m (frame_start m at)), omega (arith, b.span, span_near m (frame_start m at)))
+
+-- the frame where it begins
+abbrev front_of : Layout → Arrived → Found
+front_of layout a = found_at a layout 0 (frame_start layout.markers a.floor)
+
+pub is_first : (layout : Layout) (a : Arrived) → IsBetween layout.markers a.floor → IsHeld a → IsWithinLimits a → a.floor + 2 ^ 18 ≤ 2 ^ 63
+    → IsWhole a layout.markers 0 (frame_start layout.markers a.floor) → IsFirst layout a (front_of layout a)
+is_first layout a b kept limits low whole =
+    let m : Bool = layout.markers in
+    let start : ℕ = frame_start m a.floor in
+    let found : Found = front_of layout a in
+    let near = start_near m a.floor b in
+    let long : start + 2 ≤ end_of found = length_within m start (ulpdu_len found) (begins m a.floor b) in
+    let within : end_of found ≤ a.floor + length (in_order a) = reach (end_of found) (λ p from to. whole p (omega (arith, b.span)) to) in record {
+      first = frames_in_sequence.found.whole a layout 0 a.floor (in_order a) b (stand a kept) whole;
+      holds = λ p from to. kept_cell _ (kept (0 + p) (omega (arith, b.span, from)));
+      behind = omega (arith, near.0, long);
+      within = within;
+      low = omega (arith, within, in_window a limits);
+    }
   where
-    go : (o : Option (List ℕ × List ℕ)) → parsed o ≡ Some (segment, rest) → (ulpdu : List ℕ) × (o ≡ Some (ulpdu, rest)) × (segment ≡ read_segment ulpdu)
-    go None h = absurd (none-some _ h)
-    go (Some x) h = let parts = some_pair_parts (read_segment x.0) segment x.1 rest h in (x.0, ap (λ z. Some (x.0, z)) parts.1, sym parts.0)
+    reach : (end : ℕ) → ((p : ℕ) → a.floor ≤ p → p < end → has_come a (0 + p) ≡ true) → end ≤ a.floor + length (in_order a)
+    reach end come = elim (cases_lt (a.floor + length (in_order a)) end) [
+      | inl past ↦
+          absurd (true≢false (sym (come (a.floor + length (in_order a)) (omega arith) past)
+          ∙ ap (has_come a) (let e : 0 + (a.floor + length (in_order a)) ≡ a.floor + length (in_order a) = omega arith in e) ∙ ends a kept))
+      | inr fits ↦ fits
+    ]
 
-pub front_from : (octets ulpdu rest : List ℕ) → read_frame octets ≡ Some (ulpdu, rest) → front octets ≡ Some (read_segment ulpdu, rest)
-unfolding front
-front_from octets ulpdu rest e = ap parsed e
+-- what is read there
+abbrev Read : Layout → Arrived → ℕ → Option Found → Type 0
+Read layout a start result =
+    MatchOption result (LacksOctet a layout.markers 0 start)
+    (λ found. (found ≡ record { arrived = a; layout = layout; base = 0; start = start }) × IsWhole a layout.markers 0 start)
 
--- more octets leave the frame at the front
-pub front-more : (x y : List ℕ) (segment : Option (Segment (List ℕ))) (rest : List ℕ) → front x ≡ Some (segment, rest) → front (x ++ y) ≡ Some (segment, rest ++ y)
-front-more x y segment rest e =
-    let r = front_parts x segment rest e in
-    front_from (x ++ y) r.0 (rest ++ y) (read_frame-more x y r.0 rest r.1) ∙ ap (λ z. Some (z, rest ++ y)) (sym r.2)
+pub front_some : (layout : Layout) (a : Arrived) (start : ℕ) (result : Option Found) → IsBetween layout.markers a.floor → IsHeld a → IsWithinLimits a → a.floor + 2 ^ 18 ≤ 2 ^ 63
+    → start ≡ frame_start layout.markers a.floor → Read layout a start result → IfSome result (λ found. IsFirst layout a found)
+front_some layout a start None b kept limits low is read = tt
+front_some layout a start (Some found) b kept limits low is read =
+    subst (IsFirst layout a) (sym (read.0 ∙ ap (λ s. found_at a layout 0 s) is))
+    (is_first layout a b kept limits low (subst (λ s. IsWhole a layout.markers 0 s) is read.1))
 
--- and what was placed stays placed
-pub placed-more : (r : Receiving) (x y : List ℕ) → IsPlaced r (front x) → IsPlaced r (front (x ++ y))
-placed-more r x y h = go (front x) refl h
-  where
-    go : (o : Front) → front x ≡ o → IsPlaced r o → IsPlaced r (front (x ++ y))
-    go None e k = absurd k
-    go (Some (None, rest)) e k = absurd k
-    go (Some (Some (Tagged head payload), rest)) e k = subst (IsPlaced r) (sym (front-more x y (Some (Tagged head payload)) rest e)) k
-    go (Some (Some (Untagged head payload), rest)) e k = subst (IsPlaced r) (sym (front-more x y (Some (Untagged head payload)) rest e)) k
+pub front_none : (layout : Layout) (a : Arrived) (start : ℕ) (result : Option Found) → IsBetween layout.markers a.floor → IsHeld a
+    → start ≡ frame_start layout.markers a.floor → Read layout a start result → IfNone result (first_frame layout a.floor (in_order a) ≡ None)
+front_none layout a start None b kept is read =
+    frames_in_sequence.found.lacking a layout 0 a.floor (in_order a) b (stand a kept) (subst (λ s. LacksOctet a layout.markers 0 s) is read)
+front_none layout a start (Some found) b kept is read = tt

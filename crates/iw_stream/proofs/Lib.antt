@@ -1,4 +1,5 @@
-pub mod Frames
+pub mod Heads
 pub mod Fronts
-pub mod Fits
+pub mod Landings
+pub mod Keeping
 pub mod Inverse

@@ -1,8 +1,7 @@
-pub mod Frame
-pub mod Segments
-pub mod FirstPath
-pub mod Receiving
 pub mod Stream
-pub mod Kept
 pub mod Judging
-pub mod Lent
+pub mod Kept
+pub mod Emitting
+pub mod Front
+pub mod Landing
+pub mod Fields

@@ -1,132 +1,140 @@
 -- The state of a stream, and what each call leaves of it.
-use Rattle.std.specs.Prelude.{ℕ, ◌+◌, ◌-◌, nat_lt, nat_le, Bool, true, false, List, [], ◌∷◌, ◌++◌, length, take, drop, map, if◌then◌else◌, Option, Some, None}
+use Rattle.std.specs.Prelude.{ℕ, ◌+◌, ◌-◌, nat_lt, Bool, true, false, List, [], length, if◌then◌else◌, Option, Some, None}
+use Rattle.std.specs.Option.{option_map, option_map_or}
 use Rattle.iw_octets.specs.declared.message.Message.{Message}
-use Rattle.iw_octets.specs.declared.message.Message.TheVariants as messages
 use Rattle.iw_octets.specs.declared.segment.Segment.{Segment}
 use Rattle.iw_octets.specs.declared.segment.Segment.TheVariants.{Tagged, Untagged}
-use Rattle.iw_octets.specs.Segment.{read_segment}
-use Rattle.iw_stream.specs.declared.answer.Kind.{Kind}
-use Rattle.iw_stream.specs.declared.answer.Kind.TheVariants as kinds
+use Rattle.iw_octets.specs.Segment.{read_segment, segment_octets}
+use Rattle.iw_ranges.specs.declared.Delivery.{Delivery}
+use Rattle.iw_ranges.specs.declared.Delivery.TheVariants.{Kept, Dropped}
+use Rattle.iw_ranges.specs.Arrived.{Arrived, nothing, in_order, delivery, taken_in, advanced}
+use Rattle.iw_fpdu.specs.declared.layout.Layout.{Layout}
+use Rattle.iw_fpdu.specs.Frame.{frame_octets}
+use Rattle.iw_fpdu.specs.Sequence.{Carried, first_frame}
+use Rattle.iw_untagged.specs.declared.queue.BufferRefusal.{BufferRefusal}
+use Rattle.iw_untagged.specs.declared.queue.BufferRefusal.TheVariants as buffer_refusals
+use Rattle.iw_untagged.specs.Receiving.{Receiving, nothing_received, written, turned, full_refusal}
+use Rattle.iw_untagged.specs.Receiving as receiving
+use Rattle.iw_queues.specs.declared.request.Refusal.{Refusal}
+use Rattle.iw_queues.specs.declared.request.Refusal.TheVariants as refusals
+use Rattle.iw_queues.specs.declared.request.Request.{Request}
+use Rattle.iw_queues.specs.declared.request.Request.TheVariants as requests
+use Rattle.iw_queues.specs.declared.send_queue.Part.{Part}
+use Rattle.iw_queues.specs.Queue.{Queue, nothing_posted, posted, next_part, part_sent, done_in, handed_from}
+use Rattle.iw_queues.specs.Queue as queues
+use Rattle.iw_queues.specs.Segments.{Numbers, first_numbers, segment_of, numbers_behind}
 use Rattle.iw_stream.specs.declared.answer.Step.{Step}
 use Rattle.iw_stream.specs.declared.answer.Step.TheVariants.{Done, Placed, Buffered, Passed, Received, Fault, Idle}
 use Rattle.iw_stream.specs.declared.answer.Emission.{Emission}
 use Rattle.iw_stream.specs.declared.answer.Emission.TheVariants.{Frame, Nothing}
-use Rattle.iw_stream.specs.declared.answer.Delivery.{Delivery}
-use Rattle.iw_stream.specs.declared.answer.Delivery.TheVariants.{Kept, Dropped}
 use Rattle.iw_stream.specs.declared.answer.PostRefusal.{PostRefusal}
 use Rattle.iw_stream.specs.declared.answer.PostRefusal.TheVariants as post_refusals
 use Rattle.iw_stream.specs.declared.answer.RecvRefusal.{RecvRefusal}
 use Rattle.iw_stream.specs.declared.answer.RecvRefusal.TheVariants as recv_refusals
-use Rattle.iw_stream.specs.Frame.{read_frame}
-use Rattle.iw_stream.specs.Segments.{segment_of, msn_after_all, frame_of, octets_of}
-use Rattle.iw_stream.specs.FirstPath.{message_limit, reaches}
-use Rattle.iw_stream.specs.Receiving.{Receiving, nothing_received, written, turned, full_refusal}
-use Rattle.iw_stream.specs.Receiving as receiving
+use Rattle.iw_stream.specs.declared.answer.SizeRefusal.{SizeRefusal}
+use Rattle.iw_stream.specs.declared.answer.SizeRefusal.TheVariants.{BadSize}
 
 pub record StreamState : Type 0 where
   pub domain : ℕ
-  pub queue : List (Message (List ℕ))  -- posted and not begun, oldest first
-  pub finished : List Kind  -- emitted and not handed out, oldest first
-  pub next : ℕ  -- the message sequence number of the next Send to be emitted
+  pub sending : Layout  -- of the frames that this end sends
+  pub expecting : Layout  -- of the frames that the peer sends
+  pub mulpdu : ℕ  -- the maximum ULPDU: the most octets that one has which is sent
+  pub queue : Queue  -- what was posted and not handed out
+  pub numbers : Numbers  -- the message sequence numbers of the next messages
   pub sent : ℕ  -- octets emitted
   pub receiving : Receiving
-  pub point : ℕ  -- the in-order point
-  pub inbox : List ℕ  -- the octets that came without a gap from the in-order point on
+  pub arrived : Arrived  -- what came, from the in-order point on
   pub placed : Bool  -- the frame at the in-order point has been placed
   pub ended : Bool
 
--- a stream of a domain, open at once, to which nothing has happened
-abbrev pub opened : ℕ → StreamState
-opened domain = record {
+-- a stream of a domain, open at once with this layout in both directions, to which nothing has happened
+abbrev pub opened : ℕ → Layout → StreamState
+opened domain layout = record {
   domain = domain;
-  queue = [];
-  finished = [];
-  next = 1;
+  sending = layout;
+  expecting = layout;
+  mulpdu = 1400;
+  queue = nothing_posted;
+  numbers = first_numbers;
   sent = 0;
   receiving = nothing_received;
-  point = 0;
-  inbox = [];
+  arrived = nothing;
   placed = false;
   ended = false;
 }
 
 -- ---- the frame at the in-order point
 
--- the frame at the front, where it is whole: its segment, if its ULPDU is long enough for one, and the octets behind it
+-- a frame, where it is whole, and the octets behind it
 abbrev pub Front : Type 0
-Front = Option (Option (Segment (List ℕ)) × List ℕ)
+Front = Option (Carried × List ℕ)
 
-abbrev pub parsed : Option (List ℕ × List ℕ) → Front
-parsed None = None
-parsed (Some x) = Some (read_segment x.0, x.1)
+-- the octets that came without a gap from the in-order point on
+abbrev pub inbox : StreamState → List ℕ
+inbox s = in_order s.arrived
 
-unfoldable pub front : List ℕ → Front
-front octets = parsed (read_frame octets)
+abbrev pub front : StreamState → Front
+front s = first_frame s.expecting s.arrived.floor (inbox s)
 
-abbrev pub behind : Front → List ℕ
-behind None = []
-behind (Some x) = x.1
+-- the segment of a frame, if its ULPDU is long enough for one
+abbrev pub segment_in : Carried → Option (Segment (List ℕ))
+segment_in frame = read_segment frame.ulpdu
 
-abbrev pub payload_of : Front → List ℕ
-payload_of (Some (Some (Tagged head payload), rest)) = payload
-payload_of (Some (Some (Untagged head payload), rest)) = payload
-payload_of (Some (None, rest)) = []
+abbrev pub segment_at : Front → Option (Segment (List ℕ))
+segment_at None = None
+segment_at (Some x) = segment_in x.0
+
+abbrev pub payload_of : Option (Segment (List ℕ)) → List ℕ
 payload_of None = []
+payload_of (Some (Tagged head payload)) = payload
+payload_of (Some (Untagged head payload)) = payload
 
--- what the turn of the frame leaves of the message that is due, if it is not its last
-abbrev pub turned_with : Receiving → Front → Receiving
-turned_with r (Some (Some (Untagged head payload), rest)) = turned r (length payload)
-turned_with r (Some (Some (Tagged head payload), rest)) = r
-turned_with r (Some (None, rest)) = r
-turned_with r None = r
+-- where the frame ends
+abbrev pub place_behind : StreamState → Front → ℕ
+place_behind s None = s.arrived.floor
+place_behind s (Some x) = s.arrived.floor + (length (inbox s) - length x.1)
+
+-- the in-order point lies behind the frame that stood at it
+abbrev pub behind_front : StreamState → Arrived
+behind_front s = advanced s.arrived (place_behind s (front s))
+
+-- what the turn of a segment leaves of the message that is due, if it is not its last
+abbrev pub turned_by : Receiving → Option (Segment (List ℕ)) → Receiving
+turned_by r None = r
+turned_by r (Some (Tagged head payload)) = r
+turned_by r (Some (Untagged head payload)) = turned r (length payload)
 
 -- the stream that a step of work leaves
 abbrev pub worked : StreamState → Step (List ℕ) → StreamState
-worked s (Done kind) = record s { finished = drop 1 s.finished }
+worked s (Done kind) = record s { queue = handed_from s.queue (done_in s.queue) }
 worked s (Placed right stag to len) = record s { placed = true }
-worked s (Buffered msn mo len) = record s { placed = true; receiving = written s.receiving msn mo (payload_of (front s.inbox)) }
-worked s Passed = record s {
-  placed = false;
-  receiving = turned_with s.receiving (front s.inbox);
-  point = s.point + (length s.inbox - length (behind (front s.inbox)));
-  inbox = behind (front s.inbox);
-}
-worked s (Received buffer len solicited invalidate) = record s {
-  placed = false;
-  receiving = receiving.finished s.receiving;
-  point = s.point + (length s.inbox - length (behind (front s.inbox)));
-  inbox = behind (front s.inbox);
-}
+worked s (Buffered msn mo len) = record s { placed = true; receiving = written s.receiving msn mo (payload_of (segment_at (front s))) }
+worked s Passed = record s { placed = false; receiving = turned_by s.receiving (segment_at (front s)); arrived = behind_front s }
+worked s (Received buffer len solicited invalidate) = record s { placed = false; receiving = receiving.finished s.receiving; arrived = behind_front s }
 worked s (Fault fault) = record s { ended = true }
 worked s Idle = s
 
 -- ---- emission
 
-abbrev pub kind_of : Message (List ℕ) → Kind
-kind_of (messages.Write stag to octets) = kinds.Write
-kind_of (messages.Send octets solicited invalidate) = kinds.Send
+-- the part that is to be sent next
+abbrev pub part_due : StreamState → Option (Part (Request (List ℕ)))
+part_due s = next_part s.queue s.mulpdu
 
--- the frame of the first of these messages
-abbrev pub first_frame_of : ℕ → List (Message (List ℕ)) → List ℕ
-first_frame_of msn [] = []
-first_frame_of msn (m ∷ ms) = frame_of (segment_of msn m)
+-- its frame
+abbrev pub frame_of : StreamState → Part (Request (List ℕ)) → List ℕ
+frame_of s part = frame_octets s.sending s.sent (segment_octets (segment_of s.numbers part))
 
 -- the octets that a call to emit appends
 abbrev pub emitted : StreamState → List ℕ
-emitted s = if s.ended then [] else first_frame_of s.next s.queue
-
-abbrev pub first_emission : ℕ → ℕ → List (Message (List ℕ)) → Emission
-first_emission sent msn [] = Nothing
-first_emission sent msn (m ∷ ms) = Frame sent (length (frame_of (segment_of msn m)))
+emitted s = if s.ended then [] else option_map_or (frame_of s) (part_due s) []
 
 abbrev pub emission_of : StreamState → Emission
-emission_of s = if s.ended then Nothing else first_emission s.sent s.next s.queue
+emission_of s = if s.ended then Nothing else option_map_or (λ part. Frame s.sent (length (frame_of s part))) (part_due s) Nothing
 
 abbrev pub after_emit : StreamState → Emission → StreamState
 after_emit s (Frame from len) = record s {
-  queue = drop 1 s.queue;
-  finished = s.finished ++ map kind_of (take 1 s.queue);
-  next = msn_after_all s.next (take 1 s.queue);
+  queue = part_sent s.queue (part_due s);
+  numbers = option_map_or (numbers_behind s.numbers) (part_due s) s.numbers;
   sent = s.sent + len;
 }
 after_emit s Nothing = s
@@ -135,33 +143,45 @@ after_emit s Nothing = s
 
 -- what becomes of n octets that come from a place on
 abbrev pub delivery_of : StreamState → ℕ → ℕ → Delivery
-delivery_of s from n =
-    if s.ended then Dropped
-    else if nat_lt (s.point + 262144) (from + n) then Dropped
-    else if reaches (s.point + length s.inbox) from then Kept
-    else Dropped
+delivery_of s from n = if s.ended then Dropped else delivery s.arrived from n
 
--- octets before the first missing place are ignored
+-- of an octet that came before, the first copy stays
 abbrev pub after_deliver : StreamState → ℕ → List ℕ → Delivery → StreamState
-after_deliver s from octets Kept = record s { inbox = s.inbox ++ drop (s.point + length s.inbox - from) octets }
+after_deliver s from octets Kept = record s { arrived = taken_in s.arrived from octets }
 after_deliver s from octets Dropped = s
 
 -- ---- postings
 
+abbrev pub post_refusal_of : Refusal → PostRefusal
+post_refusal_of refusals.Full = post_refusals.Full
+post_refusal_of refusals.TooLong = post_refusals.TooLong
+post_refusal_of refusals.NoMemory = post_refusals.NoMemory
+
 -- why a posting is refused, if it is
 abbrev pub post_refusal : StreamState → Message (List ℕ) → Option PostRefusal
 post_refusal s m =
-    if s.ended then Some post_refusals.NotOpen
-    else if nat_le 256 (length s.queue + length s.finished) then Some post_refusals.Full
-    else if nat_lt (message_limit m) (length (octets_of m)) then Some post_refusals.TooLong
-    else None
+    if s.ended then Some post_refusals.NotOpen else option_map post_refusal_of (queues.post_refusal s.queue (requests.Message m))
 
 abbrev pub with_message : StreamState → Message (List ℕ) → StreamState
-with_message s m = record s { queue = s.queue ++ m ∷ [] }
+with_message s m = record s { queue = posted s.queue (requests.Message m) }
+
+abbrev pub recv_refusal_of : BufferRefusal → RecvRefusal
+recv_refusal_of buffer_refusals.Full = recv_refusals.Full
+recv_refusal_of buffer_refusals.NoMemory = recv_refusals.NoMemory
 
 -- why a receive buffer is refused, if it is
 abbrev pub recv_refusal : StreamState → Option RecvRefusal
-recv_refusal s = if s.ended then Some recv_refusals.Ended else full_refusal s.receiving
+recv_refusal s = if s.ended then Some recv_refusals.Ended else option_map recv_refusal_of (full_refusal s.receiving)
 
 abbrev pub with_buffer : StreamState → List ℕ → StreamState
 with_buffer s buffer = record s { receiving = receiving.with_buffer s.receiving buffer }
+
+-- ---- sizes
+
+-- why a ULPDU size is refused, if it is (this endpoint's limits)
+abbrev pub size_refusal : ℕ → Option SizeRefusal
+size_refusal size = if nat_lt size 128 then Some BadSize else if nat_lt 64512 size then Some BadSize else None
+
+-- it holds for every part that is cut from then on
+abbrev pub with_mulpdu : StreamState → ℕ → StreamState
+with_mulpdu s size = record s { mulpdu = size }

@@ -1,12 +1,6 @@
 use iw_memory::Right;
 use iw_octets::{Fault, Stag};
-
-/// What a posted message is.
-#[derive(Clone, Copy, Debug, PartialEq, Eq)]
-pub enum Kind {
-    Write,
-    Send,
-}
+use iw_queues::Kind;
 
 /// Why a message is not posted: the first reason that holds, in the order `NotOpen`, `Full`, `TooLong`, `NoMemory`.
 #[derive(Clone, Copy, Debug, PartialEq, Eq)]
@@ -29,11 +23,11 @@ pub enum RecvRefusal {
     Ended,
 }
 
-/// What becomes of octets that came.
+/// Why a ULPDU size is not set.
 #[derive(Clone, Copy, Debug, PartialEq, Eq)]
-pub enum Delivery {
-    Kept,
-    Dropped,
+pub enum SizeRefusal {
+    /// It is outside 128 to 64,512 octets.
+    BadSize,
 }
 
 /// What a call to emit appended.

@@ -2,12 +2,12 @@
 #![tactic(auto)]
 
 mod answer;
-mod first_path;
-mod frame;
+mod emitting;
+mod incoming;
 mod judging;
-mod receiving;
-mod segment;
 mod stream;
 
-pub use answer::{Delivery, Emission, Kind, PostRefusal, RecvRefusal, Step};
+pub use answer::{Emission, PostRefusal, RecvRefusal, SizeRefusal, Step};
+pub use iw_queues::Kind;
+pub use iw_ranges::Delivery;
 pub use stream::Stream;

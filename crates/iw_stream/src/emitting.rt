@@ -1,0 +1,177 @@
+ghost use Rattle.std.specs.Prelude.{◌≡◌, ◌+◌, ◌-◌, ◌<◌, ◌≤◌, ◌%◌, ◌^◌, ◌++◌, length, OnOk, OnErr};
+ghost use Rattle.iw_octets.specs.Segment.{segment_octets};
+ghost use Rattle.iw_fpdu.specs.Frame.{frame_octets, max_sent};
+ghost use Rattle.iw_queues.specs.Request.{payload, header_len};
+ghost use Rattle.iw_queues.specs.Segments.{first_numbers, segment_of, numbers_behind};
+ghost use Rattle.iw_queues.specs.Shown.{shown_part};
+ghost use Rattle.iw_stream.specs.Emitting.{numbers_of, write_head, send_head, request_head};
+
+use bytes::Bytes;
+use iw_fpdu::{Layout, WriteRefusal, write_fpdu};
+use iw_octets::{Message, Stag, TaggedHead, UntaggedHead};
+use iw_queues::{Part, Request};
+use iw_rdmap::{TaggedOperation, UntaggedOperation};
+use std::alloc::{AllocError, Allocator};
+
+const DDP_VERSION: u8 = 1;
+
+/// The message sequence numbers of the next Send and of the next Read: each queue counts its own (RFC 5041 4.3).
+#[derive(Clone, Copy, Debug, PartialEq, Eq)]
+pub(crate) struct Numbers {
+    pub(crate) send: u32,
+    pub(crate) read: u32,
+}
+
+impl Numbers {
+    /// Those of the first messages.
+    pub(crate) fn first() -> Numbers
+        ensures { numbers_of result ≡ first_numbers }
+    {
+        Numbers { send: 1, read: 1 }
+    }
+
+    /// Those behind a part that is sent: a message has its number until its last part.
+    pub(crate) fn behind<A: Allocator>(self, part: &Part<&Request<Bytes<A>>>) -> Numbers
+        ensures { numbers_of result ≡ numbers_behind (numbers_of self) (shown_part part.now) }
+    {
+        let Numbers { send, read } = self;
+        if !part.last {
+            return self;
+        }
+        match part.message {
+            Request::Message(Message::Write { .. }) => self,
+            Request::Message(Message::Send { .. }) => Numbers {
+                send: send.wrapping_add(1),
+                read,
+            },
+            Request::Read(_) => Numbers {
+                send,
+                read: read.wrapping_add(1),
+            },
+        }
+    }
+}
+
+// The header of a part of a Write.
+fn write_head(stag: Stag, to: u64, offset: usize, last: bool) -> TaggedHead
+    ensures { result ≡ write_head stag to offset last }
+{
+    TaggedHead {
+        last,
+        ddp_version: DDP_VERSION,
+        control: TaggedOperation::Write.control(),
+        stag,
+        to: to.wrapping_add(offset as u64),
+    }
+}
+
+// The header of a part of a Send: each has the opcode, and the STag to invalidate (RFC 5040 4.1).
+fn send_head(
+    msn: u32,
+    solicited: bool,
+    invalidate: Option<Stag>,
+    offset: usize,
+    last: bool,
+) -> UntaggedHead
+    requires { offset < 2 ^ 32 }
+    ensures { result ≡ send_head msn solicited invalidate offset last }
+{
+    let operation = UntaggedOperation::Send {
+        solicited,
+        invalidates: invalidate.is_some(),
+    };
+    UntaggedHead {
+        last,
+        ddp_version: DDP_VERSION,
+        control: operation.control(),
+        tail: invalidate.map_or(0, u32::from),
+        queue: 0,
+        msn,
+        mo: offset as u32,
+    }
+}
+
+// The header of a Read's request, which goes by a queue of its own (RFC 5040 5.2.1).
+fn request_head(msn: u32) -> UntaggedHead
+    ensures { result ≡ request_head msn }
+{
+    UntaggedHead {
+        last: true,
+        ddp_version: DDP_VERSION,
+        control: UntaggedOperation::ReadRequest.control(),
+        tail: 0,
+        queue: 1,
+        msn,
+        mo: 0,
+    }
+}
+
+// Appends the frame of a header with this payload, to stand at frame place `at`. An `Err` leaves `out` as it was.
+fn write_frame<A: Allocator>(
+    layout: Layout,
+    at: u64,
+    head: &[u8],
+    payload: &[u8],
+    out: &mut Vec<u8, A>,
+) -> Result<(), AllocError>
+    requires place { at < 2 ^ 63 }
+    requires aligned { at % 4 ≡ 0 }
+    requires short { length head.now + length payload.now ≤ max_sent }
+    ensures ok { OnOk result (out.new.items ≡ out.old.items ++ frame_octets layout at (head.now ++ payload.now)) }
+    ensures err { OnErr result (out.new.items ≡ out.old.items) }
+{
+    match write_fpdu(layout, at, &[head, payload], out) {
+        Ok(()) => Ok(()),
+        Err(WriteRefusal::NoMemory) => Err(AllocError),
+        Err(WriteRefusal::TooLong) => unreachable!(),
+    }
+}
+
+/// Appends the frame of a part, to stand at frame place `at`, where the next messages have these numbers.
+///
+/// An `Err` leaves `out` as it was.
+#[tactic(auto, unfolding(iw_octets::specs::Segment::segment_octets))]
+pub(crate) fn write_part<A: Allocator, B: Allocator>(
+    layout: Layout,
+    at: u64,
+    numbers: Numbers,
+    part: &Part<&Request<Bytes<B>>>,
+    out: &mut Vec<u8, A>,
+) -> Result<(), AllocError>
+    requires place { at < 2 ^ 63 }
+    requires aligned { at % 4 ≡ 0 }
+    requires within { part.now.offset + part.now.n ≤ length (payload part.now.message.now) }
+    requires short { header_len part.now.message.now + part.now.n ≤ max_sent }
+    requires offset { part.now.offset < 2 ^ 32 }
+    ensures ok { OnOk result (out.new.items ≡ out.old.items ++ frame_octets layout at (segment_octets (segment_of (numbers_of numbers) (shown_part part.now)))) }
+    ensures err { OnErr result (out.new.items ≡ out.old.items) }
+{
+    match part.message {
+        Request::Message(Message::Write { stag, to, .. }) => {
+            let head = write_head(*stag, *to, part.offset, part.last).write();
+            write_frame(layout, at, head.as_slice(), part.octets(), out)
+        }
+        Request::Message(
+            Message::Send {
+                solicited,
+                invalidate,
+                ..
+            },
+        ) => {
+            let head = send_head(
+                numbers.send,
+                *solicited,
+                *invalidate,
+                part.offset,
+                part.last,
+            )
+            .write();
+            write_frame(layout, at, head.as_slice(), part.octets(), out)
+        }
+        Request::Read(request) => {
+            let head = request_head(numbers.read).write();
+            let request = request.write();
+            write_frame(layout, at, head.as_slice(), request.as_slice(), out)
+        }
+    }
+}
