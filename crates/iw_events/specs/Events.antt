@@ -8,7 +8,7 @@ use Rattle.iw_events.specs.declared.call.Event.{Event}
 use Rattle.iw_events.specs.declared.act.Act.{Act}
 use Rattle.iw_events.specs.declared.act.Act.TheVariants.{Domain, Register, Deregister, Invalidate, Store, Open, Stream}
 use Rattle.iw_events.specs.declared.act.StreamAct.{StreamAct}
-use Rattle.iw_events.specs.declared.act.StreamAct.TheVariants.{Recv, Post, Emit, Deliver, Raw, Work}
+use Rattle.iw_events.specs.declared.act.StreamAct.TheVariants.{Recv, Post, Emit, Deliver, Raw, Mulpdu, Work}
 use Rattle.iw_events.specs.declared.act.Entry.{Entry}
 use Rattle.std.specs.Prelude.{ℕ}
 
@@ -18,6 +18,7 @@ stream_call_of (Post message refused) = stream_calls.Post message
 stream_call_of (Emit shown) = stream_calls.Emit
 stream_call_of (Deliver from octets delivery) = stream_calls.Deliver from (length octets)
 stream_call_of (Raw from octets delivery) = stream_calls.Raw from octets
+stream_call_of (Mulpdu size refused) = stream_calls.Mulpdu size
 stream_call_of (Work seen) = stream_calls.Work
 
 -- the call of an act
@@ -27,7 +28,7 @@ call_of (Register pd base rights octets answer) = calls.Register pd base rights 
 call_of (Deregister stag answer) = calls.Deregister stag
 call_of (Invalidate stag refused) = calls.Invalidate stag
 call_of (Store stag to octets refused) = calls.Store stag to octets
-call_of (Open stream pd role private refused) = calls.Open stream pd role private
+call_of (Open stream pd role options private refused) = calls.Open stream pd role options private
 call_of (Stream stream act) = calls.Stream stream (stream_call_of act)
 
 abbrev pub event_of : Entry (List ℕ) → Event (List ℕ)

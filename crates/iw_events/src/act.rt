@@ -1,7 +1,7 @@
-use crate::call::{End, Role};
+use crate::call::{End, Options, Role};
 use iw_memory::{DomainRefusal, NoRegion, RegisterRefusal, Right, Rights, StoreRefusal};
 use iw_octets::{Fault, Message, Stag};
-use iw_stream::{Delivery, Kind, PostRefusal, RecvRefusal};
+use iw_stream::{Delivery, Kind, PostRefusal, RecvRefusal, SizeRefusal};
 
 /// Why a stream is not opened: the first reason that holds.
 #[derive(Clone, Copy, Debug, PartialEq, Eq)]
@@ -80,6 +80,10 @@ pub enum StreamAct<O> {
         octets: O,
         delivery: Delivery,
     },
+    Mulpdu {
+        size: u32,
+        refused: Option<SizeRefusal>,
+    },
     Work(Seen<O>),
 }
 
@@ -115,6 +119,7 @@ pub enum Act<O> {
         stream: u8,
         pd: u8,
         role: Role,
+        options: Options,
         private: O,
         refused: Option<OpenRefusal>,
     },

@@ -15,6 +15,15 @@ pub enum Role {
     Preset,
 }
 
+/// What an end asks for on a stream (RFC 5044 7.1): markers in what the peer sends, CRCs in both directions.
+///
+/// With the role `Preset` they hold for both directions at once.
+#[derive(Clone, Copy, Debug, PartialEq, Eq)]
+pub struct Options {
+    pub markers: bool,
+    pub crc: bool,
+}
+
 /// A call of a stream.
 #[derive(Debug, PartialEq, Drop)]
 pub enum StreamCall<O> {
@@ -28,6 +37,8 @@ pub enum StreamCall<O> {
     Deliver { from: u64, len: u64 },
     /// Delivers any octets, the first of them at the stream place `from`.
     Raw { from: u64, octets: O },
+    /// Sets the maximum ULPDU, in octets: the most that a ULPDU has which is sent from then on.
+    Mulpdu { size: u32 },
     /// Does one step of work.
     Work,
 }
@@ -65,6 +76,7 @@ pub enum Call<O> {
         stream: u8,
         pd: u8,
         role: Role,
+        options: Options,
         private: O,
     },
     /// Calls a stream.

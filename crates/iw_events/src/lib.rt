@@ -8,4 +8,4 @@ mod act;
 mod call;
 
 pub use act::{Act, Entry, OpenRefusal, Seen, Shown, StreamAct};
-pub use call::{Call, End, Event, Role, StreamCall};
+pub use call::{Call, End, Event, Options, Role, StreamCall};

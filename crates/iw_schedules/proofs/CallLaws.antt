@@ -3,9 +3,9 @@ use Rattle.std.proofs.Common.{◌≡◌, ◌⊎◌, inl, inr, ℕ, ◌-◌, ◌^
 use Rattle.std.specs.Str.{bytes_eq}
 use Rattle.std.proofs.lemmas.Slice.Eq.{bytes_eq-Decides}
 use Rattle.iw_events.specs.declared.call.Call.{Call}
-use Rattle.iw_events.specs.declared.call.Call.TheVariants.{Domain, Register, Deregister, Open, Stream}
+use Rattle.iw_events.specs.declared.call.Call.TheVariants.{Domain, Register, Deregister, Invalidate, Store, Open, Stream}
 use Rattle.iw_octets.specs.declared.message.Message.TheVariants as messages
-use Rattle.iw_events.specs.declared.call.StreamCall.TheVariants.{Recv, Post, Emit, Deliver, Work}
+use Rattle.iw_events.specs.declared.call.StreamCall.TheVariants.{Recv, Post, Emit, Deliver, Raw, Mulpdu, Work}
 use Rattle.iw_schedules.specs.declared.fault.FaultName.{FaultName}
 use Rattle.iw_schedules.specs.declared.kinds.TheConstants.{MOST_OCTETS}
 use Rattle.iw_schedules.specs.declared.words.CallWord.{CallWord}
@@ -13,12 +13,14 @@ use Rattle.iw_schedules.specs.declared.words.CallWord.TheVariants as named
 use Rattle.iw_schedules.specs.declared.calls.Step.TheVariants as steps
 use Rattle.iw_schedules.specs.Reading.{◌>>=◌}
 use Rattle.iw_schedules.specs.Kinds.{number_word, times_word, stag_word, octets_word, private_word}
-use Rattle.iw_schedules.specs.FirstPath.{role_word, options_word, rights_word, kind_word, is_solicited, invalidated_word}
+use Rattle.iw_schedules.specs.FirstPath.{role_word, kind_word, is_solicited, invalidated_word}
 use Rattle.iw_schedules.specs.FirstPath.IsKind.{plain}
+use Rattle.iw_schedules.specs.Rights.{rights_word}
+use Rattle.iw_schedules.specs.Options.{options_word}
 use Rattle.iw_schedules.specs.Words.{one_of, call_text, call_words, call_word}
-use Rattle.iw_schedules.specs.Calls.{field, octet_number, long_number, times_at, one, domain_at, register_at, deregister_at, open_at, recv_at, send_at, write_at, steps_at, deliver_at, behind, calls_at}
+use Rattle.iw_schedules.specs.Calls.{field, octet_number, long_number, size_number, times_at, one, domain_at, register_at, deregister_at, invalidate_at, store_at, open_at, recv_at, send_at, write_at, steps_at, deliver_at, raw_at, mulpdu_at, behind, calls_at}
 use Rattle.iw_schedules.specs.Grammar.{Word, IsTimes, IsCall}
-use Rattle.iw_schedules.specs.Grammar.IsCall.{domain, register, deregister, opening, recv, send, write, emit, emit_times, work, work_times, deliver}
+use Rattle.iw_schedules.specs.Grammar.IsCall.{domain, register, deregister, invalidate, store, opening, recv, send, write, emit, emit_times, work, work_times, deliver, raw, mulpdu}
 use Rattle.iw_schedules.proofs.KindLaws.{bind_ok, okay, number_is, number_again, times_is, times_again, stag_is, stag_again, octets_is, octets_again, private_is, private_again, rights_is, rights_again, role_is, role_again, options_are, options_again, kind_is}
 
 abbrev Calls : Type 0
@@ -84,6 +86,27 @@ deregister_is words calls e =
     let f = field_is stag_word words a.0 a.1 in
     stands_for _ (codes "deregister" ∷ f.word ∷ []) calls _ (cc (f.words_are, end.1)) end.0 (deregister (stag_is f.word a.0.0 f.value))
 
+pub invalidate_is : (words : List Word) (calls : Calls) → invalidate_at words ≡ Ok (calls, []) → IsCall (codes "invalidate" ∷ words) calls
+unfolding invalidate_at
+invalidate_is words calls e =
+    let a = bind_ok (field stag_word words) _ (calls, []) e in
+    let end = ended calls (one (Invalidate a.0.0)) a.0.1 a.2 in
+    let f = field_is stag_word words a.0 a.1 in
+    stands_for _ (codes "invalidate" ∷ f.word ∷ []) calls _ (cc (f.words_are, end.1)) end.0 (invalidate (stag_is f.word a.0.0 f.value))
+
+pub store_is : (words : List Word) (calls : Calls) → store_at words ≡ Ok (calls, []) → IsCall (codes "store" ∷ words) calls
+unfolding store_at
+store_is words calls e =
+    let a = bind_ok (field stag_word words) _ (calls, []) e in
+    let b = bind_ok (field long_number a.0.1) _ (calls, []) a.2 in
+    let c = bind_ok (field octets_word b.0.1) _ (calls, []) b.2 in
+    let end = ended calls (one (Store a.0.0 b.0.0 c.0.0)) c.0.1 c.2 in
+    let f = field_is stag_word words a.0 a.1 in
+    let g = field_is long_number a.0.1 b.0 b.1 in
+    let h = field_is octets_word b.0.1 c.0 c.1 in
+    stands_for _ (codes "store" ∷ f.word ∷ g.word ∷ h.word ∷ []) calls _ (cc (f.words_are, g.words_are, h.words_are, end.1)) end.0
+    (store (stag_is f.word a.0.0 f.value) (number_is (2 ^ 64 - 1) g.word b.0.0 g.value) (octets_is h.word c.0.0 h.value))
+
 pub open_is : (words : List Word) (calls : Calls) → open_at words ≡ Ok (calls, []) → IsCall (codes "open" ∷ words) calls
 unfolding open_at
 open_is words calls e =
@@ -92,7 +115,7 @@ open_is words calls e =
     let c = bind_ok (field role_word b.0.1) _ (calls, []) b.2 in
     let d = bind_ok (field options_word c.0.1) _ (calls, []) c.2 in
     let o = bind_ok (field private_word d.0.1) _ (calls, []) d.2 in
-    let end = ended calls (one (Open a.0.0 b.0.0 c.0.0 o.0.0)) o.0.1 o.2 in
+    let end = ended calls (one (Open a.0.0 b.0.0 c.0.0 d.0.0 o.0.0)) o.0.1 o.2 in
     let f = field_is octet_number words a.0 a.1 in
     let g = field_is octet_number a.0.1 b.0 b.1 in
     let h = field_is role_word b.0.1 c.0 c.1 in
@@ -158,6 +181,30 @@ deliver_is words calls e =
     stands_for _ (codes "deliver" ∷ f.word ∷ g.word ∷ h.word ∷ []) calls _ (cc (f.words_are, g.words_are, h.words_are, end.1)) end.0
     (deliver (number_is 255 f.word a.0.0 f.value) (number_is (2 ^ 64 - 1) g.word b.0.0 g.value) (number_is (2 ^ 64 - 1) h.word c.0.0 h.value))
 
+pub raw_is : (words : List Word) (calls : Calls) → raw_at words ≡ Ok (calls, []) → IsCall (codes "raw" ∷ words) calls
+unfolding raw_at
+raw_is words calls e =
+    let a = bind_ok (field octet_number words) _ (calls, []) e in
+    let b = bind_ok (field long_number a.0.1) _ (calls, []) a.2 in
+    let c = bind_ok (field octets_word b.0.1) _ (calls, []) b.2 in
+    let end = ended calls (one (Stream a.0.0 (Raw b.0.0 c.0.0))) c.0.1 c.2 in
+    let f = field_is octet_number words a.0 a.1 in
+    let g = field_is long_number a.0.1 b.0 b.1 in
+    let h = field_is octets_word b.0.1 c.0 c.1 in
+    stands_for _ (codes "raw" ∷ f.word ∷ g.word ∷ h.word ∷ []) calls _ (cc (f.words_are, g.words_are, h.words_are, end.1)) end.0
+    (raw (number_is 255 f.word a.0.0 f.value) (number_is (2 ^ 64 - 1) g.word b.0.0 g.value) (octets_is h.word c.0.0 h.value))
+
+pub mulpdu_is : (words : List Word) (calls : Calls) → mulpdu_at words ≡ Ok (calls, []) → IsCall (codes "mulpdu" ∷ words) calls
+unfolding mulpdu_at
+mulpdu_is words calls e =
+    let a = bind_ok (field octet_number words) _ (calls, []) e in
+    let b = bind_ok (field size_number a.0.1) _ (calls, []) a.2 in
+    let end = ended calls (one (Stream a.0.0 (Mulpdu b.0.0))) b.0.1 b.2 in
+    let f = field_is octet_number words a.0 a.1 in
+    let g = field_is size_number a.0.1 b.0 b.1 in
+    stands_for _ (codes "mulpdu" ∷ f.word ∷ g.word ∷ []) calls _ (cc (f.words_are, g.words_are, end.1)) end.0
+    (mulpdu (number_is 255 f.word a.0.0 f.value) (number_is (2 ^ 32 - 1) g.word b.0.0 g.value))
+
 -- ---- equal calls
 
 times_told : (words : List Word) (y : ℕ × List Word) → times_at words ≡ Ok y → ((words ≡ []) × (y.1 ≡ []) × (1 ≡ y.0)) ⊎ ((word : Word) × (words ≡ word ∷ y.1) × IsTimes word y.0)
@@ -212,6 +259,8 @@ behind_is : (call : CallWord) (words : List Word) (calls : Calls) → behind cal
 behind_is named.Domain words calls e = domain_is words calls e
 behind_is named.Register words calls e = register_is words calls e
 behind_is named.Deregister words calls e = deregister_is words calls e
+behind_is named.Invalidate words calls e = invalidate_is words calls e
+behind_is named.Store words calls e = store_is words calls e
 behind_is named.Open words calls e = open_is words calls e
 behind_is named.Recv words calls e = recv_is words calls e
 behind_is named.Send words calls e = send_is words calls e
@@ -219,9 +268,8 @@ behind_is named.Write words calls e = write_is words calls e
 behind_is named.Emit words calls e = emit_is words calls e
 behind_is named.Work words calls e = work_is words calls e
 behind_is named.Deliver words calls e = deliver_is words calls e
-behind_is named.Invalidate words calls e = absurd cc
-behind_is named.Store words calls e = absurd cc
-behind_is named.Raw words calls e = absurd cc
+behind_is named.Raw words calls e = raw_is words calls e
+behind_is named.Mulpdu words calls e = mulpdu_is words calls e
 
 pub calls_are : (words : List Word) (calls : Calls) → calls_at words ≡ Ok (calls, []) → IsCall words calls
 unfolding calls_at
@@ -232,11 +280,13 @@ calls_are words calls e =
     subst (λ ws. IsCall ws calls) (cc (f.words_are, text)) (behind_is a.0.0 a.0.1 calls a.2)
 
 pub calls_again : (words : List Word) (calls : Calls) → IsCall words calls → calls_at words ≡ Ok (calls, [])
-unfolding calls_at call_word domain_at register_at deregister_at open_at recv_at send_at write_at steps_at deliver_at
+unfolding calls_at call_word domain_at register_at deregister_at invalidate_at store_at open_at recv_at send_at write_at steps_at deliver_at raw_at mulpdu_at
 calls_again words calls (domain {a} {pd} p) = rw (number_again 255 a pd p) refl
 calls_again words calls (register {a} {b} {c} {d} {pd} {base} {rights} {octets} p q r s) = rw (number_again 255 a pd p, number_again (2 ^ 64 - 1) b base q, rights_again c rights r, octets_again d octets s) refl
 calls_again words calls (deregister {a} {stag} p) = rw (stag_again a stag p) refl
-calls_again words calls (opening {a} {b} {c} {d} {e} {stream} {pd} {role} {private} p q r s t) = rw (number_again 255 a stream p, number_again 255 b pd q, role_again c role r, options_again d s, private_again e private t) refl
+calls_again words calls (invalidate {a} {stag} p) = rw (stag_again a stag p) refl
+calls_again words calls (store {a} {b} {c} {stag} {to} {octets} p q r) = rw (stag_again a stag p, number_again (2 ^ 64 - 1) b to q, octets_again c octets r) refl
+calls_again words calls (opening {a} {b} {c} {d} {e} {stream} {pd} {role} {options} {private} p q r s t) = rw (number_again 255 a stream p, number_again 255 b pd q, role_again c role r, options_again d options s, private_again e private t) refl
 calls_again words calls (recv {a} {b} {stream} {len} p q) = rw (number_again 255 a stream p, number_again MOST_OCTETS b len q) refl
 calls_again words calls (send {a} {b} {c} {d} {stream} {solicited} {invalidate} {octets} p plain r) = rw (number_again 255 a stream p, octets_again d octets r) refl
 calls_again words calls (write {a} {b} {c} {d} {stream} {to} {stag} {octets} p q r s) = rw (number_again 255 a stream p, stag_again b stag q, number_again (2 ^ 64 - 1) c to r, octets_again d octets s) refl
@@ -245,3 +295,5 @@ calls_again words calls (emit_times {a} {b} {stream} {n} p q) = rw (number_again
 calls_again words calls (work {a} {stream} p) = rw (number_again 255 a stream p) refl
 calls_again words calls (work_times {a} {b} {stream} {n} p q) = rw (number_again 255 a stream p, times_again b n q) refl
 calls_again words calls (deliver {a} {b} {c} {stream} {from} {len} p q r) = rw (number_again 255 a stream p, number_again (2 ^ 64 - 1) b from q, number_again (2 ^ 64 - 1) c len r) refl
+calls_again words calls (raw {a} {b} {c} {stream} {from} {octets} p q r) = rw (number_again 255 a stream p, number_again (2 ^ 64 - 1) b from q, octets_again c octets r) refl
+calls_again words calls (mulpdu {a} {b} {stream} {size} p q) = rw (number_again 255 a stream p, number_again (2 ^ 32 - 1) b size q) refl

@@ -1,12 +1,13 @@
 -- Each kind of word is read as the grammar says, and nothing else is.
-use Rattle.std.proofs.Common.{◌≡◌, ℕ, ◌*◌, ◌<◌, ◌≤◌, Bool, true, false, cond, ◌&&◌, ltb, leb, eqb, List, [], ◌∷◌, ◌++◌, length, Option, Some, None, Result, Ok, Err, refl, sym, ap, subst, ◌∙◌, codes, arith}
-use Rattle.std.specs.Prelude.{MatchOption}
+use Rattle.std.proofs.Common.{◌≡◌, ℕ, ◌*◌, ◌<◌, ◌≤◌, Bool, true, false, cond, ◌&&◌, ltb, leb, eqb, List, [], ◌∷◌, ◌++◌, length, Option, Some, None, Result, Ok, Err, refl, sym, ap, subst, ◌∙◌, codes, arith, append_assoc, not, suc}
+use Rattle.std.specs.Prelude.{MatchOption, nat_lt}
+use Rattle.std.proofs.lemmas.Bool.Decides.{nat_tests}
 use Rattle.std.specs.List.{repeat, AllPass}
 use Rattle.std.proofs.lemmas.List.{append-nil, length-append}
 use Rattle.std.proofs.lemmas.List.Elements.{All-head, All-tail}
 use Rattle.std.specs.Str.{bytes_eq}
 use Rattle.std.specs.Str.Parse.{digits_value}
-use Rattle.std.proofs.lemmas.Bool.{ltb-true, lt-ltb, leb-true, le-leb, eqb-true, ne_eqb}
+use Rattle.std.proofs.lemmas.Bool.{true≢false, ltb-true, lt-ltb, leb-true, le-leb, eqb-true, ne_eqb}
 use Rattle.std.proofs.lemmas.Slice.Eq.{bytes_eq-Decides}
 use Rattle.hex.specs.declared.error.FromHexError.{FromHexError}
 use Rattle.hex.specs.Hex.{decode_of, decode_sized, is_hex_digit}
@@ -16,6 +17,7 @@ use Rattle.iw_octets.specs.Stag.{stag_at}
 use Rattle.iw_memory.specs.declared.rights.Rights.{Rights}
 use Rattle.iw_events.specs.declared.call.Role.{Role}
 use Rattle.iw_events.specs.declared.call.Role.TheVariants.{Preset}
+use Rattle.iw_events.specs.declared.call.Options.{Options}
 use Rattle.iw_schedules.specs.declared.first_path.SendKind.{SendKind}
 use Rattle.iw_schedules.specs.declared.first_path.SendKind.TheVariants.{Plain}
 use Rattle.iw_schedules.specs.declared.fault.FaultName.{FaultName}
@@ -24,12 +26,15 @@ use Rattle.iw_schedules.specs.declared.kinds.TheConstants.{MOST_OCTETS, MOST_PRI
 use Rattle.iw_schedules.specs.Reading.{◌>>=◌, or_fault}
 use Rattle.iw_schedules.specs.Pieces.{split_at_first}
 use Rattle.iw_schedules.specs.Kinds.{is_decimal, number_word, times_word, stag_word, hex_word, count_word, octets_word, private_word}
-use Rattle.iw_schedules.specs.FirstPath.{role_word, options_word, rights_word, only_write, kind_word, is_solicited, invalidated_word, IsRole, IsOptions, IsRights, IsKind}
+use Rattle.iw_schedules.specs.FirstPath.{role_word, kind_word, is_solicited, invalidated_word, IsRole, IsKind}
+use Rattle.iw_schedules.specs.Letters.{letter_if, letter_at}
+use Rattle.iw_schedules.specs.Rights.{no_rights, letters_of, lettered, rights_word, IsRights}
+use Rattle.iw_schedules.specs.Rights.IsRights.{none_granted, granted}
+use Rattle.iw_schedules.specs.Options.{no_options, option_letters, optional, options_word, IsOptions}
+use Rattle.iw_schedules.specs.Options.IsOptions.{none_asked, asked}
 use Rattle.iw_schedules.specs.Grammar.{Word, IsNumber, IsTimes, IsHex, IsStag, IsOctets, IsPrivate}
 use Rattle.iw_schedules.specs.Grammar.IsOctets.{none, once, repeated}
 use Rattle.iw_schedules.specs.FirstPath.IsRole.{preset}
-use Rattle.iw_schedules.specs.FirstPath.IsOptions.{no_options}
-use Rattle.iw_schedules.specs.FirstPath.IsRights.{no_right, write_right}
 use Rattle.iw_schedules.specs.FirstPath.IsKind.{plain}
 
 -- ---- steps
@@ -206,25 +211,137 @@ pub private_again : (word octets : List ℕ) → IsPrivate word octets → priva
 unfolding private_word
 private_again word octets is = rw (octets_again word octets is.digits, le-leb (length octets) MOST_PRIVATE is.few) refl
 
+-- ---- letters
+
+-- a letter that stands at the front, and what stands behind it, are the word
+letter_told : (letter : ℕ) (word : Word) → letter_if (letter_at letter word).0 letter ++ (letter_at letter word).1 ≡ word
+letter_told letter [] = refl
+letter_told letter (x ∷ xs) =
+    let some : nat_lt 0 (length (x ∷ xs)) ≡ true = grind (arith, nat_tests) in rw some (go (eqb x letter) refl)
+  where
+    go : (b : Bool) → eqb x letter ≡ b → letter_if (cond {A = Bool × Word} b (true, xs) (false, x ∷ xs)).0 letter ++ (cond {A = Bool × Word} b (true, xs) (false, x ∷ xs)).1 ≡ x ∷ xs
+    go true e = ap (λ y. y ∷ xs) (sym (eqb-true x letter e))
+    go false e = refl
+
+nothing_left : (word : Word) → eqb (length word) 0 ≡ true → word ≡ []
+nothing_left word e = go word (eqb-true (length word) 0 e)
+  where
+    some : (n : ℕ) → suc n ≡ 0 → ⊥
+    some n h = omega (arith, h)
+
+    go : (word : Word) → length word ≡ 0 → word ≡ []
+    go [] h = refl
+    go (x ∷ xs) h = absurd (some (length xs) h)
+
+something : (word : Word) → eqb (length word) 0 ≡ false → 0 < length word
+something [] e = absurd (true≢false e)
+something (x ∷ xs) e = omega arith
+
+-- a dash for nothing, or else letters
+dash_or : {X : Type 0} (Is : Word → X → Type 0) (word : Word) (nothing x : X) (read : Result X FaultName) (d n : Bool) → bytes_eq word (codes "-") ≡ d → eqb (length word) 0 ≡ n
+    → Is (codes "-") nothing → (0 < length word → read ≡ Ok x → Is word x) → cond d (Ok nothing) (cond n (Err BadOctets) read) ≡ Ok x → Is word x
+dash_or Is word nothing x read true n is_d is_n dash letters e =
+    let same = (bytes_eq-Decides word (codes "-")).0 is_d in
+    let value : nothing ≡ x = cc in
+    subst (λ w. Is w x) (sym same) (subst (Is (codes "-")) value dash)
+dash_or Is word nothing x read false true is_d is_n dash letters e = absurd cc
+dash_or Is word nothing x read false false is_d is_n dash letters e = letters (something word is_n) e
+
 -- ---- rights
 
-rights_told : (word : Word) (rights : Rights) (w d : Bool) → bytes_eq word (codes "w") ≡ w → bytes_eq word (codes "-") ≡ d → rights_word word ≡ Ok rights → IsRights word rights
-rights_told word rights true d is_w is_d e =
-    let same : word ≡ codes "w" = (bytes_eq-Decides word (codes "w")).0 is_w in
-    let value : only_write true ≡ rights = cc (rw is_w at e) in
-    subst (λ x. IsRights x rights) (sym same) (subst (λ r. IsRights (codes "w") r) value write_right)
-rights_told word rights false true is_w is_d e =
-    let same : word ≡ codes "-" = (bytes_eq-Decides word (codes "-")).0 is_d in
-    let value : only_write false ≡ rights = cc (rw (is_w, is_d) at e) in
-    subst (λ x. IsRights x rights) (sym same) (subst (λ r. IsRights (codes "-") r) value no_right)
-rights_told word rights false false is_w is_d e = absurd (cc (rw (is_w, is_d) at e))
+lettered_is : (word : Word) (rights : Rights) → 0 < length word → lettered word ≡ Ok rights → IsRights word rights
+unfolding lettered
+lettered_is word rights some e =
+    let w = letter_at 119 word in
+    let r = letter_at 114 w.1 in
+    let s = letter_at 115 r.1 in
+    let i = letter_at 105 s.1 in
+    let found : Rights = record { write = w.0; read = r.0; sink = s.0; invalidate = i.0 } in
+    let all : letters_of found ++ i.1 ≡ word =
+    append_assoc (letter_if w.0 119 ++ letter_if r.0 114 ++ letter_if s.0 115) (letter_if i.0 105) i.1
+    ∙ ap (λ z. (letter_if w.0 119 ++ letter_if r.0 114 ++ letter_if s.0 115) ++ z) (letter_told 105 s.1)
+    ∙ append_assoc (letter_if w.0 119 ++ letter_if r.0 114) (letter_if s.0 115) s.1
+    ∙ ap (λ z. (letter_if w.0 119 ++ letter_if r.0 114) ++ z) (letter_told 115 r.1)
+    ∙ append_assoc (letter_if w.0 119) (letter_if r.0 114) r.1
+    ∙ ap (λ z. letter_if w.0 119 ++ z) (letter_told 114 w.1)
+    ∙ letter_told 119 word in
+    go (eqb (length i.1) 0) refl found all e
+  where
+    go : (b : Bool) → eqb (length (letter_at 105 (letter_at 115 (letter_at 114 (letter_at 119 word).1).1).1).1) 0 ≡ b → (found : Rights)
+        → letters_of found ++ (letter_at 105 (letter_at 115 (letter_at 114 (letter_at 119 word).1).1).1).1 ≡ word
+        → cond (not b) (Err BadOctets) (Ok found) ≡ Ok rights → IsRights word rights
+    go false h found all e = absurd cc
+    go true h found all e =
+        let left = nothing_left _ h in
+        let is : letters_of found ≡ word = sym (append-nil (letters_of found)) ∙ ap (λ z. letters_of found ++ z) (sym left) ∙ all in
+        let same : found ≡ rights = cc in
+        subst (IsRights word) same (subst (λ z. IsRights z found) is (granted (subst (λ z. 0 < length z) (sym is) some)))
 
 pub rights_is : (word : Word) (rights : Rights) → rights_word word ≡ Ok rights → IsRights word rights
-rights_is word rights e = rights_told word rights (bytes_eq word (codes "w")) (bytes_eq word (codes "-")) refl refl e
+rights_is word rights e =
+    dash_or IsRights word no_rights rights (lettered word) (bytes_eq word (codes "-")) (eqb (length word) 0) refl refl none_granted (lettered_is word rights) e
+
+letters_again : (w r s i : Bool) → 0 < length (letters_of (record { write = w; read = r; sink = s; invalidate = i })) → rights_word (letters_of (record { write = w; read = r; sink = s; invalidate = i })) ≡ Ok (record { write = w; read = r; sink = s; invalidate = i })
+unfolding lettered
+letters_again false false false false h = absurd (omega (arith, h))
+letters_again true false false false h = refl
+letters_again false true false false h = refl
+letters_again true true false false h = refl
+letters_again false false true false h = refl
+letters_again true false true false h = refl
+letters_again false true true false h = refl
+letters_again true true true false h = refl
+letters_again false false false true h = refl
+letters_again true false false true h = refl
+letters_again false true false true h = refl
+letters_again true true false true h = refl
+letters_again false false true true h = refl
+letters_again true false true true h = refl
+letters_again false true true true h = refl
+letters_again true true true true h = refl
 
 pub rights_again : (word : Word) (rights : Rights) → IsRights word rights → rights_word word ≡ Ok rights
-rights_again word rights no_right = refl
-rights_again word rights write_right = refl
+rights_again word all none_granted = refl
+rights_again word all (granted {rights} some) = letters_again rights.write rights.read rights.sink rights.invalidate some
+
+-- ---- options
+
+optional_is : (word : Word) (options : Options) → 0 < length word → optional word ≡ Ok options → IsOptions word options
+unfolding optional
+optional_is word options some e =
+    let m = letter_at 109 word in
+    let c = letter_at 99 m.1 in
+    let found : Options = record { markers = m.0; crc = c.0 } in
+    let all : option_letters found ++ c.1 ≡ word =
+    append_assoc (letter_if m.0 109) (letter_if c.0 99) c.1
+    ∙ ap (λ z. letter_if m.0 109 ++ z) (letter_told 99 m.1)
+    ∙ letter_told 109 word in
+    go (eqb (length c.1) 0) refl found all e
+  where
+    go : (b : Bool) → eqb (length (letter_at 99 (letter_at 109 word).1).1) 0 ≡ b → (found : Options)
+        → option_letters found ++ (letter_at 99 (letter_at 109 word).1).1 ≡ word
+        → cond (not b) (Err BadOctets) (Ok found) ≡ Ok options → IsOptions word options
+    go false h found all e = absurd cc
+    go true h found all e =
+        let left = nothing_left _ h in
+        let is : option_letters found ≡ word = sym (append-nil (option_letters found)) ∙ ap (λ z. option_letters found ++ z) (sym left) ∙ all in
+        let same : found ≡ options = cc in
+        subst (IsOptions word) same (subst (λ z. IsOptions z found) is (asked (subst (λ z. 0 < length z) (sym is) some)))
+
+pub options_are : (word : Word) (options : Options) → options_word word ≡ Ok options → IsOptions word options
+options_are word options e =
+    dash_or IsOptions word no_options options (optional word) (bytes_eq word (codes "-")) (eqb (length word) 0) refl refl none_asked (optional_is word options) e
+
+asked_again : (m c : Bool) → 0 < length (option_letters (record { markers = m; crc = c })) → options_word (option_letters (record { markers = m; crc = c })) ≡ Ok (record { markers = m; crc = c })
+unfolding optional
+asked_again false false h = absurd (omega (arith, h))
+asked_again true false h = refl
+asked_again false true h = refl
+asked_again true true h = refl
+
+pub options_again : (word : Word) (options : Options) → IsOptions word options → options_word word ≡ Ok options
+options_again word all none_asked = refl
+options_again word all (asked {options} some) = asked_again options.markers options.crc some
 
 -- ---- fixed words of the first path
 
@@ -240,14 +357,6 @@ role_is word role e =
 
 pub role_again : (word : Word) (role : Role) → IsRole word role → role_word word ≡ Ok role
 role_again word role preset = refl
-
-pub options_are : (word : Word) (unit : Unit {0}) → options_word word ≡ Ok unit → IsOptions word
-options_are word unit e =
-    let f = fixed word (codes "-") (bytes_eq word (codes "-")) BadOctets tt unit refl e in
-    subst IsOptions (sym f.0) no_options
-
-pub options_again : (word : Word) → IsOptions word → options_word word ≡ Ok tt
-options_again word no_options = refl
 
 pub kind_is : (word stag_word : Word) (kind : SendKind) (stag : Option Stag) → kind_word word ≡ Ok kind → invalidated_word kind stag_word ≡ Ok stag → IsKind word stag_word (is_solicited kind) stag
 kind_is word stag_word Plain stag k s =

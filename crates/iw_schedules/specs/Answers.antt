@@ -13,14 +13,16 @@ use Rattle.iw_memory.specs.declared.refusal.StoreRefusal.{StoreRefusal}
 use Rattle.iw_memory.specs.declared.refusal.StoreRefusal.TheVariants as stores
 use Rattle.iw_memory.specs.declared.rights.Right.{Right}
 use Rattle.iw_memory.specs.declared.rights.Right.TheVariants as rights
-use Rattle.iw_stream.specs.declared.answer.Kind.{Kind}
-use Rattle.iw_stream.specs.declared.answer.Kind.TheVariants as kinds
+use Rattle.iw_ranges.specs.declared.Delivery.{Delivery}
+use Rattle.iw_ranges.specs.declared.Delivery.TheVariants as deliveries
+use Rattle.iw_queues.specs.declared.request.Kind.{Kind}
+use Rattle.iw_queues.specs.declared.request.Kind.TheVariants as kinds
 use Rattle.iw_stream.specs.declared.answer.PostRefusal.{PostRefusal}
 use Rattle.iw_stream.specs.declared.answer.PostRefusal.TheVariants as posts
 use Rattle.iw_stream.specs.declared.answer.RecvRefusal.{RecvRefusal}
 use Rattle.iw_stream.specs.declared.answer.RecvRefusal.TheVariants as recvs
-use Rattle.iw_stream.specs.declared.answer.Delivery.{Delivery}
-use Rattle.iw_stream.specs.declared.answer.Delivery.TheVariants as deliveries
+use Rattle.iw_stream.specs.declared.answer.SizeRefusal.{SizeRefusal}
+use Rattle.iw_stream.specs.declared.answer.SizeRefusal.TheVariants as sizes
 use Rattle.iw_events.specs.declared.act.OpenRefusal.{OpenRefusal}
 use Rattle.iw_events.specs.declared.act.OpenRefusal.TheVariants as opens
 use Rattle.iw_events.specs.declared.act.Shown.{Shown}
@@ -85,6 +87,9 @@ post_refusal posts.TooLong = (2, codes "TooLong")
 post_refusal posts.NotOpen = (3, codes "NotOpen")
 post_refusal posts.NoMemory = (4, codes "NoMemory")
 
+abbrev pub size_refusal : SizeRefusal → Numbered
+size_refusal sizes.BadSize = (1, codes "BadSize")
+
 abbrev pub refused : Numbered → Words
 refused refusal = codes "refused" ∷ decimal refusal.0 ∷ refusal.1 ∷ []
 
@@ -97,6 +102,7 @@ ok_or_refused (Some refusal) = refused refusal
 abbrev pub kind_text : Kind → List ℕ
 kind_text kinds.Write = codes "write"
 kind_text kinds.Send = codes "send"
+kind_text kinds.Read = codes "read"
 
 -- the use that was made of a region
 abbrev pub right_text : Right → List ℕ

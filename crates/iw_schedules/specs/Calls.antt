@@ -2,9 +2,9 @@
 use Rattle.std.specs.Prelude.{ℕ, ◌-◌, ◌^◌, List, [], ◌∷◌, replicate, Result, Ok, Err}
 use Rattle.iw_octets.specs.declared.message.Message.TheVariants as messages
 use Rattle.iw_events.specs.declared.call.Call.{Call}
-use Rattle.iw_events.specs.declared.call.Call.TheVariants.{Domain, Register, Deregister, Open, Stream}
+use Rattle.iw_events.specs.declared.call.Call.TheVariants.{Domain, Register, Deregister, Invalidate, Store, Open, Stream}
 use Rattle.iw_events.specs.declared.call.StreamCall.{StreamCall}
-use Rattle.iw_events.specs.declared.call.StreamCall.TheVariants.{Recv, Post, Emit, Deliver, Work}
+use Rattle.iw_events.specs.declared.call.StreamCall.TheVariants.{Recv, Post, Emit, Deliver, Raw, Mulpdu, Work}
 use Rattle.iw_schedules.specs.declared.fault.FaultName.{FaultName}
 use Rattle.iw_schedules.specs.declared.fault.FaultName.TheVariants.{BadWord}
 use Rattle.iw_schedules.specs.declared.kinds.TheConstants.{MOST_OCTETS}
@@ -16,7 +16,9 @@ use Rattle.iw_schedules.specs.declared.calls.Step.{Step}
 use Rattle.iw_schedules.specs.declared.calls.Step.TheVariants as steps
 use Rattle.iw_schedules.specs.Reading.{◌>>=◌}
 use Rattle.iw_schedules.specs.Kinds.{number_word, times_word, stag_word, octets_word, private_word}
-use Rattle.iw_schedules.specs.FirstPath.{role_word, options_word, rights_word, kind_word, is_solicited, invalidated_word}
+use Rattle.iw_schedules.specs.FirstPath.{role_word, kind_word, is_solicited, invalidated_word}
+use Rattle.iw_schedules.specs.Rights.{rights_word}
+use Rattle.iw_schedules.specs.Options.{options_word}
 use Rattle.iw_schedules.specs.Words.{call_word}
 
 -- a value, and the words behind it
@@ -37,6 +39,9 @@ octet_number word = number_word 255 word
 
 abbrev pub long_number : List ℕ → Result ℕ FaultName
 long_number word = number_word (2 ^ 64 - 1) word
+
+abbrev pub size_number : List ℕ → Result ℕ FaultName
+size_number word = number_word (2 ^ 32 - 1) word
 
 -- how often, and once where the word is left out
 abbrev pub times_at : List (List ℕ) → Taken ℕ
@@ -64,6 +69,18 @@ deregister_at words = do
   stag ← field stag_word words
   Ok (one (Deregister stag.0), stag.1)
 
+unfoldable pub invalidate_at : List (List ℕ) → Taken (List (Call (List ℕ)))
+invalidate_at words = do
+  stag ← field stag_word words
+  Ok (one (Invalidate stag.0), stag.1)
+
+unfoldable pub store_at : List (List ℕ) → Taken (List (Call (List ℕ)))
+store_at words = do
+  stag ← field stag_word words
+  to ← field long_number stag.1
+  octets ← field octets_word to.1
+  Ok (one (Store stag.0 to.0 octets.0), octets.1)
+
 unfoldable pub open_at : List (List ℕ) → Taken (List (Call (List ℕ)))
 open_at words = do
   stream ← field octet_number words
@@ -71,7 +88,7 @@ open_at words = do
   role ← field role_word pd.1
   options ← field options_word role.1
   private ← field private_word options.1
-  Ok (one (Open stream.0 pd.0 role.0 private.0), private.1)
+  Ok (one (Open stream.0 pd.0 role.0 options.0 private.0), private.1)
 
 unfoldable pub recv_at : List (List ℕ) → Taken (List (Call (List ℕ)))
 recv_at words = do
@@ -113,11 +130,26 @@ deliver_at words = do
   len ← field long_number from.1
   Ok (one (Stream stream.0 (Deliver from.0 len.0)), len.1)
 
+unfoldable pub raw_at : List (List ℕ) → Taken (List (Call (List ℕ)))
+raw_at words = do
+  stream ← field octet_number words
+  from ← field long_number stream.1
+  octets ← field octets_word from.1
+  Ok (one (Stream stream.0 (Raw from.0 octets.0)), octets.1)
+
+unfoldable pub mulpdu_at : List (List ℕ) → Taken (List (Call (List ℕ)))
+mulpdu_at words = do
+  stream ← field octet_number words
+  size ← field size_number stream.1
+  Ok (one (Stream stream.0 (Mulpdu size.0)), size.1)
+
 -- what stands behind each word that names a call
 abbrev pub behind : CallWord → List (List ℕ) → Taken (List (Call (List ℕ)))
 behind named.Domain words = domain_at words
 behind named.Register words = register_at words
 behind named.Deregister words = deregister_at words
+behind named.Invalidate words = invalidate_at words
+behind named.Store words = store_at words
 behind named.Open words = open_at words
 behind named.Recv words = recv_at words
 behind named.Send words = send_at words
@@ -125,9 +157,8 @@ behind named.Write words = write_at words
 behind named.Emit words = steps_at steps.Emit words
 behind named.Work words = steps_at steps.Work words
 behind named.Deliver words = deliver_at words
-behind named.Invalidate words = Err BadWord
-behind named.Store words = Err BadWord
-behind named.Raw words = Err BadWord
+behind named.Raw words = raw_at words
+behind named.Mulpdu words = mulpdu_at words
 
 unfoldable pub calls_at : List (List ℕ) → Taken (List (Call (List ℕ)))
 calls_at words = do

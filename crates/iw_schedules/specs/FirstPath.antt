@@ -1,12 +1,11 @@
--- What a schedule may say so far: one role, no options, one right, and one kind of Send.
-use Rattle.std.specs.Prelude.{ℕ, true, false, Bool, List, Option, None, codes, Result, Ok, Err, if◌then◌else◌}
+-- What a schedule may say so far: one role, and one kind of Send.
+use Rattle.std.specs.Prelude.{ℕ, false, Bool, List, Option, None, codes, Result, Ok, Err, if◌then◌else◌}
 use Rattle.std.specs.Str.{bytes_eq}
 use Rattle.iw_octets.specs.declared.stag.Stag.{Stag}
 use Rattle.iw_events.specs.declared.call.Role.{Role}
 use Rattle.iw_events.specs.declared.call.Role.TheVariants.{Preset}
-use Rattle.iw_memory.specs.declared.rights.Rights.{Rights}
 use Rattle.iw_schedules.specs.declared.fault.FaultName.{FaultName}
-use Rattle.iw_schedules.specs.declared.fault.FaultName.TheVariants.{BadWord, BadNumber, BadOctets}
+use Rattle.iw_schedules.specs.declared.fault.FaultName.TheVariants.{BadWord, BadNumber}
 use Rattle.iw_schedules.specs.declared.first_path.SendKind.{SendKind}
 use Rattle.iw_schedules.specs.declared.first_path.SendKind.TheVariants.{Plain}
 
@@ -14,18 +13,6 @@ use Rattle.iw_schedules.specs.declared.first_path.SendKind.TheVariants.{Plain}
 
 abbrev pub role_word : List ℕ → Result Role FaultName
 role_word word = if bytes_eq word (codes "preset") then Ok Preset else Err BadWord
-
-abbrev pub options_word : List ℕ → Result (Unit {0}) FaultName
-options_word word = if bytes_eq word (codes "-") then Ok tt else Err BadOctets
-
-abbrev pub only_write : Bool → Rights
-only_write write = record { write = write; read = false; sink = false; invalidate = false }
-
-abbrev pub rights_word : List ℕ → Result Rights FaultName
-rights_word word =
-    if bytes_eq word (codes "w") then Ok (only_write true)
-    else if bytes_eq word (codes "-") then Ok (only_write false)
-    else Err BadOctets
 
 abbrev pub kind_word : List ℕ → Result SendKind FaultName
 kind_word word = if bytes_eq word (codes "plain") then Ok Plain else Err BadWord
@@ -41,13 +28,6 @@ invalidated_word Plain word = if bytes_eq word (codes "-") then Ok None else Err
 
 pub data IsRole : List ℕ → Role → Type 0 where
   preset : IsRole (codes "preset") Preset
-
-pub data IsOptions : List ℕ → Type 0 where
-  no_options : IsOptions (codes "-")
-
-pub data IsRights : List ℕ → Rights → Type 0 where
-  no_right : IsRights (codes "-") (only_write false)
-  write_right : IsRights (codes "w") (only_write true)
 
 -- a kind and the word behind it: whether the Send is solicited, and what it invalidates
 pub data IsKind : List ℕ → List ℕ → Bool → Option Stag → Type 0 where

@@ -9,9 +9,10 @@ use Rattle.iw_octets.specs.declared.message.Message.TheVariants as messages
 use Rattle.iw_memory.specs.declared.rights.Rights.{Rights}
 use Rattle.iw_events.specs.declared.call.End.{End}
 use Rattle.iw_events.specs.declared.call.Role.{Role}
+use Rattle.iw_events.specs.declared.call.Options.{Options}
 use Rattle.iw_events.specs.declared.call.Call.{Call}
-use Rattle.iw_events.specs.declared.call.Call.TheVariants.{Domain, Register, Deregister, Open, Stream}
-use Rattle.iw_events.specs.declared.call.StreamCall.TheVariants.{Recv, Post, Emit, Deliver, Work}
+use Rattle.iw_events.specs.declared.call.Call.TheVariants.{Domain, Register, Deregister, Invalidate, Store, Open, Stream}
+use Rattle.iw_events.specs.declared.call.StreamCall.TheVariants.{Recv, Post, Emit, Deliver, Raw, Mulpdu, Work}
 use Rattle.iw_schedules.specs.declared.fault.FaultName.{FaultName}
 use Rattle.iw_schedules.specs.declared.fault.ScheduleFault.{ScheduleFault}
 use Rattle.iw_schedules.specs.declared.fault.ScheduleFault.TheVariants.{Line, NoMemory}
@@ -19,7 +20,9 @@ use Rattle.iw_schedules.specs.declared.kinds.TheConstants.{MOST_OCTETS, MOST_PRI
 use Rattle.iw_schedules.specs.declared.schedule.TheConstants.{MOST_EVENTS}
 use Rattle.iw_schedules.specs.Pieces.{lines, words}
 use Rattle.iw_schedules.specs.Kinds.{is_decimal}
-use Rattle.iw_schedules.specs.FirstPath.{IsRole, IsOptions, IsRights, IsKind}
+use Rattle.iw_schedules.specs.FirstPath.{IsRole, IsKind}
+use Rattle.iw_schedules.specs.Rights.{IsRights}
+use Rattle.iw_schedules.specs.Options.{IsOptions}
 use Rattle.iw_schedules.specs.Words.{end_text}
 use Rattle.iw_schedules.specs.Calls.{one}
 use Rattle.iw_schedules.specs.Schedule.{Events, is_skipped, event_at, with_line}
@@ -41,6 +44,10 @@ IsOctetNumber word n = IsNumber 255 word n
 
 abbrev pub IsLongNumber : Word → ℕ → Type 0
 IsLongNumber word n = IsNumber (2 ^ 64 - 1) word n
+
+-- the size of a message or of a ULPDU
+abbrev pub IsSize : Word → ℕ → Type 0
+IsSize word n = IsNumber (2 ^ 32 - 1) word n
 
 -- how often an event happens
 pub record IsTimes (word : Word) (n : ℕ) : Type 0 where
@@ -75,8 +82,11 @@ pub data IsCall : List Word → List (Call (List ℕ)) → Type 0 where
   register : {a b c d : Word} {pd base : ℕ} {rights : Rights} {octets : List ℕ} → IsOctetNumber a pd → IsLongNumber b base → IsRights c rights → IsOctets d octets
       → IsCall (codes "register" ∷ a ∷ b ∷ c ∷ d ∷ []) (one (Register pd base rights octets))
   deregister : {a : Word} {stag : Stag} → IsStag a stag → IsCall (codes "deregister" ∷ a ∷ []) (one (Deregister stag))
-  opening : {a b c d e : Word} {stream pd : ℕ} {role : Role} {private : List ℕ} → IsOctetNumber a stream → IsOctetNumber b pd → IsRole c role → IsOptions d → IsPrivate e private
-      → IsCall (codes "open" ∷ a ∷ b ∷ c ∷ d ∷ e ∷ []) (one (Open stream pd role private))
+  invalidate : {a : Word} {stag : Stag} → IsStag a stag → IsCall (codes "invalidate" ∷ a ∷ []) (one (Invalidate stag))
+  store : {a b c : Word} {stag : Stag} {to : ℕ} {octets : List ℕ} → IsStag a stag → IsLongNumber b to → IsOctets c octets
+      → IsCall (codes "store" ∷ a ∷ b ∷ c ∷ []) (one (Store stag to octets))
+  opening : {a b c d e : Word} {stream pd : ℕ} {role : Role} {options : Options} {private : List ℕ} → IsOctetNumber a stream → IsOctetNumber b pd → IsRole c role → IsOptions d options → IsPrivate e private
+      → IsCall (codes "open" ∷ a ∷ b ∷ c ∷ d ∷ e ∷ []) (one (Open stream pd role options private))
   recv : {a b : Word} {stream len : ℕ} → IsOctetNumber a stream → IsNumber MOST_OCTETS b len → IsCall (codes "recv" ∷ a ∷ b ∷ []) (one (Stream stream (Recv len)))
   send : {a b c d : Word} {stream : ℕ} {solicited : Bool} {invalidate : Option Stag} {octets : List ℕ} → IsOctetNumber a stream → IsKind b c solicited invalidate → IsOctets d octets
       → IsCall (codes "send" ∷ a ∷ b ∷ c ∷ d ∷ []) (one (Stream stream (Post (messages.Send octets solicited invalidate))))
@@ -88,6 +98,9 @@ pub data IsCall : List Word → List (Call (List ℕ)) → Type 0 where
   work_times : {a b : Word} {stream n : ℕ} → IsOctetNumber a stream → IsTimes b n → IsCall (codes "work" ∷ a ∷ b ∷ []) (replicate n (Stream stream Work))
   deliver : {a b c : Word} {stream from len : ℕ} → IsOctetNumber a stream → IsLongNumber b from → IsLongNumber c len
       → IsCall (codes "deliver" ∷ a ∷ b ∷ c ∷ []) (one (Stream stream (Deliver from len)))
+  raw : {a b c : Word} {stream from : ℕ} {octets : List ℕ} → IsOctetNumber a stream → IsLongNumber b from → IsOctets c octets
+      → IsCall (codes "raw" ∷ a ∷ b ∷ c ∷ []) (one (Stream stream (Raw from octets)))
+  mulpdu : {a b : Word} {stream size : ℕ} → IsOctetNumber a stream → IsSize b size → IsCall (codes "mulpdu" ∷ a ∷ b ∷ []) (one (Stream stream (Mulpdu size)))
 
 -- an end, and calls at it
 pub record IsLine (line : List ℕ) (events : Events) : Type 0 where

@@ -1,6 +1,9 @@
 pub mod FaultText
 pub mod Reading
 pub mod Pieces
+pub mod Letters
+pub mod Rights
+pub mod Options
 pub mod Words
 pub mod FirstPath
 pub mod Kinds

@@ -11,12 +11,12 @@ use Rattle.iw_memory.specs.declared.refusal.NoRegion.{NoRegion}
 use Rattle.iw_events.specs.declared.act.Act.{Act}
 use Rattle.iw_events.specs.declared.act.Act.TheVariants.{Domain, Register, Deregister, Invalidate, Store, Open, Stream}
 use Rattle.iw_events.specs.declared.act.StreamAct.{StreamAct}
-use Rattle.iw_events.specs.declared.act.StreamAct.TheVariants.{Recv, Post, Emit, Deliver, Raw, Work}
+use Rattle.iw_events.specs.declared.act.StreamAct.TheVariants.{Recv, Post, Emit, Deliver, Raw, Mulpdu, Work}
 use Rattle.iw_events.specs.declared.act.Entry.{Entry}
 use Rattle.iw_schedules.specs.declared.words.CallWord.{CallWord}
 use Rattle.iw_schedules.specs.declared.words.CallWord.TheVariants as named
 use Rattle.iw_schedules.specs.Words.{end_text, call_text}
-use Rattle.iw_schedules.specs.Answers.{Words, octets_text, stag_text, domain_refusal, register_refusal, no_region, store_refusal, open_refusal, recv_refusal, post_refusal, refused, ok_or_refused, delivery_text, shown_words, seen_words}
+use Rattle.iw_schedules.specs.Answers.{Words, octets_text, stag_text, domain_refusal, register_refusal, no_region, store_refusal, open_refusal, recv_refusal, post_refusal, size_refusal, refused, ok_or_refused, delivery_text, shown_words, seen_words}
 
 abbrev pub registered : Result Stag RegisterRefusal → Words
 registered (Ok stag) = stag_text stag ∷ []
@@ -45,6 +45,7 @@ stream_words stream (Post message refusal) = call_text (post_word message) ∷ d
 stream_words stream (Emit shown) = call_text named.Emit ∷ decimal stream ∷ shown_words shown
 stream_words stream (Deliver from octets delivery) = call_text named.Deliver ∷ decimal stream ∷ delivery_text delivery ∷ []
 stream_words stream (Raw from octets delivery) = call_text named.Raw ∷ decimal stream ∷ delivery_text delivery ∷ []
+stream_words stream (Mulpdu size refusal) = call_text named.Mulpdu ∷ decimal stream ∷ ok_or_refused (option_map size_refusal refusal)
 stream_words stream (Work seen) = call_text named.Work ∷ decimal stream ∷ seen_words seen
 
 -- a call with its answer, behind the end
@@ -54,7 +55,7 @@ act_words (Register pd base rights octets answer) = call_text named.Register ∷
 act_words (Deregister stag answer) = call_text named.Deregister ∷ stag_text stag ∷ deregistered answer
 act_words (Invalidate stag refusal) = call_text named.Invalidate ∷ stag_text stag ∷ ok_or_refused (option_map (λ missing. no_region) refusal)
 act_words (Store stag to octets refusal) = call_text named.Store ∷ stag_text stag ∷ ok_or_refused (option_map store_refusal refusal)
-act_words (Open stream pd role private refusal) = call_text named.Open ∷ decimal stream ∷ ok_or_refused (option_map open_refusal refusal)
+act_words (Open stream pd role options private refusal) = call_text named.Open ∷ decimal stream ∷ ok_or_refused (option_map open_refusal refusal)
 act_words (Stream stream act) = stream_words stream act
 
 -- words, with a space before each

@@ -6,7 +6,7 @@ use Rattle.iw_events.specs.declared.call.End.TheVariants.{A, B}
 use Rattle.iw_schedules.specs.declared.fault.FaultName.{FaultName}
 use Rattle.iw_schedules.specs.declared.fault.FaultName.TheVariants.{BadWord}
 use Rattle.iw_schedules.specs.declared.words.CallWord.{CallWord}
-use Rattle.iw_schedules.specs.declared.words.CallWord.TheVariants.{Domain, Register, Deregister, Invalidate, Store, Open, Recv, Send, Write, Emit, Work, Deliver, Raw}
+use Rattle.iw_schedules.specs.declared.words.CallWord.TheVariants.{Domain, Register, Deregister, Invalidate, Store, Open, Recv, Send, Write, Emit, Work, Deliver, Raw, Mulpdu}
 
 -- the one of these that has this text
 abbrev pub one_of : {X : Type 0} → (X → List ℕ) → List X → List ℕ → Result X FaultName
@@ -38,10 +38,10 @@ call_text Emit = codes "emit"
 call_text Work = codes "work"
 call_text Deliver = codes "deliver"
 call_text Raw = codes "raw"
+call_text Mulpdu = codes "mulpdu"
 
--- those that a schedule may say so far
 abbrev pub call_words : List CallWord
-call_words = Domain ∷ Register ∷ Deregister ∷ Open ∷ Recv ∷ Send ∷ Write ∷ Emit ∷ Work ∷ Deliver ∷ []
+call_words = Domain ∷ Register ∷ Deregister ∷ Invalidate ∷ Store ∷ Open ∷ Recv ∷ Send ∷ Write ∷ Emit ∷ Work ∷ Deliver ∷ Raw ∷ Mulpdu ∷ []
 
 unfoldable pub call_word : List ℕ → Result CallWord FaultName
 call_word word = one_of call_text call_words word

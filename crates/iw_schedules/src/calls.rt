@@ -3,11 +3,13 @@
 ghost use Rattle.std.specs.Prelude.{◌≡◌, length};
 ghost use Rattle.iw_schedules.specs.Reading.{Gives};
 ghost use Rattle.iw_schedules.specs.Kinds.{number_word, stag_word, octets_word};
-ghost use Rattle.iw_schedules.specs.Calls.{step_call, calls_of, next_word, field, octet_number, long_number, times_at, domain_at, register_at, deregister_at, open_at, recv_at, send_at, write_at, steps_at, deliver_at, calls_at};
+ghost use Rattle.iw_schedules.specs.Calls.{step_call, calls_of, next_word, field, octet_number, long_number, size_number, times_at, domain_at, register_at, deregister_at, invalidate_at, store_at, open_at, recv_at, send_at, write_at, steps_at, deliver_at, raw_at, mulpdu_at, calls_at};
 
 use crate::fault::{FaultName, ReadError};
 use crate::first_path::SendKind;
+use crate::options::read_options;
 use crate::pieces::Pieces;
+use crate::rights::read_rights;
 use crate::words::CallWord;
 use crate::{first_path, kinds};
 use bytes::Bytes;
@@ -76,6 +78,13 @@ fn long_number_in(words: &mut Pieces<'_>) -> Result<u64, ReadError>
     Ok(kinds::number(next(words)?, u64::MAX)?)
 }
 
+// A number of octets that a message or a ULPDU may have.
+fn size_in(words: &mut Pieces<'_>) -> Result<u32, ReadError>
+    ensures { Gives (λ n. (n, words.new)) result (field size_number words.old) }
+{
+    Ok(kinds::number(next(words)?, u64::from(u32::MAX))? as u32)
+}
+
 fn stag_in(words: &mut Pieces<'_>) -> Result<Stag, ReadError>
     ensures { Gives (λ stag. (stag, words.new)) result (field stag_word words.old) }
 {
@@ -115,7 +124,7 @@ fn register<A: Allocator + Copy>(
 {
     let pd = octet_number_in(words)?;
     let base = long_number_in(words)?;
-    let rights = first_path::rights(next(words)?)?;
+    let rights = read_rights(next(words)?)?;
     let octets = octets_in(alloc, words)?;
     Ok(Calls::One(Call::Register {
         pd,
@@ -133,6 +142,27 @@ fn deregister<A: Allocator>(words: &mut Pieces<'_>) -> Result<Calls<Bytes<A>>, R
     Ok(Calls::One(Call::Deregister { stag }))
 }
 
+#[tactic(auto, unfolding(crate::specs::Calls::invalidate_at))]
+fn invalidate<A: Allocator>(words: &mut Pieces<'_>) -> Result<Calls<Bytes<A>>, ReadError>
+    ensures { Gives (λ calls. (calls_of calls, words.new)) result (invalidate_at words.old) }
+{
+    let stag = stag_in(words)?;
+    Ok(Calls::One(Call::Invalidate { stag }))
+}
+
+#[tactic(auto, unfolding(crate::specs::Calls::store_at))]
+fn store<A: Allocator + Copy>(
+    alloc: A,
+    words: &mut Pieces<'_>,
+) -> Result<Calls<Bytes<A>>, ReadError>
+    ensures { Gives (λ calls. (calls_of calls, words.new)) result (store_at words.old) }
+{
+    let stag = stag_in(words)?;
+    let to = long_number_in(words)?;
+    let octets = octets_in(alloc, words)?;
+    Ok(Calls::One(Call::Store { stag, to, octets }))
+}
+
 #[tactic(auto, unfolding(crate::specs::Calls::open_at))]
 fn open<A: Allocator + Copy>(alloc: A, words: &mut Pieces<'_>) -> Result<Calls<Bytes<A>>, ReadError>
     ensures { Gives (λ calls. (calls_of calls, words.new)) result (open_at words.old) }
@@ -140,12 +170,13 @@ fn open<A: Allocator + Copy>(alloc: A, words: &mut Pieces<'_>) -> Result<Calls<B
     let stream = octet_number_in(words)?;
     let pd = octet_number_in(words)?;
     let role = first_path::role(next(words)?)?;
-    first_path::options(next(words)?)?;
+    let options = read_options(next(words)?)?;
     let private = kinds::private(alloc, next(words)?)?;
     Ok(Calls::One(Call::Open {
         stream,
         pd,
         role,
+        options,
         private,
     }))
 }
@@ -216,6 +247,27 @@ fn deliver<A: Allocator>(words: &mut Pieces<'_>) -> Result<Calls<Bytes<A>>, Read
     Ok(Calls::One(Call::Stream { stream, call }))
 }
 
+#[tactic(auto, unfolding(crate::specs::Calls::raw_at))]
+fn raw<A: Allocator + Copy>(alloc: A, words: &mut Pieces<'_>) -> Result<Calls<Bytes<A>>, ReadError>
+    ensures { Gives (λ calls. (calls_of calls, words.new)) result (raw_at words.old) }
+{
+    let stream = octet_number_in(words)?;
+    let from = long_number_in(words)?;
+    let octets = octets_in(alloc, words)?;
+    let call = StreamCall::Raw { from, octets };
+    Ok(Calls::One(Call::Stream { stream, call }))
+}
+
+#[tactic(auto, unfolding(crate::specs::Calls::mulpdu_at))]
+fn mulpdu<A: Allocator>(words: &mut Pieces<'_>) -> Result<Calls<Bytes<A>>, ReadError>
+    ensures { Gives (λ calls. (calls_of calls, words.new)) result (mulpdu_at words.old) }
+{
+    let stream = octet_number_in(words)?;
+    let size = size_in(words)?;
+    let call = StreamCall::Mulpdu { size };
+    Ok(Calls::One(Call::Stream { stream, call }))
+}
+
 /// The calls that the next words stand for, the first of which names them.
 #[tactic(auto, unfolding(crate::specs::Calls::calls_at))]
 pub(crate) fn read_calls<A: Allocator + Copy>(
@@ -228,6 +280,8 @@ pub(crate) fn read_calls<A: Allocator + Copy>(
         CallWord::Domain => domain(words),
         CallWord::Register => register(alloc, words),
         CallWord::Deregister => deregister(words),
+        CallWord::Invalidate => invalidate(words),
+        CallWord::Store => store(alloc, words),
         CallWord::Open => open(alloc, words),
         CallWord::Recv => recv(words),
         CallWord::Send => send(alloc, words),
@@ -235,8 +289,7 @@ pub(crate) fn read_calls<A: Allocator + Copy>(
         CallWord::Emit => steps(Step::Emit, words),
         CallWord::Work => steps(Step::Work, words),
         CallWord::Deliver => deliver(words),
-        CallWord::Invalidate | CallWord::Store | CallWord::Raw => {
-            Err(ReadError::Fault(FaultName::BadWord))
-        }
+        CallWord::Raw => raw(alloc, words),
+        CallWord::Mulpdu => mulpdu(words),
     }
 }

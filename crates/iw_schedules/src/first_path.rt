@@ -1,13 +1,12 @@
-//! What a schedule may say so far: one role, no options, one right, and one kind of Send.
+//! What a schedule may say so far: one role, and one kind of Send.
 //!
 //! The words that name calls stand in the table of `words.rt`.
 
 ghost use Rattle.std.specs.Prelude.{◌≡◌};
-ghost use Rattle.iw_schedules.specs.FirstPath.{role_word, options_word, rights_word, kind_word, is_solicited, invalidated_word};
+ghost use Rattle.iw_schedules.specs.FirstPath.{role_word, kind_word, is_solicited, invalidated_word};
 
 use crate::fault::FaultName;
 use iw_events::Role;
-use iw_memory::Rights;
 use iw_octets::Stag;
 
 /// The kind of a Send.
@@ -55,30 +54,4 @@ pub(crate) fn role(word: &[u8]) -> Result<Role, FaultName>
         return Ok(Role::Preset);
     }
     Err(FaultName::BadWord)
-}
-
-/// Options: `-`, none.
-pub(crate) fn options(word: &[u8]) -> Result<(), FaultName>
-    ensures { result ≡ options_word word.now }
-{
-    if word == b"-".as_slice() {
-        return Ok(());
-    }
-    Err(FaultName::BadOctets)
-}
-
-/// Rights: `-` or `w`.
-pub(crate) fn rights(word: &[u8]) -> Result<Rights, FaultName>
-    ensures { result ≡ rights_word word.now }
-{
-    let write = word == b"w".as_slice();
-    if !write && word != b"-".as_slice() {
-        return Err(FaultName::BadOctets);
-    }
-    Ok(Rights {
-        write,
-        read: false,
-        sink: false,
-        invalidate: false,
-    })
 }

@@ -1,12 +1,12 @@
 //! The refusals of each call, with their numbers.
 
 ghost use Rattle.std.specs.Prelude.{◌≡◌};
-ghost use Rattle.iw_schedules.specs.Answers.{domain_refusal, register_refusal, open_refusal, recv_refusal, post_refusal, no_region, store_refusal};
+ghost use Rattle.iw_schedules.specs.Answers.{domain_refusal, register_refusal, open_refusal, recv_refusal, post_refusal, size_refusal, no_region, store_refusal};
 ghost use Rattle.iw_schedules.specs.Shown.{shown_refusal};
 
 use iw_events::OpenRefusal;
 use iw_memory::{DomainRefusal, NoRegion, RegisterRefusal, StoreRefusal};
-use iw_stream::{PostRefusal, RecvRefusal};
+use iw_stream::{PostRefusal, RecvRefusal, SizeRefusal};
 
 /// A refusal's number and name.
 #[derive(Clone, Copy, Debug)]
@@ -90,5 +90,13 @@ pub(crate) fn of_post(refusal: PostRefusal) -> Refusal
         PostRefusal::TooLong => Refusal::new(2, "TooLong"),
         PostRefusal::NotOpen => Refusal::new(3, "NotOpen"),
         PostRefusal::NoMemory => Refusal::new(4, "NoMemory"),
+    }
+}
+
+pub(crate) fn of_size(refusal: SizeRefusal) -> Refusal
+    ensures { shown_refusal result ≡ size_refusal refusal }
+{
+    match refusal {
+        SizeRefusal::BadSize => Refusal::new(1, "BadSize"),
     }
 }

@@ -1,9 +1,9 @@
 use super::*;
 use bytes::Bytes;
-use iw_events::{Act, End, Entry, Role, Seen, Shown, StreamAct};
+use iw_events::{Act, Call, End, Entry, Options, Role, Seen, Shown, StreamAct, StreamCall};
 use iw_memory::{Right, Rights};
 use iw_octets::{Message, Stag};
-use iw_stream::{Delivery, Kind};
+use iw_stream::{Delivery, Kind, SizeRefusal};
 use std::alloc::Global;
 use std::test::Fail;
 
@@ -27,14 +27,19 @@ BadWord: a fly 0
 BadWord: a fly x y
 BadWord: a accept 0 -
 BadWord: a reject 0 -
-BadWord: a invalidate 01000000
-BadWord: a store 01000000 0 aa
+BadWord: a invalidate
+BadWord: a invalidate 01000000 0
+BadWord: a store 01000000 0
 BadWord: a read 0 01000000 0 4 01000000 0
-BadWord: a mulpdu 0 128
-BadWord: a raw 0 0 aa
+BadWord: a mulpdu 0
+BadWord: a mulpdu 0 128 1
+BadWord: a raws 0 0 aa
+BadWord: a raw 0 0
+BadWord: a raw 0 0 aa bb
 BadWord: a break 0
 BadWord: a open 0 1 initiator - -
 BadWord: a open 0 1 responder - -
+BadWord: a open 0 1 initiator x 00*513
 BadWord: a open 0 1 preset
 BadWord: a open 0 1 preset -
 BadWord: a open 0 1 preset - - -
@@ -77,14 +82,29 @@ BadWord: a emit 0 3\x20
 BadNumber: a work 0 -
 BadNumber: a deliver 0 0 18446744073709551616
 BadNumber: a deliver 0 -1 4
-BadOctets: a register 1 0 r aa
-BadOctets: a register 1 0 wi aa
+BadNumber: a raw 0 18446744073709551616 -
+BadNumber: a raw 256 0 abc
+BadNumber: a mulpdu 256 4294967296
+BadNumber: a mulpdu 0 4294967296
+BadNumber: a mulpdu 0 -
+BadNumber: a invalidate 0100
+BadNumber: a store 01000000 - aa
+BadOctets: a store 01000000 0 a
+BadOctets: a register 1 0 rw aa
+BadOctets: a register 1 0 iw aa
+BadOctets: a register 1 0 wrsir aa
+BadOctets: a register 1 0 wrsi- aa
+BadOctets: a register 1 0 -w aa
 BadOctets: a register 1 0 ww aa
 BadOctets: a register 1 0 W aa
 BadOctets: a register 1 0  aa
 BadOctets: a register 1 0 w\x20
 BadOctets: a register 1 0 w -*2
-BadOctets: a open 0 1 preset m -
+BadOctets: a open 0 1 preset cm -
+BadOctets: a open 0 1 preset mm -
+BadOctets: a open 0 1 preset M -
+BadOctets: a open 0 1 preset m- -
+BadOctets: a open 0 1 preset  -
 BadOctets: a open 0 1 preset - 00*513
 BadOctets: a open 0 1 preset - a
 BadOctets: a write 0 01000000 0 abc
@@ -97,7 +117,8 @@ BadOctets: a write 0 01000000 0 aa*99999999999999999999
 BadOctets: a write 0 01000000 0 aa*20000001
 BadOctets: a write 0 01000000 0 aabb*10000001
 BadOctets: a write 0 01000000 0 aa\r
-BadOctets: a write 0 01000000 0 --";
+BadOctets: a write 0 01000000 0 --
+BadOctets: a raw 0 18446744073709551615 abc";
 
 // The fault of a schedule, as it prints.
 fn fault_of(alloc: Global, text: &str) -> Result<String, Fail> {
@@ -120,7 +141,7 @@ fn each_kind_of_word_has_its_faults(rt: HostRuntime) -> Result<(), Fail> {
         );
         rows = rows.wrapping_add(1);
     }
-    assert_eq!(rt; rows, 90);
+    assert_eq!(rt; rows, 111);
     Ok(())
 }
 
@@ -211,6 +232,11 @@ const WRITE: Rights = Rights {
     invalidate: false,
 };
 
+const NO_OPTIONS: Options = Options {
+    markers: false,
+    crc: false,
+};
+
 // The octets that these digits spell.
 fn octets(alloc: Global, digits: &str) -> Result<Bytes, Fail> {
     Ok(Bytes::from_vec(hex::decode(alloc, digits)?)?)
@@ -223,6 +249,7 @@ fn opened(end: End) -> Entry<Bytes> {
             stream: 0,
             pd: 1,
             role: Role::Preset,
+            options: NO_OPTIONS,
             private: Bytes::new(),
             refused: None,
         },
@@ -376,5 +403,59 @@ fn the_worked_trace_is_printed(rt: HostRuntime) -> Result<(), Fail> {
     finished(rt.alloc(), &mut trace)?;
     let text = print_trace(rt.alloc(), &trace)?;
     assert_eq!(rt; text.as_str(), TRACE);
+    Ok(())
+}
+
+// The options that an opening asks for.
+fn options_of(alloc: Global, word: &str) -> Result<Options, Fail> {
+    let line = format!(in alloc; "a open 63 1 preset {word} -")?;
+    let events = read_schedule(alloc, line.as_str().as_bytes())?;
+    match events.as_slice() {
+        [event] => match &event.call {
+            Call::Open { options, .. } => Ok(*options),
+            _ => Err("another call".into()),
+        },
+        _ => Err("not one event".into()),
+    }
+}
+
+#[test]
+fn options_are_read(rt: HostRuntime) -> Result<(), Fail> {
+    for (word, markers, crc) in [
+        ("-", false, false),
+        ("m", true, false),
+        ("c", false, true),
+        ("mc", true, true),
+    ] {
+        let options = Options { markers, crc };
+        assert_eq!(rt; options_of(rt.alloc(), word)?, options, "{word}");
+    }
+    Ok(())
+}
+
+#[test]
+fn sizes_are_read_and_answered(rt: HostRuntime) -> Result<(), Fail> {
+    let events = read_schedule(rt.alloc(), b"a mulpdu 7 4294967295")?;
+    let size = match events.as_slice() {
+        [event] => match &event.call {
+            Call::Stream {
+                call: StreamCall::Mulpdu { size },
+                ..
+            } => *size,
+            _ => 0,
+        },
+        _ => 0,
+    };
+    assert_eq!(rt; size, u32::MAX);
+    let mut trace = Vec::new(rt.alloc());
+    for refused in [None, Some(SizeRefusal::BadSize)] {
+        trace.push(on_stream(End::A, StreamAct::Mulpdu { size, refused }))?;
+    }
+    trace.push(worked(End::A, Seen::Done(Kind::Read)))?;
+    let text = print_trace(rt.alloc(), &trace)?;
+    assert_eq!(rt;
+        text.as_str(),
+        "a mulpdu 0 ok\na mulpdu 0 refused 1 BadSize\na work 0 done read\n"
+    );
     Ok(())
 }

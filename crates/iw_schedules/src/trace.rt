@@ -18,6 +18,7 @@ fn kind_name(kind: Kind) -> &'static str
     match kind {
         Kind::Write => "write",
         Kind::Send => "send",
+        Kind::Read => "read",
     }
 }
 
@@ -222,6 +223,10 @@ fn add_stream_act<A: Allocator + Copy>(
         StreamAct::Raw { delivery, .. } => {
             add_call(text, CallWord::Raw, stream)?;
             appending::word(text, delivery_name(*delivery))
+        }
+        StreamAct::Mulpdu { refused, .. } => {
+            add_call(text, CallWord::Mulpdu, stream)?;
+            appending::outcome(text, refused.map(refusals::of_size))
         }
         StreamAct::Work(seen) => {
             add_call(text, CallWord::Work, stream)?;

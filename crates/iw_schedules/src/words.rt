@@ -22,14 +22,17 @@ pub(crate) enum CallWord {
     Work,
     Deliver,
     Raw,
+    Mulpdu,
 }
 
 impl CallWord {
-    /// Those that a schedule may say so far. Traces have words for all.
-    pub(crate) const ALL: [CallWord; 10] = [
+    /// Every one of them.
+    pub(crate) const ALL: [CallWord; 14] = [
         CallWord::Domain,
         CallWord::Register,
         CallWord::Deregister,
+        CallWord::Invalidate,
+        CallWord::Store,
         CallWord::Open,
         CallWord::Recv,
         CallWord::Send,
@@ -37,6 +40,8 @@ impl CallWord {
         CallWord::Emit,
         CallWord::Work,
         CallWord::Deliver,
+        CallWord::Raw,
+        CallWord::Mulpdu,
     ];
 
     pub(crate) fn text(self) -> &'static str
@@ -56,6 +61,7 @@ impl CallWord {
             CallWord::Work => "work",
             CallWord::Deliver => "deliver",
             CallWord::Raw => "raw",
+            CallWord::Mulpdu => "mulpdu",
         }
     }
 
