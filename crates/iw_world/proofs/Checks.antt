@@ -1,16 +1,21 @@
 -- What follows where no check of an untagged segment fails.
-use Rattle.std.proofs.Common.{◌≡◌, ℕ, zero, suc, ◌+◌, ◌≤◌, List, [], ◌∷◌, ◌++◌, length, take, drop, map, Option, Some, None, Bool, true, false, cond, refl, sym, ap, ◌∙◌, subst, arith, length-append, length-drop, length-take}
-use Rattle.std.specs.Prelude.{slice_get, slice_set, slice_index_or, nat_le}
+use Rattle.std.proofs.Common.{◌≡◌, ℕ, zero, suc, ◌+◌, ◌<◌, ◌≤◌, List, [], ◌∷◌, ◌++◌, length, take, drop, map, Option, Some, None, Bool, true, false, cond, refl, sym, ap, ◌∙◌, arith, length-append, length-drop, length-take}
+use Rattle.std.specs.Prelude.{slice_get, slice_set, slice_index_or, nat_le, nat_lt}
+use Rattle.std.specs.Result.{result_err}
 use Rattle.std.proofs.lemmas.Bool.Decides.{nat_tests}
 use Rattle.std.proofs.lemmas.Option.{none-some}
 use Rattle.iw_octets.specs.declared.fault.Fault.{Fault}
 use Rattle.iw_octets.specs.declared.fault.TheConstants.Fault as faults
+use Rattle.iw_octets.specs.declared.head.TaggedHead.{TaggedHead}
 use Rattle.iw_octets.specs.declared.head.UntaggedHead.{UntaggedHead}
 use Rattle.iw_octets.specs.Octets.{splice}
-use Rattle.iw_stream.specs.Segments.{opcode_of, send_opcode}
-use Rattle.iw_stream.specs.Receiving.{Receiving, ahead_of, room_fault, buffer_fault, turn_fault, oldest}
-use Rattle.iw_stream.specs.Judging.{or_else, untagged_head_fault, untagged_fault}
-use Rattle.iw_world.proofs.Flow.{StandsIn}
+use Rattle.iw_memory.specs.declared.rights.Right.TheVariants.{Write}
+use Rattle.iw_memory.specs.Table.{Table}
+use Rattle.iw_tagged.specs.Placing.{placing_fault}
+use Rattle.iw_rdmap.specs.Operation.{opcode_of}
+use Rattle.iw_rdmap.specs.FirstPath.{plain_tagged, plain_untagged}
+use Rattle.iw_untagged.specs.Receiving.{Receiving, ahead_of, buffer_of, buffer_fault, turn_fault}
+use Rattle.iw_stream.specs.Judging.{or_else, tagged_fault, untagged_fault}
 
 -- the buffer is there, with room
 pub record HasBuffer (bs : List (List ℕ)) (i end : ℕ) : Type 0 where
@@ -18,26 +23,48 @@ pub record HasBuffer (bs : List (List ℕ)) (i end : ℕ) : Type 0 where
   pub is : slice_get bs i ≡ Some buffer
   pub room : end ≤ length buffer
 
-head_passes : (first later : Option Fault) → or_else first later ≡ None → (first ≡ None) × (later ≡ None)
+pub head_passes : (first later : Option Fault) → or_else first later ≡ None → (first ≡ None) × (later ≡ None)
 head_passes (Some fault) later e = absurd (none-some _ (sym e))
 head_passes None later e = (refl, e)
 
-room_passes : (bs : List (List ℕ)) (i end : ℕ) (o : Option (List ℕ)) → slice_get bs i ≡ o → room_fault o end ≡ None → HasBuffer bs i end
-room_passes bs i end None e h = absurd (none-some _ (sym h))
-room_passes bs i end (Some buffer) e h = record { buffer = buffer; is = e; room = grind (arith, nat_tests) }
+get_within : (bs : List (List ℕ)) (i : ℕ) → i < length bs → slice_get bs i ≡ Some (slice_index_or bs i [])
+get_within [] i h = absurd (omega (arith, h))
+get_within (b ∷ bs) zero h = refl
+get_within (b ∷ bs) (suc i) h = get_within bs i (omega (arith, h))
+
+passed : (r : Receiving) (msn mo n : ℕ) → buffer_fault r msn mo n ≡ None → (ahead_of r.due msn < length r.buffers) × (mo + n ≤ length (buffer_of r msn))
+passed r msn mo n e = go (nat_le 256 (ahead_of r.due msn)) (nat_le (length r.buffers) (ahead_of r.due msn)) (nat_lt (length (buffer_of r msn)) (mo + n)) refl refl e
+  where
+    go : (far none small : Bool) → nat_le (length r.buffers) (ahead_of r.due msn) ≡ none → nat_lt (length (buffer_of r msn)) (mo + n) ≡ small
+        → cond far (Some faults.UNTAGGED_MSN_RANGE) (cond none (Some faults.UNTAGGED_NO_BUFFER) (cond small (Some faults.UNTAGGED_TOO_LONG) None)) ≡ None
+        → (ahead_of r.due msn < length r.buffers) × (mo + n ≤ length (buffer_of r msn))
+    go true none small b c h = absurd (none-some _ (sym h))
+    go false true small b c h = absurd (none-some _ (sym h))
+    go false false true b c h = absurd (none-some _ (sym h))
+    go false false false b c h = (grind (arith, nat_tests), grind (arith, nat_tests))
 
 pub checked_buffer : (r : Receiving) (head : UntaggedHead) (n : ℕ) → untagged_fault r head n ≡ None → HasBuffer r.buffers (ahead_of r.due head.msn) (head.mo + n)
-checked_buffer r head n e = go (nat_le 256 (ahead_of r.due head.msn)) (head_passes (untagged_head_fault head) (buffer_fault r head.msn head.mo n) e).1
-  where
-    go : (b : Bool) → cond b (Some faults.UNTAGGED_MSN_RANGE) (room_fault (slice_get r.buffers (ahead_of r.due head.msn)) (head.mo + n)) ≡ None → HasBuffer r.buffers (ahead_of r.due head.msn) (head.mo + n)
-    go true h = absurd (none-some _ (sym h))
-    go false h = room_passes r.buffers (ahead_of r.due head.msn) (head.mo + n) (slice_get r.buffers (ahead_of r.due head.msn)) refl h
+checked_buffer r head n e =
+    let p = passed r head.msn head.mo n (head_passes (result_err (plain_untagged head)) (buffer_fault r head.msn head.mo n) e).1 in
+    record { buffer = buffer_of r head.msn; is = get_within r.buffers (ahead_of r.due head.msn) p.0; room = p.1 }
 
-pub checked_opcode : (r : Receiving) (head : UntaggedHead) (n : ℕ) → untagged_fault r head n ≡ None → opcode_of head.control ≡ send_opcode false false
-checked_opcode r head n e = opcode head (head_passes (untagged_head_fault head) (buffer_fault r head.msn head.mo n) e).0
+-- a header that passes its checks is a plain Send's
+pub record IsPlainSend (head : UntaggedHead) : Type 0 where
+  pub queue : head.queue ≡ 0
+  pub opcode : opcode_of head.control ≡ 3
+
+pub checked_head : (r : Receiving) (head : UntaggedHead) (n : ℕ) → untagged_fault r head n ≡ None → IsPlainSend head
+checked_head r head n e = plain head (head_passes (result_err (plain_untagged head)) (buffer_fault r head.msn head.mo n) e).0
   where
-    opcode : (head : UntaggedHead) → untagged_head_fault head ≡ None → opcode_of head.control ≡ send_opcode false false
-    opcode head e = grind (arith, nat_tests)
+    plain : (head : UntaggedHead) → result_err (plain_untagged head) ≡ None → IsPlainSend head
+    plain head e = record { queue = grind (arith, nat_tests); opcode = grind (arith, nat_tests) }
+
+-- a tagged header that passes its checks is a Write's
+pub checked_write : (table : Table) (domain : ℕ) (head : TaggedHead) (n : ℕ) → tagged_fault table domain head n ≡ None → opcode_of head.control ≡ 0
+checked_write table domain head n e = plain head (head_passes (result_err (plain_tagged head)) (placing_fault table domain head n Write) e).0
+  where
+    plain : (head : TaggedHead) → result_err (plain_tagged head) ≡ None → opcode_of head.control ≡ 0
+    plain head e = grind (arith, nat_tests)
 
 pub turned_first : (r : Receiving) (msn mo : ℕ) → turn_fault r msn mo ≡ None → ahead_of r.due msn ≡ 0
 turned_first r msn mo e = grind (arith, nat_tests)
@@ -67,11 +94,3 @@ length_of (b ∷ bs) (suc i) old e = length_of bs i old e
 pub length-splice : (old new : List ℕ) (at : ℕ) → at + length new ≤ length old → length (splice old at new) ≡ length old
 length-splice old new at fits =
     omega (arith, length-append (take at old ++ new) (drop (at + length new) old), length-append (take at old) new, length-take at old, length-drop (at + length new) old)
-
--- what stands in the buffer that is due is what is taken out of the oldest
-pub oldest_stands : (r : Receiving) (i : ℕ) (payload : List ℕ) → i ≡ 0 → StandsIn (slice_get r.buffers i) payload → take (length payload) (oldest r) ≡ payload
-oldest_stands r i payload e h = go r.buffers (subst (λ k. StandsIn (slice_get r.buffers k) payload) e h)
-  where
-    go : (bs : List (List ℕ)) → StandsIn (slice_get bs 0) payload → take (length payload) (slice_index_or bs 0 []) ≡ payload
-    go [] k = absurd k
-    go (b ∷ bs) k = k

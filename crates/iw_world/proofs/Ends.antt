@@ -1,22 +1,22 @@
 -- What one more act does to the streams of an end, and to what its acts say of them.
 use Rattle.std.proofs.Common.{◌≡◌, ◌≢◌, ℕ, zero, suc, ◌<◌, List, [], ◌∷◌, ◌++◌, length, Option, Some, None, Bool, true, false, cond, eqb, refl, sym, ap, ◌∙◌, subst, arith, eqb-true}
-use Rattle.std.specs.Prelude.{slice_set, slice_index_or, unwrap_or, is_some, not}
+use Rattle.std.specs.Prelude.{slice_set, slice_index_or, unwrap_or, is_some, not, nat_le}
+use Rattle.std.proofs.lemmas.Bool.Decides.{nat_tests}
 use Rattle.std.proofs.lemmas.List.{append-nil, get_or-set_same, get_or-set_other, length-set}
-use Rattle.std.proofs.lemmas.Bool.{eq-eqb, false≢true}
+use Rattle.std.proofs.lemmas.Bool.{eq-eqb, false≢true, true≢false}
 use Rattle.iw_memory.specs.Table.{is_added}
-use Rattle.iw_stream.specs.declared.answer.Delivery.TheVariants.{Kept, Dropped}
+use Rattle.iw_ranges.specs.declared.Delivery.TheVariants.{Kept, Dropped}
 use Rattle.iw_stream.specs.Stream.{StreamState}
 use Rattle.iw_events.specs.declared.act.OpenRefusal.TheVariants.{NumberTaken, BadNumber, NoDomain}
 use Rattle.iw_events.specs.declared.act.Act.{Act}
 use Rattle.iw_events.specs.declared.act.Act.TheVariants.{Domain, Register, Deregister, Invalidate, Store, Open, Stream}
 use Rattle.iw_events.specs.declared.act.StreamAct.{StreamAct}
-use Rattle.iw_events.specs.declared.act.StreamAct.TheVariants.{Recv, Post, Emit, Deliver, Raw, Work}
+use Rattle.iw_events.specs.declared.act.StreamAct.TheVariants.{Recv, Post, Emit, Deliver, Raw, Mulpdu, Work}
 use Rattle.iw_events.specs.declared.act.Shown.TheVariants.{Frame, Nothing}
 use Rattle.iw_events.specs.declared.act.Seen.TheVariants as seen
-use Rattle.iw_world.specs.Words.{Octets, openings, openings_by, table_after, table_by}
-use Rattle.iw_world.specs.Rules.{Connected, connected, EndState, has_stream, stream_at, open_refusal, Rule, stream_after, connected_after, streams_after, end_after}
-use Rattle.iw_world.specs.Safe.{domain_of}
-use Rattle.iw_world.proofs.Tales.{table-push, openings-push}
+use Rattle.iw_world.specs.Words.{Octets, Opening, stream_acts, stream_acts_by, openings, openings_by, layout_for, domain_in, domain_of, table_after, table_by}
+use Rattle.iw_world.specs.Rules.{Connected, connected, unconnected, EndState, stream_numbers, has_stream, stream_at, open_refusal, Rule, stream_after, connected_after, streams_after, end_after}
+use Rattle.iw_world.proofs.Tales.{table-push, stream_acts-push, openings-push}
 
 there : {A : Type 0} (xs : List (Option A)) (i : ℕ) → is_some (slice_index_or xs i None) ≡ true → i < length xs
 there [] i h = absurd (false≢true h)
@@ -25,13 +25,13 @@ there (y ∷ ys) (suc i) h = let more : i < length ys = there ys i h in omega ar
 
 -- ---- openings
 
-abbrev pub was_opened : List ℕ → Bool
+abbrev pub was_opened : List Opening → Bool
 was_opened [] = false
-was_opened (pd ∷ pds) = true
+was_opened (o ∷ os) = true
 
-pub unopened : (pds : List ℕ) → was_opened pds ≡ false → pds ≡ []
+pub unopened : (os : List Opening) → was_opened os ≡ false → os ≡ []
 unopened [] h = refl
-unopened (pd ∷ pds) h = absurd (false≢true (sym h))
+unopened (o ∷ os) h = absurd (false≢true (sym h))
 
 -- what the state of an end has in common with what was done there
 pub record EndSeen (s : EndState) (done : List (Act Octets)) : Type 0 where
@@ -39,6 +39,7 @@ pub record EndSeen (s : EndState) (done : List (Act Octets)) : Type 0 where
   pub numbers : length s.streams ≡ 64
   pub opened : (n : ℕ) → has_stream s n ≡ was_opened (openings n done)
   pub domain : (n : ℕ) → has_stream s n ≡ true → (stream_at s n).stream.domain ≡ domain_of n done
+  pub unused : (n : ℕ) → has_stream s n ≡ false → stream_acts n done ≡ []
 
 -- an act that opens nothing
 pub opens_same : (n : ℕ) (done : List (Act Octets)) (act : Act Octets) → openings_by n act ≡ [] → openings n (done ++ act ∷ []) ≡ openings n done
@@ -50,13 +51,13 @@ pub record Opens (s : EndState) (n : ℕ) : Type 0 where
   pub number : n < 64
 
 pub opens : (s : EndState) (n pd : ℕ) → None ≡ open_refusal s n pd → Opens s n
-opens s n pd e = go (has_stream s n) (eqb n 0) refl refl (is_added s.table pd) e
+opens s n pd e = go (has_stream s n) (nat_le stream_numbers n) refl refl (is_added s.table pd) e
   where
-    go : (has zero_is : Bool) → has_stream s n ≡ has → eqb n 0 ≡ zero_is → (added : Bool)
-        → None ≡ cond has (Some NumberTaken) (cond (not zero_is) (Some BadNumber) (cond (not added) (Some NoDomain) None)) → Opens s n
+    go : (has beyond : Bool) → has_stream s n ≡ has → nat_le stream_numbers n ≡ beyond → (added : Bool)
+        → None ≡ cond has (Some NumberTaken) (cond beyond (Some BadNumber) (cond (not added) (Some NoDomain) None)) → Opens s n
     go true b h z added e' = cc
-    go false false h z added e' = cc
-    go false true h z added e' = record { fresh = h; number = omega (arith, eqb-true n 0 z) }
+    go false true h z added e' = cc
+    go false false h z added e' = record { fresh = h; number = grind (arith, nat_tests) }
 
 -- a stream keeps its domain
 pub same_domain : (s : StreamState) (act : StreamAct Octets) → (stream_after s act).domain ≡ s.domain
@@ -70,6 +71,8 @@ same_domain s (Deliver from octets Kept) = refl
 same_domain s (Raw from octets Kept) = refl
 same_domain s (Deliver from octets Dropped) = refl
 same_domain s (Raw from octets Dropped) = refl
+same_domain s (Mulpdu size None) = refl
+same_domain s (Mulpdu size (Some refusal)) = refl
 same_domain s (Work (seen.Done kind)) = refl
 same_domain s (Work (seen.Placed right stag to octets)) = refl
 same_domain s (Work (seen.Buffered msn mo len)) = refl
@@ -96,51 +99,57 @@ number_there s n h = there s.streams n h
 pub record KeepsNumber (s : EndState) (done : List (Act Octets)) (act : Act Octets) (n : ℕ) : Type 0 where
   pub has : has_stream (end_after s act) n ≡ was_opened (openings n (done ++ act ∷ []))
   pub domain : has_stream (end_after s act) n ≡ true → (stream_at (end_after s act) n).stream.domain ≡ domain_of n (done ++ act ∷ [])
+  pub unused : has_stream (end_after s act) n ≡ false → stream_acts n (done ++ act ∷ []) ≡ []
 
 keeps_number : (s : EndState) (done : List (Act Octets)) (act : Act Octets) (n : ℕ) → EndSeen s done → slice_index_or (streams_after s.streams act) n None ≡ slice_index_or s.streams n None → openings_by n act ≡ []
-    → KeepsNumber s done act n
-keeps_number s done act n k same none =
+    → stream_acts_by n act ≡ [] → KeepsNumber s done act n
+keeps_number s done act n k same none silent =
     let opened_same : openings n (done ++ act ∷ []) ≡ openings n done = opens_same n done act none in
     record {
       has = ap is_some same ∙ k.opened n ∙ ap was_opened (sym opened_same);
-      domain = λ h. ap (λ o. (unwrap_or o (connected 0)).stream.domain) same ∙ k.domain n (ap is_some (sym same) ∙ h) ∙ ap (λ z. slice_index_or z 0 0) (sym opened_same);
+      domain = λ h. ap (λ o. (unwrap_or o unconnected).stream.domain) same ∙ k.domain n (ap is_some (sym same) ∙ h) ∙ ap domain_in (sym opened_same);
+      unused = λ h. stream_acts-push n done act ∙ (λ i. k.unused n (ap is_some (sym same) ∙ h) i ++ silent i);
     }
 
-cond_none : (b : Bool) (pd : ℕ) → b ≡ false → cond b (pd ∷ []) [] ≡ []
-cond_none b pd e = ap (λ z. cond z (pd ∷ []) []) e
+pub opening_none : (b : Bool) (o : Opening) → b ≡ false → cond b (o ∷ []) [] ≡ []
+opening_none b o e = ap (λ z. cond z (o ∷ []) []) e
 
-cond_one : (b : Bool) (pd : ℕ) → b ≡ true → cond b (pd ∷ []) [] ≡ pd ∷ []
-cond_one b pd e = ap (λ z. cond z (pd ∷ []) []) e
+pub opening_one : (b : Bool) (o : Opening) → b ≡ true → cond b (o ∷ []) [] ≡ o ∷ []
+opening_one b o e = ap (λ z. cond z (o ∷ []) []) e
+
+silent_other : (m n : ℕ) (act : StreamAct Octets) → eqb m n ≡ false → stream_acts_by n (Stream m act) ≡ []
+silent_other m n act e = ap (λ b. cond b (act ∷ []) []) e
 
 number_after : (s peer : EndState) (done : List (Act Octets)) (act : Act Octets) (n : ℕ) → EndSeen s done → Rule s peer act → KeepsNumber s done act n
-number_after s peer done (Domain pd None) n k rule = keeps_number s done (Domain pd None) n k refl refl
-number_after s peer done (Domain pd (Some refusal)) n k rule = keeps_number s done (Domain pd (Some refusal)) n k refl refl
-number_after s peer done (Register pd base rights octets answer) n k rule = keeps_number s done (Register pd base rights octets answer) n k refl refl
-number_after s peer done (Deregister stag answer) n k rule = keeps_number s done (Deregister stag answer) n k refl refl
-number_after s peer done (Invalidate stag refused) n k rule = keeps_number s done (Invalidate stag refused) n k refl refl
-number_after s peer done (Store stag to octets refused) n k rule = keeps_number s done (Store stag to octets refused) n k refl refl
-number_after s peer done (Open m pd role private (Some refusal)) n k rule = keeps_number s done (Open m pd role private (Some refusal)) n k refl refl
-number_after s peer done (Open m pd role private None) n k rule = go (eqb m n) refl
+number_after s peer done (Domain pd None) n k rule = keeps_number s done (Domain pd None) n k refl refl refl
+number_after s peer done (Domain pd (Some refusal)) n k rule = keeps_number s done (Domain pd (Some refusal)) n k refl refl refl
+number_after s peer done (Register pd base rights octets answer) n k rule = keeps_number s done (Register pd base rights octets answer) n k refl refl refl
+number_after s peer done (Deregister stag answer) n k rule = keeps_number s done (Deregister stag answer) n k refl refl refl
+number_after s peer done (Invalidate stag refused) n k rule = keeps_number s done (Invalidate stag refused) n k refl refl refl
+number_after s peer done (Store stag to octets refused) n k rule = keeps_number s done (Store stag to octets refused) n k refl refl refl
+number_after s peer done (Open m pd role options private (Some refusal)) n k rule = keeps_number s done (Open m pd role options private (Some refusal)) n k refl refl refl
+number_after s peer done (Open m pd role options private None) n k rule = go (eqb m n) refl
   where
-    go : (b : Bool) → eqb m n ≡ b → KeepsNumber s done (Open m pd role private None) n
-    go false e = keeps_number s done (Open m pd role private None) n k (at_other s m n (Some (connected pd)) e) (cond_none (eqb m n) pd e)
+    go : (b : Bool) → eqb m n ≡ b → KeepsNumber s done (Open m pd role options private None) n
+    go false e = keeps_number s done (Open m pd role options private None) n k (at_other s m n (Some (connected pd (layout_for options))) e) (opening_none (eqb m n) (record { domain = pd; options = options }) e) refl
     go true e =
         let o = opens s m pd rule in
         let same : m ≡ n = eqb-true m n e in
         let room : m < length s.streams = omega (arith, o.number, k.numbers) in
-        let here : slice_index_or (slice_set s.streams m (Some (connected pd))) n None ≡ Some (connected pd) =
-        subst (λ j. slice_index_or (slice_set s.streams m (Some (connected pd))) j None ≡ Some (connected pd)) same (at_same s m (connected pd) room) in
+        let here : slice_index_or (slice_set s.streams m (Some (connected pd (layout_for options)))) n None ≡ Some (connected pd (layout_for options)) =
+        subst (λ j. slice_index_or (slice_set s.streams m (Some (connected pd (layout_for options)))) j None ≡ Some (connected pd (layout_for options))) same (at_same s m (connected pd (layout_for options)) room) in
         let before : openings n done ≡ [] = unopened (openings n done) (sym (k.opened n) ∙ subst (λ j. has_stream s j ≡ false) same o.fresh) in
-        let now : openings n (done ++ Open m pd role private None ∷ []) ≡ pd ∷ [] =
-        openings-push n done (Open m pd role private None) ∙ (λ i. before i ++ cond_one (eqb m n) pd e i) in
+        let now : openings n (done ++ Open m pd role options private None ∷ []) ≡ record { domain = pd; options = options } ∷ [] =
+        openings-push n done (Open m pd role options private None) ∙ (λ i. before i ++ opening_one (eqb m n) (record { domain = pd; options = options }) e i) in
         record {
           has = ap is_some here ∙ ap was_opened (sym now);
-          domain = λ h. ap (λ z. (unwrap_or z (connected 0)).stream.domain) here ∙ ap (λ z. slice_index_or z 0 0) (sym now);
+          domain = λ h. ap (λ z. (unwrap_or z unconnected).stream.domain) here ∙ ap domain_in (sym now);
+          unused = λ h. absurd (true≢false (sym (ap is_some here) ∙ h));
         }
 number_after s peer done (Stream m act) n k rule = go (eqb m n) refl
   where
     go : (b : Bool) → eqb m n ≡ b → KeepsNumber s done (Stream m act) n
-    go false e = keeps_number s done (Stream m act) n k (at_other s m n (Some (connected_after (stream_at s m) act)) e) refl
+    go false e = keeps_number s done (Stream m act) n k (at_other s m n (Some (connected_after (stream_at s m) act)) e) refl (silent_other m n act e)
     go true e =
         let same : m ≡ n = eqb-true m n e in
         let c : Connected = connected_after (stream_at s m) act in
@@ -150,8 +159,9 @@ number_after s peer done (Stream m act) n k rule = go (eqb m n) refl
         let opened_same : openings n (done ++ Stream m act ∷ []) ≡ openings n done = opens_same n done (Stream m act) refl in
         record {
           has = ap is_some here ∙ sym has ∙ k.opened n ∙ ap was_opened (sym opened_same);
-          domain = λ h. ap (λ z. (unwrap_or z (connected 0)).stream.domain) here ∙ same_domain (stream_at s m).stream act
-              ∙ ap (λ j. (stream_at s j).stream.domain) same ∙ k.domain n has ∙ ap (λ z. slice_index_or z 0 0) (sym opened_same);
+          domain = λ h. ap (λ z. (unwrap_or z unconnected).stream.domain) here ∙ same_domain (stream_at s m).stream act
+              ∙ ap (λ j. (stream_at s j).stream.domain) same ∙ k.domain n has ∙ ap domain_in (sym opened_same);
+          unused = λ h. absurd (true≢false (sym (ap is_some here) ∙ h));
         }
 
 numbers_after : (s : EndState) (act : Act Octets) → length (streams_after s.streams act) ≡ length s.streams
@@ -161,8 +171,8 @@ numbers_after s (Register pd base rights octets answer) = refl
 numbers_after s (Deregister stag answer) = refl
 numbers_after s (Invalidate stag refused) = refl
 numbers_after s (Store stag to octets refused) = refl
-numbers_after s (Open m pd role private None) = length-set s.streams m (Some (connected pd))
-numbers_after s (Open m pd role private (Some refusal)) = refl
+numbers_after s (Open m pd role options private None) = length-set s.streams m (Some (connected pd (layout_for options)))
+numbers_after s (Open m pd role options private (Some refusal)) = refl
 numbers_after s (Stream m act) = length-set s.streams m (Some (connected_after (stream_at s m) act))
 
 -- an act that the rules give keeps what the end has in common with what was done
@@ -172,4 +182,5 @@ end_step s peer done act k rule = record {
   numbers = numbers_after s act ∙ k.numbers;
   opened = λ n. (number_after s peer done act n k rule).has;
   domain = λ n. (number_after s peer done act n k rule).domain;
+  unused = λ n. (number_after s peer done act n k rule).unused;
 }

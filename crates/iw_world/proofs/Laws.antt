@@ -1,61 +1,91 @@
 -- The laws, of whatever follows the rules.
-use Rattle.std.proofs.Common.{◌≡◌, ◌⊎◌, ℕ, List, [], ◌∷◌, ◌++◌, length, Option, Some, None, Ok, Err, Bool, true, false, cond, refl, sym, ap, ◌∙◌, subst, inl, inr, append_assoc}
+use Rattle.std.proofs.Common.{◌≡◌, ◌⊎◌, ℕ, List, [], ◌∷◌, ◌++◌, length, map, Option, Some, None, Ok, Err, true, false, refl, sym, ap, ◌∙◌, subst, inl, inr, arith}
 use Rattle.std.proofs.lemmas.List.{append-nil}
 use Rattle.std.specs.Prelude.{option_map}
 use Rattle.std.specs.Option.{option_map_or}
 use Rattle.std.proofs.lemmas.Bool.{false≢true}
-use Rattle.iw_octets.specs.declared.message.Message.{Message}
-use Rattle.iw_stream.specs.declared.answer.Emission.TheVariants as emissions
-use Rattle.iw_stream.specs.Segments.{segments_of, layout}
-use Rattle.iw_stream.specs.Stream.{first_emission, first_frame_of}
+use Rattle.iw_octets.specs.Segment.{segment_octets}
 use Rattle.iw_memory.specs.declared.refusal.NoRegion.{NoRegion}
 use Rattle.iw_memory.specs.Region.{Region}
 use Rattle.iw_memory.specs.Table.{Table, region_at}
 use Rattle.iw_memory.specs.Laws.{Allows}
+use Rattle.iw_fpdu.specs.declared.layout.Layout.{Layout}
+use Rattle.iw_fpdu.specs.Sequence.{sequence}
+use Rattle.iw_queues.specs.Joined.{Cell}
+use Rattle.iw_queues.specs.Segments.{AreSpelled}
+use Rattle.iw_queues.proofs.Sending.{sends_in_order}
+use Rattle.iw_stream.specs.Stream.{StreamState, part_due}
 use Rattle.iw_events.specs.declared.call.End.{End}
 use Rattle.iw_events.specs.declared.call.Call.{Call}
 use Rattle.iw_events.specs.declared.call.Call.TheVariants as calls
+use Rattle.iw_events.specs.declared.call.Options.{Options}
 use Rattle.iw_events.specs.declared.act.Act.{Act}
 use Rattle.iw_events.specs.declared.act.Act.TheVariants.{Domain, Register, Deregister, Invalidate, Store, Open, Stream}
 use Rattle.iw_events.specs.declared.act.StreamAct.{StreamAct}
-use Rattle.iw_events.specs.declared.act.StreamAct.TheVariants.{Recv, Post, Emit, Deliver, Raw, Work}
+use Rattle.iw_events.specs.declared.act.StreamAct.TheVariants.{Recv, Post, Emit, Deliver, Raw, Mulpdu, Work}
 use Rattle.iw_events.specs.declared.act.Shown.TheVariants.{Frame, Nothing}
 use Rattle.iw_events.specs.declared.act.Seen.TheVariants as seen
 use Rattle.iw_events.specs.declared.act.Entry.{Entry}
-use Rattle.iw_world.specs.Words.{Octets, other, acts, stream_acts, openings, posted, sends, received, ended, sent, table_after}
-use Rattle.iw_world.specs.Safe.{IsPrefixOf, IsHonest, InOrder, AreFirstFrames, Emission, NothingDue, NothingAct, NothingOnlyAtRest, Within, WithinAct, WithinStream, ShowsMemory, ShowsRegion, domain_of}
-use Rattle.iw_world.specs.Turns.{story, standing, TurnsSeen, TurnsStream, TurnsAct, Turns, IdleStream, IdleAct, IdleOnlyAtRest}
-use Rattle.iw_world.specs.Rules.{Connected, EndState, State, end_of, has_stream, stream_at, start, shown_of, Rule, StreamRule, state_after, Follows}
+use Rattle.iw_world.specs.Words.{Octets, other, acts, stream_acts, Opening, openings, layout_for, layout_in, layout_of, domain_of, posted, sends, received, ended, sent, placements, table_after}
+use Rattle.iw_world.specs.Safe.{IsPrefixOf, IsHonest, InOrder, requests, CoversWrites, Covered, AreFirstFrames, Emission, AreAllFrames, NothingDue, NothingAct, NothingOnlyAtRest, Within, WithinAct, WithinStream, ShowsMemory, ShowsRegion}
+use Rattle.iw_world.specs.Turns.{story_of, standing, TurnsSeen, TurnsStream, TurnsAct, Turns, IdleStream, IdleAct, IdleOnlyAtRest}
+use Rattle.iw_world.specs.Rules.{Connected, EndState, State, end_of, has_stream, stream_at, start, Rule, StreamRule, state_after, Follows}
 use Rattle.iw_world.specs.Bounds.{LacksStream, AsksTooMuch, AsksOver}
 use Rattle.iw_world.specs.Stops.{NamesNoStream, AsksNotSent, IsUnopened}
 use Rattle.iw_world.proofs.Told.{told}
 use Rattle.iw_world.proofs.Tracks.{Track}
 use Rattle.iw_world.proofs.Answers.{standing_of, answers, idles}
 use Rattle.iw_world.proofs.Tales.{Tale, tale_of}
-use Rattle.iw_world.proofs.Lists.{sends-append}
+use Rattle.iw_world.proofs.Sending.{Rests, Ended, Sent, rests, none_left}
 use Rattle.iw_world.proofs.Owns.{Own, within, WithinTale}
+use Rattle.iw_world.proofs.Delivered.{received_prefix, writes_covered}
 use Rattle.iw_world.proofs.Ends.{EndSeen, was_opened, unopened}
-use Rattle.iw_world.proofs.Whole.{Seen, Pair, seen_at, follows_split}
+use Rattle.iw_world.proofs.Whole.{tale, Seen, seen_at, follows_split}
+
+-- ---- honest streams
+
+one_opening : (os : List Opening) (options : Options) → map (λ (o : Opening). o.options) os ≡ options ∷ [] → layout_in os ≡ layout_for options
+one_opening [] options e = absurd (omega (arith, ap length e))
+one_opening (o ∷ os) options e = ap layout_for (ap (first_or o.options) e)
+  where
+    first_or : Options → List Options → Options
+    first_or d [] = d
+    first_or d (x ∷ xs) = x
+
+-- both ends of an honest stream lay their frames out alike
+alike : (n : ℕ) (past : List (Entry Octets)) → IsHonest n past → (x : End) → layout_of n (acts (other x) past) ≡ layout_of n (acts x past)
+alike n past honest x =
+    let options : Options = honest.alike.0 in
+    one_opening (openings n (acts (other x) past)) options (honest.alike.1 (other x)) ∙ sym (one_opening (openings n (acts x past)) options (honest.alike.1 x))
 
 -- what was received is a prefix of the Sends posted
 prefix_of : (past : List (Entry Octets)) (w : State) → Seen past w → (x : End) (n : ℕ) → IsHonest n past → IsPrefixOf (received (stream_acts n (acts (other x) past))) (sends (posted (stream_acts n (acts x past))))
 prefix_of past w k x n honest =
-    let f = (k.pairs x n).out (honest x) (honest (other x)) in
-    let queue = (stream_at (end_of x w) n).stream.queue in (
-      sends f.ahead ++ sends queue,
-      ap (λ z. z ++ (sends f.ahead ++ sends queue)) f.received
-          ∙ sym (append_assoc (sends f.turned) (sends f.ahead) (sends queue))
-          ∙ ap (λ z. z ++ sends queue) (sym (sends-append f.turned f.ahead))
-          ∙ sym (sends-append (f.turned ++ f.ahead) queue)
-          ∙ ap sends (sym f.posted),
-    )
+    let p = k.pairs x n in
+    let d : Connected = stream_at (end_of (other x) w) n in
+    let u : Tale = tale n (acts (other x) past) in
+    received_prefix (layout_of n (acts x past)) (stream_at (end_of x w) n) (tale n (acts x past)) d u p.own (subst (λ l. Own l d u) (alike n past honest x) p.own_peer) (p.out (honest.calm (other x)))
 
 pub in_order : (trace : List (Entry Octets)) → Follows start trace → InOrder trace
 in_order trace follows past future is x n honest = prefix_of past (state_after start past) (seen_at past future trace follows is) x n honest
 
+-- what was placed for Writes is what was posted, as far as Sends were received
+covers : (past : List (Entry Octets)) (w : State) → Seen past w → (x : End) (n : ℕ) → IsHonest n past → (cell : Cell)
+    → CoversWrites (posted (stream_acts n (acts x past))) (placements (stream_acts n (acts (other x) past))) (length (received (stream_acts n (acts (other x) past)))) cell
+covers past w k x n honest cell =
+    let p = k.pairs x n in
+    let d : Connected = stream_at (end_of (other x) w) n in
+    let u : Tale = tale n (acts (other x) past) in
+    writes_covered (layout_of n (acts x past)) (stream_at (end_of x w) n) (tale n (acts x past)) d u p.own (subst (λ l. Own l d u) (alike n past honest x) p.own_peer) (p.out (honest.calm (other x))) cell
+
+pub covered : (trace : List (Entry Octets)) → Follows start trace → Covered trace
+covered trace follows past future is x n honest cell = covers past (state_after start past) (seen_at past future trace follows is) x n honest cell
+
+-- ---- what changes
+
 -- what changed lay where it was allowed
 within_stream : (done : List (Act Octets)) (n domain : ℕ) (table : Table) (act : StreamAct Octets) → domain ≡ domain_of n done → table ≡ table_after done
-    → WithinTale table domain (tale_of (stream_acts n done)) act → WithinStream done n act
+    → WithinTale table domain (tale n done) act → WithinStream done n act
 within_stream done n domain table (Work (seen.Placed right stag to octets)) d t h =
     subst (λ z. Allows z (domain_of n done) stag to (length octets) right) t (subst (λ z. Allows table z stag to (length octets) right) d h)
 within_stream done n domain table (Work (seen.Buffered msn mo len)) d t h = h
@@ -69,18 +99,19 @@ within_stream done n domain table (Recv len refused) d t h = tt
 within_stream done n domain table (Emit shown) d t h = tt
 within_stream done n domain table (Deliver from octets delivery) d t h = tt
 within_stream done n domain table (Raw from octets delivery) d t h = tt
+within_stream done n domain table (Mulpdu size refused) d t h = tt
 
-within_act : (done : List (Act Octets)) (s peer : EndState) (act : Act Octets) → EndSeen s done → ((n : ℕ) → (u : Tale) × Pair (stream_at s n) (tale_of (stream_acts n done)) (stream_at peer n) u) → Rule s peer act → WithinAct done act
+within_act : (done : List (Act Octets)) (s peer : EndState) (act : Act Octets) → EndSeen s done → ((n : ℕ) → Own (layout_of n done) (stream_at s n) (tale n done)) → Rule s peer act → WithinAct done act
 within_act done s peer (Stream n act) k p rule =
     let c : Connected = stream_at s n in
     within_stream done n c.stream.domain s.table act (k.domain n rule.0) k.table
-    (within s.table (stream_at peer n).wire c (tale_of (stream_acts n done)) act (told s.table (stream_at peer n).wire c.stream act rule.2) (p n).1.own)
+    (within (layout_of n done) s.table (stream_at peer n).wire c (tale n done) act (told s.table (stream_at peer n).wire c.stream act rule.2) (p n))
 within_act done s peer (Domain pd refused) k p rule = tt
 within_act done s peer (Register pd base rights octets answer) k p rule = tt
 within_act done s peer (Deregister stag answer) k p rule = tt
 within_act done s peer (Invalidate stag refused) k p rule = tt
 within_act done s peer (Store stag to octets refused) k p rule = tt
-within_act done s peer (Open n pd role private refused) k p rule = tt
+within_act done s peer (Open n pd role options private refused) k p rule = tt
 
 -- an entry, in the state that those before it leave
 abbrev Moment : List (Entry Octets) → Entry Octets → Type 0
@@ -94,41 +125,53 @@ pub within_all : (trace : List (Entry Octets)) → Follows start trace → Withi
 within_all trace follows past e future is =
     let m = moment past e future trace follows is in
     let w : State = state_after start past in
-    within_act (acts e.end past) (end_of e.end w) (end_of (other e.end) w) e.act (m.0.ends e.end) (λ n. (tale_of (stream_acts n (acts (other e.end) past)), m.0.pairs e.end n)) m.1
+    within_act (acts e.end past) (end_of e.end w) (end_of (other e.end) w) e.act (m.0.ends e.end) (λ n. (m.0.pairs e.end n).own) m.1
 
 -- ---- what goes out
 
-first_frames : (past : List (Entry Octets)) (w : State) → Seen past w → (x : End) (n : ℕ) → AreFirstFrames (sent (stream_acts n (acts x past))) (posted (stream_acts n (acts x past)))
+first_frames : (past : List (Entry Octets)) (w : State) → Seen past w → (x : End) (n : ℕ) → AreFirstFrames (layout_of n (acts x past)) (sent (stream_acts n (acts x past))) (posted (stream_acts n (acts x past)))
 first_frames past w k x n =
+    let s : StreamState = (stream_at (end_of x w) n).stream in
     let e = (k.pairs x n).own.emits in
-    record { begun = e.begun; first = ((stream_at (end_of x w) n).stream.queue, sym e.posted); spelled = e.spells }
+    let rest = sends_in_order.whole (requests (posted (stream_acts n (acts x past)))) e.segments s.numbers s.queue e.has in
+    record { begun = e.segments; later = rest.0; carry = rest.1; framed = e.framed }
 
 pub emission : (trace : List (Entry Octets)) → Follows start trace → Emission trace
 emission trace follows past future is x n = first_frames past (state_after start past) (seen_at past future trace follows is) x n
 
-nothing_stream : (c : Connected) (done : List (StreamAct Octets)) (table : Table) (peer : List ℕ) (act : StreamAct Octets) → StreamRule table peer c.stream act → Own c (tale_of done) → NothingDue done act
-nothing_stream c done table peer (Emit Nothing) rule o = go c.stream.ended c.stream.queue refl refl rule
-  where
-    go : (b : Bool) (q : List (Message Octets)) → c.stream.ended ≡ b → c.stream.queue ≡ q → Nothing ≡ shown_of (cond b emissions.Nothing (first_emission c.stream.sent c.stream.next q)) (cond b [] (first_frame_of c.stream.next q))
-        → (ended done ≡ true) ⊎ (sent done ≡ layout (segments_of 1 (posted done)))
-    go true q e is h = inl (sym o.ended ∙ e)
-    go false [] e is h = inr (o.emits.spells ∙ ap (λ ms. layout (segments_of 1 ms)) (sym (append-nil o.emits.begun) ∙ ap (λ z. o.emits.begun ++ z) (sym is) ∙ sym o.emits.posted))
-    go false (m ∷ ms) e is h = cc
-nothing_stream c done table peer (Emit (Frame from octets)) rule o = tt
-nothing_stream c done table peer (Post m refused) rule o = tt
-nothing_stream c done table peer (Recv len refused) rule o = tt
-nothing_stream c done table peer (Deliver from octets delivery) rule o = tt
-nothing_stream c done table peer (Raw from octets delivery) rule o = tt
-nothing_stream c done table peer (Work step) rule o = tt
+-- where no part is due, what was sent is all frames of what was posted
+all_frames : (layout : Layout) (c : Connected) (t : Tale) → Own layout c t → part_due c.stream ≡ None → AreAllFrames layout t.sent t.posted
+all_frames layout c t o none =
+    let e = o.emits in
+    let left : c.stream.queue.unsent ≡ [] = none_left c.stream.queue c.stream.mulpdu none in
+    record {
+      segments = e.segments ++ [];
+      carry = e.has.goes_on [] (subst (λ ms. AreSpelled c.stream.numbers c.stream.queue.offset ms []) (sym left) refl);
+      framed = e.framed ∙ ap (λ z. sequence layout 0 (map segment_octets z)) (sym (append-nil e.segments));
+    }
 
-nothing_act : (done : List (Act Octets)) (s peer : EndState) (act : Act Octets) → ((n : ℕ) → Own (stream_at s n) (tale_of (stream_acts n done))) → Rule s peer act → NothingAct done act
-nothing_act done s peer (Stream n act) owns rule = nothing_stream (stream_at s n) (stream_acts n done) s.table (stream_at peer n).wire act rule.2 (owns n)
+nothing_stream : (layout : Layout) (c : Connected) (done : List (StreamAct Octets)) (table : Table) (peer : List ℕ) (act : StreamAct Octets) → StreamRule table peer c.stream act → Own layout c (tale_of layout done) → NothingDue layout done act
+nothing_stream layout c done table peer (Emit Nothing) rule o = go (rests c.stream rule)
+  where
+    go : Rests c.stream → (ended done ≡ true) ⊎ AreAllFrames layout (sent done) (posted done)
+    go (Ended over) = inl (sym o.ended ∙ over)
+    go (Sent none) = inr (all_frames layout c (tale_of layout done) o none)
+nothing_stream layout c done table peer (Emit (Frame from octets)) rule o = tt
+nothing_stream layout c done table peer (Post m refused) rule o = tt
+nothing_stream layout c done table peer (Recv len refused) rule o = tt
+nothing_stream layout c done table peer (Deliver from octets delivery) rule o = tt
+nothing_stream layout c done table peer (Raw from octets delivery) rule o = tt
+nothing_stream layout c done table peer (Mulpdu size refused) rule o = tt
+nothing_stream layout c done table peer (Work step) rule o = tt
+
+nothing_act : (done : List (Act Octets)) (s peer : EndState) (act : Act Octets) → ((n : ℕ) → Own (layout_of n done) (stream_at s n) (tale n done)) → Rule s peer act → NothingAct done act
+nothing_act done s peer (Stream n act) owns rule = nothing_stream (layout_of n done) (stream_at s n) (stream_acts n done) s.table (stream_at peer n).wire act rule.2 (owns n)
 nothing_act done s peer (Domain pd refused) owns rule = tt
 nothing_act done s peer (Register pd base rights octets answer) owns rule = tt
 nothing_act done s peer (Deregister stag answer) owns rule = tt
 nothing_act done s peer (Invalidate stag refused) owns rule = tt
 nothing_act done s peer (Store stag to octets refused) owns rule = tt
-nothing_act done s peer (Open n pd role private refused) owns rule = tt
+nothing_act done s peer (Open n pd role options private refused) owns rule = tt
 
 pub nothing_at_rest : (trace : List (Entry Octets)) → Follows start trace → NothingOnlyAtRest trace
 nothing_at_rest trace follows past e future is =
@@ -138,27 +181,28 @@ nothing_at_rest trace follows past e future is =
 
 -- ---- the turns of frames
 
-same_standing : (done : List (Act Octets)) (n : ℕ) (s : EndState) → EndSeen s done → has_stream s n ≡ true → Track (stream_at s n).stream (story (stream_acts n done)) → standing_of s.table (stream_at s n).stream ≡ standing n done
+same_standing : (done : List (Act Octets)) (n : ℕ) (s : EndState) → EndSeen s done → has_stream s n ≡ true → Track (layout_of n done) (stream_at s n).stream (tale n done) → standing_of s.table (stream_at s n).stream ≡ standing n done
 same_standing done n s k there track = λ i. record { table = k.table i; domain = k.domain n there i; receiving = sym track.receiving i }
 
 turns_stream : (done : List (Act Octets)) (n : ℕ) (s : EndState) (peer : List ℕ) (act : StreamAct Octets) → EndSeen s done → has_stream s n ≡ true → StreamRule s.table peer (stream_at s n).stream act
-    → Track (stream_at s n).stream (story (stream_acts n done)) → TurnsStream done n act
+    → Track (layout_of n done) (stream_at s n).stream (tale n done) → TurnsStream done n act
 turns_stream done n s peer (Work step) k there rule track =
-    subst (λ z. TurnsSeen (story (stream_acts n done)) z step) (same_standing done n s k there track) (answers s.table (stream_at s n).stream (story (stream_acts n done)) step rule track)
+    subst (λ z. TurnsSeen (layout_of n done) (story_of n done) z step) (same_standing done n s k there track) (answers (layout_of n done) s.table (stream_at s n).stream (tale n done) step rule track)
 turns_stream done n s peer (Post m refused) k there rule track = tt
 turns_stream done n s peer (Recv len refused) k there rule track = tt
 turns_stream done n s peer (Emit shown) k there rule track = tt
 turns_stream done n s peer (Deliver from octets delivery) k there rule track = tt
 turns_stream done n s peer (Raw from octets delivery) k there rule track = tt
+turns_stream done n s peer (Mulpdu size refused) k there rule track = tt
 
-turns_act : (done : List (Act Octets)) (s peer : EndState) (act : Act Octets) → EndSeen s done → ((n : ℕ) → Track (stream_at s n).stream (story (stream_acts n done))) → Rule s peer act → TurnsAct done act
+turns_act : (done : List (Act Octets)) (s peer : EndState) (act : Act Octets) → EndSeen s done → ((n : ℕ) → Track (layout_of n done) (stream_at s n).stream (tale n done)) → Rule s peer act → TurnsAct done act
 turns_act done s peer (Stream n act) k tracks rule = turns_stream done n s (stream_at peer n).wire act k rule.0 rule.2 (tracks n)
 turns_act done s peer (Domain pd refused) k tracks rule = tt
 turns_act done s peer (Register pd base rights octets answer) k tracks rule = tt
 turns_act done s peer (Deregister stag answer) k tracks rule = tt
 turns_act done s peer (Invalidate stag refused) k tracks rule = tt
 turns_act done s peer (Store stag to octets refused) k tracks rule = tt
-turns_act done s peer (Open n pd role private refused) k tracks rule = tt
+turns_act done s peer (Open n pd role options private refused) k tracks rule = tt
 
 pub turns_all : (trace : List (Entry Octets)) → Follows start trace → Turns trace
 turns_all trace follows past e future is =
@@ -166,31 +210,32 @@ turns_all trace follows past e future is =
     let w : State = state_after start past in
     turns_act (acts e.end past) (end_of e.end w) (end_of (other e.end) w) e.act (m.0.ends e.end) (λ n. (m.0.pairs e.end n).own.track) m.1
 
-idle_stream : (s : EndState) (peer : List ℕ) (c : Connected) (done : List (StreamAct Octets)) (act : StreamAct Octets) → StreamRule s.table peer c.stream act → Own c (tale_of done) → IdleStream done act
-idle_stream s peer c done (Work seen.Idle) rule o = elim (idles s.table c.stream (story done) rule o.track) [
+idle_stream : (s : EndState) (peer : List ℕ) (c : Connected) (done : List (Act Octets)) (n : ℕ) (act : StreamAct Octets) → StreamRule s.table peer c.stream act → Own (layout_of n done) c (tale n done) → IdleStream done n act
+idle_stream s peer c done n (Work seen.Idle) rule o = elim (idles (layout_of n done) s.table c.stream (tale n done) rule o.track) [
   | inl over ↦ inl (sym o.ended ∙ over)
   | inr none ↦ inr none
 ]
-idle_stream s peer c done (Work (seen.Done kind)) rule o = tt
-idle_stream s peer c done (Work (seen.Placed right stag to octets)) rule o = tt
-idle_stream s peer c done (Work (seen.Buffered msn mo len)) rule o = tt
-idle_stream s peer c done (Work seen.Passed) rule o = tt
-idle_stream s peer c done (Work (seen.Received octets solicited invalidate)) rule o = tt
-idle_stream s peer c done (Work (seen.Fault fault)) rule o = tt
-idle_stream s peer c done (Post m refused) rule o = tt
-idle_stream s peer c done (Recv len refused) rule o = tt
-idle_stream s peer c done (Emit shown) rule o = tt
-idle_stream s peer c done (Deliver from octets delivery) rule o = tt
-idle_stream s peer c done (Raw from octets delivery) rule o = tt
+idle_stream s peer c done n (Work (seen.Done kind)) rule o = tt
+idle_stream s peer c done n (Work (seen.Placed right stag to octets)) rule o = tt
+idle_stream s peer c done n (Work (seen.Buffered msn mo len)) rule o = tt
+idle_stream s peer c done n (Work seen.Passed) rule o = tt
+idle_stream s peer c done n (Work (seen.Received octets solicited invalidate)) rule o = tt
+idle_stream s peer c done n (Work (seen.Fault fault)) rule o = tt
+idle_stream s peer c done n (Post m refused) rule o = tt
+idle_stream s peer c done n (Recv len refused) rule o = tt
+idle_stream s peer c done n (Emit shown) rule o = tt
+idle_stream s peer c done n (Deliver from octets delivery) rule o = tt
+idle_stream s peer c done n (Raw from octets delivery) rule o = tt
+idle_stream s peer c done n (Mulpdu size refused) rule o = tt
 
-idle_act : (done : List (Act Octets)) (s peer : EndState) (act : Act Octets) → ((n : ℕ) → Own (stream_at s n) (tale_of (stream_acts n done))) → Rule s peer act → IdleAct done act
-idle_act done s peer (Stream n act) owns rule = idle_stream s (stream_at peer n).wire (stream_at s n) (stream_acts n done) act rule.2 (owns n)
+idle_act : (done : List (Act Octets)) (s peer : EndState) (act : Act Octets) → ((n : ℕ) → Own (layout_of n done) (stream_at s n) (tale n done)) → Rule s peer act → IdleAct done act
+idle_act done s peer (Stream n act) owns rule = idle_stream s (stream_at peer n).wire (stream_at s n) done n act rule.2 (owns n)
 idle_act done s peer (Domain pd refused) owns rule = tt
 idle_act done s peer (Register pd base rights octets answer) owns rule = tt
 idle_act done s peer (Deregister stag answer) owns rule = tt
 idle_act done s peer (Invalidate stag refused) owns rule = tt
 idle_act done s peer (Store stag to octets refused) owns rule = tt
-idle_act done s peer (Open n pd role private refused) owns rule = tt
+idle_act done s peer (Open n pd role options private refused) owns rule = tt
 
 pub idle_at_rest : (trace : List (Entry Octets)) → Follows start trace → IdleOnlyAtRest trace
 idle_at_rest trace follows past e future is =
@@ -210,7 +255,7 @@ shows_region done s peer (Invalidate stag refused) k rule = tt
 shows_region done s peer (Store stag to octets refused) k rule = tt
 shows_region done s peer (Domain pd refused) k rule = tt
 shows_region done s peer (Register pd base rights octets answer) k rule = tt
-shows_region done s peer (Open n pd role private refused) k rule = tt
+shows_region done s peer (Open n pd role options private refused) k rule = tt
 shows_region done s peer (Stream n act) k rule = tt
 
 pub shows_memory : (trace : List (Entry Octets)) → Follows start trace → ShowsMemory trace
@@ -237,7 +282,7 @@ names_no_stream s peer own others (calls.Register pd base rights octets) k j h =
 names_no_stream s peer own others (calls.Deregister stag) k j h = h
 names_no_stream s peer own others (calls.Invalidate stag) k j h = h
 names_no_stream s peer own others (calls.Store stag to octets) k j h = h
-names_no_stream s peer own others (calls.Open n pd role private) k j h = h
+names_no_stream s peer own others (calls.Open n pd role options private) k j h = h
 
 pub names_streams : (s peer : EndState) (own others : List (Act Octets)) (call : Call Octets) → EndSeen s own → EndSeen peer others → AsksTooMuch s peer call → ¬ NamesNoStream own others call
 names_streams s peer own others (calls.Stream n call) k j h names = elim names [
@@ -249,7 +294,7 @@ names_streams s peer own others (calls.Register pd base rights octets) k j h nam
 names_streams s peer own others (calls.Deregister stag) k j h names = h
 names_streams s peer own others (calls.Invalidate stag) k j h names = h
 names_streams s peer own others (calls.Store stag to octets) k j h names = h
-names_streams s peer own others (calls.Open n pd role private) k j h names = h
+names_streams s peer own others (calls.Open n pd role options private) k j h names = h
 
 pub asks_not_sent : (s peer : EndState) (others : List (Act Octets)) (call : Call Octets) → ((n : ℕ) → (stream_at peer n).wire ≡ sent (stream_acts n others)) → AsksTooMuch s peer call → AsksNotSent others call
 asks_not_sent s peer others (calls.Stream n call) wires h = subst (λ z. AsksOver z call) (wires n) h.2
@@ -258,4 +303,4 @@ asks_not_sent s peer others (calls.Register pd base rights octets) wires h = h
 asks_not_sent s peer others (calls.Deregister stag) wires h = h
 asks_not_sent s peer others (calls.Invalidate stag) wires h = h
 asks_not_sent s peer others (calls.Store stag to octets) wires h = h
-asks_not_sent s peer others (calls.Open n pd role private) wires h = h
+asks_not_sent s peer others (calls.Open n pd role options private) wires h = h

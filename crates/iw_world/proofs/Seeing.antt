@@ -1,6 +1,7 @@
 -- What is seen of a step tells what the step did.
 use Rattle.std.proofs.Common.{◌≡◌, ℕ, List, length, Option, Some, None, refl, sym, ap, ◌∙◌}
 use Rattle.std.specs.Option.{option_map}
+use Rattle.std.specs.Result.{result_err}
 use Rattle.std.proofs.lemmas.Option.{none-some}
 use Rattle.iw_octets.specs.declared.fault.Fault.{Fault}
 use Rattle.iw_octets.specs.declared.stag.Stag.{Stag}
@@ -10,8 +11,10 @@ use Rattle.iw_memory.specs.declared.rights.Right.TheVariants.{Write}
 use Rattle.iw_memory.specs.Table.{Table, denial, put, octets_at}
 use Rattle.iw_stream.specs.declared.answer.Step.{Step}
 use Rattle.iw_stream.specs.declared.answer.Step.TheVariants as steps
-use Rattle.iw_stream.specs.Stream.{StreamState, front, payload_of, worked}
-use Rattle.iw_stream.specs.Judging.{denial_fault, or_else, tagged_head_fault, work_step, table_worked}
+use Rattle.iw_stream.specs.Stream.{StreamState, Front, front, segment_at, payload_of, worked}
+use Rattle.iw_rdmap.specs.FirstPath.{plain_tagged}
+use Rattle.iw_tagged.specs.Placing.{denial_fault}
+use Rattle.iw_stream.specs.Judging.{or_else, work_step, table_worked}
 use Rattle.iw_stream.proofs.Inverse.{working, PlacesWrite}
 use Rattle.iw_world.specs.Words.{table_seen}
 use Rattle.iw_world.specs.Rules.{seen_of, step_of}
@@ -26,7 +29,7 @@ undenied None (Some deny) e = absurd (none-some _ (sym e))
 -- a step that places a Write
 pub record Writes (table : Table) (s : StreamState) (right : Right) (stag : Stag) (to len : ℕ) : Type 0 where
   pub payload : List ℕ
-  pub payload_is : payload_of (front s.inbox) ≡ payload
+  pub payload_is : payload_of (segment_at (front s)) ≡ payload
   pub len_is : len ≡ length payload
   pub admitted : denial table s.domain stag to (length payload) right ≡ None
 
@@ -37,17 +40,17 @@ writes table s right stag to len p =
     let to_is : to ≡ p.head.to = let is = p.is in cc in
     let len_is : len ≡ length p.payload = let is = p.is in cc in
     let checked : denial table s.domain p.head.stag p.head.to (length p.payload) Write ≡ None =
-    undenied (tagged_head_fault p.head) (denial table s.domain p.head.stag p.head.to (length p.payload) Write) p.checked in
+    undenied (result_err (plain_tagged p.head)) (denial table s.domain p.head.stag p.head.to (length p.payload) Write) p.checked in
     record {
       payload = p.payload;
-      payload_is = ap payload_of p.fronts.whole;
+      payload_is = ap (λ (o : Front). payload_of (segment_at o)) p.fronts.whole ∙ ap payload_of p.fronts.carries;
       len_is = len_is;
       admitted = (λ i. denial table s.domain (stag_is i) (to_is i) (length p.payload) (right_is i)) ∙ checked;
     }
 
 -- the octets that stand where a step placed are the payload of the frame at the in-order point
 pub placed_stand : (table : Table) (s : StreamState) (right : Right) (stag : Stag) (to len : ℕ) → Writes table s right stag to len
-    → octets_at (put table stag to (payload_of (front s.inbox))) stag to len ≡ payload_of (front s.inbox)
+    → octets_at (put table stag to (payload_of (segment_at (front s)))) stag to len ≡ payload_of (segment_at (front s))
 placed_stand table s right stag to len w =
     (λ i. octets_at (put table stag to (w.payload_is i)) stag to (w.len_is i))
     ∙ octets_at-put table s.domain stag to w.payload right w.admitted

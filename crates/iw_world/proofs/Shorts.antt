@@ -1,29 +1,36 @@
--- How many octets the entries of a trace can have emitted.
-use Rattle.std.proofs.Common.{◌≡◌, ℕ, ◌+◌, ◌*◌, ◌^◌, ◌≤◌, List, [], ◌∷◌, ◌++◌, length, Some, None, Bool, true, false, eqb, refl, sym, ap, subst, arith, append_assoc, length-append}
+-- How many octets the entries of a trace can have emitted, and how many frames can have had their turn.
+use Rattle.std.proofs.Common.{◌≡◌, ℕ, ◌+◌, ◌*◌, ◌^◌, ◌<◌, ◌≤◌, List, [], ◌∷◌, ◌++◌, length, Some, None, Bool, true, false, eqb, refl, sym, ap, ◌∙◌, subst, arith, append_assoc, length-append}
+use Rattle.std.specs.Prelude.{fold}
 use Rattle.std.proofs.lemmas.List.{append-nil, length_push}
+use Rattle.iw_fpdu.specs.declared.layout.Layout.{Layout}
 use Rattle.iw_events.specs.declared.call.End.{End}
 use Rattle.iw_events.specs.declared.act.Act.{Act}
 use Rattle.iw_events.specs.declared.act.Act.TheVariants.{Domain, Register, Deregister, Invalidate, Store, Open, Stream}
 use Rattle.iw_events.specs.declared.act.StreamAct.{StreamAct}
-use Rattle.iw_events.specs.declared.act.StreamAct.TheVariants.{Recv, Post, Emit, Deliver, Raw, Work}
+use Rattle.iw_events.specs.declared.act.StreamAct.TheVariants.{Recv, Post, Emit, Deliver, Raw, Mulpdu, Work}
 use Rattle.iw_events.specs.declared.act.Seen.TheVariants as seen
 use Rattle.iw_events.specs.declared.act.Entry.{Entry}
-use Rattle.iw_world.specs.Words.{Octets, other, acts, stream_acts, stream_acts_by, sent, sent_by}
-use Rattle.iw_world.specs.Turns.{Story, story, story_after}
+use Rattle.iw_world.specs.Words.{Octets, other, acts, stream_acts, stream_acts_by, layout_of, sent, sent_by}
+use Rattle.iw_world.specs.Turns.{Story, story, story_after, story_of, untold}
 use Rattle.iw_world.specs.Rules.{EndState, State, end_of, stream_at, start, Rule, after_entry, state_after, Follows}
 use Rattle.iw_world.specs.Bounds.{IsShortEnd, IsShortState}
-use Rattle.iw_world.proofs.Tales.{Tale, tale_of, tale_same, tale_more, acts_mine, acts_other}
-use Rattle.iw_world.proofs.Whole.{Seen, Pair, emits_few, one_more, unsaid, seen_after, both, acts_none, acts_one}
+use Rattle.iw_world.proofs.Tales.{Tale, fold-push, stream_acts-push, acts_mine, acts_other}
+use Rattle.iw_world.proofs.Owns.{Own}
+use Rattle.iw_world.proofs.Whole.{tale, tale_next, Seen, emits_few, one_more, unsaid, seen_after, both, acts_none, acts_one}
 
 -- the octets emitted on a stream
 abbrev sent_on : ℕ → List (Act Octets) → ℕ
 sent_on n done = length (sent (stream_acts n done))
 
+-- an act of another stream, or of none, adds nothing
+silent : (n : ℕ) (done : List (Act Octets)) (act : Act Octets) → stream_acts_by n act ≡ [] → stream_acts n (done ++ act ∷ []) ≡ stream_acts n done
+silent n done act none = stream_acts-push n done act ∙ ap (λ z. stream_acts n done ++ z) none ∙ append-nil (stream_acts n done)
+
 -- an act adds no more than a frame
 same_sent : (n : ℕ) (done : List (Act Octets)) (act : Act Octets) → stream_acts_by n act ≡ [] → sent_on n (done ++ act ∷ []) ≤ sent_on n done + 2 ^ 17
-same_sent n done act none = let same : sent_on n (done ++ act ∷ []) ≡ sent_on n done = ap (λ (t : Tale). length t.sent) (tale_same n done act none) in omega arith
+same_sent n done act none = let same : sent_on n (done ++ act ∷ []) ≡ sent_on n done = ap (λ z. length (sent z)) (silent n done act none) in omega arith
 
-one_frame : (s peer : EndState) (done : List (Act Octets)) (act : Act Octets) (n : ℕ) → ((n : ℕ) → (u : Tale) × Pair (stream_at s n) (tale_of (stream_acts n done)) (stream_at peer n) u) → Rule s peer act
+one_frame : (s peer : EndState) (done : List (Act Octets)) (act : Act Octets) (n : ℕ) → ((n : ℕ) → Own (layout_of n done) (stream_at s n) (tale n done)) → Rule s peer act
     → sent_on n (done ++ act ∷ []) ≤ sent_on n done + 2 ^ 17
 one_frame s peer done (Domain pd None) n p rule = same_sent n done (Domain pd None) refl
 one_frame s peer done (Domain pd (Some refusal)) n p rule = same_sent n done (Domain pd (Some refusal)) refl
@@ -31,56 +38,109 @@ one_frame s peer done (Register pd base rights octets answer) n p rule = same_se
 one_frame s peer done (Deregister stag answer) n p rule = same_sent n done (Deregister stag answer) refl
 one_frame s peer done (Invalidate stag refused) n p rule = same_sent n done (Invalidate stag refused) refl
 one_frame s peer done (Store stag to octets refused) n p rule = same_sent n done (Store stag to octets refused) refl
-one_frame s peer done (Open m pd role private refused) n p rule = same_sent n done (Open m pd role private refused) refl
+one_frame s peer done (Open m pd role options private refused) n p rule = same_sent n done (Open m pd role options private refused) refl
 one_frame s peer done (Stream m act) n p rule = go (eqb m n) refl
   where
     go : (b : Bool) → eqb m n ≡ b → sent_on n (done ++ Stream m act ∷ []) ≤ sent_on n done + 2 ^ 17
     go false e = same_sent n done (Stream m act) (acts_none m n act e)
     go true e =
-        let few : length (sent_by act) ≤ 2 ^ 17 = emits_few s.table (stream_at peer m).wire (stream_at s m) (tale_of (stream_acts m done)) act rule.2 (p m).1.own in
+        let few : length (sent_by act) ≤ 2 ^ 17 = emits_few (layout_of m done) s.table (stream_at peer m).wire (stream_at s m) (tale m done) act rule.2 (p m) in
         let more : sent_on n (done ++ Stream m act ∷ []) ≡ length (sent (stream_acts n done) ++ sent_by act) =
-        ap (λ (t : Tale). length t.sent) (tale_more n done (Stream m act) act (acts_one m n act e)) in
+        ap (λ (t : Tale). length t.sent) (tale_next n done m act e) in
         omega (arith, more, length-append (sent (stream_acts n done)) (sent_by act), few)
 
 -- ---- how many frames had their turn
 
-abbrev turns_on : ℕ → List (Act Octets) → ℕ
-turns_on n done = (story (stream_acts n done)).turns
+abbrev turn_after : ℕ → StreamAct Octets → ℕ
+turn_after turns (Work seen.Passed) = turns + 1
+turn_after turns (Work (seen.Received octets solicited invalidate)) = turns + 1
+turn_after turns (Work (seen.Done kind)) = turns
+turn_after turns (Work (seen.Placed right stag to octets)) = turns
+turn_after turns (Work (seen.Buffered msn mo len)) = turns
+turn_after turns (Work (seen.Fault fault)) = turns
+turn_after turns (Work seen.Idle) = turns
+turn_after turns (Deliver from octets delivery) = turns
+turn_after turns (Raw from octets delivery) = turns
+turn_after turns (Mulpdu size refused) = turns
+turn_after turns (Recv len refused) = turns
+turn_after turns (Emit shown) = turns
+turn_after turns (Post m refused) = turns
 
-one_turn : (t : Story) (act : StreamAct Octets) → (story_after t act).turns ≤ t.turns + 1
-one_turn t (Work (seen.Done kind)) = omega arith
-one_turn t (Work (seen.Placed right stag to octets)) = omega arith
-one_turn t (Work (seen.Buffered msn mo len)) = omega arith
-one_turn t (Work seen.Passed) = omega arith
-one_turn t (Work (seen.Received octets solicited invalidate)) = omega arith
-one_turn t (Work (seen.Fault fault)) = omega arith
-one_turn t (Work seen.Idle) = omega arith
-one_turn t (Deliver from octets delivery) = omega arith
-one_turn t (Raw from octets delivery) = omega arith
-one_turn t (Recv len None) = omega arith
-one_turn t (Recv len (Some refusal)) = omega arith
-one_turn t (Emit shown) = omega arith
-one_turn t (Post m refused) = omega arith
+turns_in : List (StreamAct Octets) → ℕ
+turns_in done = fold turn_after 0 done
+
+turns_on : ℕ → List (Act Octets) → ℕ
+turns_on n done = turns_in (stream_acts n done)
+
+-- a story counts them so, however the frames are laid out
+counts : (layout : Layout) (t : Story) (act : StreamAct Octets) → (story_after layout t act).turns ≡ turn_after t.turns act
+counts layout t (Work seen.Passed) = refl
+counts layout t (Work (seen.Received octets solicited invalidate)) = refl
+counts layout t (Work (seen.Done kind)) = refl
+counts layout t (Work (seen.Placed right stag to octets)) = refl
+counts layout t (Work (seen.Buffered msn mo len)) = refl
+counts layout t (Work (seen.Fault fault)) = refl
+counts layout t (Work seen.Idle) = refl
+counts layout t (Deliver from octets delivery) = refl
+counts layout t (Raw from octets delivery) = refl
+counts layout t (Mulpdu size refused) = refl
+counts layout t (Recv len None) = refl
+counts layout t (Recv len (Some refusal)) = refl
+counts layout t (Emit shown) = refl
+counts layout t (Post m refused) = refl
+
+counts_all : (layout : Layout) (t : Story) (done : List (StreamAct Octets)) → (fold (story_after layout) t done).turns ≡ fold turn_after t.turns done
+counts_all layout t [] = refl
+counts_all layout t (act ∷ done) = counts_all layout (story_after layout t act) done ∙ ap (λ n. fold turn_after n done) (counts layout t act)
+
+story_turns : (layout : Layout) (done : List (StreamAct Octets)) → (story layout done).turns ≡ turns_in done
+unfolding story turns_in
+story_turns layout done = counts_all layout untold done
+
+one_turn : (turns : ℕ) (act : StreamAct Octets) → turn_after turns act ≤ turns + 1
+one_turn turns (Work seen.Passed) = omega arith
+one_turn turns (Work (seen.Received octets solicited invalidate)) = omega arith
+one_turn turns (Work (seen.Done kind)) = omega arith
+one_turn turns (Work (seen.Placed right stag to octets)) = omega arith
+one_turn turns (Work (seen.Buffered msn mo len)) = omega arith
+one_turn turns (Work (seen.Fault fault)) = omega arith
+one_turn turns (Work seen.Idle) = omega arith
+one_turn turns (Deliver from octets delivery) = omega arith
+one_turn turns (Raw from octets delivery) = omega arith
+one_turn turns (Mulpdu size refused) = omega arith
+one_turn turns (Recv len refused) = omega arith
+one_turn turns (Emit shown) = omega arith
+one_turn turns (Post m refused) = omega arith
 
 same_turns : (n : ℕ) (done : List (Act Octets)) (act : Act Octets) → stream_acts_by n act ≡ [] → turns_on n (done ++ act ∷ []) ≤ turns_on n done + 1
-same_turns n done act none = let same : turns_on n (done ++ act ∷ []) ≡ turns_on n done = ap (λ (t : Tale). t.story.turns) (tale_same n done act none) in omega arith
+unfolding turns_on
+same_turns n done act none = let same : turns_in (stream_acts n (done ++ act ∷ [])) ≡ turns_in (stream_acts n done) = ap turns_in (silent n done act none) in omega (arith, same)
+
+more_turns : (done : List (StreamAct Octets)) (act : StreamAct Octets) → turns_in (done ++ act ∷ []) ≡ turn_after (turns_in done) act
+unfolding turns_in
+more_turns done act = fold-push turn_after 0 done act
 
 -- an act adds no more than one
 turns_more : (n : ℕ) (done : List (Act Octets)) (act : Act Octets) → turns_on n (done ++ act ∷ []) ≤ turns_on n done + 1
+unfolding turns_on
 turns_more n done (Domain pd refused) = same_turns n done (Domain pd refused) refl
 turns_more n done (Register pd base rights octets answer) = same_turns n done (Register pd base rights octets answer) refl
 turns_more n done (Deregister stag answer) = same_turns n done (Deregister stag answer) refl
 turns_more n done (Invalidate stag refused) = same_turns n done (Invalidate stag refused) refl
 turns_more n done (Store stag to octets refused) = same_turns n done (Store stag to octets refused) refl
-turns_more n done (Open m pd role private refused) = same_turns n done (Open m pd role private refused) refl
+turns_more n done (Open m pd role options private refused) = same_turns n done (Open m pd role options private refused) refl
 turns_more n done (Stream m act) = go (eqb m n) refl
   where
+    next : eqb m n ≡ true → turns_on n (done ++ Stream m act ∷ []) ≡ turn_after (turns_on n done) act
+    next e = ap turns_in (stream_acts-push n done (Stream m act) ∙ ap (λ z. stream_acts n done ++ z) (acts_one m n act e)) ∙ more_turns (stream_acts n done) act
+
     go : (b : Bool) → eqb m n ≡ b → turns_on n (done ++ Stream m act ∷ []) ≤ turns_on n done + 1
     go false e = same_turns n done (Stream m act) (acts_none m n act e)
-    go true e =
-        let more : turns_on n (done ++ Stream m act ∷ []) ≡ (story_after (story (stream_acts n done)) act).turns =
-        ap (λ (t : Tale). t.story.turns) (tale_more n done (Stream m act) act (acts_one m n act e)) in
-        omega (arith, more, one_turn (story (stream_acts n done)) act)
+    go true e = omega (arith, next e, one_turn (turns_on n done) act)
+
+turns_are : (n : ℕ) (done : List (Act Octets)) → (story_of n done).turns ≡ turns_on n done
+unfolding turns_on
+turns_are n done = story_turns (layout_of n done) (stream_acts n done)
 
 -- at most a turn an entry
 abbrev FewTurns : List (Entry Octets) → Type 0
@@ -107,7 +167,7 @@ turns_onward past [] few = subst FewTurns (sym (append-nil past)) few
 turns_onward past (e ∷ rest) few = subst FewTurns (append_assoc past (e ∷ []) rest) (turns_onward (past ++ e ∷ []) rest (turns_step past e few))
 
 turns_none : FewTurns []
-unfolding acts stream_acts story
+unfolding acts stream_acts turns_on turns_in
 turns_none x n = omega arith
 
 turns_all : (trace : List (Entry Octets)) → FewTurns trace
@@ -125,7 +185,7 @@ few_step trace w e k few rule =
     let F : End → Type 0 = λ v. (n : ℕ) → sent_on n (acts v (trace ++ e ∷ [])) ≤ 2 ^ 17 * length (trace ++ e ∷ []) in
     let mine : F x = λ n.
     let one : sent_on n (acts x trace ++ e.act ∷ []) ≤ sent_on n (acts x trace) + 2 ^ 17 =
-    one_frame (end_of x w) (end_of y w) (acts x trace) e.act n (λ j. (tale_of (stream_acts j (acts y trace)), k.pairs x j)) rule in
+    one_frame (end_of x w) (end_of y w) (acts x trace) e.act n (λ j. (k.pairs x j).own) rule in
     let before : sent_on n (acts x trace) ≤ 2 ^ 17 * length trace = few x n in
     let same : sent_on n (acts x (trace ++ e ∷ [])) ≡ sent_on n (acts x trace ++ e.act ∷ []) = ap (sent_on n) (acts_mine trace e) in
     omega (arith, longer, one, before, same) in
@@ -149,18 +209,19 @@ few_all : (trace : List (Entry Octets)) → Follows start trace → Few trace
 few_all trace follows = few_onward [] trace start unsaid few_none follows
 
 -- so, in a trace that is not too long, no stream has come far
-short_end : (trace : List (Entry Octets)) (w : State) → Seen trace w → Few trace → length trace ≤ 2 ^ 45 → (x : End) → IsShortEnd (end_of x w)
+short_end : (trace : List (Entry Octets)) (w : State) → Seen trace w → Few trace → length trace < 2 ^ 45 → (x : End) → IsShortEnd (end_of x w)
 short_end trace w k few bound x = record {
   streams = λ n.
       let p = k.pairs x n in
       let mine : sent_on n (acts x trace) ≤ 2 ^ 17 * length trace = few x n in
       let had : turns_on n (acts x trace) ≤ length trace = turns_all trace x n in
-      record { sent = omega (arith, p.own.sent, mine, bound); point = omega (arith, p.own.track.point, p.own.track.near, p.own.track.turns, had, bound) };
+      let turns : (story_of n (acts x trace)).turns ≡ turns_on n (acts x trace) = turns_are n (acts x trace) in
+      record { sent = omega (arith, p.own.sent, mine, bound); point = omega (arith, p.own.track.point, p.own.track.near, p.own.track.turns, turns, had, bound) };
   wires = λ n.
       let p = k.pairs x n in
       let mine : sent_on n (acts x trace) ≤ 2 ^ 17 * length trace = few x n in
       omega (arith, ap length p.own.wire, mine, bound);
 }
 
-pub short_state : (trace : List (Entry Octets)) → Follows start trace → length trace ≤ 2 ^ 45 → IsShortState (state_after start trace)
+pub short_state : (trace : List (Entry Octets)) → Follows start trace → length trace < 2 ^ 45 → IsShortState (state_after start trace)
 short_state trace follows bound x = short_end trace (state_after start trace) (seen_after trace follows) (few_all trace follows) bound x

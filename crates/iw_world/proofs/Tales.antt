@@ -5,36 +5,37 @@ use Rattle.std.specs.List.{flat_map}
 use Rattle.std.proofs.lemmas.List.{append-nil}
 use Rattle.std.proofs.lemmas.List.Concat.{flat_map-append}
 use Rattle.iw_octets.specs.declared.message.Message.{Message}
+use Rattle.iw_fpdu.specs.declared.layout.Layout.{Layout}
 use Rattle.iw_events.specs.declared.call.End.{End}
 use Rattle.iw_events.specs.declared.call.End.TheVariants.{A, B}
 use Rattle.iw_events.specs.declared.act.Act.{Act}
 use Rattle.iw_events.specs.declared.act.StreamAct.{StreamAct}
 use Rattle.iw_events.specs.declared.act.Entry.{Entry}
 use Rattle.iw_world.specs.Turns.{Story, story, story_after, untold}
-use Rattle.iw_world.specs.Words.{Octets, other, acts, acts_if, stream_acts, stream_acts_by, openings, openings_by, posted, posted_by, Sent, received, received_by, has_raw, raw_after, ended, ended_after, sent, sent_by, came, came_after, table_after, table_by, buffers, buffers_after}
+use Rattle.iw_world.specs.Words.{Octets, other, acts, acts_if, stream_acts, stream_acts_by, openings, openings_by, posted, posted_by, Sent, received, received_by, has_raw, raw_after, ended, ended_after, sent, sent_by, placements, placed_by, table_after, table_by, buffers, buffers_after}
 
 -- what the acts of one end say of one of its streams
 pub record Tale : Type 0 where
   pub posted : List (Message Octets)
   pub received : List Sent
   pub sent : List ℕ
-  pub came : List ℕ
   pub buffers : List ℕ
+  pub placements : List (Message Octets)
   pub story : Story
   pub ended : Bool
   pub raw : Bool
 
-abbrev pub tale_of : List (StreamAct Octets) → Tale
-tale_of done = record { posted = posted done; received = received done; sent = sent done; came = came done; buffers = buffers done; story = story done; ended = ended done; raw = has_raw done }
+abbrev pub tale_of : Layout → List (StreamAct Octets) → Tale
+tale_of layout done = record { posted = posted done; received = received done; sent = sent done; buffers = buffers done; placements = placements done; story = story layout done; ended = ended done; raw = has_raw done }
 
-abbrev pub tale_after : Tale → StreamAct Octets → Tale
-tale_after t act = record {
+abbrev pub tale_after : Layout → Tale → StreamAct Octets → Tale
+tale_after layout t act = record {
   posted = t.posted ++ posted_by act;
   received = t.received ++ received_by act;
   sent = t.sent ++ sent_by act;
-  came = came_after t.came act;
   buffers = buffers_after t.buffers act;
-  story = story_after t.story act;
+  placements = t.placements ++ placed_by act;
+  story = story_after layout t.story act;
   ended = ended_after t.ended act;
   raw = raw_after t.raw act;
 }
@@ -42,19 +43,19 @@ tale_after t act = record {
 flat_map-push : {X Y : Type 0} (f : X → List Y) (xs : List X) (x : X) → flat_map f (xs ++ x ∷ []) ≡ flat_map f xs ++ f x
 flat_map-push f xs x = flat_map-append f xs (x ∷ []) ∙ ap (λ ys. flat_map f xs ++ ys) (append-nil (f x))
 
-fold-push : {X Y : Type 0} (f : Y → X → Y) (a : Y) (xs : List X) (x : X) → fold f a (xs ++ x ∷ []) ≡ f (fold f a xs) x
+pub fold-push : {X Y : Type 0} (f : Y → X → Y) (a : Y) (xs : List X) (x : X) → fold f a (xs ++ x ∷ []) ≡ f (fold f a xs) x
 fold-push f a [] x = refl
 fold-push f a (y ∷ ys) x = fold-push f (f a y) ys x
 
-pub tale-push : (done : List (StreamAct Octets)) (act : StreamAct Octets) → tale_of (done ++ act ∷ []) ≡ tale_after (tale_of done) act
-unfolding posted received sent came buffers story ended has_raw
-tale-push done act = λ i. record {
+pub tale-push : (layout : Layout) (done : List (StreamAct Octets)) (act : StreamAct Octets) → tale_of layout (done ++ act ∷ []) ≡ tale_after layout (tale_of layout done) act
+unfolding posted received sent buffers placements story ended has_raw
+tale-push layout done act = λ i. record {
   posted = flat_map-push posted_by done act i;
   received = flat_map-push received_by done act i;
   sent = flat_map-push sent_by done act i;
-  came = fold-push came_after [] done act i;
   buffers = fold-push buffers_after [] done act i;
-  story = fold-push story_after untold done act i;
+  placements = flat_map-push placed_by done act i;
+  story = fold-push (story_after layout) untold done act i;
   ended = fold-push ended_after false done act i;
   raw = fold-push raw_after false done act i;
 }
@@ -72,13 +73,6 @@ stream_acts-push n done act = flat_map-push (stream_acts_by n) done act
 pub openings-push : (n : ℕ) (done : List (Act Octets)) (act : Act Octets) → openings n (done ++ act ∷ []) ≡ openings n done ++ openings_by n act
 unfolding openings
 openings-push n done act = flat_map-push (openings_by n) done act
-
--- an act of another stream, or of none, adds nothing to the stream's acts
-pub tale_same : (n : ℕ) (done : List (Act Octets)) (act : Act Octets) → stream_acts_by n act ≡ [] → tale_of (stream_acts n (done ++ act ∷ [])) ≡ tale_of (stream_acts n done)
-tale_same n done act e = ap tale_of (stream_acts-push n done act ∙ ap (λ z. stream_acts n done ++ z) e ∙ append-nil (stream_acts n done))
-
-pub tale_more : (n : ℕ) (done : List (Act Octets)) (act : Act Octets) (mine : StreamAct Octets) → stream_acts_by n act ≡ mine ∷ [] → tale_of (stream_acts n (done ++ act ∷ [])) ≡ tale_after (tale_of (stream_acts n done)) mine
-tale_more n done act mine e = ap tale_of (stream_acts-push n done act ∙ ap (λ z. stream_acts n done ++ z) e) ∙ tale-push (stream_acts n done) mine
 
 -- ---- one more entry
 

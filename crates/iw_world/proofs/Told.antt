@@ -1,16 +1,17 @@
 -- The right answer at a stream, with steps of work told apart by what is seen of them.
-use Rattle.std.proofs.Common.{◌≡◌, ℕ, ◌∷◌, List, length, take, None, false, refl, sym, ap, ◌∙◌, subst}
+use Rattle.std.proofs.Common.{◌≡◌, ℕ, List, length, take, Some, None, false, refl, sym, ap, ◌∙◌, subst}
 use Rattle.iw_octets.specs.declared.stag.Stag.{Stag}
 use Rattle.iw_memory.specs.declared.rights.Right.{Right}
 use Rattle.iw_memory.specs.Table.{Table, denial}
-use Rattle.iw_stream.specs.declared.answer.Kind.{Kind}
+use Rattle.iw_queues.specs.declared.completions.Done.{Done}
+use Rattle.iw_queues.specs.Queue.{done_in}
 use Rattle.iw_stream.specs.declared.answer.Step.{Step}
 use Rattle.iw_stream.specs.declared.answer.Step.TheVariants as steps
-use Rattle.iw_stream.specs.Stream.{StreamState, front, payload_of}
+use Rattle.iw_stream.specs.Stream.{StreamState, front, segment_at, payload_of}
 use Rattle.iw_stream.specs.Judging.{work_step, table_worked}
 use Rattle.iw_stream.proofs.Inverse.{Working, working, PlacesWrite, PlacesSend, Passes, Completes}
 use Rattle.iw_events.specs.declared.act.StreamAct.{StreamAct}
-use Rattle.iw_events.specs.declared.act.StreamAct.TheVariants.{Recv, Post, Emit, Deliver, Raw, Work}
+use Rattle.iw_events.specs.declared.act.StreamAct.TheVariants.{Recv, Post, Emit, Deliver, Raw, Mulpdu, Work}
 use Rattle.iw_events.specs.declared.act.Seen.{Seen}
 use Rattle.iw_events.specs.declared.act.Seen.TheVariants as seen
 use Rattle.iw_world.specs.Words.{Octets}
@@ -21,7 +22,7 @@ use Rattle.iw_world.proofs.Seeing.{writes, placed_stand}
 pub record SeesWrite (table : Table) (s : StreamState) (right : Right) (stag : Stag) (to : ℕ) (octets : List ℕ) : Type 0 where
   pub places : (len : ℕ) × PlacesWrite table s (steps.Placed right stag to len)
   pub admitted : denial table s.domain stag to (length octets) right ≡ None
-  pub is : octets ≡ payload_of (front s.inbox)
+  pub is : octets ≡ payload_of (segment_at (front s))
 
 -- a Send that was received
 pub record SeesReceive (s : StreamState) (octets : List ℕ) : Type 0 where
@@ -32,7 +33,7 @@ pub record SeesReceive (s : StreamState) (octets : List ℕ) : Type 0 where
 
 -- what is seen of a step tells of the stream and the regions
 abbrev pub Sees : Table → StreamState → Seen Octets → Type 0
-Sees table s (seen.Done kind) = (kinds : List Kind) × (s.finished ≡ kind ∷ kinds)
+Sees table s (seen.Done kind) = (done : Done) × (done_in s.queue ≡ Some done)
 Sees table s (seen.Placed right stag to octets) = SeesWrite table s right stag to octets
 Sees table s (seen.Buffered msn mo len) = PlacesSend s (steps.Buffered msn mo len)
 Sees table s seen.Passed = Passes s
@@ -73,6 +74,7 @@ Told table peer s (Post message refused) = StreamRule table peer s (Post message
 Told table peer s (Emit shown) = StreamRule table peer s (Emit shown)
 Told table peer s (Deliver from octets delivery) = StreamRule table peer s (Deliver from octets delivery)
 Told table peer s (Raw from octets delivery) = StreamRule table peer s (Raw from octets delivery)
+Told table peer s (Mulpdu size refused) = StreamRule table peer s (Mulpdu size refused)
 
 pub told : (table : Table) (peer : List ℕ) (s : StreamState) (act : StreamAct Octets) → StreamRule table peer s act → Told table peer s act
 told table peer s (Work step) rule = sees table s step rule
@@ -81,3 +83,4 @@ told table peer s (Post message refused) rule = rule
 told table peer s (Emit shown) rule = rule
 told table peer s (Deliver from octets delivery) rule = rule
 told table peer s (Raw from octets delivery) rule = rule
+told table peer s (Mulpdu size refused) rule = rule

@@ -1,96 +1,154 @@
 -- Whatever follows the rules is as the laws say.
-use Rattle.std.proofs.Common.{◌≡◌, ℕ, zero, suc, ◌^◌, ◌<◌, ◌≤◌, List, [], ◌∷◌, ◌++◌, length, replicate, Option, Some, None, Bool, true, false, cond, eqb, refl, sym, ap, ◌∙◌, subst, arith, append_assoc, eqb-true}
-use Rattle.std.specs.Prelude.{slice_index_or, unwrap_or, option_map}
-use Rattle.std.specs.Option.{option_map_or}
+use Rattle.std.proofs.Common.{◌≡◌, ℕ, zero, suc, ◌^◌, ◌<◌, ◌≤◌, List, [], ◌∷◌, ◌++◌, length, take, drop, replicate, Option, Some, None, Bool, true, false, cond, eqb, refl, sym, ap, ◌∙◌, subst, arith, append_assoc, eqb-true}
+use Rattle.std.specs.Prelude.{map, is_some, slice_index_or, unwrap_or}
 use Rattle.std.proofs.lemmas.List.{append-nil}
 use Rattle.std.proofs.lemmas.Bool.{false≢true, true≢false}
 use Rattle.iw_octets.specs.Segment.{segment_octets}
-use Rattle.iw_octets.specs.declared.message.Message.{Message}
 use Rattle.iw_memory.specs.Table.{Table}
-use Rattle.iw_stream.specs.Frame.{pad_len}
-use Rattle.iw_stream.specs.Segments.{segment_of, frame_of}
-use Rattle.iw_stream.proofs.Frames.{length-frame}
-use Rattle.iw_stream.specs.Stream.{opened}
+use Rattle.iw_ranges.specs.declared.Delivery.TheVariants.{Kept, Dropped}
+use Rattle.iw_ranges.specs.Arrived.{nothing, taken_in, advanced}
+use Rattle.iw_ranges.specs.InOrder.{IsOf}
+use Rattle.iw_ranges.proofs.InOrder.{window_nothing, of_nothing, of_takes, of_more}
+use Rattle.iw_fpdu.specs.declared.layout.Layout.{Layout}
+use Rattle.iw_fpdu.specs.Sequence.{sequence, place_behind}
+use Rattle.iw_fpdu.specs.Laws.{IsBetween}
+use Rattle.iw_fpdu.proofs.Follows.{frames_follow}
+use Rattle.iw_fpdu.proofs.Sequences.{written_few, place_is, between_behind}
+use Rattle.iw_queues.proofs.Limits.{limits_start}
+use Rattle.iw_queues.proofs.Sending.{sends_in_order}
+use Rattle.iw_queues.specs.Segments.{segment_of}
 use Rattle.iw_events.specs.declared.call.End.{End}
 use Rattle.iw_events.specs.declared.call.End.TheVariants.{A, B}
 use Rattle.iw_events.specs.declared.act.Act.{Act}
 use Rattle.iw_events.specs.declared.act.Act.TheVariants.{Domain, Register, Deregister, Invalidate, Store, Open, Stream}
 use Rattle.iw_events.specs.declared.act.StreamAct.{StreamAct}
-use Rattle.iw_events.specs.declared.act.StreamAct.TheVariants.{Recv, Post, Emit, Deliver, Raw, Work}
+use Rattle.iw_events.specs.declared.act.StreamAct.TheVariants.{Recv, Post, Emit, Deliver, Raw, Mulpdu, Work}
 use Rattle.iw_events.specs.declared.act.Shown.TheVariants.{Frame, Nothing}
 use Rattle.iw_events.specs.declared.act.Entry.{Entry}
+use Rattle.iw_events.specs.declared.act.Seen.TheVariants as seen
 use Rattle.iw_world.specs.Turns.{story}
-use Rattle.iw_world.specs.Words.{Octets, other, acts, stream_acts, stream_acts_by, openings, posted, received, has_raw, raw_after, ended, sent, sent_by, came, table_after, buffers}
-use Rattle.iw_world.specs.Rules.{Connected, connected, EndState, State, end_of, with_end, has_stream, stream_at, no_streams, fresh, start, Rule, StreamRule, connected_after, streams_after, end_after, after_entry, state_after, Follows}
-use Rattle.iw_world.proofs.Told.{Told, told}
-use Rattle.iw_world.proofs.Tales.{Tale, tale_of, tale_after, tale_same, tale_more, acts_mine, acts_other}
-use Rattle.iw_world.proofs.Lists.{IsGood, AllGood, small_segment}
-use Rattle.iw_world.proofs.Flow.{Flow, keeps_sending, keeps_receiving}
-use Rattle.iw_world.proofs.Steps.{sending, receiving, emits_first}
-use Rattle.iw_world.proofs.Tracks.{same_track}
-use Rattle.iw_world.proofs.Owns.{Emits, Own, owning}
-use Rattle.iw_world.proofs.Ends.{EndSeen, end_step, opens, at_same, at_other, number_there}
+use Rattle.iw_world.specs.Words.{Octets, other, acts, stream_acts, stream_acts_by, openings, openings_by, layout_in, layout_of, layout_for, posted, received, ended, sent, sent_by, placements, table_after, buffers}
+use Rattle.iw_world.specs.Rules.{Connected, connected, unconnected, EndState, State, end_of, with_end, has_stream, stream_at, no_streams, fresh, start, Rule, StreamRule, connected_after, streams_after, end_after, after_entry, state_after, Follows}
+use Rattle.iw_world.proofs.Told.{told}
+use Rattle.iw_world.proofs.Tales.{Tale, tale_of, tale_after, tale-push, stream_acts-push, openings-push, acts_mine, acts_other}
+use Rattle.iw_world.proofs.Sending.{emits_part, shown_good}
+use Rattle.iw_world.proofs.Owns.{Own, owning, first_fits}
+use Rattle.iw_world.proofs.Ends.{EndSeen, end_step, opens, opens_same, at_same, at_other, number_there, unopened, opening_none, opening_one}
 
-abbrev tale : ℕ → List (Act Octets) → Tale
-tale n done = tale_of (stream_acts n done)
+-- what the acts of an end say of a stream
+abbrev pub tale : ℕ → List (Act Octets) → Tale
+tale n done = tale_of (layout_of n done) (stream_acts n done)
 
--- a stream at both ends, with what the acts say of each
-pub record Pair (c : Connected) (t : Tale) (d : Connected) (u : Tale) : Type 0 where
-  pub own : Own c t
-  pub own_peer : Own d u
-  pub out : t.raw ≡ false → u.raw ≡ false → Flow c.stream t d.stream u
-  pub back : u.raw ≡ false → t.raw ≡ false → Flow d.stream u c.stream t
+-- a stream at both ends, with what the acts say of each; where no raw octets came, what came is what the other end sent
+pub record Pair (l : Layout) (c : Connected) (t : Tale) (m : Layout) (d : Connected) (u : Tale) : Type 0 where
+  pub own : Own l c t
+  pub own_peer : Own m d u
+  pub out : u.raw ≡ false → IsOf u.story.came t.sent
+  pub back : t.raw ≡ false → IsOf t.story.came u.sent
 
-swapped : {c d : Connected} {t u : Tale} → Pair c t d u → Pair d u c t
+swapped : {l m : Layout} {c d : Connected} {t u : Tale} → Pair l c t m d u → Pair m d u l c t
 swapped p = record { own = p.own_peer; own_peer = p.own; out = p.back; back = p.out }
 
-moved : {c c' : Connected} {t t' : Tale} (d : Connected) (u : Tale) → c ≡ c' → t ≡ t' → Pair c t d u → Pair c' t' d u
-moved {c = c} {c' = c'} {t = t} {t' = t'} d u a b p = subst (λ z. Pair c' z d u) b (subst (λ z. Pair z t d u) a p)
+moved : {l l' : Layout} {c c' : Connected} {t t' : Tale} (m : Layout) (d : Connected) (u : Tale) → l ≡ l' → c ≡ c' → t ≡ t' → Pair l c t m d u → Pair l' c' t' m d u
+moved {l = l} {l' = l'} {c = c} {c' = c'} {t = t} {t' = t'} m d u e a b p = subst (λ z. Pair l' c' z m d u) b (subst (λ z. Pair l' z t m d u) a (subst (λ z. Pair z c t m d u) e p))
 
--- an act that leaves a stream honest is not raw, and the stream was honest before
-calm : (raw : Bool) (act : StreamAct Octets) → raw_after raw act ≡ false → (raw ≡ false) × (raw_after false act ≡ false)
-calm raw (Raw from octets delivery) h = absurd (true≢false h)
-calm raw (Deliver from octets delivery) h = (h, refl)
-calm raw (Emit shown) h = (h, refl)
-calm raw (Post m refused) h = (h, refl)
-calm raw (Recv len refused) h = (h, refl)
-calm raw (Work step) h = (h, refl)
+-- what came stays what the other end sent
+still_of : (layout : Layout) (table : Table) (peer : List ℕ) (c : Connected) (t : Tale) (u : Tale) (act : StreamAct Octets) → StreamRule table peer c.stream act → peer ≡ u.sent → (t.raw ≡ false → IsOf t.story.came u.sent)
+    → (tale_after layout t act).raw ≡ false → IsOf (tale_after layout t act).story.came u.sent
+still_of layout table peer c t u (Deliver from octets Kept) rule same h raw =
+    subst (λ z. IsOf (taken_in t.story.came from z) u.sent) (sym (rule.1 ∙ ap (λ z. take (length octets) (drop from z)) same)) (of_takes t.story.came from (length octets) u.sent (h raw))
+still_of layout table peer c t u (Deliver from octets Dropped) rule same h raw = h raw
+still_of layout table peer c t u (Raw from octets delivery) rule same h raw = absurd (true≢false raw)
+still_of layout table peer c t u (Mulpdu size refused) rule same h raw = h raw
+still_of layout table peer c t u (Emit shown) rule same h raw = h raw
+still_of layout table peer c t u (Post m refused) rule same h raw = h raw
+still_of layout table peer c t u (Recv len None) rule same h raw = h raw
+still_of layout table peer c t u (Recv len (Some refusal)) rule same h raw = h raw
+still_of layout table peer c t u (Work (seen.Done kind)) rule same h raw = h raw
+still_of layout table peer c t u (Work (seen.Placed right stag to octets)) rule same h raw = h raw
+still_of layout table peer c t u (Work (seen.Buffered msn mo len)) rule same h raw = h raw
+still_of layout table peer c t u (Work seen.Passed) rule same h raw = h raw
+still_of layout table peer c t u (Work (seen.Received octets solicited invalidate)) rule same h raw = h raw
+still_of layout table peer c t u (Work (seen.Fault fault)) rule same h raw = h raw
+still_of layout table peer c t u (Work seen.Idle) rule same h raw = h raw
 
 -- an act of the stream
-streamed : (table : Table) (c : Connected) (t : Tale) (d : Connected) (u : Tale) (act : StreamAct Octets) → StreamRule table d.wire c.stream act → Pair c t d u → Pair (connected_after c act) (tale_after t act) d u
-streamed table c t d u act rule p =
-    let now : Told table d.wire c.stream act = told table d.wire c.stream act rule in
-    record {
-      own = owning table d.wire c t act now p.own;
-      own_peer = p.own_peer;
-      out = λ own other.
-          let h = calm t.raw act own in sending table d.wire c.stream t d.stream u act now (p.out h.0 other);
-      back = λ other own.
-          let h = calm t.raw act own in receiving table d.stream u c.stream t act h.1 (subst (λ z. Told table z c.stream act) p.own_peer.wire now) (p.back other h.0);
-    }
-
-reopened_emits : (domain : ℕ) (t : Tale) → Emits (opened 0) t → Emits (opened domain) t
-reopened_emits domain t e = record { begun = e.begun; posted = e.posted; next = e.next; spells = e.spells }
-
--- a stream that is opened is as one to which nothing has happened
-reopened : (domain : ℕ) (t : Tale) (d : Connected) (u : Tale) → Pair (connected 0) t d u → Pair (connected domain) t d u
-reopened domain t d u p = record {
-  own = record { wire = p.own.wire; sent = p.own.sent; lengths = p.own.lengths; due = p.own.due; good = p.own.good; emits = reopened_emits domain t p.own.emits; track = same_track (opened 0) (opened domain) t.story t.story refl refl refl refl p.own.track.placed p.own.track.receiving p.own.track; ended = p.own.ended };
+streamed : (table : Table) (l : Layout) (c : Connected) (t : Tale) (m : Layout) (d : Connected) (u : Tale) (act : StreamAct Octets) → StreamRule table d.wire c.stream act → Pair l c t m d u
+    → Pair l (connected_after c act) (tale_after l t act) m d u
+streamed table l c t m d u act rule p = record {
+  own = owning l table d.wire c t act (told table d.wire c.stream act rule) p.own;
   own_peer = p.own_peer;
-  out = λ own other. keeps_sending (opened 0) (opened domain) t t d.stream u refl refl refl refl (p.out own other);
-  back = λ other own. keeps_receiving d.stream u (opened 0) (opened domain) t t refl refl refl (λ h. absurd (false≢true h)) refl refl (p.back other own);
+  out = λ raw. of_more u.story.came t.sent (sent_by act) (p.out raw);
+  back = still_of l table d.wire c t u act rule p.own_peer.wire p.back;
 }
 
-same_stream : (s : EndState) (act : Act Octets) (n : ℕ) (done : List (Act Octets)) (d : Connected) (u : Tale) → slice_index_or (streams_after s.streams act) n None ≡ slice_index_or s.streams n None → stream_acts_by n act ≡ []
-    → Pair (stream_at s n) (tale n done) d u → Pair (stream_at (end_after s act) n) (tale n (done ++ act ∷ [])) d u
-same_stream s act n done d u same none p = moved d u (ap (λ o. unwrap_or o (connected 0)) (sym same)) (sym (tale_same n done act none)) p
+-- ---- at the start, and at an opening
 
-nothing_there : (o : Option Connected) → unwrap_or o (connected 0) ≡ unwrap_or o (connected 0)
-nothing_there o = refl
+nothing_framed : (layout : Layout) → [] ≡ sequence layout 0 []
+unfolding sequence
+nothing_framed layout = refl
 
-missing : (o : Option Connected) → Rattle.std.specs.Prelude.is_some o ≡ false → unwrap_or o (connected 0) ≡ connected 0
-missing None h = refl
-missing (Some c) h = absurd (false≢true (sym h))
+nothing_moves : nothing ≡ advanced nothing 0
+unfolding advanced
+nothing_moves = refl
+
+no_own : (domain : ℕ) (layout : Layout) → Own layout (connected domain layout) (tale_of layout [])
+unfolding posted received sent buffers placements story ended
+no_own domain layout = record {
+  wire = refl;
+  sent = refl;
+  lengths = refl;
+  due = refl;
+  emits = record { sends = refl; segments = []; has = sends_in_order.start; good = tt; framed = nothing_framed layout; limits = limits_start; fit = tt; number = omega arith; enough = omega arith; few = omega arith };
+  track = record {
+    expects = refl;
+    frames = [];
+    before = [];
+    from_start = refl;
+    came = refl;
+    arrived = nothing_moves;
+    point = refl;
+    between = frames_follow.first layout.markers;
+    split = λ more. refl;
+    turns = refl;
+    placed = refl;
+    receiving = refl;
+    window = window_nothing;
+    near = omega arith;
+    segments = [];
+    carried = refl;
+    joins = record {
+      received_are = refl;
+      plain = tt;
+      begins = λ e p. record { octets = refl; count = refl };
+      waits = λ e p. absurd (false≢true p);
+      counted = λ c. refl;
+    };
+  };
+  ended = refl;
+}
+
+-- nothing came of it
+nothing_of : (layout : Layout) (octets : List ℕ) → IsOf (tale_of layout []).story.came octets
+unfolding story
+nothing_of layout octets = of_nothing octets
+
+-- a stream to which nothing has happened is opened
+reopened : (domain : ℕ) (layout l m : Layout) (c : Connected) (done : List (StreamAct Octets)) (d : Connected) (u : Tale) → done ≡ [] → Pair l c (tale_of l done) m d u → Pair layout (connected domain layout) (tale_of layout []) m d u
+reopened domain layout l m c done d u none p = record {
+  own = no_own domain layout;
+  own_peer = p.own_peer;
+  out = λ raw. subst (IsOf u.story.came) (ap sent none) (p.out raw);
+  back = λ raw. nothing_of layout u.sent;
+}
+
+-- an act that neither opens the stream nor is one of it
+same_stream : (s : EndState) (act : Act Octets) (n : ℕ) (done : List (Act Octets)) (m : Layout) (d : Connected) (u : Tale) → slice_index_or (streams_after s.streams act) n None ≡ slice_index_or s.streams n None → openings_by n act ≡ []
+    → stream_acts_by n act ≡ [] → Pair (layout_of n done) (stream_at s n) (tale n done) m d u → Pair (layout_of n (done ++ act ∷ [])) (stream_at (end_after s act) n) (tale n (done ++ act ∷ [])) m d u
+same_stream s act n done m d u same closed none p =
+    let layouts : layout_of n (done ++ act ∷ []) ≡ layout_of n done = ap layout_in (opens_same n done act closed) in
+    let acts_are : stream_acts n (done ++ act ∷ []) ≡ stream_acts n done = stream_acts-push n done act ∙ ap (λ z. stream_acts n done ++ z) none ∙ append-nil (stream_acts n done) in
+    moved m d u (sym layouts) (ap (λ o. unwrap_or o unconnected) (sym same)) (λ i. tale_of (sym layouts i) (sym acts_are i)) p
 
 pub acts_none : (m n : ℕ) (act : StreamAct Octets) → eqb m n ≡ false → stream_acts_by n (Stream m act) ≡ []
 acts_none m n act e = ap (λ b. cond b (act ∷ []) []) e
@@ -98,70 +156,86 @@ acts_none m n act e = ap (λ b. cond b (act ∷ []) []) e
 pub acts_one : (m n : ℕ) (act : StreamAct Octets) → eqb m n ≡ true → stream_acts_by n (Stream m act) ≡ act ∷ []
 acts_one m n act e = ap (λ b. cond b (act ∷ []) []) e
 
+-- one more act of a stream, in what is said of it
+pub tale_next : (n : ℕ) (done : List (Act Octets)) (m : ℕ) (act : StreamAct Octets) → eqb m n ≡ true → tale n (done ++ Stream m act ∷ []) ≡ tale_after (layout_of n done) (tale n done) act
+tale_next n done m act e =
+    (λ i. tale_of (layout_in (opens_same n done (Stream m act) refl i)) ((stream_acts-push n done (Stream m act) ∙ ap (λ z. stream_acts n done ++ z) (acts_one m n act e)) i))
+    ∙ tale-push (layout_of n done) (stream_acts n done) act
+
 -- an act of an end, as each of its streams sees it
-acted : (s peer : EndState) (done : List (Act Octets)) (act : Act Octets) (n : ℕ) (u : Tale) → EndSeen s done → Rule s peer act → Pair (stream_at s n) (tale n done) (stream_at peer n) u
-    → Pair (stream_at (end_after s act) n) (tale n (done ++ act ∷ [])) (stream_at peer n) u
-acted s peer done (Domain pd None) n u k rule p = same_stream s (Domain pd None) n done (stream_at peer n) u refl refl p
-acted s peer done (Domain pd (Some refusal)) n u k rule p = same_stream s (Domain pd (Some refusal)) n done (stream_at peer n) u refl refl p
-acted s peer done (Register pd base rights octets answer) n u k rule p = same_stream s (Register pd base rights octets answer) n done (stream_at peer n) u refl refl p
-acted s peer done (Deregister stag answer) n u k rule p = same_stream s (Deregister stag answer) n done (stream_at peer n) u refl refl p
-acted s peer done (Invalidate stag refused) n u k rule p = same_stream s (Invalidate stag refused) n done (stream_at peer n) u refl refl p
-acted s peer done (Store stag to octets refused) n u k rule p = same_stream s (Store stag to octets refused) n done (stream_at peer n) u refl refl p
-acted s peer done (Open m pd role private (Some refusal)) n u k rule p = same_stream s (Open m pd role private (Some refusal)) n done (stream_at peer n) u refl refl p
-acted s peer done (Open m pd role private None) n u k rule p = go (eqb m n) refl
+acted : (s peer : EndState) (done : List (Act Octets)) (act : Act Octets) (n : ℕ) (l : Layout) (u : Tale) → EndSeen s done → Rule s peer act → Pair (layout_of n done) (stream_at s n) (tale n done) l (stream_at peer n) u
+    → Pair (layout_of n (done ++ act ∷ [])) (stream_at (end_after s act) n) (tale n (done ++ act ∷ [])) l (stream_at peer n) u
+acted s peer done (Domain pd None) n l u k rule p = same_stream s (Domain pd None) n done l (stream_at peer n) u refl refl refl p
+acted s peer done (Domain pd (Some refusal)) n l u k rule p = same_stream s (Domain pd (Some refusal)) n done l (stream_at peer n) u refl refl refl p
+acted s peer done (Register pd base rights octets answer) n l u k rule p = same_stream s (Register pd base rights octets answer) n done l (stream_at peer n) u refl refl refl p
+acted s peer done (Deregister stag answer) n l u k rule p = same_stream s (Deregister stag answer) n done l (stream_at peer n) u refl refl refl p
+acted s peer done (Invalidate stag refused) n l u k rule p = same_stream s (Invalidate stag refused) n done l (stream_at peer n) u refl refl refl p
+acted s peer done (Store stag to octets refused) n l u k rule p = same_stream s (Store stag to octets refused) n done l (stream_at peer n) u refl refl refl p
+acted s peer done (Open m pd role options private (Some refusal)) n l u k rule p = same_stream s (Open m pd role options private (Some refusal)) n done l (stream_at peer n) u refl refl refl p
+acted s peer done (Open m pd role options private None) n l u k rule p = go (eqb m n) refl
   where
-    go : (b : Bool) → eqb m n ≡ b → Pair (stream_at (end_after s (Open m pd role private None)) n) (tale n (done ++ Open m pd role private None ∷ [])) (stream_at peer n) u
-    go false e = same_stream s (Open m pd role private None) n done (stream_at peer n) u (at_other s m n (Some (connected pd)) e) refl p
+    act : Act Octets
+    act = Open m pd role options private None
+
+    go : (b : Bool) → eqb m n ≡ b → Pair (layout_of n (done ++ act ∷ [])) (stream_at (end_after s act) n) (tale n (done ++ act ∷ [])) l (stream_at peer n) u
+    go false e = same_stream s act n done l (stream_at peer n) u (at_other s m n (Some (connected pd (layout_for options))) e) (opening_none (eqb m n) (record { domain = pd; options = options }) e) refl p
     go true e =
         let o = opens s m pd rule in
         let same : m ≡ n = eqb-true m n e in
+        let c : Connected = connected pd (layout_for options) in
         let room : m < length s.streams = omega (arith, o.number, k.numbers) in
-        let here : slice_index_or (streams_after s.streams (Open m pd role private None)) n None ≡ Some (connected pd) =
-        subst (λ j. slice_index_or (streams_after s.streams (Open m pd role private None)) j None ≡ Some (connected pd)) same (at_same s m (connected pd) room) in
-        let before : stream_at s n ≡ connected 0 = missing (slice_index_or s.streams n None) (subst (λ j. has_stream s j ≡ false) same o.fresh) in
-        moved (stream_at peer n) u (ap (λ z. unwrap_or z (connected 0)) (sym here)) (sym (tale_same n done (Open m pd role private None) refl))
-        (reopened pd (tale n done) (stream_at peer n) u (moved (stream_at peer n) u before refl p))
-acted s peer done (Stream m act) n u k rule p = go (eqb m n) refl
+        let here : slice_index_or (streams_after s.streams act) n None ≡ Some c = subst (λ j. slice_index_or (streams_after s.streams act) j None ≡ Some c) same (at_same s m c room) in
+        let closed : has_stream s n ≡ false = subst (λ j. has_stream s j ≡ false) same o.fresh in
+        let before : openings n done ≡ [] = unopened (openings n done) (sym (k.opened n) ∙ closed) in
+        let now : layout_of n (done ++ act ∷ []) ≡ layout_for options =
+        ap layout_in (openings-push n done act ∙ (λ i. before i ++ opening_one (eqb m n) (record { domain = pd; options = options }) e i)) in
+        let silent : stream_acts n (done ++ act ∷ []) ≡ [] = stream_acts-push n done act ∙ ap (λ z. z ++ []) (k.unused n closed) in
+        moved l (stream_at peer n) u (sym now) (ap (λ z. unwrap_or z unconnected) (sym here)) (λ i. tale_of (sym now i) (sym silent i))
+        (reopened pd (layout_for options) (layout_of n done) l (stream_at s n) (stream_acts n done) (stream_at peer n) u (k.unused n closed) p)
+acted s peer done (Stream m act) n l u k rule p = go (eqb m n) refl
   where
-    go : (b : Bool) → eqb m n ≡ b → Pair (stream_at (end_after s (Stream m act)) n) (tale n (done ++ Stream m act ∷ [])) (stream_at peer n) u
-    go false e = same_stream s (Stream m act) n done (stream_at peer n) u (at_other s m n (Some (connected_after (stream_at s m) act)) e) (acts_none m n act e) p
+    go : (b : Bool) → eqb m n ≡ b → Pair (layout_of n (done ++ Stream m act ∷ [])) (stream_at (end_after s (Stream m act)) n) (tale n (done ++ Stream m act ∷ [])) l (stream_at peer n) u
+    go false e = same_stream s (Stream m act) n done l (stream_at peer n) u (at_other s m n (Some (connected_after (stream_at s m) act)) e) refl (acts_none m n act e) p
     go true e =
         let same : m ≡ n = eqb-true m n e in
         let c : Connected = connected_after (stream_at s m) act in
         let here : slice_index_or (streams_after s.streams (Stream m act)) n None ≡ Some c =
         subst (λ j. slice_index_or (streams_after s.streams (Stream m act)) j None ≡ Some c) same (at_same s m c (number_there s m rule.0)) in
         let is : connected_after (stream_at s n) act ≡ stream_at (end_after s (Stream m act)) n =
-        ap (λ j. connected_after (stream_at s j) act) (sym same) ∙ ap (λ z. unwrap_or z (connected 0)) (sym here) in
+        ap (λ j. connected_after (stream_at s j) act) (sym same) ∙ ap (λ z. unwrap_or z unconnected) (sym here) in
         let own_rule : StreamRule s.table (stream_at peer n).wire (stream_at s n).stream act =
         subst (λ j. StreamRule s.table (stream_at peer j).wire (stream_at s j).stream act) same rule.2 in
-        moved (stream_at peer n) u is (sym (tale_more n done (Stream m act) act (acts_one m n act e)))
-        (streamed s.table (stream_at s n) (tale n done) (stream_at peer n) u act own_rule p)
+        moved l (stream_at peer n) u (ap layout_in (sym (opens_same n done (Stream m act) refl))) is (sym (tale_next n done m act e))
+        (streamed s.table (layout_of n done) (stream_at s n) (tale n done) l (stream_at peer n) u act own_rule p)
 
 -- ---- what an act may emit
 
--- a frame is short
-pub frame_short : (msn : ℕ) (m : Message Octets) → IsGood m → length (frame_of (segment_of msn m)) ≤ 2 ^ 17
-unfolding pad_len
-frame_short msn m good = omega (arith, length-frame (segment_octets (segment_of msn m)), small_segment msn m good.small)
-
-pub emits_few : (table : Table) (peer : List ℕ) (c : Connected) (t : Tale) (act : StreamAct Octets) → StreamRule table peer c.stream act → Own c t → length (sent_by act) ≤ 2 ^ 17
-emits_few table peer c t (Emit (Frame from octets)) rule o =
-    let first = emits_first c.stream from octets rule in
-    let good : AllGood (first.m ∷ first.ms) = subst AllGood first.queue o.good in
-    subst (λ z. length z ≤ 2 ^ 17) (sym first.octets_are) (frame_short c.stream.next first.m good.0)
-emits_few table peer c t (Emit Nothing) rule o = omega arith
-emits_few table peer c t (Recv len refused) rule o = omega arith
-emits_few table peer c t (Post m refused) rule o = omega arith
-emits_few table peer c t (Deliver from octets delivery) rule o = omega arith
-emits_few table peer c t (Raw from octets delivery) rule o = omega arith
-emits_few table peer c t (Work step) rule o = omega arith
+pub emits_few : (layout : Layout) (table : Table) (peer : List ℕ) (c : Connected) (t : Tale) (act : StreamAct Octets) → StreamRule table peer c.stream act → Own layout c t → length (sent_by act) ≤ 2 ^ 17
+emits_few layout table peer c t (Emit (Frame from octets)) rule o =
+    let p = emits_part c.stream from octets rule in
+    let good = shown_good c.stream.numbers c.stream.queue c.stream.mulpdu p.part p.due o.emits.limits o.emits.enough o.emits.few o.emits.number (first_fits c.stream.queue o.emits.fit) in
+    let us : List (List ℕ) = map segment_octets o.emits.segments in
+    let between : IsBetween layout.markers (place_behind layout 0 us) = between_behind layout 0 us (frames_follow.first layout.markers) in
+    let place : place_behind layout 0 us ≡ c.stream.sent = place_is layout 0 us (frames_follow.first layout.markers) ∙ omega (arith, ap length o.emits.framed, o.sent) in
+    subst (λ z. length z ≤ 2 ^ 17) (sym p.octets_are) (written_few c.stream.sending c.stream.sent (segment_octets (segment_of c.stream.numbers p.part)) (omega (arith, between.aligned, place)) good.small)
+emits_few layout table peer c t (Emit Nothing) rule o = omega arith
+emits_few layout table peer c t (Recv len refused) rule o = omega arith
+emits_few layout table peer c t (Post m refused) rule o = omega arith
+emits_few layout table peer c t (Deliver from octets delivery) rule o = omega arith
+emits_few layout table peer c t (Raw from octets delivery) rule o = omega arith
+emits_few layout table peer c t (Mulpdu size refused) rule o = omega arith
+emits_few layout table peer c t (Work step) rule o = omega arith
 
 -- ---- both ends
+
+-- a stream of a number at two ends, by their acts
+abbrev PairAt : EndState → List (Act Octets) → EndState → List (Act Octets) → ℕ → Type 0
+PairAt s own peer others n = Pair (layout_of n own) (stream_at s n) (tale n own) (layout_of n others) (stream_at peer n) (tale n others)
 
 -- what the entries and the state have in common
 pub record Seen (trace : List (Entry Octets)) (w : State) : Type 0 where
   pub ends : (x : End) → EndSeen (end_of x w) (acts x trace)
-  pub pairs : (x : End) (n : ℕ) → Pair (stream_at (end_of x w) n) (tale n (acts x trace)) (stream_at (end_of (other x) w) n) (tale n (acts (other x) trace))
+  pub pairs : (x : End) (n : ℕ) → PairAt (end_of x w) (acts x trace) (end_of (other x) w) (acts (other x) trace) n
 
 changed : (x : End) (s : EndState) (w : State) → end_of x (with_end x s w) ≡ s
 changed A s w = refl
@@ -196,16 +270,16 @@ one_more trace w e k rule =
     let E : End → Type 0 = λ v. EndSeen (end_of v w') (acts v (trace ++ e ∷ [])) in
     let end_mine : E x = subst (λ z. EndSeen z (acts x (trace ++ e ∷ []))) (sym here) (subst (EndSeen s') (sym mine) (end_step s (end_of y w) (acts x trace) e.act (k.ends x) rule)) in
     let end_other : E y = subst (λ z. EndSeen z (acts y (trace ++ e ∷ []))) (sym there) (subst (EndSeen (end_of y w)) (sym others) (k.ends y)) in
-    let T : End → ℕ → Tale = λ v n. tale n (acts v (trace ++ e ∷ [])) in
-    let P : End → Type 0 = λ v. (n : ℕ) → Pair (stream_at (end_of v w') n) (T v n) (stream_at (end_of (other v) w') n) (T (other v) n) in
+    let D : End → List (Act Octets) = λ v. acts v (trace ++ e ∷ []) in
+    let P : End → Type 0 = λ v. (n : ℕ) → PairAt (end_of v w') (D v) (end_of (other v) w') (D (other v)) n in
     let pair_mine : P x = λ n.
-    let next : Pair (stream_at s' n) (tale n (acts x trace ++ e.act ∷ [])) (stream_at (end_of y w) n) (tale n (acts y trace)) =
-    acted s (end_of y w) (acts x trace) e.act n (tale n (acts y trace)) (k.ends x) rule (k.pairs x n) in
-    subst (λ z. Pair (stream_at z n) (T x n) (stream_at (end_of y w') n) (T y n)) (sym here)
-    (subst (λ z. Pair (stream_at s' n) (tale n z) (stream_at (end_of y w') n) (T y n)) (sym mine)
-    (subst (λ z. Pair (stream_at s' n) (tale n (acts x trace ++ e.act ∷ [])) (stream_at z n) (T y n)) (sym there)
-    (subst (λ z. Pair (stream_at s' n) (tale n (acts x trace ++ e.act ∷ [])) (stream_at (end_of y w) n) (tale n z)) (sym others) next))) in
-    let pair_other : P y = λ n. subst (λ v. Pair (stream_at (end_of y w') n) (T y n) (stream_at (end_of v w') n) (T v n)) (sym (twice x)) (swapped (pair_mine n)) in
+    let next : PairAt s' (acts x trace ++ e.act ∷ []) (end_of y w) (acts y trace) n =
+    acted s (end_of y w) (acts x trace) e.act n (layout_of n (acts y trace)) (tale n (acts y trace)) (k.ends x) rule (k.pairs x n) in
+    subst (λ z. PairAt z (D x) (end_of y w') (D y) n) (sym here)
+    (subst (λ z. PairAt s' z (end_of y w') (D y) n) (sym mine)
+    (subst (λ z. PairAt s' (acts x trace ++ e.act ∷ []) z (D y) n) (sym there)
+    (subst (λ z. PairAt s' (acts x trace ++ e.act ∷ []) (end_of y w) z n) (sym others) next))) in
+    let pair_other : P y = λ n. subst (λ v. PairAt (end_of y w') (D y) (end_of v w') (D v) n) (sym (twice x)) (swapped (pair_mine n)) in
     record { ends = both E x end_mine end_other; pairs = both P x pair_mine pair_other }
 
 -- from a moment on, to the end of what follows the rules
@@ -230,39 +304,13 @@ state_after-push (x ∷ xs) e w = state_after-push xs e (after_entry w x)
 
 -- ---- at the start
 
-no_flow : Flow (opened 0) (tale_of []) (opened 0) (tale_of [])
-unfolding posted received sent came
-no_flow = record {
-  turned = [];
-  ahead = [];
-  to_come = [];
-  posted = refl;
-  good = tt;
-  next = refl;
-  sent = refl;
-  came = refl;
-  future = refl;
-  point = refl;
-  received = refl;
-  whole = refl;
-  waiting = λ h. absurd (false≢true h);
+no_pair : Pair (layout_in []) unconnected (tale_of (layout_in []) []) (layout_in []) unconnected (tale_of (layout_in []) [])
+no_pair = record {
+  own = no_own 0 (layout_in []);
+  own_peer = no_own 0 (layout_in []);
+  out = λ raw. nothing_of (layout_in []) (tale_of (layout_in []) []).sent;
+  back = λ raw. nothing_of (layout_in []) (tale_of (layout_in []) []).sent;
 }
-
-no_own : Own (connected 0) (tale_of [])
-unfolding posted received sent buffers story ended
-no_own = record {
-  wire = refl;
-  sent = refl;
-  lengths = refl;
-  due = refl;
-  good = tt;
-  emits = record { begun = []; posted = refl; next = refl; spells = refl };
-  track = record { frames = []; before = []; came = refl; point = refl; split = λ more. refl; turns = refl; placed = refl; receiving = refl; window = omega arith; near = omega arith };
-  ended = refl;
-}
-
-no_pair : Pair (connected 0) (tale_of []) (connected 0) (tale_of [])
-no_pair = record { own = no_own; own_peer = no_own; out = λ own other. no_flow; back = λ other own. no_flow }
 
 none_at : (n : ℕ) → slice_index_or no_streams n None ≡ None
 unfolding no_streams
@@ -274,21 +322,27 @@ none_at n = none_in 64 n
     none_in (suc k) (suc n) = none_in k n
 
 fresh_end : (x : End) → EndSeen fresh (acts x [])
-unfolding acts openings table_after no_streams
+unfolding acts openings stream_acts table_after no_streams
 fresh_end x = record {
   table = refl;
   numbers = refl;
-  opened = λ n. ap Rattle.std.specs.Prelude.is_some (none_at n);
-  domain = λ n h. absurd (false≢true (ap Rattle.std.specs.Prelude.is_some (sym (none_at n)) ∙ h));
+  opened = λ n. ap is_some (none_at n);
+  domain = λ n h. absurd (false≢true (ap is_some (sym (none_at n)) ∙ h));
+  unused = λ n h. refl;
 }
 
-nothing_said : (n : ℕ) (x : End) → [] ≡ stream_acts n (acts x [])
-unfolding acts stream_acts
+-- nothing was done
+nothing_opened : (n : ℕ) (x : End) → layout_in [] ≡ layout_of n (acts x [])
+unfolding acts openings
+nothing_opened n x = refl
+
+nothing_said : (n : ℕ) (x : End) → tale_of (layout_in []) [] ≡ tale n (acts x [])
+unfolding acts openings stream_acts
 nothing_said n x = refl
 
-start_at : (n : ℕ) (x : End) → connected 0 ≡ stream_at (end_of x start) n
-start_at n A = ap (λ o. unwrap_or o (connected 0)) (sym (none_at n))
-start_at n B = ap (λ o. unwrap_or o (connected 0)) (sym (none_at n))
+start_at : (n : ℕ) (x : End) → unconnected ≡ stream_at (end_of x start) n
+start_at n A = ap (λ o. unwrap_or o unconnected) (sym (none_at n))
+start_at n B = ap (λ o. unwrap_or o unconnected) (sym (none_at n))
 
 pub unsaid : Seen [] start
 unsaid = record { ends = start_end; pairs = start_pair }
@@ -297,10 +351,10 @@ unsaid = record { ends = start_end; pairs = start_pair }
     start_end A = fresh_end A
     start_end B = fresh_end B
 
-    start_pair : (x : End) (n : ℕ) → Pair (stream_at (end_of x start) n) (tale n (acts x [])) (stream_at (end_of (other x) start) n) (tale n (acts (other x) []))
+    start_pair : (x : End) (n : ℕ) → PairAt (end_of x start) (acts x []) (end_of (other x) start) (acts (other x) []) n
     start_pair x n =
-        moved (stream_at (end_of (other x) start) n) (tale n (acts (other x) [])) (start_at n x) (ap tale_of (nothing_said n x))
-        (swapped (moved (connected 0) (tale_of []) (start_at n (other x)) (ap tale_of (nothing_said n (other x))) no_pair))
+        moved (layout_of n (acts (other x) [])) (stream_at (end_of (other x) start) n) (tale n (acts (other x) [])) (nothing_opened n x) (start_at n x) (nothing_said n x)
+        (swapped (moved (layout_in []) unconnected (tale_of (layout_in []) []) (nothing_opened n (other x)) (start_at n (other x)) (nothing_said n (other x)) no_pair))
 
 pub seen_at : (past future trace : List (Entry Octets)) → Follows start trace → trace ≡ past ++ future → Seen past (state_after start past)
 seen_at past future trace follows is = onward [] past start unsaid (follows_split past future start (subst (Follows start) is follows)).0

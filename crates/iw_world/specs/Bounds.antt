@@ -4,15 +4,15 @@ use Rattle.iw_events.specs.declared.call.End.{End}
 use Rattle.iw_events.specs.declared.call.Call.{Call}
 use Rattle.iw_events.specs.declared.call.Call.TheVariants.{Domain, Register, Deregister, Invalidate, Store, Open, Stream}
 use Rattle.iw_events.specs.declared.call.StreamCall.{StreamCall}
-use Rattle.iw_events.specs.declared.call.StreamCall.TheVariants.{Recv, Post, Emit, Deliver, Raw, Work}
+use Rattle.iw_events.specs.declared.call.StreamCall.TheVariants.{Recv, Post, Emit, Deliver, Raw, Mulpdu, Work}
 use Rattle.iw_stream.specs.Stream.{StreamState}
 use Rattle.iw_world.specs.Words.{Octets}
 use Rattle.iw_world.specs.Rules.{EndState, State, end_of, has_stream, stream_at, needs_peer}
 
--- at most 2^62 octets were emitted, and at most 2^63 had their turn
+-- at most 2^62 octets were emitted, and the in-order point lies at least a window before 2^63
 pub record IsShort (s : StreamState) : Type 0 where
   pub sent : s.sent ≤ 2 ^ 62
-  pub point : s.point ≤ 2 ^ 63
+  pub point : s.arrived.floor + 2 ^ 18 ≤ 2 ^ 63
 
 pub record IsShortEnd (s : EndState) : Type 0 where
   pub streams : (n : ℕ) → IsShort (stream_at s n).stream
@@ -27,6 +27,7 @@ IsShortState w = (x : End) → IsShortEnd (end_of x w)
 abbrev pub AsksOver : List ℕ → StreamCall Octets → Type 0
 AsksOver peer (Deliver from len) = length peer < from + len
 AsksOver peer (Raw from octets) = ⊥
+AsksOver peer (Mulpdu size) = ⊥
 AsksOver peer (Recv len) = ⊥
 AsksOver peer (Post message) = ⊥
 AsksOver peer Emit = ⊥
@@ -40,7 +41,7 @@ LacksStream s peer (Register pd base rights octets) = ⊥
 LacksStream s peer (Deregister stag) = ⊥
 LacksStream s peer (Invalidate stag) = ⊥
 LacksStream s peer (Store stag to octets) = ⊥
-LacksStream s peer (Open n pd role private) = ⊥
+LacksStream s peer (Open n pd role options private) = ⊥
 
 -- the call has its streams, and delivers octets that were not emitted
 abbrev pub AsksTooMuch : EndState → EndState → Call Octets → Type 0
@@ -51,4 +52,4 @@ AsksTooMuch s peer (Register pd base rights octets) = ⊥
 AsksTooMuch s peer (Deregister stag) = ⊥
 AsksTooMuch s peer (Invalidate stag) = ⊥
 AsksTooMuch s peer (Store stag to octets) = ⊥
-AsksTooMuch s peer (Open n pd role private) = ⊥
+AsksTooMuch s peer (Open n pd role options private) = ⊥

@@ -1,5 +1,4 @@
 pub mod Words
-pub mod FirstPath
 pub mod Fitting
 pub mod Rules
 pub mod Safe

@@ -1,18 +1,20 @@
 -- The state of both ends, which answer is right in a state, and what each entry leaves of it.
-use Rattle.std.specs.Prelude.{◌≡◌, ℕ, ◌+◌, ◌≤◌, List, [], ◌∷◌, ◌++◌, length, take, drop, replicate, slice_index_or, slice_set, Bool, true, false, not, is_some, unwrap_or, if◌then◌else◌, Option, Some, None, Ok, Err, Result}
+use Rattle.std.specs.Prelude.{◌≡◌, ℕ, ◌+◌, ◌≤◌, List, [], ◌∷◌, ◌++◌, length, take, drop, replicate, slice_index_or, slice_set, Bool, true, false, not, nat_le, is_some, unwrap_or, if◌then◌else◌, Option, Some, None, Ok, Err, Result}
 use Rattle.std.specs.Option.{option_map_or}
 use Rattle.iw_octets.specs.declared.stag.Stag.{Stag}
 use Rattle.iw_memory.specs.declared.refusal.NoRegion.{NoRegion}
 use Rattle.iw_memory.specs.declared.refusal.RegisterRefusal.{RegisterRefusal}
 use Rattle.iw_memory.specs.Table.{Table, empty, is_added, domain_refusal, register_refusal, store_refusal, next_stag, region_at, octets_at}
+use Rattle.iw_fpdu.specs.declared.layout.Layout.{Layout}
 use Rattle.iw_stream.specs.declared.answer.Step.{Step}
 use Rattle.iw_stream.specs.declared.answer.Step.TheVariants as steps
 use Rattle.iw_stream.specs.declared.answer.Emission.{Emission}
 use Rattle.iw_stream.specs.declared.answer.Emission.TheVariants as emissions
-use Rattle.iw_stream.specs.Stream.{StreamState, opened, with_buffer, with_message, recv_refusal, post_refusal, emission_of, emitted, after_emit, delivery_of, after_deliver, worked}
+use Rattle.iw_stream.specs.Stream.{StreamState, opened, with_buffer, with_message, with_mulpdu, recv_refusal, post_refusal, size_refusal, emission_of, emitted, after_emit, delivery_of, after_deliver, worked}
 use Rattle.iw_stream.specs.Judging.{work_step, table_worked}
 use Rattle.iw_events.specs.declared.call.End.{End}
 use Rattle.iw_events.specs.declared.call.End.TheVariants.{A, B}
+use Rattle.iw_events.specs.declared.call.Options.{Options}
 use Rattle.iw_events.specs.declared.call.StreamCall.{StreamCall}
 use Rattle.iw_events.specs.declared.call.StreamCall.TheVariants as stream_calls
 use Rattle.iw_events.specs.Events.{stream_call_of}
@@ -21,15 +23,14 @@ use Rattle.iw_events.specs.declared.act.OpenRefusal.TheVariants.{NumberTaken, Ba
 use Rattle.iw_events.specs.declared.act.Act.{Act}
 use Rattle.iw_events.specs.declared.act.Act.TheVariants.{Domain, Register, Deregister, Invalidate, Store, Open, Stream}
 use Rattle.iw_events.specs.declared.act.StreamAct.{StreamAct}
-use Rattle.iw_events.specs.declared.act.StreamAct.TheVariants.{Recv, Post, Emit, Deliver, Raw, Work}
+use Rattle.iw_events.specs.declared.act.StreamAct.TheVariants.{Recv, Post, Emit, Deliver, Raw, Mulpdu, Work}
 use Rattle.iw_events.specs.declared.act.Shown.{Shown}
 use Rattle.iw_events.specs.declared.act.Shown.TheVariants.{Frame, Nothing}
 use Rattle.iw_events.specs.declared.act.Seen.{Seen}
 use Rattle.iw_events.specs.declared.act.Seen.TheVariants as seen
 use Rattle.iw_events.specs.declared.act.Entry.{Entry}
-use Rattle.iw_world.specs.Words.{Octets, other, sent_by, table_by}
+use Rattle.iw_world.specs.Words.{Octets, other, sent_by, table_by, layout_for, layout_in}
 use Rattle.iw_world.specs.Fitting.{FitsMessage}
-use Rattle.iw_world.specs.FirstPath.{is_stream_number}
 
 -- ---- states
 
@@ -38,8 +39,12 @@ pub record Connected : Type 0 where
   pub stream : StreamState
   pub wire : List ℕ
 
-abbrev pub connected : ℕ → Connected
-connected domain = record { stream = opened domain; wire = [] }
+abbrev pub connected : ℕ → Layout → Connected
+connected domain layout = record { stream = opened domain layout; wire = [] }
+
+-- one to which nothing has happened, in no domain
+abbrev pub unconnected : Connected
+unconnected = connected 0 (layout_in [])
 
 -- one end: its regions, and its streams by number
 pub record EndState : Type 0 where
@@ -78,7 +83,7 @@ has_stream s n = is_some (slice_index_or s.streams n None)
 
 -- the stream of this number; where none was opened, one to which nothing has happened
 abbrev pub stream_at : EndState → ℕ → Connected
-stream_at s n = unwrap_or (slice_index_or s.streams n None) (connected 0)
+stream_at s n = unwrap_or (slice_index_or s.streams n None) unconnected
 
 -- ---- which answer is right
 
@@ -105,12 +110,14 @@ StreamRule table peer s (Emit shown) = shown ≡ shown_of (emission_of s) (emitt
 StreamRule table peer s (Deliver from octets delivery) =
     (from + length octets ≤ length peer) × (octets ≡ take (length octets) (drop from peer)) × (delivery ≡ delivery_of s from (length octets))
 StreamRule table peer s (Raw from octets delivery) = delivery ≡ delivery_of s from (length octets)
+StreamRule table peer s (Mulpdu size refused) = refused ≡ size_refusal size
 StreamRule table peer s (Work step) = step ≡ seen_of (table_worked table s (work_step table s)) (work_step table s)
 
 -- a delivery needs the stream at the other end too
 abbrev pub needs_peer : StreamCall Octets → Bool
 needs_peer (stream_calls.Deliver from len) = true
 needs_peer (stream_calls.Raw from octets) = false
+needs_peer (stream_calls.Mulpdu size) = false
 needs_peer (stream_calls.Recv len) = false
 needs_peer (stream_calls.Post message) = false
 needs_peer stream_calls.Emit = false
@@ -119,7 +126,7 @@ needs_peer stream_calls.Work = false
 abbrev pub open_refusal : EndState → ℕ → ℕ → Option OpenRefusal
 open_refusal s n pd =
     if has_stream s n then Some NumberTaken
-    else if not (is_stream_number n) then Some BadNumber
+    else if nat_le stream_numbers n then Some BadNumber
     else if not (is_added s.table pd) then Some NoDomain
     else None
 
@@ -139,7 +146,7 @@ Rule s peer (Register pd base rights octets answer) = answer ≡ register_answer
 Rule s peer (Deregister stag answer) = answer ≡ deregister_answer s.table stag
 Rule s peer (Invalidate stag refused) = refused ≡ invalidate_refusal s.table stag
 Rule s peer (Store stag to octets refused) = refused ≡ store_refusal s.table stag to (length octets)
-Rule s peer (Open n pd role private refused) = refused ≡ open_refusal s n pd
+Rule s peer (Open n pd role options private refused) = refused ≡ open_refusal s n pd
 Rule s peer (Stream n act) =
     (has_stream s n ≡ true) × (needs_peer (stream_call_of act) ≡ true → has_stream peer n ≡ true) × StreamRule s.table (stream_at peer n).wire (stream_at s n).stream act
 
@@ -164,15 +171,17 @@ stream_after s (Emit (Frame from octets)) = after_emit s (emissions.Frame from (
 stream_after s (Emit Nothing) = s
 stream_after s (Deliver from octets delivery) = after_deliver s from octets delivery
 stream_after s (Raw from octets delivery) = after_deliver s from octets delivery
+stream_after s (Mulpdu size None) = with_mulpdu s size
+stream_after s (Mulpdu size (Some refusal)) = s
 stream_after s (Work step) = worked s (step_of step)
 
 abbrev pub connected_after : Connected → StreamAct Octets → Connected
 connected_after c act = record { stream = stream_after c.stream act; wire = c.wire ++ sent_by act }
 
 abbrev pub streams_after : List (Option Connected) → Act Octets → List (Option Connected)
-streams_after streams (Open n pd role private None) = slice_set streams n (Some (connected pd))
-streams_after streams (Open n pd role private (Some refusal)) = streams
-streams_after streams (Stream n act) = slice_set streams n (Some (connected_after (unwrap_or (slice_index_or streams n None) (connected 0)) act))
+streams_after streams (Open n pd role options private None) = slice_set streams n (Some (connected pd (layout_for options)))
+streams_after streams (Open n pd role options private (Some refusal)) = streams
+streams_after streams (Stream n act) = slice_set streams n (Some (connected_after (unwrap_or (slice_index_or streams n None) unconnected) act))
 streams_after streams (Domain pd refused) = streams
 streams_after streams (Register pd base rights octets answer) = streams
 streams_after streams (Deregister stag answer) = streams
@@ -180,9 +189,9 @@ streams_after streams (Invalidate stag refused) = streams
 streams_after streams (Store stag to octets refused) = streams
 
 -- the end behind an opening
-abbrev pub opened_end : EndState → ℕ → ℕ → Option OpenRefusal → EndState
-opened_end s n pd None = record s { streams = slice_set s.streams n (Some (connected pd)) }
-opened_end s n pd (Some refusal) = s
+abbrev pub opened_end : EndState → ℕ → ℕ → Options → Option OpenRefusal → EndState
+opened_end s n pd options None = record s { streams = slice_set s.streams n (Some (connected pd (layout_for options))) }
+opened_end s n pd options (Some refusal) = s
 
 abbrev pub end_after : EndState → Act Octets → EndState
 end_after s act = record { table = table_by s.table act; streams = streams_after s.streams act }

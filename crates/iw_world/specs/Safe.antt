@@ -1,11 +1,19 @@
 -- What holds of every trace of two ends, in words of the trace alone.
-use Rattle.std.specs.Prelude.{◌≡◌, ◌⊎◌, true, false, ℕ, ◌+◌, ◌≤◌, List, ◌∷◌, ◌++◌, length, slice_get, slice_index_or, Some, Ok, option_map}
+use Rattle.std.specs.Prelude.{◌≡◌, ◌⊎◌, true, false, ℕ, ◌+◌, ◌<◌, ◌≤◌, List, [], ◌∷◌, ◌++◌, length, map, slice_get, Some, Ok, option_map}
+use Rattle.iw_octets.specs.declared.message.Message.{Message}
+use Rattle.iw_octets.specs.declared.segment.Segment.{Segment}
+use Rattle.iw_octets.specs.Segment.{segment_octets}
 use Rattle.iw_memory.specs.Laws.{Allows}
 use Rattle.iw_memory.specs.Table.{region_at}
-use Rattle.iw_octets.specs.declared.message.Message.{Message}
-use Rattle.iw_stream.specs.Receiving.{ahead_of}
-use Rattle.iw_stream.specs.Segments.{segments_of, layout}
+use Rattle.iw_fpdu.specs.declared.layout.Layout.{Layout}
+use Rattle.iw_fpdu.specs.Sequence.{sequence}
+use Rattle.iw_untagged.specs.Receiving.{ahead_of}
+use Rattle.iw_queues.specs.declared.request.Request.{Request}
+use Rattle.iw_queues.specs.declared.request.Request.TheVariants.{Message as Posted}
+use Rattle.iw_queues.specs.Segments.{first_numbers, AreSpelled}
+use Rattle.iw_queues.specs.Joined.{Cell, count_writes, count_before}
 use Rattle.iw_events.specs.declared.call.End.{End}
+use Rattle.iw_events.specs.declared.call.Options.{Options}
 use Rattle.iw_events.specs.declared.act.Act.{Act}
 use Rattle.iw_events.specs.declared.act.Act.TheVariants.{Deregister, Stream}
 use Rattle.iw_events.specs.declared.act.StreamAct.{StreamAct}
@@ -13,42 +21,70 @@ use Rattle.iw_events.specs.declared.act.StreamAct.TheVariants.{Emit, Work}
 use Rattle.iw_events.specs.declared.act.Shown.TheVariants.{Nothing}
 use Rattle.iw_events.specs.declared.act.Seen.TheVariants as seen
 use Rattle.iw_events.specs.declared.act.Entry.{Entry}
-use Rattle.iw_world.specs.Words.{Octets, other, acts, stream_acts, openings, posted, sends, received, has_raw, ended, sent, table_after, buffers, due}
+use Rattle.iw_world.specs.Words.{Octets, other, acts, stream_acts, openings, layout_of, domain_of, posted, sends, received, has_raw, ended, sent, placements, table_after, buffers, due}
 
 abbrev pub IsPrefixOf : {A : Type 0} → List A → List A → Type 0
 IsPrefixOf {A} xs ys = (rest : List A) × (xs ++ rest ≡ ys)
 
 -- ---- receives
 
--- both ends of a stream were given nothing but what the other end sent there
-abbrev pub IsHonest : ℕ → List (Entry Octets) → Type 0
-IsHonest n trace = (x : End) → has_raw (stream_acts n (acts x trace)) ≡ false
+-- both ends were opened, and asked for the same
+abbrev pub AskAlike : ℕ → List (Entry Octets) → Type 0
+AskAlike n trace = (options : Options) × ((x : End) → map (λ opening. opening.options) (openings n (acts x trace)) ≡ options ∷ [])
+
+-- and both were given nothing but what the other end sent there
+pub record IsHonest (n : ℕ) (trace : List (Entry Octets)) : Type 0 where
+  pub alike : AskAlike n trace
+  pub calm : (x : End) → has_raw (stream_acts n (acts x trace)) ≡ false
 
 -- at every moment, what an end has received on an honest stream is a prefix of the Sends posted at the other end
 abbrev pub InOrder : List (Entry Octets) → Type 0
 InOrder trace = (past future : List (Entry Octets)) → trace ≡ past ++ future → (x : End) (n : ℕ) → IsHonest n past →
     IsPrefixOf (received (stream_acts n (acts (other x) past))) (sends (posted (stream_acts n (acts x past))))
 
+-- ---- Writes
+
+-- the messages as what was posted
+abbrev pub requests : List (Message Octets) → List (Request Octets)
+requests messages = map Posted messages
+
+-- of each Send that is received, each octet of the Writes posted before it has been placed, and none has been placed more often than it was posted
+pub record CoversWrites (posted placed : List (Message Octets)) (received : ℕ) (cell : Cell) : Type 0 where
+  pub before : (k : ℕ) → k < received → count_before cell k (requests posted) ≤ count_writes cell (requests placed)
+  pub most : count_writes cell (requests placed) ≤ count_writes cell (requests posted)
+
+-- at every moment, what an end has placed for the Writes of an honest stream
+abbrev pub Covered : List (Entry Octets) → Type 0
+Covered trace = (past future : List (Entry Octets)) → trace ≡ past ++ future → (x : End) (n : ℕ) → IsHonest n past → (cell : Cell) →
+    CoversWrites (posted (stream_acts n (acts x past))) (placements (stream_acts n (acts (other x) past))) (length (received (stream_acts n (acts (other x) past)))) cell
+
 -- ---- what goes out
 
--- these octets are the frames of the first of these messages, whole, one behind the other and in order; message sequence numbers begin with 1
-pub record AreFirstFrames (octets : List ℕ) (messages : List (Message Octets)) : Type 0 where
-  pub begun : List (Message Octets)
-  pub first : IsPrefixOf begun messages
-  pub spelled : octets ≡ layout (segments_of 1 begun)
+-- these octets are the frames, one behind the other, of the first segments that carry these messages in order and whole
+pub record AreFirstFrames (layout : Layout) (octets : List ℕ) (messages : List (Message Octets)) : Type 0 where
+  pub begun : List (Segment Octets)
+  pub later : List (Segment Octets)
+  pub carry : AreSpelled first_numbers 0 (requests messages) (begun ++ later)
+  pub framed : octets ≡ sequence layout 0 (map segment_octets begun)
 
--- at every moment, what an end has sent on a stream is the frames of the first messages posted there
+-- at every moment, what an end has sent on a stream is the first frames of the messages posted there
 abbrev pub Emission : List (Entry Octets) → Type 0
 Emission trace = (past future : List (Entry Octets)) → trace ≡ past ++ future → (x : End) (n : ℕ) →
-    AreFirstFrames (sent (stream_acts n (acts x past))) (posted (stream_acts n (acts x past)))
+    AreFirstFrames (layout_of n (acts x past)) (sent (stream_acts n (acts x past))) (posted (stream_acts n (acts x past)))
+
+-- these octets are all the frames of segments that carry these messages
+pub record AreAllFrames (layout : Layout) (octets : List ℕ) (messages : List (Message Octets)) : Type 0 where
+  pub segments : List (Segment Octets)
+  pub carry : AreSpelled first_numbers 0 (requests messages) segments
+  pub framed : octets ≡ sequence layout 0 (map segment_octets segments)
 
 -- where nothing is emitted, all that was posted has been sent, or the stream has ended
-abbrev pub NothingDue : List (StreamAct Octets) → StreamAct Octets → Type 0
-NothingDue before (Emit Nothing) = (ended before ≡ true) ⊎ (sent before ≡ layout (segments_of 1 (posted before)))
-NothingDue before _ = Unit {0}
+abbrev pub NothingDue : Layout → List (StreamAct Octets) → StreamAct Octets → Type 0
+NothingDue layout before (Emit Nothing) = (ended before ≡ true) ⊎ AreAllFrames layout (sent before) (posted before)
+NothingDue layout before _ = Unit {0}
 
 abbrev pub NothingAct : List (Act Octets) → Act Octets → Type 0
-NothingAct before (Stream n act) = NothingDue (stream_acts n before) act
+NothingAct before (Stream n act) = NothingDue (layout_of n before) (stream_acts n before) act
 NothingAct before _ = Unit {0}
 
 -- at every entry, at the moment before it
@@ -60,10 +96,6 @@ NothingOnlyAtRest trace = (past : List (Entry Octets)) (e : Entry Octets) (futur
 -- the message sequence number names a buffer that is there, and the octets lie within it
 abbrev pub InBuffer : List ℕ → ℕ → ℕ → ℕ → ℕ → Type 0
 InBuffer lens first msn mo n = (len : ℕ) × (slice_get lens (ahead_of first msn) ≡ Some len) × (mo + n ≤ len)
-
--- the domain that the stream was opened in
-abbrev pub domain_of : ℕ → List (Act Octets) → ℕ
-domain_of n done = slice_index_or (openings n done) 0 0
 
 -- what an act changed lay in a region that then allowed it, or in a receive buffer that was then posted
 abbrev pub WithinStream : List (Act Octets) → ℕ → StreamAct Octets → Type 0

@@ -24,7 +24,7 @@ NamesNoStream own peer (Register pd base rights octets) = ⊥
 NamesNoStream own peer (Deregister stag) = ⊥
 NamesNoStream own peer (Invalidate stag) = ⊥
 NamesNoStream own peer (Store stag to octets) = ⊥
-NamesNoStream own peer (Open n pd role private) = ⊥
+NamesNoStream own peer (Open n pd role options private) = ⊥
 
 -- the call delivers octets that the other end has not emitted
 abbrev pub AsksNotSent : List (Act Octets) → Call Octets → Type 0
@@ -34,7 +34,7 @@ AsksNotSent peer (Register pd base rights octets) = ⊥
 AsksNotSent peer (Deregister stag) = ⊥
 AsksNotSent peer (Invalidate stag) = ⊥
 AsksNotSent peer (Store stag to octets) = ⊥
-AsksNotSent peer (Open n pd role private) = ⊥
+AsksNotSent peer (Open n pd role options private) = ⊥
 
 -- the events before the n-th have answers that follow the rules, and the n-th names a stream that was never opened
 pub record StopsAtStream (events : List (Event Octets)) (n : ℕ) : Type 0 where

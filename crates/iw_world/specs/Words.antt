@@ -1,17 +1,21 @@
 -- What a trace says has happened, by its entries alone.
-use Rattle.std.specs.Prelude.{ℕ, ◌+◌, ◌-◌, ◌%◌, ◌^◌, ◌==◌, List, [], ◌∷◌, ◌++◌, length, drop, Bool, true, false, if◌then◌else◌, Option, Some, None, Ok, Err, fold}
+use Rattle.std.specs.Prelude.{ℕ, ◌+◌, ◌%◌, ◌^◌, ◌==◌, List, [], ◌∷◌, ◌++◌, length, drop, Bool, true, false, if◌then◌else◌, Option, Some, None, Ok, Err, fold}
 use Rattle.std.specs.List.{flat_map}
 use Rattle.iw_octets.specs.declared.stag.Stag.{Stag}
 use Rattle.iw_octets.specs.declared.message.Message.{Message}
 use Rattle.iw_octets.specs.declared.message.Message.TheVariants.{Write, Send}
+use Rattle.iw_memory.specs.declared.rights.Right.TheVariants as rights
 use Rattle.iw_memory.specs.Table.{Table, empty, put, added, registered, deregistered, invalidated}
-use Rattle.iw_stream.specs.declared.answer.Delivery.TheVariants.{Kept, Dropped}
+use Rattle.iw_ranges.specs.declared.Delivery.TheVariants.{Kept, Dropped}
+use Rattle.iw_ranges.specs.Arrived.{Arrived, taken_in}
 use Rattle.iw_events.specs.declared.call.End.{End}
 use Rattle.iw_events.specs.declared.call.End.TheVariants.{A, B}
+use Rattle.iw_events.specs.declared.call.Options.{Options}
+use Rattle.iw_fpdu.specs.declared.layout.Layout.{Layout}
 use Rattle.iw_events.specs.declared.act.Act.{Act}
 use Rattle.iw_events.specs.declared.act.Act.TheVariants.{Domain, Register, Deregister, Invalidate, Store, Open, Stream}
 use Rattle.iw_events.specs.declared.act.StreamAct.{StreamAct}
-use Rattle.iw_events.specs.declared.act.StreamAct.TheVariants.{Recv, Post, Emit, Deliver, Raw, Work}
+use Rattle.iw_events.specs.declared.act.StreamAct.TheVariants.{Recv, Post, Emit, Deliver, Raw, Mulpdu, Work}
 use Rattle.iw_events.specs.declared.act.Shown.TheVariants.{Frame, Nothing}
 use Rattle.iw_events.specs.declared.act.Seen.{Seen}
 use Rattle.iw_events.specs.declared.act.Seen.TheVariants as seen
@@ -43,16 +47,21 @@ stream_acts_by n (Register pd base rights octets answer) = []
 stream_acts_by n (Deregister stag answer) = []
 stream_acts_by n (Invalidate stag refused) = []
 stream_acts_by n (Store stag to octets refused) = []
-stream_acts_by n (Open number pd role private refused) = []
+stream_acts_by n (Open number pd role options private refused) = []
 
 unfoldable pub stream_acts : ℕ → List (Act Octets) → List (StreamAct Octets)
 stream_acts n done = flat_map (stream_acts_by n) done
 
 -- ---- a stream that was opened
 
-abbrev pub openings_by : ℕ → Act Octets → List ℕ
-openings_by n (Open number pd role private None) = if number == n then pd ∷ [] else []
-openings_by n (Open number pd role private (Some refusal)) = []
+-- in which domain, and what the end asked for
+pub record Opening : Type 0 where
+  pub domain : ℕ
+  pub options : Options
+
+abbrev pub openings_by : ℕ → Act Octets → List Opening
+openings_by n (Open number pd role options private None) = if number == n then record { domain = pd; options = options } ∷ [] else []
+openings_by n (Open number pd role options private (Some refusal)) = []
 openings_by n (Stream number act) = []
 openings_by n (Domain pd refused) = []
 openings_by n (Register pd base rights octets answer) = []
@@ -60,9 +69,29 @@ openings_by n (Deregister stag answer) = []
 openings_by n (Invalidate stag refused) = []
 openings_by n (Store stag to octets refused) = []
 
--- the domains that the stream was opened in: one, where it was opened
-unfoldable pub openings : ℕ → List (Act Octets) → List ℕ
+-- the openings of the stream: one, where it was opened
+unfoldable pub openings : ℕ → List (Act Octets) → List Opening
 openings n done = flat_map (openings_by n) done
+
+-- how the frames of a stream with these options are laid out, in both directions
+abbrev pub layout_for : Options → Layout
+layout_for options = record { markers = options.markers; crc = options.crc }
+
+-- how those of the stream are; plain where none was opened
+abbrev pub layout_in : List Opening → Layout
+layout_in [] = record { markers = false; crc = false }
+layout_in (opening ∷ others) = layout_for opening.options
+
+abbrev pub layout_of : ℕ → List (Act Octets) → Layout
+layout_of n done = layout_in (openings n done)
+
+-- the domain that the stream was opened in
+abbrev pub domain_in : List Opening → ℕ
+domain_in [] = 0
+domain_in (opening ∷ others) = opening.domain
+
+abbrev pub domain_of : ℕ → List (Act Octets) → ℕ
+domain_of n done = domain_in (openings n done)
 
 -- ---- messages
 
@@ -73,6 +102,7 @@ posted_by (Recv len refused) = []
 posted_by (Emit shown) = []
 posted_by (Deliver from octets delivery) = []
 posted_by (Raw from octets delivery) = []
+posted_by (Mulpdu size refused) = []
 posted_by (Work step) = []
 
 -- the messages accepted, in order
@@ -106,6 +136,7 @@ received_by (Recv len refused) = []
 received_by (Emit shown) = []
 received_by (Deliver from octets delivery) = []
 received_by (Raw from octets delivery) = []
+received_by (Mulpdu size refused) = []
 
 -- the Sends received, in order
 unfoldable pub received : List (StreamAct Octets) → List Sent
@@ -115,6 +146,7 @@ received done = flat_map received_by done
 
 abbrev pub raw_after : Bool → StreamAct Octets → Bool
 raw_after raw (Raw from octets delivery) = true
+raw_after raw (Mulpdu size refused) = raw
 raw_after raw (Deliver from octets delivery) = raw
 raw_after raw (Emit shown) = raw
 raw_after raw (Post message refused) = raw
@@ -140,6 +172,7 @@ abbrev pub ended_after : Bool → StreamAct Octets → Bool
 ended_after ended (Work step) = ended_seen ended step
 ended_after ended (Deliver from octets delivery) = ended
 ended_after ended (Raw from octets delivery) = ended
+ended_after ended (Mulpdu size refused) = ended
 ended_after ended (Emit shown) = ended
 ended_after ended (Post message refused) = ended
 ended_after ended (Recv len refused) = ended
@@ -157,25 +190,24 @@ sent_by (Post message refused) = []
 sent_by (Recv len refused) = []
 sent_by (Deliver from octets delivery) = []
 sent_by (Raw from octets delivery) = []
+sent_by (Mulpdu size refused) = []
 sent_by (Work step) = []
 
 -- the octets emitted, in order
 unfoldable pub sent : List (StreamAct Octets) → List ℕ
 sent done = flat_map sent_by done
 
-abbrev pub came_after : List ℕ → StreamAct Octets → List ℕ
-came_after came (Deliver from octets Kept) = came ++ drop (length came - from) octets
-came_after came (Raw from octets Kept) = came ++ drop (length came - from) octets
+-- the octets that came, each at its place in the stream: the first copy of each stays
+abbrev pub came_after : Arrived → StreamAct Octets → Arrived
+came_after came (Deliver from octets Kept) = taken_in came from octets
+came_after came (Raw from octets Kept) = taken_in came from octets
 came_after came (Deliver from octets Dropped) = came
 came_after came (Raw from octets Dropped) = came
+came_after came (Mulpdu size refused) = came
 came_after came (Emit shown) = came
 came_after came (Post message refused) = came
 came_after came (Recv len refused) = came
 came_after came (Work step) = came
-
--- the octets that came, which stand without a gap: the first copy of each
-unfoldable pub came : List (StreamAct Octets) → List ℕ
-came done = fold came_after [] done
 
 -- ---- memory
 
@@ -192,6 +224,7 @@ abbrev pub table_by_stream : Table → StreamAct Octets → Table
 table_by_stream table (Work step) = table_seen table step
 table_by_stream table (Deliver from octets delivery) = table
 table_by_stream table (Raw from octets delivery) = table
+table_by_stream table (Mulpdu size refused) = table
 table_by_stream table (Emit shown) = table
 table_by_stream table (Post message refused) = table
 table_by_stream table (Recv len refused) = table
@@ -207,12 +240,38 @@ table_by table (Invalidate stag None) = invalidated table stag
 table_by table (Invalidate stag (Some refusal)) = table
 table_by table (Store stag to octets None) = put table stag to octets
 table_by table (Store stag to octets (Some refusal)) = table
-table_by table (Open number pd role private refused) = table
+table_by table (Open number pd role options private refused) = table
 table_by table (Stream number act) = table_by_stream table act
 
 -- the regions of an end: what was registered, less what was deregistered, with what was stored and placed, and what was invalidated not valid
 unfoldable pub table_after : List (Act Octets) → Table
 table_after done = fold table_by empty done
+
+-- ---- placements
+
+abbrev pub placed_in : Seen Octets → List (Message Octets)
+placed_in (seen.Placed rights.Write stag to octets) = Write stag to octets ∷ []
+placed_in (seen.Placed rights.Read stag to octets) = []
+placed_in (seen.Placed rights.Sink stag to octets) = []
+placed_in (seen.Received octets solicited invalidate) = []
+placed_in (seen.Done kind) = []
+placed_in (seen.Buffered msn mo len) = []
+placed_in seen.Passed = []
+placed_in (seen.Fault fault) = []
+placed_in seen.Idle = []
+
+abbrev pub placed_by : StreamAct Octets → List (Message Octets)
+placed_by (Work step) = placed_in step
+placed_by (Deliver from octets delivery) = []
+placed_by (Raw from octets delivery) = []
+placed_by (Mulpdu size refused) = []
+placed_by (Emit shown) = []
+placed_by (Post message refused) = []
+placed_by (Recv len refused) = []
+
+-- what was placed for Writes, each as a Write of those octets
+unfoldable pub placements : List (StreamAct Octets) → List (Message Octets)
+placements done = flat_map placed_by done
 
 -- ---- receive buffers
 
@@ -231,6 +290,7 @@ buffers_after lens (Recv len (Some refusal)) = lens
 buffers_after lens (Work step) = buffers_seen lens step
 buffers_after lens (Deliver from octets delivery) = lens
 buffers_after lens (Raw from octets delivery) = lens
+buffers_after lens (Mulpdu size refused) = lens
 buffers_after lens (Emit shown) = lens
 buffers_after lens (Post message refused) = lens
 

@@ -6,10 +6,11 @@ use crate::copies::{known, shared, standing};
 use crate::fault::Failure;
 use bytes::Bytes;
 use iw_events::{Seen, Shown, StreamAct, StreamCall};
+use iw_fpdu::Layout;
 use iw_memory::Memory;
 use iw_octets::Message;
 use iw_stream::{Emission, PostRefusal, RecvRefusal, Step, Stream};
-use std::alloc::{Allocator, Global};
+use std::alloc::{AllocError, Allocator, Global};
 use std::marker::Model;
 
 /// A stream, and the octets that it emitted.
@@ -28,18 +29,18 @@ impl<A: Allocator> Model for Connection<A> {
 }
 
 impl<A: Allocator + Copy> Connection<A> {
-    ghost use Rattle.iw_stream.specs.Stream.{post_refusal};
     ghost use Rattle.iw_world.specs.Words.{table_by_stream};
+    ghost use Rattle.iw_stream.specs.Stream.{post_refusal};
     ghost use Rattle.iw_world.specs.Rules.{connected, connected_after, StreamRule};
     ghost use Rattle.iw_world.specs.Bounds.{IsShort, AsksOver};
 
-    pub(crate) fn new(alloc: A, domain: u8) -> Connection<A>
-        ensures { result ≡ connected domain }
+    pub(crate) fn new(alloc: A, domain: u8, layout: Layout) -> Result<Connection<A>, AllocError>
+        ensures { IfOk result (λ connection. connection ≡ connected domain layout) }
     {
-        Connection {
-            stream: Stream::new(alloc, domain),
+        Ok(Connection {
+            stream: Stream::new(alloc, domain, layout)?,
             wire: Vec::new(alloc),
-        }
+        })
     }
 
     /// The octets emitted.
@@ -72,6 +73,7 @@ impl<A: Allocator + Copy> Connection<A> {
             StreamCall::Emit => self.emit(alloc),
             StreamCall::Deliver { from, len } => self.deliver(alloc, peer, *from, *len),
             StreamCall::Raw { from, octets } => self.raw(*from, octets),
+            StreamCall::Mulpdu { size } => Ok(self.mulpdu(*size)),
             StreamCall::Work => self.work(alloc, memory),
         }
     }
@@ -186,6 +188,16 @@ impl<A: Allocator + Copy> Connection<A> {
             octets: copy,
             delivery,
         })
+    }
+
+    fn mulpdu(&mut self, size: u32) -> StreamAct<Bytes<A>>
+        ensures rule { (table : Table) (peer : List ℕ) → StreamRule table peer self.old.stream result }
+        ensures call { stream_call_of result ≡ StreamCall.Mulpdu size }
+        ensures state { self.new ≡ connected_after self.old result }
+        ensures memory { (table : Table) → table_by_stream table result ≡ table }
+    {
+        let refused = self.stream.set_mulpdu(size).err();
+        StreamAct::Mulpdu { size, refused }
     }
 
     #[tactic(auto, using(crate::proofs::Seeing::table_of_seen))]

@@ -1,15 +1,15 @@
-ghost use Rattle.std.specs.Prelude.{◌≡◌, ◌≤◌, ◌^◌, true, false, length, is_some, unwrap_or, IfOk, IfErr, Some, None, slice_index_or};
-ghost use Rattle.iw_world.specs.Words.{table_by_stream};
-ghost use Rattle.iw_world.specs.Rules.{connected, connected_after, StreamRule, needs_peer};
+ghost use Rattle.std.specs.Prelude.{◌≡◌, ◌≤◌, ◌^◌, true, false, length, is_some, unwrap_or, IfOk, IfErr, OnErr, Some, None, slice_index_or};
+ghost use Rattle.iw_world.specs.Words.{table_by_stream, layout_for};
+ghost use Rattle.iw_world.specs.Rules.{unconnected, connected_after, StreamRule, needs_peer};
 ghost use Rattle.iw_world.specs.Bounds.{IsShort, AsksOver};
 ghost use Rattle.std.specs.Option.{option_copied};
 ghost use Rattle.iw_events.specs.Events.{call_of, stream_call_of};
 
 use crate::connection::Connection;
 use crate::fault::Failure;
-use crate::first_path::is_stream_number;
 use bytes::Bytes;
-use iw_events::{Act, Call, OpenRefusal, StreamAct, StreamCall};
+use iw_events::{Act, Call, OpenRefusal, Options, StreamAct, StreamCall};
+use iw_fpdu::Layout;
 use iw_memory::{Memory, RegisterRefusal, Rights, Stag};
 use std::alloc::{AllocError, Allocator, Global};
 use std::marker::Model;
@@ -88,10 +88,7 @@ impl<A: Allocator + Copy> Endpoint<A> {
         ensures not_sent { result ≡ Err Failure.NotSent → AsksTooMuch self.old peer.now call.now }
     {
         match call {
-            Call::Domain { pd } => Ok(Act::Domain {
-                pd: *pd,
-                refused: self.memory.add_domain(*pd).err(),
-            }),
+            Call::Domain { pd } => Ok(self.add_domain(*pd)),
             Call::Register {
                 pd,
                 base,
@@ -105,14 +102,16 @@ impl<A: Allocator + Copy> Endpoint<A> {
                 stream,
                 pd,
                 role,
+                options,
                 private,
             } => {
                 let private = private.clone()?;
-                let refused = self.open(alloc, *stream, *pd);
+                let refused = self.open(alloc, *stream, *pd, *options)?;
                 Ok(Act::Open {
                     stream: *stream,
                     pd: *pd,
                     role: *role,
+                    options: *options,
                     private,
                     refused,
                 })
@@ -125,6 +124,15 @@ impl<A: Allocator + Copy> Endpoint<A> {
                 })
             }
         }
+    }
+
+    fn add_domain(&mut self, pd: u8) -> Act<Bytes<A>>
+        ensures rule { Rule self.old self.old result }
+        ensures call { call_of result ≡ Call.Domain pd }
+        ensures state { self.new ≡ end_after self.old result }
+    {
+        let refused = self.memory.add_domain(pd).err();
+        Act::Domain { pd, refused }
     }
 
     fn register(
@@ -216,24 +224,32 @@ impl<A: Allocator + Copy> Endpoint<A> {
         })
     }
 
-    // Opens a stream in a domain, or tells why not.
-    fn open(&mut self, alloc: A, number: u8, pd: u8) -> Option<OpenRefusal>
-        ensures rule { result ≡ open_refusal self.old number pd }
-        ensures state { self.new ≡ opened_end self.old number pd result }
+    // Opens a stream in a domain, or tells why not. An `Err` is want of memory, and changes nothing.
+    fn open(
+        &mut self,
+        alloc: A,
+        number: u8,
+        pd: u8,
+        options: Options,
+    ) -> Result<Option<OpenRefusal>, AllocError>
+        ensures rule { IfOk result (λ refused. refused ≡ open_refusal self.old number pd) }
+        ensures state { IfOk result (λ refused. self.new ≡ opened_end self.old number pd options refused) }
+        ensures err { OnErr result (self.new ≡ self.old) }
     {
         if self.has_stream(number) {
-            return Some(OpenRefusal::NumberTaken);
+            return Ok(Some(OpenRefusal::NumberTaken));
         }
-        if !is_stream_number(number) {
-            return Some(OpenRefusal::BadNumber);
+        if number as usize >= STREAM_NUMBERS {
+            return Ok(Some(OpenRefusal::BadNumber));
         }
         if !self.memory.has_domain(pd) {
-            return Some(OpenRefusal::NoDomain);
+            return Ok(Some(OpenRefusal::NoDomain));
         }
+        let connection = Connection::new(alloc, pd, layout_for(options))?;
         if let Some(place) = self.streams.get_mut(number as usize) {
-            *place = Some(Connection::new(alloc, pd));
+            *place = Some(connection);
         }
-        None
+        Ok(None)
     }
 
     // Calls a stream.
@@ -263,6 +279,16 @@ impl<A: Allocator + Copy> Endpoint<A> {
     }
 }
 
+// How the frames of a stream with these options are laid out.
+fn layout_for(options: Options) -> Layout
+    ensures { result ≡ layout_for options }
+{
+    Layout {
+        markers: options.markers,
+        crc: options.crc,
+    }
+}
+
 // Whether the call needs the stream at the other end too.
 fn needs_peer<A: Allocator>(call: &StreamCall<Bytes<A>>) -> bool
     ensures { result ≡ needs_peer call.now }
@@ -273,6 +299,7 @@ fn needs_peer<A: Allocator>(call: &StreamCall<Bytes<A>>) -> bool
         | StreamCall::Post { .. }
         | StreamCall::Emit
         | StreamCall::Raw { .. }
+        | StreamCall::Mulpdu { .. }
         | StreamCall::Work => false,
     }
 }
@@ -285,12 +312,12 @@ fn act_at<A: Allocator + Copy>(
     wire: &[u8],
     call: &StreamCall<Bytes<A>>,
 ) -> Result<StreamAct<Bytes<A>>, Failure>
-    requires short { IsShort (unwrap_or place.old (connected 0)).stream }
+    requires short { IsShort (unwrap_or place.old unconnected).stream }
     requires wire { length wire.now ≤ 2 ^ 62 }
     ensures there { IfOk result (λ act. is_some place.old ≡ true) }
-    ensures rule { IfOk result (λ act. StreamRule memory.old wire.now (unwrap_or place.old (connected 0)).stream act) }
+    ensures rule { IfOk result (λ act. StreamRule memory.old wire.now (unwrap_or place.old unconnected).stream act) }
     ensures call { IfOk result (λ act. stream_call_of act ≡ call.now) }
-    ensures state { IfOk result (λ act. place.new ≡ Some (connected_after (unwrap_or place.old (connected 0)) act)) }
+    ensures state { IfOk result (λ act. place.new ≡ Some (connected_after (unwrap_or place.old unconnected) act)) }
     ensures memory { IfOk result (λ act. memory.new ≡ table_by_stream memory.old act) }
     ensures no_stream { result ≡ Err Failure.NoSuchStream → is_some place.old ≡ false }
     ensures not_sent { result ≡ Err Failure.NotSent → (is_some place.old ≡ true) × AsksOver wire.now call.now }

@@ -5,7 +5,6 @@ mod connection;
 mod copies;
 mod endpoint;
 mod fault;
-mod first_path;
 mod world;
 
 pub use fault::WorldFault;

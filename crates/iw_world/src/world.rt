@@ -4,7 +4,7 @@ ghost use Rattle.std.specs.Prelude.{◌≡◌, ℕ, ◌+◌, ◌<◌, ◌≤◌,
 ghost use Rattle.iw_events.specs.Events.{event_of};
 ghost use Rattle.iw_world.specs.Words.{other};
 ghost use Rattle.iw_world.specs.Rules.{start, after_entry, end_of, Rule, Follows};
-ghost use Rattle.iw_world.specs.Safe.{InOrder, Emission, NothingOnlyAtRest, Within, ShowsMemory};
+ghost use Rattle.iw_world.specs.Safe.{InOrder, Covered, Emission, NothingOnlyAtRest, Within, ShowsMemory};
 ghost use Rattle.iw_world.specs.Turns.{Turns, IdleOnlyAtRest};
 ghost use Rattle.iw_world.specs.Bounds.{IsShortState, LacksStream, AsksTooMuch};
 ghost use Rattle.iw_world.specs.Stops.{StopsAt};
@@ -74,6 +74,8 @@ impl<A: Allocator + Copy> World<A> {
         ensures follows { IfOk result (λ trace. Follows start trace.items) }
         // What was received is a prefix of what was sent.
         ensures in_order { IfOk result (λ trace. InOrder trace.items) }
+        // When a Send is received, each octet of the Writes before it was placed, and none too often.
+        ensures covered { IfOk result (λ trace. Covered trace.items) }
         // What was sent is the frames of what was posted.
         ensures emission { IfOk result (λ trace. Emission trace.items) }
         // Nothing is emitted only where all that was posted was sent.

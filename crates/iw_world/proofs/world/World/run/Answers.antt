@@ -1,5 +1,5 @@
-use Rattle.std.proofs.Common.{rules, ◌≡◌, ◌+◌, ◌≤◌, List, [], ◌∷◌, ◌++◌, ℕ, length, map, take, drop, ap, sym, subst, ◌∙◌, arith}
-use Rattle.std.proofs.lemmas.List.{map_push, take_more, drop_more, take-append-drop, length-take-le, length-map}
+use Rattle.std.proofs.Common.{rules, ◌≡◌, ◌+◌, ◌<◌, List, [], ◌∷◌, ◌++◌, ℕ, length, map, take, drop, ap, sym, subst, ◌∙◌, arith}
+use Rattle.std.proofs.lemmas.List.{map_push, take_more, drop_more, take-append-drop, length-take, length-map}
 use Rattle.iw_events.specs.declared.call.Event.{Event}
 use Rattle.iw_events.specs.declared.act.Entry.{Entry}
 use Rattle.iw_events.specs.Events.{event_of}
@@ -7,14 +7,14 @@ use Rattle.iw_world.specs.Words.{Octets, other, acts}
 use Rattle.iw_world.specs.Rules.{State, start, state_after, after_entry, end_of, Rule, Follows}
 use Rattle.iw_world.specs.Bounds.{IsShortState, LacksStream, AsksTooMuch}
 use Rattle.iw_world.proofs.Whole.{follows_push, state_after-push, seen_after}
-use Rattle.iw_world.proofs.Laws.{in_order, emission, nothing_at_rest, turns_all, idle_at_rest, within_all, shows_memory, names_no_stream, names_streams, asks_not_sent}
+use Rattle.iw_world.proofs.Laws.{in_order, covered, emission, nothing_at_rest, turns_all, idle_at_rest, within_all, shows_memory, names_no_stream, names_streams, asks_not_sent}
 use Rattle.iw_world.proofs.Shorts.{short_state}
 use Rattle.iw_world.proofs.world.World.run.Goals as goal
 
 pub happen-requires : goal.happen-requires
 happen-requires g c =
     let trace : List (Entry Octets) = c.loop-event.trace.items in
-    let few : length trace ≤ length c.args.events.now = omega (arith, sym (length-map trace event_of) ∙ ap length c.loop-event.invariant.events, length-take-le {A = Event Octets}) in
+    let few : length trace < length c.args.events.now = omega (arith, sym (length-map trace event_of) ∙ ap length c.loop-event.invariant.events, length-take c.loop-event.event-index c.args.events.now, c.loop-event-test.true) in
     subst IsShortState (sym c.loop-event.invariant.state) (short_state trace c.loop-event.invariant.follows (omega (arith, few, c.requires)))
 
 pub loop-event-preserved : goal.loop-event-preserved
@@ -33,6 +33,9 @@ loop-event-preserved g c =
 
 pub returns-clause-in_order : goal.returns-clause-in_order
 returns-clause-in_order g c = in_order c.loop-event.trace.items c.loop-event.invariant.follows
+
+pub returns-clause-covered : goal.returns-clause-covered
+returns-clause-covered g c = covered c.loop-event.trace.items c.loop-event.invariant.follows
 
 pub returns-clause-emission : goal.returns-clause-emission
 returns-clause-emission g c = emission c.loop-event.trace.items c.loop-event.invariant.follows

@@ -1,0 +1,11 @@
+use Rattle.std.proofs.Common.{◌≡◌, ◌<◌, ◌∙◌, ap, arith, length, slice_index_or, None}
+use Rattle.std.proofs.lemmas.Bool.Decides.{nat_tests}
+use Rattle.std.proofs.lemmas.List.{get_or_default}
+use Rattle.iw_world.specs.Rules.{EndState}
+use Rattle.iw_world.proofs.endpoint.Endpoint.stream.Goals as goal
+
+pub returns : goal.returns
+returns g c =
+    let within : c.args.number < length c.deref.result.now = (let test = c.in_ok-get.ensures.lookup.0 in grind (arith, nat_tests)) in
+    let here : c.deref.result.now ≡ c.args.self.now.streams = c.deref.ensures.value ∙ ap (λ (s : EndState). s.streams) c.self.view_is in
+    c.as_ref.ensures.value ∙ c.in_ok-get.ensures.lookup.1 ∙ get_or_default c.deref.result.now c.args.number c.in_ok-get.field-0.now None within ∙ ap (λ xs. slice_index_or xs c.args.number None) here
