@@ -1,5 +1,5 @@
 use bytes::Bytes;
-use iw_events::{Call, End, Entry, Event, Role, StreamCall};
+use iw_events::{Call, End, Entry, Event, Options, Role, StreamCall};
 use iw_memory::{Rights, Stag};
 use iw_schedules::print_trace;
 use iw_testing::FailsAt;
@@ -80,6 +80,10 @@ fn events<A: Allocator + Copy>(alloc: A) -> Result<Vec<Event<Bytes<A>>, A>, Fail
             stream: 0,
             pd: 1,
             role: Role::Preset,
+            options: Options {
+                markers: false,
+                crc: false,
+            },
             private: Bytes::new(),
         },
     )?;

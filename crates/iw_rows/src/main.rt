@@ -21,12 +21,26 @@ enum Ending {
 }
 
 /// The schedules, by the names of their files, `NAME.schedule`. The trace of one that has a trace is in `NAME.trace`.
-const ROWS: [(&str, Ending); 13] = [
+const ROWS: [(&str, Ending); 27] = [
     ("first", Ending::Completed),
     ("one-write", Ending::Completed),
     ("empty-messages", Ending::Completed),
     ("octets-stay", Ending::Completed),
     ("past-the-last-offset", Ending::Faulted),
+    ("hostile-write", Ending::Faulted),
+    ("one-send-with-markers", Ending::Completed),
+    ("a-send-of-two-segments", Ending::Completed),
+    ("the-later-part-comes-first", Ending::Completed),
+    ("invalidated-between-two-parts", Ending::Faulted),
+    ("the-window", Ending::Completed),
+    ("first-copies-stay", Ending::Completed),
+    ("a-changed-pad-octet", Ending::Faulted),
+    ("markers-and-crc", Ending::Completed),
+    ("another-domains-stag", Ending::Faulted),
+    ("the-last-tagged-offset", Ending::Faulted),
+    ("a-message-too-many", Ending::Completed),
+    ("sizes-of-a-ulpdu", Ending::Completed),
+    ("options-out-of-order", Ending::Refused("line 1: BadOctets")),
     ("empty", Ending::Completed),
     ("unknown-word", Ending::Refused("line 2: BadWord")),
     ("number-too-large", Ending::Refused("line 1: BadNumber")),
