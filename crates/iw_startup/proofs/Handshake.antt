@@ -26,7 +26,7 @@ module _ (side : Side) (fl : ℕ) (private : List ℕ) where
   abbrev pub written : List ℕ
   written = start_frame (peer_key side) fl private
 
-length-written : (side : Side) (fl : ℕ) (private : List ℕ) → length (written side fl private) ≡ 20 + length private
+pub length-written : (side : Side) (fl : ℕ) (private : List ℕ) → length (written side fl private) ≡ 20 + length private
 unfolding start_frame
 length-written side fl private =
     omega (arith, length-append (peer_key side) (fl ∷ 1 ∷ (length private / 256) ∷ (length private % 256) ∷ private), key_length side)
@@ -53,7 +53,7 @@ fixed_fault-written Initiator fl private h =
 fixed_fault-written (Responder _) fl private h =
     let fits : nat_lt 512 (length private / 256 * 256 + length private % 256) ≡ false = grind (arith, nat_tests) in rw fits refl
 
-frame_end-written : (side : Side) (fl : ℕ) (private : List ℕ) → length private ≤ 512 → frame_end side (written side fl private) ≡ length (written side fl private)
+pub frame_end-written : (side : Side) (fl : ℕ) (private : List ℕ) → length private ≤ 512 → frame_end side (written side fl private) ≡ length (written side fl private)
 unfolding frame_end
 frame_end-written side fl private h =
     let long : nat_lt (length (written side fl private)) 20 ≡ false = grind (arith, nat_tests, length-written side fl private) in
@@ -122,11 +122,11 @@ says side markers crc rejected private =
     record { markers_is = rw octet (each.0); crc_is = rw octet (each.1); rejected_is = rw octet (each.2) }
 
 -- the octets of a Request, as a responder has them
-abbrev request : Config → List ℕ
+abbrev pub request : Config → List ℕ
 request config = written (Responder None) (flags config.markers config.crc false) config.private.items
 
 -- a responder that took them
-abbrev has_request : Config → Config → StartupState
+abbrev pub has_request : Config → Config → StartupState
 has_request asking answering = record (responder answering) { octets = request asking }
 
 request_taken : (asking answering : Config) (requests : List (List ℕ)) → length asking.private.items ≤ 512 → Carries requests (initiator asking) →
@@ -134,7 +134,7 @@ request_taken : (asking answering : Config) (requests : List (List ℕ)) → len
 request_taken asking answering requests h carries =
     taken (Responder None) answering requests (flags asking.markers asking.crc false) asking.private.items carries.0 (reached-responder answering) h carries.1
 
-awaits_request : (asking answering : Config) → length asking.private.items ≤ 512 → awaits_answer (has_request asking answering) ≡ true
+pub awaits_request : (asking answering : Config) → length asking.private.items ≤ 512 → awaits_answer (has_request asking answering) ≡ true
 awaits_request asking answering h = ap (λ (p : Progress). is_asked p) (progress_of-written (Responder None) (flags asking.markers asking.crc false) asking.private.items h)
 
 pub requests_are_asked : RequestsAreAsked
@@ -144,7 +144,7 @@ requests_are_asked asking answering requests h carries =
     (is_read, ap (λ (s : StartupState). awaits_answer s) is_taken.after ∙ awaits_request asking answering h)
 
 -- the octets of a Reply, as an initiator has them
-abbrev reply : Config → Bool → ArrayVec ℕ → List ℕ
+abbrev pub reply : Config → Bool → ArrayVec ℕ → List ℕ
 reply config rejected private = written Initiator (flags config.markers config.crc rejected) private.items
 
 reply_taken : (asking answering : Config) (rejected : Bool) (private : ArrayVec ℕ) (replies : List (List ℕ)) (behind : List ℕ) → length private.items ≤ 512 →
@@ -168,12 +168,19 @@ Rejects asking replies private asked =
     × (agreed_of (answered asked (Reject private)) ≡ None)
 
 -- an initiator that took a Reply that accepts
-opened : (asking answering : Config) (private : ArrayVec ℕ) → length private.items ≤ 512 →
+pub opened : (asking answering : Config) (private : ArrayVec ℕ) → length private.items ≤ 512 →
     agreed_of (record (initiator asking) { octets = reply answering false private }) ≡ Some (agreed_between asking answering)
 unfolding agreed_of
 opened asking answering private h =
     let told = says Initiator answering.markers answering.crc false private.items in
     rw (progress_of-written Initiator (flags answering.markers answering.crc false) private.items h, told.rejected_is, told.markers_is, told.crc_is) refl
+
+-- a responder that accepted
+pub accepted : (asking answering : Config) (private : ArrayVec ℕ) → length asking.private.items ≤ 512 →
+    agreed_of (answered (has_request asking answering) (Accept private)) ≡ Some (from_other_end (agreed_between asking answering))
+accepted asking answering private h =
+    let asks = says (Responder None) asking.markers asking.crc false asking.private.items in
+    agreed_of-accepted (has_request asking answering) private (awaits_request asking answering h) ∙ rw (asks.markers_is, asks.crc_is, or_comm answering.crc asking.crc) refl
 
 agrees : (asking answering : Config) (replies : List (List ℕ)) (private : ArrayVec ℕ) → length asking.private.items ≤ 512 → length private.items ≤ 512 →
     Agrees asking answering replies private (has_request asking answering)
@@ -181,14 +188,13 @@ agrees asking answering replies private asked_fits fits carries =
     let fl : ℕ = flags answering.markers answering.crc false in
     let is_taken = reply_taken asking answering false private replies carries.0 fits carries.1 in
     let told = says Initiator answering.markers answering.crc false private.items in
-    let asks = says (Responder None) asking.markers asking.crc false asking.private.items in
     let outcome_is : outcome Initiator (reply answering false private) ≡ answer.Agreed = rw (told.rejected_is) refl in (
       read Initiator asking replies (answered (has_request asking answering) (Accept private)) fl private.items answer.Agreed fits is_taken refl outcome_is,
       ap (λ (s : StartupState). agreed_of s) is_taken.after ∙ opened asking answering private fits,
-      agreed_of-accepted (has_request asking answering) private (awaits_request asking answering asked_fits) ∙ rw (asks.markers_is, asks.crc_is, or_comm answering.crc asking.crc) refl,
+      accepted asking answering private asked_fits,
     )
 
-closed : (asking answering : Config) (private : ArrayVec ℕ) → length private.items ≤ 512 →
+pub closed : (asking answering : Config) (private : ArrayVec ℕ) → length private.items ≤ 512 →
     agreed_of (record (initiator asking) { octets = reply answering true private }) ≡ None
 unfolding agreed_of
 closed asking answering private h =

@@ -1,6 +1,9 @@
+pub mod Agreement
 pub mod Answered
 pub mod Cuts
 pub mod Ends
 pub mod Handshake
+pub mod Heard
+pub mod Openings
 pub mod Pieces
 pub mod Reached

@@ -36,6 +36,10 @@ pushed s octets = record s { octets = frame_part s.side (s.octets ++ octets) }
 unfoldable pub private_of : StartupState → List ℕ
 private_of s = if is_whole s.side s.octets then drop 20 s.octets else []
 
+abbrev pub is_responder : Side → Bool
+is_responder Initiator = false
+is_responder (Responder reply) = true
+
 abbrev pub is_unanswered : Side → Bool
 is_unanswered Initiator = false
 is_unanswered (Responder reply) = is_none reply

@@ -1,5 +1,6 @@
 ghost use Rattle.std.specs.Prelude.{◌≡◌, ◌≤◌, length, IsTrue, is_ok, OnOk, OnErr, IfOk, Some, None};
-ghost use Rattle.iw_startup.specs.State.{begun, pushed, used, progress, private_of, frame_of, agreed_of, awaits_answer, answered, IsReached};
+ghost use Rattle.iw_startup.specs.Peer.{progress_of};
+ghost use Rattle.iw_startup.specs.State.{begun, is_responder, pushed, used, progress, private_of, frame_of, agreement, agreed_of, awaits_answer, answered, IsReached};
 
 use crate::config::{Agreed, Config, FIXED_OCTETS, MAX_FRAME, PrivateData};
 use crate::frame;
@@ -71,6 +72,28 @@ impl Startup {
         (fixed + private, progress)
     }
 
+    /// How far the peer's frame has come where these octets are all that came of it. It only looks.
+    pub fn progress_of(&self, octets: &[u8]) -> Progress
+        ensures { result ≡ progress_of self.now.side octets.now }
+    {
+        frame::progress_in(&self.side, octets)
+    }
+
+    /// Whether this is the end that receives the Request.
+    pub fn is_responder(&self) -> bool
+        ensures { result ≡ is_responder self.now.side }
+    {
+        matches!(&self.side, Side::Responder(_))
+    }
+
+    /// How many octets of the peer's frame were taken.
+    pub fn taken(&self) -> usize
+        ensures taken { result ≡ length self.now.octets }
+        ensures fits { result ≤ MAX_FRAME }
+    {
+        self.octets.len()
+    }
+
     /// Answers the Request: the connection is to be. The Reply carries this private data.
     ///
     /// An `Err` changes nothing. It comes at an initiator, before the Request is whole, for a faulty one, and after an
@@ -80,6 +103,7 @@ impl Startup {
         ensures ok { OnOk result (self.new ≡ answered self.old (Reply.Accept private)) }
         ensures err { OnErr result (self.new ≡ self.old) }
         ensures agreed { IfOk result (λ agreed. agreed_of self.new ≡ Some agreed) }
+        ensures value { IfOk result (λ agreed. agreed ≡ agreement self.old.config self.old.octets) }
     {
         if !self.awaits_answer() {
             return Err(NotAsked);
@@ -130,6 +154,20 @@ impl Startup {
         ensures reached { IsReached self.now }
     {
         frame::private_in(&self.side, self.octets.as_slice())
+    }
+
+    /// How many octets the frame has that this end sends.
+    #[tactic(auto, unfolding(crate::specs::Frame::start_frame))]
+    pub fn frame_len(&self) -> usize
+        ensures len { result ≡ length (frame_of self.now) }
+        ensures fits { result ≤ MAX_FRAME }
+    {
+        match &self.side {
+            Side::Initiator => FIXED_OCTETS + self.config.private.len(),
+            Side::Responder(None) => 0,
+            Side::Responder(Some(Reply::Accept(private))) => FIXED_OCTETS + private.len(),
+            Side::Responder(Some(Reply::Reject(private))) => FIXED_OCTETS + private.len(),
+        }
     }
 
     /// What both frames agree on: at an initiator once the Reply accepts, at a responder once its user did.

@@ -16,3 +16,9 @@ returns-clause-agreed c =
     let awaits : awaits_answer old ≡ true = ap (λ (s : StartupState). awaits_answer s) c.self.view_is ∙ sym c.awaits_answer.ensures.awaits ∙ c.if-not-awaits_answer.false in
     agreed_of-accepted old c.args.private awaits
     ∙ ap Some (sym (c.agreement_with.ensures ∙ ap (λ (octets : List ℕ). agreement c.self.inside.config octets) c.as_slice.ensures.value))
+
+pub returns-clause-value : goal.returns-clause-value
+returns-clause-value c =
+    c.agreement_with.ensures
+    ∙ ap (λ (octets : List ℕ). agreement c.self.inside.config octets) c.as_slice.ensures.value
+    ∙ ap (λ (s : StartupState). agreement s.config s.octets) c.self.view_is
