@@ -1,7 +1,8 @@
-use crate::call::{End, Options, Role};
+use crate::call::{End, Options};
 use iw_memory::{DomainRefusal, NoRegion, RegisterRefusal, Right, Rights, StoreRefusal};
 use iw_octets::{Fault, Message, Stag};
-use iw_stream::{Delivery, Kind, PostRefusal, RecvRefusal, SizeRefusal};
+use iw_startup::{Agreed, NotAsked, StartupFault};
+use iw_stream::{Delivery, Kind, PostRefusal, RecvRefusal, Role, SizeRefusal};
 
 /// Why a stream is not opened: the first reason that holds.
 #[derive(Clone, Copy, Debug, PartialEq, Eq)]
@@ -29,6 +30,17 @@ pub enum Shown<O> {
 pub enum Seen<O> {
     /// The oldest posted message is finished.
     Done(Kind),
+    /// The peer's Request is complete: its private data.
+    Asked {
+        private: O,
+    },
+    /// The peer's Reply has accepted: what was agreed, and its private data.
+    Opened {
+        agreed: Agreed,
+        private: O,
+    },
+    /// The peer's start-up frame has closed the stream.
+    Closed(StartupFault),
     /// A tagged segment was placed: the octets now stand in the region from tagged offset `to` on.
     Placed {
         right: Right,
@@ -83,6 +95,14 @@ pub enum StreamAct<O> {
     Mulpdu {
         size: u32,
         refused: Option<SizeRefusal>,
+    },
+    Accept {
+        private: O,
+        answer: Result<Agreed, NotAsked>,
+    },
+    Reject {
+        private: O,
+        refused: Option<NotAsked>,
     },
     Work(Seen<O>),
 }

@@ -1,18 +1,12 @@
 use iw_memory::Rights;
 use iw_octets::{Message, Stag};
+use iw_stream::Role;
 
 /// One of the two ends. Stream n of one is connected to stream n of the other.
 #[derive(Clone, Copy, Debug, PartialEq, Eq)]
 pub enum End {
     A,
     B,
-}
-
-/// What a stream does before its first frame.
-#[derive(Clone, Copy, Debug, PartialEq, Eq)]
-pub enum Role {
-    /// It is open at once, with no start-up frames.
-    Preset,
 }
 
 /// What an end asks for on a stream (RFC 5044 7.1): markers in what the peer sends, CRCs in both directions.
@@ -39,6 +33,10 @@ pub enum StreamCall<O> {
     Raw { from: u64, octets: O },
     /// Sets the maximum ULPDU, in octets: the most that a ULPDU has which is sent from then on.
     Mulpdu { size: u32 },
+    /// Accepts the Request that came, with the private data of the Reply.
+    Accept { private: O },
+    /// Rejects the Request that came, with the private data of the Reply.
+    Reject { private: O },
     /// Does one step of work.
     Work,
 }
@@ -71,7 +69,7 @@ pub enum Call<O> {
         to: u64,
         octets: O,
     },
-    /// Opens a stream in a domain. The private data is not used for the role `Preset`.
+    /// Opens a stream in a domain. The private data is that of the Request, and is used for the role `Initiator` alone.
     Open {
         stream: u8,
         pd: u8,

@@ -8,4 +8,5 @@ mod act;
 mod call;
 
 pub use act::{Act, Entry, OpenRefusal, Seen, Shown, StreamAct};
-pub use call::{Call, End, Event, Options, Role, StreamCall};
+pub use call::{Call, End, Event, Options, StreamCall};
+pub use iw_stream::Role;

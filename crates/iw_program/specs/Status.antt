@@ -18,9 +18,10 @@ code_of Completed = 0
 code_of Failed = 1
 code_of Refused = 2
 
--- a step of work found a fault
+-- a step of work found a fault, or one in the peer's start-up frame
 abbrev pub sees_fault : Seen (List ℕ) → Bool
 sees_fault (seen.Fault fault) = true
+sees_fault (seen.Closed fault) = true
 sees_fault _ = false
 
 abbrev pub stream_faults : StreamAct (List ℕ) → Bool

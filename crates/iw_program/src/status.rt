@@ -10,7 +10,7 @@ use std::alloc::Allocator;
 pub enum Status {
     /// It did what was asked.
     Completed,
-    /// A stream ended by a fault, or input or output failed.
+    /// A stream ended by a fault, also one of start-up, or input or output failed.
     Failed,
     /// What was asked was refused, and nothing was done.
     Refused,
@@ -29,13 +29,13 @@ impl Status {
     }
 }
 
-// Whether a stream ended by a fault here.
+// Whether a stream ended by a fault here, also one of start-up.
 fn is_fault_entry<A: Allocator>(entry: &Entry<Bytes<A>>) -> bool
     ensures { result ≡ is_fault entry.now }
 {
     match &entry.act {
         Act::Stream {
-            act: StreamAct::Work(Seen::Fault(_)),
+            act: StreamAct::Work(Seen::Fault(_) | Seen::Closed(_)),
             ..
         } => true,
         _ => false,

@@ -2,10 +2,12 @@
 use Rattle.std.proofs.Common.{◌≡◌, ◌⊎◌, inl, inr, ℕ, ◌-◌, ◌^◌, Bool, true, false, cond, List, [], ◌∷◌, replicate, Result, Ok, Err, refl, sym, ap, subst, ◌∙◌, codes}
 use Rattle.std.specs.Str.{bytes_eq}
 use Rattle.std.proofs.lemmas.Slice.Eq.{bytes_eq-Decides}
+use Rattle.iw_stream.specs.declared.answer.Role.{Role}
+use Rattle.iw_stream.specs.declared.answer.Role.TheVariants.{Preset, Initiator, Responder}
 use Rattle.iw_events.specs.declared.call.Call.{Call}
 use Rattle.iw_events.specs.declared.call.Call.TheVariants.{Domain, Register, Deregister, Invalidate, Store, Open, Stream}
 use Rattle.iw_octets.specs.declared.message.Message.TheVariants as messages
-use Rattle.iw_events.specs.declared.call.StreamCall.TheVariants.{Recv, Post, Emit, Deliver, Raw, Mulpdu, Work}
+use Rattle.iw_events.specs.declared.call.StreamCall.TheVariants.{Recv, Post, Emit, Deliver, Raw, Mulpdu, Accept, Reject, Work}
 use Rattle.iw_schedules.specs.declared.fault.FaultName.{FaultName}
 use Rattle.iw_schedules.specs.declared.kinds.TheConstants.{MOST_OCTETS}
 use Rattle.iw_schedules.specs.declared.words.CallWord.{CallWord}
@@ -13,15 +15,15 @@ use Rattle.iw_schedules.specs.declared.words.CallWord.TheVariants as named
 use Rattle.iw_schedules.specs.declared.calls.Step.TheVariants as steps
 use Rattle.iw_schedules.specs.Reading.{◌>>=◌}
 use Rattle.iw_schedules.specs.Kinds.{number_word, times_word, stag_word, octets_word, private_word}
-use Rattle.iw_schedules.specs.FirstPath.{role_word, kind_word, is_solicited, invalidated_word}
+use Rattle.iw_schedules.specs.FirstPath.{kind_word, is_solicited, invalidated_word}
 use Rattle.iw_schedules.specs.FirstPath.IsKind.{plain}
 use Rattle.iw_schedules.specs.Rights.{rights_word}
 use Rattle.iw_schedules.specs.Options.{options_word}
-use Rattle.iw_schedules.specs.Words.{one_of, call_text, call_words, call_word}
-use Rattle.iw_schedules.specs.Calls.{field, octet_number, long_number, size_number, times_at, one, domain_at, register_at, deregister_at, invalidate_at, store_at, open_at, recv_at, send_at, write_at, steps_at, deliver_at, raw_at, mulpdu_at, behind, calls_at}
+use Rattle.iw_schedules.specs.Words.{one_of, role_text, roles, role_word, call_text, call_words, call_word}
+use Rattle.iw_schedules.specs.Calls.{field, octet_number, long_number, size_number, times_at, one, domain_at, register_at, deregister_at, invalidate_at, store_at, open_at, accept_at, reject_at, recv_at, send_at, write_at, steps_at, deliver_at, raw_at, mulpdu_at, behind, calls_at}
 use Rattle.iw_schedules.specs.Grammar.{Word, IsTimes, IsCall}
-use Rattle.iw_schedules.specs.Grammar.IsCall.{domain, register, deregister, invalidate, store, opening, recv, send, write, emit, emit_times, work, work_times, deliver, raw, mulpdu}
-use Rattle.iw_schedules.proofs.KindLaws.{bind_ok, okay, number_is, number_again, times_is, times_again, stag_is, stag_again, octets_is, octets_again, private_is, private_again, rights_is, rights_again, role_is, role_again, options_are, options_again, kind_is}
+use Rattle.iw_schedules.specs.Grammar.IsCall.{domain, register, deregister, invalidate, store, opening, accept, reject, recv, send, write, emit, emit_times, work, work_times, deliver, raw, mulpdu}
+use Rattle.iw_schedules.proofs.KindLaws.{bind_ok, okay, number_is, number_again, times_is, times_again, stag_is, stag_again, octets_is, octets_again, private_is, private_again, rights_is, rights_again, options_are, options_again, kind_is}
 
 abbrev Calls : Type 0
 Calls = List (Call (List ℕ))
@@ -54,6 +56,19 @@ ended calls made others e = let pair : both made others ≡ both calls [] = cc i
 
 stands_for : (words made_of : List Word) (calls made : Calls) → words ≡ made_of → made ≡ calls → IsCall made_of made → IsCall words calls
 stands_for words made_of calls made w c is = subst (λ ws. IsCall ws calls) (sym w) (subst (λ cs. IsCall made_of cs) c is)
+
+-- ---- fixed words
+
+one_of_told : {X : Type 0} (text : X → Word) (x : X) (xs : List X) (word : Word) (y : X) (b : Bool) → bytes_eq word (text x) ≡ b → (one_of text xs word ≡ Ok y → word ≡ text y) → cond b (Ok x) (one_of text xs word) ≡ Ok y → word ≡ text y
+one_of_told text x xs word y true same others e = let is : x ≡ y = cc in (bytes_eq-Decides word (text x)).0 same ∙ ap text is
+one_of_told text x xs word y false same others e = others e
+
+-- the word of what was found by it
+pub one_of_is : {X : Type 0} (text : X → Word) (xs : List X) (word : Word) (y : X) → one_of text xs word ≡ Ok y → word ≡ text y
+one_of_is text [] word y e = absurd cc
+one_of_is text (x ∷ xs) word y e = one_of_told text x xs word y (bytes_eq word (text x)) refl (one_of_is text xs word y) e
+
+-- ---- each call
 
 pub domain_is : (words : List Word) (calls : Calls) → domain_at words ≡ Ok (calls, []) → IsCall (codes "domain" ∷ words) calls
 unfolding domain_at
@@ -124,8 +139,31 @@ open_is words calls e =
     let last : d.0.1 ≡ j.word ∷ [] = cc (j.words_are, end.1) in
     let spelled : words ≡ f.word ∷ g.word ∷ h.word ∷ i.word ∷ j.word ∷ [] =
     f.words_are ∙ ap (λ ws. f.word ∷ ws) (g.words_are ∙ ap (λ ws. g.word ∷ ws) (h.words_are ∙ ap (λ ws. h.word ∷ ws) (i.words_are ∙ ap (λ ws. i.word ∷ ws) last))) in
-    stands_for _ (codes "open" ∷ f.word ∷ g.word ∷ h.word ∷ i.word ∷ j.word ∷ []) calls _ (ap (λ ws. codes "open" ∷ ws) spelled) end.0
-    (opening (number_is 255 f.word a.0.0 f.value) (number_is 255 g.word b.0.0 g.value) (role_is h.word c.0.0 h.value) (options_are i.word d.0.0 i.value) (private_is j.word o.0.0 j.value))
+    let named_so = one_of_is role_text roles h.word c.0.0 h.value in
+    stands_for _ (codes "open" ∷ f.word ∷ g.word ∷ role_text c.0.0 ∷ i.word ∷ j.word ∷ []) calls _ (ap (λ ws. codes "open" ∷ ws) spelled ∙ ap (λ w. codes "open" ∷ f.word ∷ g.word ∷ w ∷ i.word ∷ j.word ∷ []) named_so) end.0
+    (opening (number_is 255 f.word a.0.0 f.value) (number_is 255 g.word b.0.0 g.value) (options_are i.word d.0.0 i.value) (private_is j.word o.0.0 j.value))
+
+pub accept_is : (words : List Word) (calls : Calls) → accept_at words ≡ Ok (calls, []) → IsCall (codes "accept" ∷ words) calls
+unfolding accept_at
+accept_is words calls e =
+    let a = bind_ok (field octet_number words) _ (calls, []) e in
+    let b = bind_ok (field private_word a.0.1) _ (calls, []) a.2 in
+    let end = ended calls (one (Stream a.0.0 (Accept b.0.0))) b.0.1 b.2 in
+    let f = field_is octet_number words a.0 a.1 in
+    let g = field_is private_word a.0.1 b.0 b.1 in
+    stands_for _ (codes "accept" ∷ f.word ∷ g.word ∷ []) calls _ (cc (f.words_are, g.words_are, end.1)) end.0
+    (accept (number_is 255 f.word a.0.0 f.value) (private_is g.word b.0.0 g.value))
+
+pub reject_is : (words : List Word) (calls : Calls) → reject_at words ≡ Ok (calls, []) → IsCall (codes "reject" ∷ words) calls
+unfolding reject_at
+reject_is words calls e =
+    let a = bind_ok (field octet_number words) _ (calls, []) e in
+    let b = bind_ok (field private_word a.0.1) _ (calls, []) a.2 in
+    let end = ended calls (one (Stream a.0.0 (Reject b.0.0))) b.0.1 b.2 in
+    let f = field_is octet_number words a.0 a.1 in
+    let g = field_is private_word a.0.1 b.0 b.1 in
+    stands_for _ (codes "reject" ∷ f.word ∷ g.word ∷ []) calls _ (cc (f.words_are, g.words_are, end.1)) end.0
+    (reject (number_is 255 f.word a.0.0 f.value) (private_is g.word b.0.0 g.value))
 
 pub recv_is : (words : List Word) (calls : Calls) → recv_at words ≡ Ok (calls, []) → IsCall (codes "recv" ∷ words) calls
 unfolding recv_at
@@ -242,15 +280,6 @@ work_is words calls e =
 
 -- ---- all calls
 
-one_of_told : {X : Type 0} (text : X → Word) (x : X) (xs : List X) (word : Word) (y : X) (b : Bool) → bytes_eq word (text x) ≡ b → (one_of text xs word ≡ Ok y → word ≡ text y) → cond b (Ok x) (one_of text xs word) ≡ Ok y → word ≡ text y
-one_of_told text x xs word y true same others e = let is : x ≡ y = cc in (bytes_eq-Decides word (text x)).0 same ∙ ap text is
-one_of_told text x xs word y false same others e = others e
-
--- the word of what was found by it
-pub one_of_is : {X : Type 0} (text : X → Word) (xs : List X) (word : Word) (y : X) → one_of text xs word ≡ Ok y → word ≡ text y
-one_of_is text [] word y e = absurd cc
-one_of_is text (x ∷ xs) word y e = one_of_told text x xs word y (bytes_eq word (text x)) refl (one_of_is text xs word y) e
-
 call_word_is : (word : Word) (call : CallWord) → call_word word ≡ Ok call → word ≡ call_text call
 unfolding call_word
 call_word_is word call e = one_of_is call_text call_words word call e
@@ -262,6 +291,8 @@ behind_is named.Deregister words calls e = deregister_is words calls e
 behind_is named.Invalidate words calls e = invalidate_is words calls e
 behind_is named.Store words calls e = store_is words calls e
 behind_is named.Open words calls e = open_is words calls e
+behind_is named.Accept words calls e = accept_is words calls e
+behind_is named.Reject words calls e = reject_is words calls e
 behind_is named.Recv words calls e = recv_is words calls e
 behind_is named.Send words calls e = send_is words calls e
 behind_is named.Write words calls e = write_is words calls e
@@ -279,14 +310,21 @@ calls_are words calls e =
     let text = call_word_is f.word a.0.0 f.value in
     subst (λ ws. IsCall ws calls) (cc (f.words_are, text)) (behind_is a.0.0 a.0.1 calls a.2)
 
+role_again : (role : Role) → role_word (role_text role) ≡ Ok role
+role_again Preset = refl
+role_again Initiator = refl
+role_again Responder = refl
+
 pub calls_again : (words : List Word) (calls : Calls) → IsCall words calls → calls_at words ≡ Ok (calls, [])
-unfolding calls_at call_word domain_at register_at deregister_at invalidate_at store_at open_at recv_at send_at write_at steps_at deliver_at raw_at mulpdu_at
+unfolding calls_at call_word domain_at register_at deregister_at invalidate_at store_at open_at accept_at reject_at recv_at send_at write_at steps_at deliver_at raw_at mulpdu_at
 calls_again words calls (domain {a} {pd} p) = rw (number_again 255 a pd p) refl
 calls_again words calls (register {a} {b} {c} {d} {pd} {base} {rights} {octets} p q r s) = rw (number_again 255 a pd p, number_again (2 ^ 64 - 1) b base q, rights_again c rights r, octets_again d octets s) refl
 calls_again words calls (deregister {a} {stag} p) = rw (stag_again a stag p) refl
 calls_again words calls (invalidate {a} {stag} p) = rw (stag_again a stag p) refl
 calls_again words calls (store {a} {b} {c} {stag} {to} {octets} p q r) = rw (stag_again a stag p, number_again (2 ^ 64 - 1) b to q, octets_again c octets r) refl
-calls_again words calls (opening {a} {b} {c} {d} {e} {stream} {pd} {role} {options} {private} p q r s t) = rw (number_again 255 a stream p, number_again 255 b pd q, role_again c role r, options_again d options s, private_again e private t) refl
+calls_again words calls (opening {a} {b} {d} {e} {stream} {pd} {role} {options} {private} p q r s) = rw (number_again 255 a stream p, number_again 255 b pd q, role_again role, options_again d options r, private_again e private s) refl
+calls_again words calls (accept {a} {b} {stream} {private} p q) = rw (number_again 255 a stream p, private_again b private q) refl
+calls_again words calls (reject {a} {b} {stream} {private} p q) = rw (number_again 255 a stream p, private_again b private q) refl
 calls_again words calls (recv {a} {b} {stream} {len} p q) = rw (number_again 255 a stream p, number_again MOST_OCTETS b len q) refl
 calls_again words calls (send {a} {b} {c} {d} {stream} {solicited} {invalidate} {octets} p plain r) = rw (number_again 255 a stream p, octets_again d octets r) refl
 calls_again words calls (write {a} {b} {c} {d} {stream} {to} {stag} {octets} p q r s) = rw (number_again 255 a stream p, stag_again b stag q, number_again (2 ^ 64 - 1) c to r, octets_again d octets s) refl

@@ -15,8 +15,6 @@ use Rattle.hex.proofs.HexLemmas.{decode_of-ok, decode_sized-ok, decode_sized-twi
 use Rattle.iw_octets.specs.declared.stag.Stag.{Stag}
 use Rattle.iw_octets.specs.Stag.{stag_at}
 use Rattle.iw_memory.specs.declared.rights.Rights.{Rights}
-use Rattle.iw_events.specs.declared.call.Role.{Role}
-use Rattle.iw_events.specs.declared.call.Role.TheVariants.{Preset}
 use Rattle.iw_events.specs.declared.call.Options.{Options}
 use Rattle.iw_schedules.specs.declared.first_path.SendKind.{SendKind}
 use Rattle.iw_schedules.specs.declared.first_path.SendKind.TheVariants.{Plain}
@@ -26,7 +24,7 @@ use Rattle.iw_schedules.specs.declared.kinds.TheConstants.{MOST_OCTETS, MOST_PRI
 use Rattle.iw_schedules.specs.Reading.{◌>>=◌, or_fault}
 use Rattle.iw_schedules.specs.Pieces.{split_at_first}
 use Rattle.iw_schedules.specs.Kinds.{is_decimal, number_word, times_word, stag_word, hex_word, count_word, octets_word, private_word}
-use Rattle.iw_schedules.specs.FirstPath.{role_word, kind_word, is_solicited, invalidated_word, IsRole, IsKind}
+use Rattle.iw_schedules.specs.FirstPath.{kind_word, is_solicited, invalidated_word, IsKind}
 use Rattle.iw_schedules.specs.Letters.{letter_if, letter_at}
 use Rattle.iw_schedules.specs.Rights.{no_rights, letters_of, lettered, rights_word, IsRights}
 use Rattle.iw_schedules.specs.Rights.IsRights.{none_granted, granted}
@@ -34,7 +32,6 @@ use Rattle.iw_schedules.specs.Options.{no_options, option_letters, optional, opt
 use Rattle.iw_schedules.specs.Options.IsOptions.{none_asked, asked}
 use Rattle.iw_schedules.specs.Grammar.{Word, IsNumber, IsTimes, IsHex, IsStag, IsOctets, IsPrivate}
 use Rattle.iw_schedules.specs.Grammar.IsOctets.{none, once, repeated}
-use Rattle.iw_schedules.specs.FirstPath.IsRole.{preset}
 use Rattle.iw_schedules.specs.FirstPath.IsKind.{plain}
 
 -- ---- steps
@@ -349,14 +346,6 @@ options_again word all (asked {options} some) = asked_again options.markers opti
 fixed : {X : Type 0} (word text : Word) (b : Bool) (fault : FaultName) (x y : X) → bytes_eq word text ≡ b → cond b (Ok x) (Err fault) ≡ Ok y → (word ≡ text) × (x ≡ y)
 fixed word text true fault x y same e = ((bytes_eq-Decides word text).0 same, cc)
 fixed word text false fault x y same e = absurd cc
-
-pub role_is : (word : Word) (role : Role) → role_word word ≡ Ok role → IsRole word role
-role_is word role e =
-    let f = fixed word (codes "preset") (bytes_eq word (codes "preset")) BadWord Preset role refl e in
-    subst (λ w. IsRole w role) (sym f.0) (subst (λ r. IsRole (codes "preset") r) f.1 preset)
-
-pub role_again : (word : Word) (role : Role) → IsRole word role → role_word word ≡ Ok role
-role_again word role preset = refl
 
 pub kind_is : (word stag_word : Word) (kind : SendKind) (stag : Option Stag) → kind_word word ≡ Ok kind → invalidated_word kind stag_word ≡ Ok stag → IsKind word stag_word (is_solicited kind) stag
 kind_is word stag_word Plain stag k s =

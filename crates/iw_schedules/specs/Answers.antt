@@ -1,5 +1,5 @@
 -- The words in which calls are answered.
-use Rattle.std.specs.Prelude.{ℕ, Bool, true, false, List, [], ◌∷◌, Option, Some, None, codes}
+use Rattle.std.specs.Prelude.{ℕ, Bool, true, false, List, [], ◌∷◌, ◌++◌, Option, Some, None, Result, Ok, Err, codes}
 use Rattle.std.specs.Fmt.{decimal}
 use Rattle.hex.specs.Hex.{encode_lower}
 use Rattle.iw_octets.specs.declared.stag.Stag.{Stag}
@@ -17,6 +17,10 @@ use Rattle.iw_ranges.specs.declared.Delivery.{Delivery}
 use Rattle.iw_ranges.specs.declared.Delivery.TheVariants as deliveries
 use Rattle.iw_queues.specs.declared.request.Kind.{Kind}
 use Rattle.iw_queues.specs.declared.request.Kind.TheVariants as kinds
+use Rattle.iw_startup.specs.declared.config.Agreed.{Agreed}
+use Rattle.iw_startup.specs.declared.progress.StartupFault.{StartupFault}
+use Rattle.iw_startup.specs.declared.progress.StartupFault.TheVariants as startups
+use Rattle.iw_startup.specs.declared.startup.NotAsked.{NotAsked}
 use Rattle.iw_stream.specs.declared.answer.PostRefusal.{PostRefusal}
 use Rattle.iw_stream.specs.declared.answer.PostRefusal.TheVariants as posts
 use Rattle.iw_stream.specs.declared.answer.RecvRefusal.{RecvRefusal}
@@ -29,6 +33,7 @@ use Rattle.iw_events.specs.declared.act.Shown.{Shown}
 use Rattle.iw_events.specs.declared.act.Shown.TheVariants as shown
 use Rattle.iw_events.specs.declared.act.Seen.{Seen}
 use Rattle.iw_events.specs.declared.act.Seen.TheVariants as seen
+use Rattle.iw_schedules.specs.Letters.{letter_if}
 
 abbrev pub Words : Type 0
 Words = List (List ℕ)
@@ -90,8 +95,23 @@ post_refusal posts.NoMemory = (4, codes "NoMemory")
 abbrev pub size_refusal : SizeRefusal → Numbered
 size_refusal sizes.BadSize = (1, codes "BadSize")
 
+-- of `accept`, and of `reject`
+abbrev pub not_asked : Numbered
+not_asked = (1, codes "NotAsked")
+
+-- why a stream was closed before it was open
+abbrev pub startup_fault : StartupFault → Numbered
+startup_fault startups.BadKey = (1, codes "BadKey")
+startup_fault startups.BadRev = (2, codes "BadRev")
+startup_fault startups.BadLength = (3, codes "BadLength")
+startup_fault startups.Rejected = (4, codes "Rejected")
+
+-- a word, and a reason behind it
+abbrev pub numbered : List ℕ → Numbered → Words
+numbered word reason = word ∷ decimal reason.0 ∷ reason.1 ∷ []
+
 abbrev pub refused : Numbered → Words
-refused refusal = codes "refused" ∷ decimal refusal.0 ∷ refusal.1 ∷ []
+refused refusal = numbered (codes "refused") refusal
 
 abbrev pub ok_or_refused : Option Numbered → Words
 ok_or_refused None = codes "ok" ∷ []
@@ -121,6 +141,21 @@ abbrev pub delivery_text : Delivery → List ℕ
 delivery_text deliveries.Kept = codes "kept"
 delivery_text deliveries.Dropped = codes "dropped"
 
+-- what was agreed, as letters: this end sends markers, it expects them, CRCs are used
+abbrev pub agreed_letters : Agreed → List ℕ
+agreed_letters agreed = letter_if agreed.send_markers 115 ++ letter_if agreed.expect_markers 101 ++ letter_if agreed.crc 99
+
+abbrev pub letters_text : List ℕ → List ℕ
+letters_text [] = codes "-"
+letters_text (letter ∷ letters) = letter ∷ letters
+
+abbrev pub agreed_text : Agreed → List ℕ
+agreed_text agreed = letters_text (agreed_letters agreed)
+
+abbrev pub accepted_words : Result Agreed NotAsked → Words
+accepted_words (Ok agreed) = codes "ok" ∷ agreed_text agreed ∷ []
+accepted_words (Err refusal) = refused not_asked
+
 abbrev pub fault_words : Fault → Words
 fault_words fault = codes "fault" ∷ decimal fault.layer ∷ decimal fault.kind ∷ decimal fault.code ∷ []
 
@@ -140,8 +175,17 @@ buffered_words msn mo len = codes "buffered" ∷ decimal msn ∷ decimal mo ∷ 
 abbrev pub received_words : List ℕ → Bool → Option Stag → Words
 received_words octets solicited invalidate = codes "received" ∷ octets_text octets ∷ send_text solicited invalidate ∷ optional_stag_text invalidate ∷ []
 
+abbrev pub asked_words : List ℕ → Words
+asked_words private = codes "asked" ∷ octets_text private ∷ []
+
+abbrev pub opened_words : Agreed → List ℕ → Words
+opened_words agreed private = codes "opened" ∷ agreed_text agreed ∷ octets_text private ∷ []
+
 abbrev pub seen_words : Seen (List ℕ) → Words
 seen_words (seen.Done kind) = done_words kind
+seen_words (seen.Asked private) = asked_words private
+seen_words (seen.Opened agreed private) = opened_words agreed private
+seen_words (seen.Closed fault) = numbered (codes "closed") (startup_fault fault)
 seen_words (seen.Placed right stag to octets) = placed_words right stag to octets
 seen_words (seen.Buffered msn mo len) = buffered_words msn mo len
 seen_words seen.Passed = codes "passed" ∷ []

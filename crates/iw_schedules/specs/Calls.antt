@@ -4,7 +4,7 @@ use Rattle.iw_octets.specs.declared.message.Message.TheVariants as messages
 use Rattle.iw_events.specs.declared.call.Call.{Call}
 use Rattle.iw_events.specs.declared.call.Call.TheVariants.{Domain, Register, Deregister, Invalidate, Store, Open, Stream}
 use Rattle.iw_events.specs.declared.call.StreamCall.{StreamCall}
-use Rattle.iw_events.specs.declared.call.StreamCall.TheVariants.{Recv, Post, Emit, Deliver, Raw, Mulpdu, Work}
+use Rattle.iw_events.specs.declared.call.StreamCall.TheVariants.{Recv, Post, Emit, Deliver, Raw, Mulpdu, Accept, Reject, Work}
 use Rattle.iw_schedules.specs.declared.fault.FaultName.{FaultName}
 use Rattle.iw_schedules.specs.declared.fault.FaultName.TheVariants.{BadWord}
 use Rattle.iw_schedules.specs.declared.kinds.TheConstants.{MOST_OCTETS}
@@ -16,10 +16,10 @@ use Rattle.iw_schedules.specs.declared.calls.Step.{Step}
 use Rattle.iw_schedules.specs.declared.calls.Step.TheVariants as steps
 use Rattle.iw_schedules.specs.Reading.{◌>>=◌}
 use Rattle.iw_schedules.specs.Kinds.{number_word, times_word, stag_word, octets_word, private_word}
-use Rattle.iw_schedules.specs.FirstPath.{role_word, kind_word, is_solicited, invalidated_word}
+use Rattle.iw_schedules.specs.FirstPath.{kind_word, is_solicited, invalidated_word}
 use Rattle.iw_schedules.specs.Rights.{rights_word}
 use Rattle.iw_schedules.specs.Options.{options_word}
-use Rattle.iw_schedules.specs.Words.{call_word}
+use Rattle.iw_schedules.specs.Words.{role_word, call_word}
 
 -- a value, and the words behind it
 abbrev pub Taken : Type 0 → Type 0
@@ -90,6 +90,18 @@ open_at words = do
   private ← field private_word options.1
   Ok (one (Open stream.0 pd.0 role.0 options.0 private.0), private.1)
 
+unfoldable pub accept_at : List (List ℕ) → Taken (List (Call (List ℕ)))
+accept_at words = do
+  stream ← field octet_number words
+  private ← field private_word stream.1
+  Ok (one (Stream stream.0 (Accept private.0)), private.1)
+
+unfoldable pub reject_at : List (List ℕ) → Taken (List (Call (List ℕ)))
+reject_at words = do
+  stream ← field octet_number words
+  private ← field private_word stream.1
+  Ok (one (Stream stream.0 (Reject private.0)), private.1)
+
 unfoldable pub recv_at : List (List ℕ) → Taken (List (Call (List ℕ)))
 recv_at words = do
   stream ← field octet_number words
@@ -151,6 +163,8 @@ behind named.Deregister words = deregister_at words
 behind named.Invalidate words = invalidate_at words
 behind named.Store words = store_at words
 behind named.Open words = open_at words
+behind named.Accept words = accept_at words
+behind named.Reject words = reject_at words
 behind named.Recv words = recv_at words
 behind named.Send words = send_at words
 behind named.Write words = write_at words

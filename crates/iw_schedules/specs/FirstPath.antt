@@ -1,18 +1,13 @@
--- What a schedule may say so far: one role, and one kind of Send.
+-- What a schedule may say so far: one kind of Send.
 use Rattle.std.specs.Prelude.{ℕ, false, Bool, List, Option, None, codes, Result, Ok, Err, if◌then◌else◌}
 use Rattle.std.specs.Str.{bytes_eq}
 use Rattle.iw_octets.specs.declared.stag.Stag.{Stag}
-use Rattle.iw_events.specs.declared.call.Role.{Role}
-use Rattle.iw_events.specs.declared.call.Role.TheVariants.{Preset}
 use Rattle.iw_schedules.specs.declared.fault.FaultName.{FaultName}
 use Rattle.iw_schedules.specs.declared.fault.FaultName.TheVariants.{BadWord, BadNumber}
 use Rattle.iw_schedules.specs.declared.first_path.SendKind.{SendKind}
 use Rattle.iw_schedules.specs.declared.first_path.SendKind.TheVariants.{Plain}
 
 -- ---- how these words are read
-
-abbrev pub role_word : List ℕ → Result Role FaultName
-role_word word = if bytes_eq word (codes "preset") then Ok Preset else Err BadWord
 
 abbrev pub kind_word : List ℕ → Result SendKind FaultName
 kind_word word = if bytes_eq word (codes "plain") then Ok Plain else Err BadWord
@@ -25,9 +20,6 @@ abbrev pub invalidated_word : SendKind → List ℕ → Result (Option Stag) Fau
 invalidated_word Plain word = if bytes_eq word (codes "-") then Ok None else Err BadNumber
 
 -- ---- what they stand for in the grammar
-
-pub data IsRole : List ℕ → Role → Type 0 where
-  preset : IsRole (codes "preset") Preset
 
 -- a kind and the word behind it: whether the Send is solicited, and what it invalidates
 pub data IsKind : List ℕ → List ℕ → Bool → Option Stag → Type 0 where

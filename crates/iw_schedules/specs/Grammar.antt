@@ -8,11 +8,11 @@ use Rattle.iw_octets.specs.Stag.{stag_at}
 use Rattle.iw_octets.specs.declared.message.Message.TheVariants as messages
 use Rattle.iw_memory.specs.declared.rights.Rights.{Rights}
 use Rattle.iw_events.specs.declared.call.End.{End}
-use Rattle.iw_events.specs.declared.call.Role.{Role}
+use Rattle.iw_stream.specs.declared.answer.Role.{Role}
 use Rattle.iw_events.specs.declared.call.Options.{Options}
 use Rattle.iw_events.specs.declared.call.Call.{Call}
 use Rattle.iw_events.specs.declared.call.Call.TheVariants.{Domain, Register, Deregister, Invalidate, Store, Open, Stream}
-use Rattle.iw_events.specs.declared.call.StreamCall.TheVariants.{Recv, Post, Emit, Deliver, Raw, Mulpdu, Work}
+use Rattle.iw_events.specs.declared.call.StreamCall.TheVariants.{Recv, Post, Emit, Deliver, Raw, Mulpdu, Accept, Reject, Work}
 use Rattle.iw_schedules.specs.declared.fault.FaultName.{FaultName}
 use Rattle.iw_schedules.specs.declared.fault.ScheduleFault.{ScheduleFault}
 use Rattle.iw_schedules.specs.declared.fault.ScheduleFault.TheVariants.{Line, NoMemory}
@@ -20,10 +20,10 @@ use Rattle.iw_schedules.specs.declared.kinds.TheConstants.{MOST_OCTETS, MOST_PRI
 use Rattle.iw_schedules.specs.declared.schedule.TheConstants.{MOST_EVENTS}
 use Rattle.iw_schedules.specs.Pieces.{lines, words}
 use Rattle.iw_schedules.specs.Kinds.{is_decimal}
-use Rattle.iw_schedules.specs.FirstPath.{IsRole, IsKind}
+use Rattle.iw_schedules.specs.FirstPath.{IsKind}
 use Rattle.iw_schedules.specs.Rights.{IsRights}
 use Rattle.iw_schedules.specs.Options.{IsOptions}
-use Rattle.iw_schedules.specs.Words.{end_text}
+use Rattle.iw_schedules.specs.Words.{end_text, role_text}
 use Rattle.iw_schedules.specs.Calls.{one}
 use Rattle.iw_schedules.specs.Schedule.{Events, is_skipped, event_at, with_line}
 
@@ -85,8 +85,10 @@ pub data IsCall : List Word → List (Call (List ℕ)) → Type 0 where
   invalidate : {a : Word} {stag : Stag} → IsStag a stag → IsCall (codes "invalidate" ∷ a ∷ []) (one (Invalidate stag))
   store : {a b c : Word} {stag : Stag} {to : ℕ} {octets : List ℕ} → IsStag a stag → IsLongNumber b to → IsOctets c octets
       → IsCall (codes "store" ∷ a ∷ b ∷ c ∷ []) (one (Store stag to octets))
-  opening : {a b c d e : Word} {stream pd : ℕ} {role : Role} {options : Options} {private : List ℕ} → IsOctetNumber a stream → IsOctetNumber b pd → IsRole c role → IsOptions d options → IsPrivate e private
-      → IsCall (codes "open" ∷ a ∷ b ∷ c ∷ d ∷ e ∷ []) (one (Open stream pd role options private))
+  opening : {a b d e : Word} {stream pd : ℕ} {role : Role} {options : Options} {private : List ℕ} → IsOctetNumber a stream → IsOctetNumber b pd → IsOptions d options → IsPrivate e private
+      → IsCall (codes "open" ∷ a ∷ b ∷ role_text role ∷ d ∷ e ∷ []) (one (Open stream pd role options private))
+  accept : {a b : Word} {stream : ℕ} {private : List ℕ} → IsOctetNumber a stream → IsPrivate b private → IsCall (codes "accept" ∷ a ∷ b ∷ []) (one (Stream stream (Accept private)))
+  reject : {a b : Word} {stream : ℕ} {private : List ℕ} → IsOctetNumber a stream → IsPrivate b private → IsCall (codes "reject" ∷ a ∷ b ∷ []) (one (Stream stream (Reject private)))
   recv : {a b : Word} {stream len : ℕ} → IsOctetNumber a stream → IsNumber MOST_OCTETS b len → IsCall (codes "recv" ∷ a ∷ b ∷ []) (one (Stream stream (Recv len)))
   send : {a b c d : Word} {stream : ℕ} {solicited : Bool} {invalidate : Option Stag} {octets : List ℕ} → IsOctetNumber a stream → IsKind b c solicited invalidate → IsOctets d octets
       → IsCall (codes "send" ∷ a ∷ b ∷ c ∷ d ∷ []) (one (Stream stream (Post (messages.Send octets solicited invalidate))))

@@ -11,12 +11,12 @@ use Rattle.iw_memory.specs.declared.refusal.NoRegion.{NoRegion}
 use Rattle.iw_events.specs.declared.act.Act.{Act}
 use Rattle.iw_events.specs.declared.act.Act.TheVariants.{Domain, Register, Deregister, Invalidate, Store, Open, Stream}
 use Rattle.iw_events.specs.declared.act.StreamAct.{StreamAct}
-use Rattle.iw_events.specs.declared.act.StreamAct.TheVariants.{Recv, Post, Emit, Deliver, Raw, Mulpdu, Work}
+use Rattle.iw_events.specs.declared.act.StreamAct.TheVariants.{Recv, Post, Emit, Deliver, Raw, Mulpdu, Accept, Reject, Work}
 use Rattle.iw_events.specs.declared.act.Entry.{Entry}
 use Rattle.iw_schedules.specs.declared.words.CallWord.{CallWord}
 use Rattle.iw_schedules.specs.declared.words.CallWord.TheVariants as named
 use Rattle.iw_schedules.specs.Words.{end_text, call_text}
-use Rattle.iw_schedules.specs.Answers.{Words, octets_text, stag_text, domain_refusal, register_refusal, no_region, store_refusal, open_refusal, recv_refusal, post_refusal, size_refusal, refused, ok_or_refused, delivery_text, shown_words, seen_words}
+use Rattle.iw_schedules.specs.Answers.{Words, octets_text, stag_text, domain_refusal, register_refusal, no_region, store_refusal, open_refusal, recv_refusal, post_refusal, size_refusal, not_asked, refused, ok_or_refused, delivery_text, accepted_words, shown_words, seen_words}
 
 abbrev pub registered : Result Stag RegisterRefusal → Words
 registered (Ok stag) = stag_text stag ∷ []
@@ -39,14 +39,31 @@ call_on call n = call_text call ∷ decimal n ∷ []
 abbrev pub call_of_stag : CallWord → Stag → Words
 call_of_stag call stag = call_text call ∷ stag_text stag ∷ []
 
+-- the word of a call of a stream
+abbrev pub stream_word : StreamAct (List ℕ) → CallWord
+stream_word (Recv len refusal) = named.Recv
+stream_word (Post message refusal) = post_word message
+stream_word (Emit shown) = named.Emit
+stream_word (Deliver from octets delivery) = named.Deliver
+stream_word (Raw from octets delivery) = named.Raw
+stream_word (Mulpdu size refusal) = named.Mulpdu
+stream_word (Accept private answer) = named.Accept
+stream_word (Reject private refusal) = named.Reject
+stream_word (Work seen) = named.Work
+
+abbrev pub stream_answer : StreamAct (List ℕ) → Words
+stream_answer (Recv len refusal) = ok_or_refused (option_map recv_refusal refusal)
+stream_answer (Post message refusal) = ok_or_refused (option_map post_refusal refusal)
+stream_answer (Emit shown) = shown_words shown
+stream_answer (Deliver from octets delivery) = delivery_text delivery ∷ []
+stream_answer (Raw from octets delivery) = delivery_text delivery ∷ []
+stream_answer (Mulpdu size refusal) = ok_or_refused (option_map size_refusal refusal)
+stream_answer (Accept private answer) = accepted_words answer
+stream_answer (Reject private refusal) = ok_or_refused (option_map (λ missing. not_asked) refusal)
+stream_answer (Work seen) = seen_words seen
+
 abbrev pub stream_words : ℕ → StreamAct (List ℕ) → Words
-stream_words stream (Recv len refusal) = call_text named.Recv ∷ decimal stream ∷ ok_or_refused (option_map recv_refusal refusal)
-stream_words stream (Post message refusal) = call_text (post_word message) ∷ decimal stream ∷ ok_or_refused (option_map post_refusal refusal)
-stream_words stream (Emit shown) = call_text named.Emit ∷ decimal stream ∷ shown_words shown
-stream_words stream (Deliver from octets delivery) = call_text named.Deliver ∷ decimal stream ∷ delivery_text delivery ∷ []
-stream_words stream (Raw from octets delivery) = call_text named.Raw ∷ decimal stream ∷ delivery_text delivery ∷ []
-stream_words stream (Mulpdu size refusal) = call_text named.Mulpdu ∷ decimal stream ∷ ok_or_refused (option_map size_refusal refusal)
-stream_words stream (Work seen) = call_text named.Work ∷ decimal stream ∷ seen_words seen
+stream_words stream act = call_text (stream_word act) ∷ decimal stream ∷ stream_answer act
 
 -- a call with its answer, behind the end
 abbrev pub act_words : Act (List ℕ) → Words

@@ -3,7 +3,7 @@
 ghost use Rattle.std.specs.Prelude.{◌≡◌, [], ◌∷◌, OnOk, string_bytes};
 ghost use Rattle.std.specs.Option.{option_map};
 ghost use Rattle.std.specs.Fmt.{decimal};
-ghost use Rattle.iw_schedules.specs.Answers.{octets_text, stag_text, optional_stag_text, refused, ok_or_refused};
+ghost use Rattle.iw_schedules.specs.Answers.{octets_text, stag_text, optional_stag_text, numbered, refused, ok_or_refused};
 ghost use Rattle.iw_schedules.specs.Appended.{with_words};
 ghost use Rattle.iw_schedules.specs.Shown.{shown_refusal};
 
@@ -59,16 +59,27 @@ pub(crate) fn optional_stag<A: Allocator + Copy>(
     }
 }
 
+/// A word, and a reason behind it.
+pub(crate) fn numbered<A: Allocator>(
+    text: &mut String<A>,
+    first: &str,
+    reason: Refusal,
+) -> Result<(), AllocError>
+    ensures { OnOk result (string_bytes text.new ≡ with_words (string_bytes text.old) (numbered first.now (shown_refusal reason))) }
+{
+    word(text, first)?;
+    number(text, u64::from(reason.number))?;
+    word(text, reason.name)?;
+    Ok(())
+}
+
 pub(crate) fn refusal<A: Allocator>(
     text: &mut String<A>,
     refusal: Refusal,
 ) -> Result<(), AllocError>
     ensures { OnOk result (string_bytes text.new ≡ with_words (string_bytes text.old) (refused (shown_refusal refusal))) }
 {
-    word(text, "refused")?;
-    number(text, u64::from(refusal.number))?;
-    word(text, refusal.name)?;
-    Ok(())
+    numbered(text, "refused", refusal)
 }
 
 /// `ok`, or a refusal.

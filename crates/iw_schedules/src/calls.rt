@@ -2,8 +2,8 @@
 
 ghost use Rattle.std.specs.Prelude.{◌≡◌, length};
 ghost use Rattle.iw_schedules.specs.Reading.{Gives};
-ghost use Rattle.iw_schedules.specs.Kinds.{number_word, stag_word, octets_word};
-ghost use Rattle.iw_schedules.specs.Calls.{step_call, calls_of, next_word, field, octet_number, long_number, size_number, times_at, domain_at, register_at, deregister_at, invalidate_at, store_at, open_at, recv_at, send_at, write_at, steps_at, deliver_at, raw_at, mulpdu_at, calls_at};
+ghost use Rattle.iw_schedules.specs.Kinds.{number_word, stag_word, octets_word, private_word};
+ghost use Rattle.iw_schedules.specs.Calls.{step_call, calls_of, next_word, field, octet_number, long_number, size_number, times_at, domain_at, register_at, deregister_at, invalidate_at, store_at, open_at, accept_at, reject_at, recv_at, send_at, write_at, steps_at, deliver_at, raw_at, mulpdu_at, calls_at};
 
 use crate::fault::{FaultName, ReadError};
 use crate::first_path::SendKind;
@@ -11,7 +11,7 @@ use crate::options::read_options;
 use crate::pieces::Pieces;
 use crate::rights::read_rights;
 use crate::words::CallWord;
-use crate::{first_path, kinds};
+use crate::{kinds, words};
 use bytes::Bytes;
 use iw_events::{Call, StreamCall};
 use iw_octets::{Message, Stag};
@@ -97,6 +97,12 @@ fn octets_in<A: Allocator + Copy>(alloc: A, words: &mut Pieces<'_>) -> Result<By
     kinds::octets(alloc, next(words)?)
 }
 
+fn private_in<A: Allocator + Copy>(alloc: A, words: &mut Pieces<'_>) -> Result<Bytes<A>, ReadError>
+    ensures { Gives (λ octets. (octets, words.new)) result (field private_word words.old) }
+{
+    kinds::private(alloc, next(words)?)
+}
+
 // How often, and once where the word is left out.
 fn times_in(words: &mut Pieces<'_>) -> Result<u64, ReadError>
     ensures { Gives (λ n. (n, words.new)) result (times_at words.old) }
@@ -169,9 +175,9 @@ fn open<A: Allocator + Copy>(alloc: A, words: &mut Pieces<'_>) -> Result<Calls<B
 {
     let stream = octet_number_in(words)?;
     let pd = octet_number_in(words)?;
-    let role = first_path::role(next(words)?)?;
+    let role = words::role(next(words)?)?;
     let options = read_options(next(words)?)?;
-    let private = kinds::private(alloc, next(words)?)?;
+    let private = private_in(alloc, words)?;
     Ok(Calls::One(Call::Open {
         stream,
         pd,
@@ -179,6 +185,32 @@ fn open<A: Allocator + Copy>(alloc: A, words: &mut Pieces<'_>) -> Result<Calls<B
         options,
         private,
     }))
+}
+
+#[tactic(auto, unfolding(crate::specs::Calls::accept_at))]
+fn accept<A: Allocator + Copy>(
+    alloc: A,
+    words: &mut Pieces<'_>,
+) -> Result<Calls<Bytes<A>>, ReadError>
+    ensures { Gives (λ calls. (calls_of calls, words.new)) result (accept_at words.old) }
+{
+    let stream = octet_number_in(words)?;
+    let private = private_in(alloc, words)?;
+    let call = StreamCall::Accept { private };
+    Ok(Calls::One(Call::Stream { stream, call }))
+}
+
+#[tactic(auto, unfolding(crate::specs::Calls::reject_at))]
+fn reject<A: Allocator + Copy>(
+    alloc: A,
+    words: &mut Pieces<'_>,
+) -> Result<Calls<Bytes<A>>, ReadError>
+    ensures { Gives (λ calls. (calls_of calls, words.new)) result (reject_at words.old) }
+{
+    let stream = octet_number_in(words)?;
+    let private = private_in(alloc, words)?;
+    let call = StreamCall::Reject { private };
+    Ok(Calls::One(Call::Stream { stream, call }))
 }
 
 #[tactic(auto, unfolding(crate::specs::Calls::recv_at))]
@@ -283,6 +315,8 @@ pub(crate) fn read_calls<A: Allocator + Copy>(
         CallWord::Invalidate => invalidate(words),
         CallWord::Store => store(alloc, words),
         CallWord::Open => open(alloc, words),
+        CallWord::Accept => accept(alloc, words),
+        CallWord::Reject => reject(alloc, words),
         CallWord::Recv => recv(words),
         CallWord::Send => send(alloc, words),
         CallWord::Write => write(alloc, words),

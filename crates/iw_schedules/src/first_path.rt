@@ -1,12 +1,11 @@
-//! What a schedule may say so far: one role, and one kind of Send.
+//! What a schedule may say so far: one kind of Send.
 //!
 //! The words that name calls stand in the table of `words.rt`.
 
 ghost use Rattle.std.specs.Prelude.{◌≡◌};
-ghost use Rattle.iw_schedules.specs.FirstPath.{role_word, kind_word, is_solicited, invalidated_word};
+ghost use Rattle.iw_schedules.specs.FirstPath.{kind_word, is_solicited, invalidated_word};
 
 use crate::fault::FaultName;
-use iw_events::Role;
 use iw_octets::Stag;
 
 /// The kind of a Send.
@@ -44,14 +43,4 @@ impl SendKind {
             SendKind::Plain => Err(FaultName::BadNumber),
         }
     }
-}
-
-/// A role: `preset`.
-pub(crate) fn role(word: &[u8]) -> Result<Role, FaultName>
-    ensures { result ≡ role_word word.now }
-{
-    if word == b"preset".as_slice() {
-        return Ok(Role::Preset);
-    }
-    Err(FaultName::BadWord)
 }

@@ -1,14 +1,15 @@
-//! The refusals of each call, with their numbers.
+//! The refusals of each call, with their numbers, and why a start-up closed a stream.
 
 ghost use Rattle.std.specs.Prelude.{◌≡◌};
-ghost use Rattle.iw_schedules.specs.Answers.{domain_refusal, register_refusal, open_refusal, recv_refusal, post_refusal, size_refusal, no_region, store_refusal};
+ghost use Rattle.iw_schedules.specs.Answers.{domain_refusal, register_refusal, open_refusal, recv_refusal, post_refusal, size_refusal, not_asked, startup_fault, no_region, store_refusal};
 ghost use Rattle.iw_schedules.specs.Shown.{shown_refusal};
 
 use iw_events::OpenRefusal;
 use iw_memory::{DomainRefusal, NoRegion, RegisterRefusal, StoreRefusal};
+use iw_startup::{NotAsked, StartupFault};
 use iw_stream::{PostRefusal, RecvRefusal, SizeRefusal};
 
-/// A refusal's number and name.
+/// The number and the name of a refusal, or of what closed a stream.
 #[derive(Clone, Copy, Debug)]
 pub(crate) struct Refusal {
     pub(crate) number: u8,
@@ -98,5 +99,24 @@ pub(crate) fn of_size(refusal: SizeRefusal) -> Refusal
 {
     match refusal {
         SizeRefusal::BadSize => Refusal::new(1, "BadSize"),
+    }
+}
+
+/// Of `accept`, and of `reject`.
+pub(crate) fn of_unasked(_refusal: NotAsked) -> Refusal
+    ensures { shown_refusal result ≡ not_asked }
+{
+    Refusal::new(1, "NotAsked")
+}
+
+/// Of a stream that is closed before it is open.
+pub(crate) fn of_startup(fault: StartupFault) -> Refusal
+    ensures { shown_refusal result ≡ startup_fault fault }
+{
+    match fault {
+        StartupFault::BadKey => Refusal::new(1, "BadKey"),
+        StartupFault::BadRev => Refusal::new(2, "BadRev"),
+        StartupFault::BadLength => Refusal::new(3, "BadLength"),
+        StartupFault::Rejected => Refusal::new(4, "Rejected"),
     }
 }

@@ -3,6 +3,7 @@ use bytes::Bytes;
 use iw_events::{Act, Call, End, Entry, Options, Role, Seen, Shown, StreamAct, StreamCall};
 use iw_memory::{Right, Rights};
 use iw_octets::{Message, Stag};
+use iw_startup::{Agreed, NotAsked, StartupFault};
 use iw_stream::{Delivery, Kind, SizeRefusal};
 use std::alloc::Global;
 use std::test::Fail;
@@ -25,8 +26,13 @@ BadWord: a domains 1
 BadWord: a Domain 1
 BadWord: a fly 0
 BadWord: a fly x y
-BadWord: a accept 0 -
-BadWord: a reject 0 -
+BadWord: a accept 0
+BadWord: a accept 0 - -
+BadWord: a accepts 0 -
+BadWord: a reject 0
+BadNumber: a accept 256 00*513
+BadOctets: a accept 0 00*513
+BadOctets: a reject 0 00*513
 BadWord: a invalidate
 BadWord: a invalidate 01000000 0
 BadWord: a store 01000000 0
@@ -37,9 +43,10 @@ BadWord: a raws 0 0 aa
 BadWord: a raw 0 0
 BadWord: a raw 0 0 aa bb
 BadWord: a break 0
-BadWord: a open 0 1 initiator - -
-BadWord: a open 0 1 responder - -
-BadWord: a open 0 1 initiator x 00*513
+BadWord: a open 0 1 Initiator - -
+BadWord: a open 0 1 responders - -
+BadWord: a open 0 1 opener x 00*513
+BadOctets: a open 0 1 initiator x 00*513
 BadWord: a open 0 1 preset
 BadWord: a open 0 1 preset -
 BadWord: a open 0 1 preset - - -
@@ -141,7 +148,7 @@ fn each_kind_of_word_has_its_faults(rt: HostRuntime) -> Result<(), Fail> {
         );
         rows = rows.wrapping_add(1);
     }
-    assert_eq!(rt; rows, 111);
+    assert_eq!(rt; rows, 117);
     Ok(())
 }
 
@@ -403,6 +410,86 @@ fn the_worked_trace_is_printed(rt: HostRuntime) -> Result<(), Fail> {
     finished(rt.alloc(), &mut trace)?;
     let text = print_trace(rt.alloc(), &trace)?;
     assert_eq!(rt; text.as_str(), TRACE);
+    Ok(())
+}
+
+#[test]
+fn roles_and_private_data_are_read(rt: HostRuntime) -> Result<(), Fail> {
+    for (word, expected) in [
+        ("preset", Role::Preset),
+        ("initiator", Role::Initiator),
+        ("responder", Role::Responder),
+    ] {
+        let line = format!(in rt.alloc(); "a open 0 1 {word} - 00*512")?;
+        let events = read_schedule(rt.alloc(), line.as_str().as_bytes())?;
+        let is_expected = match events.as_slice() {
+            [event] => match &event.call {
+                Call::Open { role, private, .. } => *role == expected && private.len() == 512,
+                _ => false,
+            },
+            _ => false,
+        };
+        assert!(rt; is_expected, "{word}");
+    }
+    Ok(())
+}
+
+const START_UP: &str = "a accept 0 ok sec
+a accept 0 ok -
+a accept 0 refused 1 NotAsked
+a reject 0 ok
+a reject 0 refused 1 NotAsked
+a work 0 asked 6869
+a work 0 opened s -
+a work 0 closed 1 BadKey
+a work 0 closed 2 BadRev
+a work 0 closed 3 BadLength
+a work 0 closed 4 Rejected
+";
+
+fn agreed(send_markers: bool, expect_markers: bool, crc: bool) -> Agreed {
+    Agreed {
+        send_markers,
+        expect_markers,
+        crc,
+    }
+}
+
+fn accepted(answer: Result<Agreed, NotAsked>) -> Entry<Bytes> {
+    let private = Bytes::new();
+    on_stream(End::A, StreamAct::Accept { private, answer })
+}
+
+fn rejected(refused: Option<NotAsked>) -> Entry<Bytes> {
+    let private = Bytes::new();
+    on_stream(End::A, StreamAct::Reject { private, refused })
+}
+
+#[test]
+fn start_up_is_printed(rt: HostRuntime) -> Result<(), Fail> {
+    let mut trace = Vec::new(rt.alloc());
+    trace.push(accepted(Ok(agreed(true, true, true))))?;
+    trace.push(accepted(Ok(agreed(false, false, false))))?;
+    trace.push(accepted(Err(NotAsked)))?;
+    trace.push(rejected(None))?;
+    trace.push(rejected(Some(NotAsked)))?;
+    let private = octets(rt.alloc(), "6869")?;
+    trace.push(worked(End::A, Seen::Asked { private }))?;
+    let opened = Seen::Opened {
+        agreed: agreed(true, false, false),
+        private: Bytes::new(),
+    };
+    trace.push(worked(End::A, opened))?;
+    for fault in [
+        StartupFault::BadKey,
+        StartupFault::BadRev,
+        StartupFault::BadLength,
+        StartupFault::Rejected,
+    ] {
+        trace.push(worked(End::A, Seen::Closed(fault)))?;
+    }
+    let text = print_trace(rt.alloc(), &trace)?;
+    assert_eq!(rt; text.as_str(), START_UP);
     Ok(())
 }
 

@@ -1,6 +1,6 @@
 ghost use Rattle.std.specs.Prelude.{◌≡◌, ◌++◌, IfOk, OnOk, string_bytes};
-ghost use Rattle.iw_schedules.specs.Answers.{kind_text, right_text, send_text, delivery_text, fault_words, shown_words, done_words, placed_words, buffered_words, received_words, seen_words};
-ghost use Rattle.iw_schedules.specs.Trace.{registered, deregistered, post_word, call_on, call_of_stag, stream_words, act_words, entry_text, trace_text};
+ghost use Rattle.iw_schedules.specs.Answers.{kind_text, right_text, send_text, delivery_text, agreed_text, accepted_words, asked_words, opened_words, fault_words, shown_words, done_words, placed_words, buffered_words, received_words, seen_words};
+ghost use Rattle.iw_schedules.specs.Trace.{registered, deregistered, post_word, call_on, call_of_stag, stream_word, stream_answer, stream_words, act_words, entry_text, trace_text};
 ghost use Rattle.iw_schedules.specs.Appended.{with_words};
 
 use crate::words::{CallWord, end_name};
@@ -9,6 +9,7 @@ use bytes::Bytes;
 use iw_events::{Act, Entry, Seen, Shown, StreamAct};
 use iw_memory::{NoRegion, RegisterRefusal, Right};
 use iw_octets::{Fault, Message, Stag};
+use iw_startup::{Agreed, NotAsked};
 use iw_stream::{Delivery, Kind};
 use std::alloc::{AllocError, Allocator};
 
@@ -50,6 +51,22 @@ fn delivery_name(delivery: Delivery) -> &'static str
     match delivery {
         Delivery::Kept => "kept",
         Delivery::Dropped => "dropped",
+    }
+}
+
+// What was agreed, as letters.
+fn agreed_name(agreed: Agreed) -> &'static str
+    ensures { result.now ≡ agreed_text agreed }
+{
+    match (agreed.send_markers, agreed.expect_markers, agreed.crc) {
+        (false, false, false) => "-",
+        (false, false, true) => "c",
+        (false, true, false) => "e",
+        (false, true, true) => "ec",
+        (true, false, false) => "s",
+        (true, false, true) => "sc",
+        (true, true, false) => "se",
+        (true, true, true) => "sec",
     }
 }
 
@@ -145,6 +162,42 @@ fn add_done<A: Allocator>(text: &mut String<A>, kind: Kind) -> Result<(), AllocE
     Ok(())
 }
 
+fn add_asked<A: Allocator + Copy>(text: &mut String<A>, private: &[u8]) -> Result<(), AllocError>
+    ensures { OnOk result (string_bytes text.new ≡ with_words (string_bytes text.old) (asked_words private.now)) }
+{
+    appending::word(text, "asked")?;
+    appending::octets(text, private)?;
+    Ok(())
+}
+
+fn add_opened<A: Allocator + Copy>(
+    text: &mut String<A>,
+    agreed: Agreed,
+    private: &[u8],
+) -> Result<(), AllocError>
+    ensures { OnOk result (string_bytes text.new ≡ with_words (string_bytes text.old) (opened_words agreed private.now)) }
+{
+    appending::word(text, "opened")?;
+    appending::word(text, agreed_name(agreed))?;
+    appending::octets(text, private)?;
+    Ok(())
+}
+
+fn add_accepted<A: Allocator>(
+    text: &mut String<A>,
+    answer: Result<Agreed, NotAsked>,
+) -> Result<(), AllocError>
+    ensures { OnOk result (string_bytes text.new ≡ with_words (string_bytes text.old) (accepted_words answer)) }
+{
+    match answer {
+        Ok(agreed) => {
+            appending::word(text, "ok")?;
+            appending::word(text, agreed_name(agreed))
+        }
+        Err(refusal) => appending::refusal(text, refusals::of_unasked(refusal)),
+    }
+}
+
 fn add_seen<A: Allocator + Copy>(
     text: &mut String<A>,
     seen: &Seen<Bytes<A>>,
@@ -153,6 +206,9 @@ fn add_seen<A: Allocator + Copy>(
 {
     match seen {
         Seen::Done(kind) => add_done(text, *kind),
+        Seen::Asked { private } => add_asked(text, private.as_slice()),
+        Seen::Opened { agreed, private } => add_opened(text, *agreed, private.as_slice()),
+        Seen::Closed(fault) => appending::numbered(text, "closed", refusals::of_startup(*fault)),
         Seen::Placed {
             right,
             stag,
@@ -196,6 +252,50 @@ fn add_named<A: Allocator + Copy>(
     appending::stag(text, stag)
 }
 
+// The word of a call of a stream.
+fn stream_name<A: Allocator>(act: &StreamAct<Bytes<A>>) -> CallWord
+    ensures { result ≡ stream_word act.now }
+{
+    match act {
+        StreamAct::Recv { .. } => CallWord::Recv,
+        StreamAct::Post { message, .. } => post_name(message),
+        StreamAct::Emit(_) => CallWord::Emit,
+        StreamAct::Deliver { .. } => CallWord::Deliver,
+        StreamAct::Raw { .. } => CallWord::Raw,
+        StreamAct::Mulpdu { .. } => CallWord::Mulpdu,
+        StreamAct::Accept { .. } => CallWord::Accept,
+        StreamAct::Reject { .. } => CallWord::Reject,
+        StreamAct::Work(_) => CallWord::Work,
+    }
+}
+
+fn add_stream_answer<A: Allocator + Copy>(
+    text: &mut String<A>,
+    act: &StreamAct<Bytes<A>>,
+) -> Result<(), AllocError>
+    ensures { OnOk result (string_bytes text.new ≡ with_words (string_bytes text.old) (stream_answer act.now)) }
+{
+    match act {
+        StreamAct::Recv { refused, .. } => {
+            appending::outcome(text, refused.map(refusals::of_recv))
+        }
+        StreamAct::Post { refused, .. } => {
+            appending::outcome(text, refused.map(refusals::of_post))
+        }
+        StreamAct::Emit(shown) => add_shown(text, shown),
+        StreamAct::Deliver { delivery, .. } => appending::word(text, delivery_name(*delivery)),
+        StreamAct::Raw { delivery, .. } => appending::word(text, delivery_name(*delivery)),
+        StreamAct::Mulpdu { refused, .. } => {
+            appending::outcome(text, refused.map(refusals::of_size))
+        }
+        StreamAct::Accept { answer, .. } => add_accepted(text, *answer),
+        StreamAct::Reject { refused, .. } => {
+            appending::outcome(text, refused.map(refusals::of_unasked))
+        }
+        StreamAct::Work(seen) => add_seen(text, seen),
+    }
+}
+
 fn add_stream_act<A: Allocator + Copy>(
     text: &mut String<A>,
     stream: u8,
@@ -203,36 +303,8 @@ fn add_stream_act<A: Allocator + Copy>(
 ) -> Result<(), AllocError>
     ensures { OnOk result (string_bytes text.new ≡ with_words (string_bytes text.old) (stream_words stream act.now)) }
 {
-    match act {
-        StreamAct::Recv { refused, .. } => {
-            add_call(text, CallWord::Recv, stream)?;
-            appending::outcome(text, refused.map(refusals::of_recv))
-        }
-        StreamAct::Post { message, refused } => {
-            add_call(text, post_name(message), stream)?;
-            appending::outcome(text, refused.map(refusals::of_post))
-        }
-        StreamAct::Emit(shown) => {
-            add_call(text, CallWord::Emit, stream)?;
-            add_shown(text, shown)
-        }
-        StreamAct::Deliver { delivery, .. } => {
-            add_call(text, CallWord::Deliver, stream)?;
-            appending::word(text, delivery_name(*delivery))
-        }
-        StreamAct::Raw { delivery, .. } => {
-            add_call(text, CallWord::Raw, stream)?;
-            appending::word(text, delivery_name(*delivery))
-        }
-        StreamAct::Mulpdu { refused, .. } => {
-            add_call(text, CallWord::Mulpdu, stream)?;
-            appending::outcome(text, refused.map(refusals::of_size))
-        }
-        StreamAct::Work(seen) => {
-            add_call(text, CallWord::Work, stream)?;
-            add_seen(text, seen)
-        }
-    }
+    add_call(text, stream_name(act), stream)?;
+    add_stream_answer(text, act)
 }
 
 fn add_registered<A: Allocator + Copy>(

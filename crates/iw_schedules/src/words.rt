@@ -1,10 +1,10 @@
 //! The fixed words of schedules and traces: the one table from which they are read and printed.
 
 ghost use Rattle.std.specs.Prelude.{◌≡◌};
-ghost use Rattle.iw_schedules.specs.Words.{one_of, end_text, end_word, call_text, call_word};
+ghost use Rattle.iw_schedules.specs.Words.{one_of, end_text, end_word, role_text, role_word, call_text, call_word};
 
 use crate::fault::FaultName;
-use iw_events::End;
+use iw_events::{End, Role};
 
 /// What a line calls: its second word.
 #[derive(Clone, Copy, Debug, PartialEq, Eq)]
@@ -15,6 +15,8 @@ pub(crate) enum CallWord {
     Invalidate,
     Store,
     Open,
+    Accept,
+    Reject,
     Recv,
     Send,
     Write,
@@ -27,13 +29,15 @@ pub(crate) enum CallWord {
 
 impl CallWord {
     /// Every one of them.
-    pub(crate) const ALL: [CallWord; 14] = [
+    pub(crate) const ALL: [CallWord; 16] = [
         CallWord::Domain,
         CallWord::Register,
         CallWord::Deregister,
         CallWord::Invalidate,
         CallWord::Store,
         CallWord::Open,
+        CallWord::Accept,
+        CallWord::Reject,
         CallWord::Recv,
         CallWord::Send,
         CallWord::Write,
@@ -54,6 +58,8 @@ impl CallWord {
             CallWord::Invalidate => "invalidate",
             CallWord::Store => "store",
             CallWord::Open => "open",
+            CallWord::Accept => "accept",
+            CallWord::Reject => "reject",
             CallWord::Recv => "recv",
             CallWord::Send => "send",
             CallWord::Write => "write",
@@ -100,6 +106,27 @@ pub(crate) fn end(word: &[u8]) -> Result<End, FaultName>
     for end in [End::A, End::B] {
         if word == end_name(end).as_bytes() {
             return Ok(end);
+        }
+    }
+    Err(FaultName::BadWord)
+}
+
+fn role_name(role: Role) -> &'static str
+    ensures { result.now ≡ role_text role }
+{
+    match role {
+        Role::Preset => "preset",
+        Role::Initiator => "initiator",
+        Role::Responder => "responder",
+    }
+}
+
+pub(crate) fn role(word: &[u8]) -> Result<Role, FaultName>
+    ensures { result ≡ role_word word.now }
+{
+    for role in [Role::Preset, Role::Initiator, Role::Responder] {
+        if word == role_name(role).as_bytes() {
+            return Ok(role);
         }
     }
     Err(FaultName::BadWord)

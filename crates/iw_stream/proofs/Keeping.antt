@@ -1,6 +1,7 @@
 -- What a stream keeps of its fields stays so from call to call.
-use Rattle.std.proofs.Common.{◌≡◌, ℕ, ◌+◌, ◌-◌, ◌<◌, ◌≤◌, ◌%◌, Bool, true, false, nat_le, nat_lt, if◌then◌else◌, List, [], ◌++◌, length, drop, Option, Some, None, Ok, Err, refl, sym, ap, ◌∙◌, subst, arith, length-drop}
+use Rattle.std.proofs.Common.{◌≡◌, ℕ, ◌+◌, ◌-◌, ◌<◌, ◌≤◌, ◌%◌, Bool, true, false, max, nat_le, nat_lt, if◌then◌else◌, List, [], ◌++◌, length, drop, Option, Some, None, Ok, Err, refl, sym, ap, ◌∙◌, subst, arith, length-drop}
 use Rattle.std.specs.Prelude.{Result, OnOk, OnErr}
+use Rattle.std.proofs.lemmas.Bool.{true≢false}
 use Rattle.std.proofs.lemmas.Bool.Decides.{nat_tests}
 use Rattle.std.proofs.lemmas.List.{get_or-set_same, length-set}
 use Rattle.iw_octets.specs.declared.fault.Fault.{Fault}
@@ -34,9 +35,9 @@ use Rattle.iw_stream.specs.declared.judging.Landed.{Landed}
 use Rattle.iw_stream.specs.declared.judging.Landed.TheVariants as landeds
 use Rattle.iw_stream.specs.Front.{IsFirst, carried_by, end_of}
 use Rattle.iw_stream.specs.Judging.{fault_or, placed_step, judged_step, or_else}
-use Rattle.iw_stream.specs.Kept.{HasBuffer, IsPlaced, Keeps}
+use Rattle.iw_stream.specs.Kept.{HasBuffer, IsPlaced, IsStarted, Keeps}
 use Rattle.iw_stream.specs.Landing.{unless, landed, landed_frame, receiving_landed}
-use Rattle.iw_stream.specs.Stream.{StreamState, Front, front, payload_of}
+use Rattle.iw_stream.specs.Stream.{StreamState, Front, front, payload_of, is_open, first_place_in}
 use Rattle.std.specs.Result.{result_err}
 
 -- ---- delivery
@@ -48,19 +49,31 @@ placed_more layout r at octets more b has = go (first_frame layout at octets) re
     go None e h = absurd h
     go (Some x) e h = subst (IsPlaced r) (sym (first_stays layout at octets more x.0 x.1 b e)) h
 
+-- the in-order point stands where it did
+pub started_arrived : (s : StreamState) (a : Arrived) → a.floor ≡ s.arrived.floor → IsStarted s → IsStarted (record s { arrived = a })
+started_arrived s a floor k = record {
+  unheard = k.unheard;
+  unopened = λ e. (floor ∙ (k.unopened e).0, (k.unopened e).1);
+  unspoken = k.unspoken;
+  spoken = k.spoken;
+  behind_in = omega (arith, floor, k.behind_in);
+  behind_out = k.behind_out;
+}
+
 keeps_taken : (s : StreamState) (place : ℕ) (octets : List ℕ) → Keeps s → Keeps (record s { arrived = taken_in s.arrived place octets })
 keeps_taken s place octets k =
     let floor = floor_takes s.arrived place octets in
     let more = takes s.arrived place octets in record {
-      between = subst (IsBetween s.expecting.markers) (sym floor) k.between;
+      started = started_arrived s (taken_in s.arrived place octets) floor k.started;
+      between = subst (λ f. IsBetween s.expecting.markers (f - first_place_in s)) (sym floor) k.between;
       held = held_takes s.arrived place octets k.held;
       aligned = k.aligned;
       enough = k.enough;
       few = k.few;
       is_placed = λ placed.
-          subst (λ at. IsPlaced s.receiving (first_frame s.expecting at (in_order (taken_in s.arrived place octets)))) (sym floor)
-          (subst (λ xs. IsPlaced s.receiving (first_frame s.expecting s.arrived.floor xs)) (sym more.1)
-          (placed_more s.expecting s.receiving s.arrived.floor (in_order s.arrived) more.0 k.between (k.is_placed placed)));
+          subst (λ f. IsPlaced s.receiving (first_frame s.expecting (f - first_place_in s) (in_order (taken_in s.arrived place octets)))) (sym floor)
+          (subst (λ xs. IsPlaced s.receiving (first_frame s.expecting (s.arrived.floor - first_place_in s) xs)) (sym more.1)
+          (placed_more s.expecting s.receiving (s.arrived.floor - first_place_in s) (in_order s.arrived) more.0 k.between (k.is_placed placed)));
     }
 
 pub keeps_delivered : {D E : Type 0} (s : StreamState) (place : ℕ) (octets : List ℕ) (result : Result D E) (after : Arrived) → OnOk result (after ≡ delivered s.arrived place octets) → OnErr result (after ≡ s.arrived) → Keeps s
@@ -73,20 +86,34 @@ keeps_delivered s place octets (Ok d) after ok err k = go (is_dropped s.arrived 
     go false is = subst (λ a. Keeps (record s { arrived = a })) (sym is) (keeps_taken s place octets k)
 
 -- ---- a frame that had its turn
-moved_between : (layout : Layout) (a : Arrived) (found : Found) → IsBetween layout.markers a.floor → IsFirst layout a found → IsBetween layout.markers (advanced a (end_of found)).floor
-moved_between layout a found b first =
-    let rest : List ℕ = drop (end_of found - a.floor) (in_order a) in
-    let t = first_takes layout a.floor (in_order a) (carried_by found) rest b first.first in
-    let there : a.floor + (length (in_order a) - length rest) ≡ (advanced a (end_of found)).floor =
-    omega (arith, floor_moves a (end_of found), length-drop (end_of found - a.floor) (in_order a), first.behind, first.within) in
+moved_between : (layout : Layout) (a : Arrived) (base : ℕ) (found : Found) → base ≤ a.floor → IsBetween layout.markers (a.floor - base) → IsFirst layout a base found
+    → IsBetween layout.markers ((advanced a (base + end_of found)).floor - base)
+moved_between layout a base found low b first =
+    let rest : List ℕ = drop (end_of found - (a.floor - base)) (in_order a) in
+    let t = first_takes layout (a.floor - base) (in_order a) (carried_by found) rest b first.first in
+    let there : a.floor - base + (length (in_order a) - length rest) ≡ (advanced a (base + end_of found)).floor - base =
+    omega (arith, floor_moves a (base + end_of found), length-drop (end_of found - (a.floor - base)) (in_order a), first.behind, first.within, low) in
     subst (IsBetween layout.markers) there t.next
 
-pub keeps_passed : (s : StreamState) (found : Found) (end : ℕ) (after : Arrived) (r : Receiving) → IsFirst s.expecting s.arrived found → end ≡ end_of found → after ≡ advanced s.arrived end → Keeps s
-    → Keeps (record s { receiving = r; arrived = after; placed = false })
-keeps_passed s found end after r first is moved k =
-    let there : after ≡ advanced s.arrived (end_of found) = moved ∙ ap (advanced s.arrived) is in record {
-      between = subst (λ a. IsBetween s.expecting.markers a.floor) (sym there) (moved_between s.expecting s.arrived found k.between first);
-      held = subst IsHeld (sym there) (held_moves s.arrived (end_of found) k.held);
+pub keeps_passed : (s : StreamState) (found : Found) (base end : ℕ) (after : Arrived) (r : Receiving) → is_open s ≡ true → base ≡ first_place_in s → IsFirst s.expecting s.arrived base found → end ≡ base + end_of found
+    → after ≡ advanced s.arrived end → Keeps s → Keeps (record s { receiving = r; arrived = after; placed = false; passed = true })
+keeps_passed s found base end after r running at first is moved k =
+    let there : after ≡ advanced s.arrived (base + end_of found) = moved ∙ ap (advanced s.arrived) is in
+    let low : base ≤ s.arrived.floor = omega (arith, at, k.started.behind_in) in
+    let floor : after.floor ≡ max s.arrived.floor (base + end_of found) = ap (λ a. a.floor) there ∙ floor_moves s.arrived (base + end_of found) in
+    let was : IsBetween s.expecting.markers (s.arrived.floor - base) = subst (λ n. IsBetween s.expecting.markers (s.arrived.floor - n)) (sym at) k.between in
+    record {
+      started = record {
+        unheard = k.started.unheard;
+        unopened = λ e. absurd (true≢false (sym running ∙ e));
+        unspoken = k.started.unspoken;
+        spoken = k.started.spoken;
+        behind_in = omega (arith, floor, k.started.behind_in);
+        behind_out = k.started.behind_out;
+      };
+      between = subst (λ n. IsBetween s.expecting.markers (after.floor - n)) at
+          (subst (λ a. IsBetween s.expecting.markers (a.floor - base)) (sym there) (moved_between s.expecting s.arrived base found low was first));
+      held = subst IsHeld (sym there) (held_moves s.arrived (base + end_of found) k.held);
       aligned = k.aligned;
       enough = k.enough;
       few = k.few;
@@ -131,6 +158,11 @@ pub placed_in_region : (table : Table) (s : StreamState) (frame : Carried) (rest
     → steps.Placed Write placed.stag placed.to placed.n ≡ judged_step table s (front s)
 unfolding step_of
 placed_in_region table s frame rest placed e h = ap step_of (sym h) ∙ step_frame table s frame.mismatch frame.ulpdu ∙ sym (ap (judged_step table s) e)
+
+pub placed_in_buffer : (table : Table) (s : StreamState) (frame : Carried) (rest : List ℕ) (msn mo n : ℕ) → front s ≡ Some (frame, rest) → landed_frame table s.domain s.receiving frame ≡ Ok (landeds.Untagged msn mo n)
+    → steps.Buffered msn mo n ≡ judged_step table s (front s)
+unfolding step_of
+placed_in_buffer table s frame rest msn mo n e h = ap step_of (sym h) ∙ step_frame table s frame.mismatch frame.ulpdu ∙ sym (ap (judged_step table s) e)
 
 -- ---- a segment in its buffer
 buffer_there : (r : Receiving) (msn mo n : ℕ) → buffer_fault r msn mo n ≡ None → (ahead_of r.due msn < length r.buffers) × (mo + n ≤ length (buffer_of r msn))
@@ -203,12 +235,29 @@ has_buffer table domain r after frame result msn mo n is ok there =
     there ∙ ap (receiving_landed r (payload_of (read_segment frame.ulpdu))) ok ∙ (λ i. written r (b.msn_is i) (b.mo_is i) (payload_of (b.is i))) in
     subst (λ x. HasBuffer x (read_segment frame.ulpdu)) (sym now) (subst (HasBuffer (written r b.head.msn b.head.mo b.payload)) (sym b.is) (buffer_written r b.head.msn b.head.mo b.payload b.passed))
 
-pub keeps_buffered : (s : StreamState) (found : Found) (after : Receiving) → IsFirst s.expecting s.arrived found → HasBuffer after (read_segment (ulpdu found)) → Keeps s → Keeps (record s { receiving = after; placed = true })
-keeps_buffered s found after first has k = record {
+-- a frame that was placed, of a stream that is open
+keeps_placed : (s : StreamState) (after : Receiving) → is_open s ≡ true → IsPlaced after (front s) → Keeps s → Keeps (record s { receiving = after; placed = true })
+keeps_placed s after running has k = record {
+  started = record {
+    unheard = k.started.unheard;
+    unopened = λ e. absurd (true≢false (sym running ∙ e));
+    unspoken = k.started.unspoken;
+    spoken = k.started.spoken;
+    behind_in = k.started.behind_in;
+    behind_out = k.started.behind_out;
+  };
   between = k.between;
   held = k.held;
   aligned = k.aligned;
   enough = k.enough;
   few = k.few;
-  is_placed = λ e. subst (IsPlaced after) (sym first.first) has;
+  is_placed = λ e. has;
 }
+
+pub front_at : (s : StreamState) (base : ℕ) (found : Found) → base ≡ first_place_in s → IsFirst s.expecting s.arrived base found
+    → front s ≡ Some (carried_by found, drop (end_of found - (s.arrived.floor - base)) (in_order s.arrived))
+front_at s base found at first = ap (λ n. first_frame s.expecting (s.arrived.floor - n) (in_order s.arrived)) (sym at) ∙ first.first
+
+pub keeps_buffered : (s : StreamState) (base : ℕ) (found : Found) (after : Receiving) → is_open s ≡ true → base ≡ first_place_in s → IsFirst s.expecting s.arrived base found → HasBuffer after (read_segment (ulpdu found)) → Keeps s
+    → Keeps (record s { receiving = after; placed = true })
+keeps_buffered s base found after running at first has k = keeps_placed s after running (subst (IsPlaced after) (sym (front_at s base found at first)) has) k

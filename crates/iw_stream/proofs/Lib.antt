@@ -3,3 +3,5 @@ pub mod Fronts
 pub mod Landings
 pub mod Keeping
 pub mod Inverse
+pub mod Started
+pub mod Opening

@@ -7,6 +7,10 @@ use Rattle.iw_stream.specs.Kept.{Keeps}
 abbrev pub state_of : {A : Type 0} → Inside A → StreamState
 state_of {A} s = record {
   domain = s.domain;
+  startup = s.startup;
+  spoken = s.spoken;
+  heard = s.heard;
+  passed = s.passed;
   sending = s.sending;
   expecting = s.incoming.expecting;
   mulpdu = s.mulpdu;

@@ -14,10 +14,10 @@ carried_by found = record { mismatch = mismatch found; ulpdu = ulpdu found }
 abbrev pub end_of : Found → ℕ
 end_of found = end_at (octet_in found.arrived found.base) found.layout.markers found.start
 
--- it is the first frame of the octets that came without a gap; they are held, and reach to its end
-pub record IsFirst (layout : Layout) (arrived : Arrived) (found : Found) : Type 0 where
-  pub first : first_frame layout arrived.floor (in_order arrived) ≡ Some (carried_by found, drop (end_of found - arrived.floor) (in_order arrived))
+-- where frame place 0 is place `base` of the stream, it is the first frame of the octets that came without a gap; they are held, and reach to its end
+pub record IsFirst (layout : Layout) (arrived : Arrived) (base : ℕ) (found : Found) : Type 0 where
+  pub first : first_frame layout (arrived.floor - base) (in_order arrived) ≡ Some (carried_by found, drop (end_of found - (arrived.floor - base)) (in_order arrived))
   pub holds : HoldsSpan found
-  pub behind : arrived.floor ≤ end_of found
-  pub within : end_of found ≤ arrived.floor + length (in_order arrived)
-  pub low : end_of found ≤ 2 ^ 63
+  pub behind : arrived.floor ≤ base + end_of found
+  pub within : base + end_of found ≤ arrived.floor + length (in_order arrived)
+  pub low : base + end_of found ≤ 2 ^ 63

@@ -1,5 +1,5 @@
 -- Which step a call to work is, as a function of the regions and the stream.
-use Rattle.std.specs.Prelude.{ℕ, ◌+◌, false, List, length, if◌then◌else◌, Option, Some, None}
+use Rattle.std.specs.Prelude.{ℕ, ◌+◌, false, not, List, length, if◌then◌else◌, Option, Some, None}
 use Rattle.std.specs.Option.{option_map_or}
 use Rattle.std.specs.Result.{result_err}
 use Rattle.iw_octets.specs.declared.fault.Fault.{Fault}
@@ -17,9 +17,14 @@ use Rattle.iw_tagged.specs.Placing.{placing_fault}
 use Rattle.iw_untagged.specs.Receiving.{Receiving, buffer_fault, turn_fault, oldest}
 use Rattle.iw_queues.specs.declared.completions.Done.{Done}
 use Rattle.iw_queues.specs.Queue.{done_in}
+use Rattle.iw_ranges.specs.Arrived.{in_order}
+use Rattle.iw_startup.specs.declared.progress.Progress.{Progress}
+use Rattle.iw_startup.specs.declared.progress.Progress.TheVariants as progress
+use Rattle.iw_startup.specs.Peer.{frame_part, progress_of}
+use Rattle.iw_startup.specs.State.{StartupState, agreement}
 use Rattle.iw_stream.specs.declared.answer.Step.{Step}
 use Rattle.iw_stream.specs.declared.answer.Step.TheVariants as steps
-use Rattle.iw_stream.specs.Stream.{StreamState, Front, front, segment_in, segment_at, payload_of}
+use Rattle.iw_stream.specs.Stream.{StreamState, Front, awaits_frame, is_open, front, segment_in, segment_at, payload_of}
 
 abbrev pub or_else : Option Fault → Option Fault → Option Fault
 or_else None later = later
@@ -73,11 +78,25 @@ abbrev pub step_behind : Option Done → Step (List ℕ) → Step (List ℕ)
 step_behind None step = step
 step_behind (Some done) step = steps.Done done.kind
 
--- the step of work: a finished message first, then the frame at the in-order point
+-- what the peer's start-up frame comes to, as far as it has come
+abbrev pub heard_step : StartupState → List ℕ → Progress → Step (List ℕ)
+heard_step u octets progress.More = steps.Idle
+heard_step u octets progress.Asked = steps.Asked
+heard_step u octets progress.Agreed = steps.Opened (agreement u.config (frame_part u.side octets))
+heard_step u octets (progress.Faulted fault) = steps.Closed fault
+
+-- the step of a stream whose peer's start-up frame is awaited
+abbrev pub startup_step : StreamState → Option StartupState → Step (List ℕ)
+startup_step s None = steps.Idle
+startup_step s (Some u) = heard_step u (in_order s.arrived) (progress_of u.side (in_order s.arrived))
+
+-- the step of work: a finished message first, then the start-up, then the frame at the in-order point
 abbrev pub work_step : Table → StreamState → Step (List ℕ)
 work_step table s =
     step_behind (done_in s.queue)
     (if s.ended then steps.Idle
+    else if awaits_frame s then startup_step s s.startup
+    else if not (is_open s) then steps.Idle
     else if s.placed then turned_step s (front s)
     else judged_step table s (front s))
 
@@ -86,6 +105,9 @@ abbrev pub table_worked : Table → StreamState → Step (List ℕ) → Table
 table_worked table s (steps.Placed right stag to len) = put table stag to (payload_of (segment_at (front s)))
 table_worked table s (steps.Buffered msn mo len) = table
 table_worked table s (steps.Done kind) = table
+table_worked table s steps.Asked = table
+table_worked table s (steps.Opened agreed) = table
+table_worked table s (steps.Closed fault) = table
 table_worked table s steps.Passed = table
 table_worked table s (steps.Received buffer len solicited invalidate) = table
 table_worked table s (steps.Fault fault) = table

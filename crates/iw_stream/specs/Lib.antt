@@ -5,3 +5,4 @@ pub mod Emitting
 pub mod Front
 pub mod Landing
 pub mod Fields
+pub mod Starting

@@ -1,5 +1,5 @@
 -- The state of a stream, and what each call leaves of it.
-use Rattle.std.specs.Prelude.{ℕ, ◌+◌, ◌-◌, nat_lt, Bool, true, false, List, [], length, if◌then◌else◌, Option, Some, None}
+use Rattle.std.specs.Prelude.{ℕ, ◌+◌, ◌-◌, nat_lt, Bool, true, false, not, ◌&&◌, ◌||◌, List, [], length, is_some, if◌then◌else◌, Option, Some, None}
 use Rattle.std.specs.Option.{option_map, option_map_or}
 use Rattle.iw_octets.specs.declared.message.Message.{Message}
 use Rattle.iw_octets.specs.declared.segment.Segment.{Segment}
@@ -23,8 +23,19 @@ use Rattle.iw_queues.specs.declared.send_queue.Part.{Part}
 use Rattle.iw_queues.specs.Queue.{Queue, nothing_posted, posted, next_part, part_sent, done_in, handed_from}
 use Rattle.iw_queues.specs.Queue as queues
 use Rattle.iw_queues.specs.Segments.{Numbers, first_numbers, segment_of, numbers_behind}
+use Rattle.arrayvec.specs.ArrayVec.{ArrayVec}
+use Rattle.iw_startup.specs.declared.config.Agreed.{Agreed}
+use Rattle.iw_startup.specs.declared.config.Config.{Config}
+use Rattle.iw_startup.specs.declared.side.Reply.{Reply}
+use Rattle.iw_startup.specs.declared.side.Reply.TheVariants.{Accept, Reject}
+use Rattle.iw_startup.specs.declared.side.Side.TheVariants as sides
+use Rattle.iw_startup.specs.Peer.{frame_part}
+use Rattle.iw_startup.specs.State.{StartupState, is_responder, begun, pushed, frame_of, agreed_of, agreement, awaits_answer, answered}
+use Rattle.iw_startup.specs.State as startups
+use Rattle.iw_stream.specs.declared.answer.Role.{Role}
+use Rattle.iw_stream.specs.declared.answer.Role.TheVariants.{Preset, Initiator, Responder}
 use Rattle.iw_stream.specs.declared.answer.Step.{Step}
-use Rattle.iw_stream.specs.declared.answer.Step.TheVariants.{Done, Placed, Buffered, Passed, Received, Fault, Idle}
+use Rattle.iw_stream.specs.declared.answer.Step.TheVariants.{Done, Asked, Opened, Closed, Placed, Buffered, Passed, Received, Fault, Idle}
 use Rattle.iw_stream.specs.declared.answer.Emission.{Emission}
 use Rattle.iw_stream.specs.declared.answer.Emission.TheVariants.{Frame, Nothing}
 use Rattle.iw_stream.specs.declared.answer.PostRefusal.{PostRefusal}
@@ -36,7 +47,11 @@ use Rattle.iw_stream.specs.declared.answer.SizeRefusal.TheVariants.{BadSize}
 
 pub record StreamState : Type 0 where
   pub domain : ℕ
-  pub sending : Layout  -- of the frames that this end sends
+  pub startup : Option StartupState  -- of a stream that begins with start-up frames; it has the peer's frame once that was read
+  pub spoken : Bool  -- this end's start-up frame was emitted
+  pub heard : Bool  -- the peer's start-up frame was read, and the in-order point lies behind it
+  pub passed : Bool  -- a frame had its turn
+  pub sending : Layout  -- of the frames that this end sends, once the stream is open
   pub expecting : Layout  -- of the frames that the peer sends
   pub mulpdu : ℕ  -- the maximum ULPDU: the most octets that one has which is sent
   pub queue : Queue  -- what was posted and not handed out
@@ -47,12 +62,30 @@ pub record StreamState : Type 0 where
   pub placed : Bool  -- the frame at the in-order point has been placed
   pub ended : Bool
 
--- a stream of a domain, open at once with this layout in both directions, to which nothing has happened
-abbrev pub opened : ℕ → Layout → StreamState
-opened domain layout = record {
+abbrev pub plain : Layout
+plain = record { markers = false; crc = false }
+
+-- how a stream begins: open at once, with the layout that is asked for in both directions, or with start-up frames
+abbrev pub layout_at_first : Role → Config → Layout
+layout_at_first Preset config = record { markers = config.markers; crc = config.crc }
+layout_at_first Initiator config = plain
+layout_at_first Responder config = plain
+
+abbrev pub startup_at_first : Role → Config → Option StartupState
+startup_at_first Preset config = None
+startup_at_first Initiator config = Some (begun sides.Initiator config)
+startup_at_first Responder config = Some (begun (sides.Responder None) config)
+
+-- a stream of a domain to which nothing has happened
+abbrev pub opened : ℕ → Role → Config → StreamState
+opened domain role config = record {
   domain = domain;
-  sending = layout;
-  expecting = layout;
+  startup = startup_at_first role config;
+  spoken = false;
+  heard = false;
+  passed = false;
+  sending = layout_at_first role config;
+  expecting = layout_at_first role config;
   mulpdu = 1400;
   queue = nothing_posted;
   numbers = first_numbers;
@@ -62,6 +95,81 @@ opened domain layout = record {
   placed = false;
   ended = false;
 }
+
+-- ---- start-up (RFC 5044 7.1)
+
+-- frames go both ways: at once, or once both ends agree
+abbrev pub is_open : StreamState → Bool
+is_open s = option_map_or (λ u. is_some (agreed_of u)) s.startup true
+
+-- the start-up frame that this end sends: none where the stream has none, or a responder's user has not answered
+abbrev pub own_frame : StreamState → List ℕ
+own_frame s = option_map_or frame_of s.startup []
+
+-- it is to be emitted
+abbrev pub owes_frame : StreamState → Bool
+owes_frame s = not s.spoken && nat_lt 0 (length (own_frame s))
+
+-- a responder sends no frame before a frame of the peer had its turn (RFC 5044 7.1.2)
+abbrev pub keeps_silent : StreamState → Bool
+keeps_silent s = option_map_or (λ u. is_responder u.side) s.startup false && not s.passed
+
+-- the places in the stream at which the frames of each direction begin
+abbrev pub first_place_out : StreamState → ℕ
+first_place_out s = length (own_frame s)
+
+abbrev pub first_place_in : StreamState → ℕ
+first_place_in s = option_map_or (λ u. length u.octets) s.startup 0
+
+-- the peer's start-up frame is awaited
+abbrev pub awaits_frame : StreamState → Bool
+awaits_frame s = is_some s.startup && not s.heard
+
+abbrev pub layout_out : Agreed → Layout
+layout_out agreed = record { markers = agreed.send_markers; crc = agreed.crc }
+
+abbrev pub layout_in : Agreed → Layout
+layout_in agreed = record { markers = agreed.expect_markers; crc = agreed.crc }
+
+-- the layouts that were agreed on
+abbrev pub with_agreed : StreamState → Agreed → StreamState
+with_agreed s agreed = record s { sending = layout_out agreed; expecting = layout_in agreed }
+
+-- the peer's start-up frame is read off the octets that came, and the in-order point moves behind it
+abbrev pub hears : StreamState → StartupState → StreamState
+hears s u = record s {
+  startup = Some (pushed u (in_order s.arrived));
+  heard = true;
+  arrived = advanced s.arrived (s.arrived.floor + length (frame_part u.side (in_order s.arrived)));
+}
+
+abbrev pub after_hearing : StreamState → Option StartupState → StreamState
+after_hearing s None = s
+after_hearing s (Some u) = hears s u
+
+-- ---- a responder's answer
+
+-- the user may answer the Request
+abbrev pub may_answer : StreamState → Bool
+may_answer s = not s.ended && option_map_or awaits_answer s.startup false
+
+-- what both ends agree on where the user accepts
+abbrev pub accepted_agreed : StreamState → Agreed
+accepted_agreed s = option_map_or (λ u. agreement u.config u.octets) s.startup (record { send_markers = false; expect_markers = false; crc = false })
+
+abbrev pub answered_with : StreamState → Reply → StreamState
+answered_with s reply = record s { startup = option_map (λ u. answered u reply) s.startup }
+
+abbrev pub accepted : StreamState → ArrayVec ℕ → StreamState
+accepted s private = with_agreed (answered_with s (Accept private)) (accepted_agreed s)
+
+-- the stream has ended; the Reply is still to be emitted
+abbrev pub rejected : StreamState → ArrayVec ℕ → StreamState
+rejected s private = record (answered_with s (Reject private)) { ended = true }
+
+-- the private data of the peer's start-up frame, once that was read
+abbrev pub private_of : StreamState → List ℕ
+private_of s = option_map_or startups.private_of s.startup []
 
 -- ---- the frame at the in-order point
 
@@ -74,7 +182,7 @@ abbrev pub inbox : StreamState → List ℕ
 inbox s = in_order s.arrived
 
 abbrev pub front : StreamState → Front
-front s = first_frame s.expecting s.arrived.floor (inbox s)
+front s = first_frame s.expecting (s.arrived.floor - first_place_in s) (inbox s)
 
 -- the segment of a frame, if its ULPDU is long enough for one
 abbrev pub segment_in : Carried → Option (Segment (List ℕ))
@@ -109,8 +217,11 @@ abbrev pub worked : StreamState → Step (List ℕ) → StreamState
 worked s (Done kind) = record s { queue = handed_from s.queue (done_in s.queue) }
 worked s (Placed right stag to len) = record s { placed = true }
 worked s (Buffered msn mo len) = record s { placed = true; receiving = written s.receiving msn mo (payload_of (segment_at (front s))) }
-worked s Passed = record s { placed = false; receiving = turned_by s.receiving (segment_at (front s)); arrived = behind_front s }
-worked s (Received buffer len solicited invalidate) = record s { placed = false; receiving = receiving.finished s.receiving; arrived = behind_front s }
+worked s Asked = after_hearing s s.startup
+worked s (Opened agreed) = with_agreed (after_hearing s s.startup) agreed
+worked s (Closed fault) = record (after_hearing s s.startup) { ended = true }
+worked s Passed = record s { placed = false; passed = true; receiving = turned_by s.receiving (segment_at (front s)); arrived = behind_front s }
+worked s (Received buffer len solicited invalidate) = record s { placed = false; passed = true; receiving = receiving.finished s.receiving; arrived = behind_front s }
 worked s (Fault fault) = record s { ended = true }
 worked s Idle = s
 
@@ -121,22 +232,43 @@ abbrev pub part_due : StreamState → Option (Part (Request (List ℕ)))
 part_due s = next_part s.queue s.mulpdu
 
 -- its frame
-abbrev pub frame_of : StreamState → Part (Request (List ℕ)) → List ℕ
-frame_of s part = frame_octets s.sending s.sent (segment_octets (segment_of s.numbers part))
+abbrev pub frame_of_part : StreamState → Part (Request (List ℕ)) → List ℕ
+frame_of_part s part = frame_octets s.sending (s.sent - first_place_out s) (segment_octets (segment_of s.numbers part))
 
--- the octets that a call to emit appends
-abbrev pub emitted : StreamState → List ℕ
-emitted s = if s.ended then [] else option_map_or (frame_of s) (part_due s) []
+-- no frame may be sent: the stream has ended or is not open, or a responder keeps silent
+abbrev pub is_mute : StreamState → Bool
+is_mute s = s.ended || (not (is_open s) || keeps_silent s)
 
-abbrev pub emission_of : StreamState → Emission
-emission_of s = if s.ended then Nothing else option_map_or (λ part. Frame s.sent (length (frame_of s part))) (part_due s) Nothing
+-- where a part is emitted, if one is due: the octets, the answer, and the stream that is left
+abbrev pub part_emitted : StreamState → List ℕ
+part_emitted s = option_map_or (frame_of_part s) (part_due s) []
 
-abbrev pub after_emit : StreamState → Emission → StreamState
-after_emit s (Frame from len) = record s {
+abbrev pub part_emission : StreamState → Emission
+part_emission s = option_map_or (λ part. Frame s.sent (length (frame_of_part s part))) (part_due s) Nothing
+
+abbrev pub behind_part : StreamState → ℕ → StreamState
+behind_part s len = record s {
   queue = part_sent s.queue (part_due s);
   numbers = option_map_or (numbers_behind s.numbers) (part_due s) s.numbers;
   sent = s.sent + len;
 }
+
+abbrev pub after_part : StreamState → Emission → StreamState
+after_part s (Frame from len) = behind_part s len
+after_part s Nothing = s
+
+-- the octets that a call to emit appends: the start-up frame first
+abbrev pub emitted : StreamState → List ℕ
+emitted s = if owes_frame s then own_frame s else if is_mute s then [] else part_emitted s
+
+abbrev pub emission_of : StreamState → Emission
+emission_of s = if owes_frame s then Frame s.sent (length (own_frame s)) else if is_mute s then Nothing else part_emission s
+
+abbrev pub after_frame : StreamState → ℕ → StreamState
+after_frame s len = if owes_frame s then record s { spoken = true; sent = s.sent + len } else behind_part s len
+
+abbrev pub after_emit : StreamState → Emission → StreamState
+after_emit s (Frame from len) = after_frame s len
 after_emit s Nothing = s
 
 -- ---- delivery
@@ -160,7 +292,7 @@ post_refusal_of refusals.NoMemory = post_refusals.NoMemory
 -- why a posting is refused, if it is
 abbrev pub post_refusal : StreamState → Message (List ℕ) → Option PostRefusal
 post_refusal s m =
-    if s.ended then Some post_refusals.NotOpen else option_map post_refusal_of (queues.post_refusal s.queue (requests.Message m))
+    if s.ended || not (is_open s) then Some post_refusals.NotOpen else option_map post_refusal_of (queues.post_refusal s.queue (requests.Message m))
 
 abbrev pub with_message : StreamState → Message (List ℕ) → StreamState
 with_message s m = record s { queue = posted s.queue (requests.Message m) }

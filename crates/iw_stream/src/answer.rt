@@ -1,6 +1,7 @@
 use iw_memory::Right;
 use iw_octets::{Fault, Stag};
 use iw_queues::Kind;
+use iw_startup::{Agreed, StartupFault};
 
 /// Why a message is not posted: the first reason that holds, in the order `NotOpen`, `Full`, `TooLong`, `NoMemory`.
 #[derive(Clone, Copy, Debug, PartialEq, Eq)]
@@ -9,7 +10,7 @@ pub enum PostRefusal {
     Full,
     /// The message has too many octets.
     TooLong,
-    /// The stream has ended.
+    /// The stream is not open yet, or has ended.
     NotOpen,
     NoMemory,
 }
@@ -39,11 +40,28 @@ pub enum Emission {
     Nothing,
 }
 
+/// How a stream begins.
+#[derive(Clone, Copy, Debug, PartialEq, Eq)]
+pub enum Role {
+    /// It is open at once, with no start-up frames.
+    Preset,
+    /// It sends the Request, and is open once the Reply accepts (RFC 5044 7.1).
+    Initiator,
+    /// It waits for the Request, and is open once its user accepts.
+    Responder,
+}
+
 /// What one step of work did. The buffer's type is the parameter.
 #[derive(Debug, PartialEq, Drop)]
 pub enum Step<O> {
     /// The oldest posted message is finished.
     Done(Kind),
+    /// The peer's Request is complete: the stream's user is to accept or to reject it.
+    Asked,
+    /// The peer's Reply has accepted: the stream is open.
+    Opened(Agreed),
+    /// The peer's start-up frame has closed the stream.
+    Closed(StartupFault),
     /// A tagged segment's `len` octets were placed from tagged offset `to` on.
     Placed {
         right: Right,

@@ -1,4 +1,4 @@
-ghost use Rattle.std.specs.Prelude.{◌≡◌, ◌+◌, ◌≤◌, ◌^◌, Some, None, IfSome, IfNone};
+ghost use Rattle.std.specs.Prelude.{◌≡◌, ◌+◌, ◌-◌, ◌≤◌, ◌^◌, Some, None, IfSome, IfNone};
 ghost use Rattle.iw_ranges.specs.Arrived.{in_order};
 ghost use Rattle.iw_ranges.specs.InOrder.{IsHeld};
 ghost use Rattle.iw_fpdu.specs.Laws.{IsBetween};
@@ -17,15 +17,16 @@ pub(crate) struct Incoming<A: Allocator = Global> {
 }
 
 impl<A: Allocator> Incoming<A> {
-    /// The frame at the in-order point, where it is whole.
-    pub(crate) fn front(&self) -> Option<Fpdu<'_, A>>
-        requires between { IsBetween self.now.expecting.markers self.now.arrived.arrived.floor }
+    /// The frame at the in-order point, where it is whole; frame place 0 is place `base` of the stream.
+    pub(crate) fn front(&self, base: u64) -> Option<Fpdu<'_, A>>
+        requires behind { base ≤ self.now.arrived.arrived.floor }
+        requires between { IsBetween self.now.expecting.markers (self.now.arrived.arrived.floor - base) }
         requires held { IsHeld self.now.arrived.arrived }
         requires place { self.now.arrived.arrived.floor + 2 ^ 18 ≤ 2 ^ 63 }
-        ensures first { IfSome result (λ found. IsFirst self.now.expecting self.now.arrived.arrived found) }
-        ensures none { IfNone result (first_frame self.now.expecting self.now.arrived.arrived.floor (in_order self.now.arrived.arrived) ≡ None) }
+        ensures first { IfSome result (λ found. IsFirst self.now.expecting self.now.arrived.arrived base found) }
+        ensures none { IfNone result (first_frame self.now.expecting (self.now.arrived.arrived.floor - base) (in_order self.now.arrived.arrived) ≡ None) }
     {
-        let start = self.expecting.start_of(self.arrived.floor());
-        Fpdu::read(self.expecting, 0, start, &self.arrived)
+        let start = self.expecting.start_of(self.arrived.floor() - base);
+        Fpdu::read(self.expecting, base, start, &self.arrived)
     }
 }

@@ -1,13 +1,15 @@
-//! One stream of an endpoint: messages posted, frames emitted, octets that came, and the frames in them judged in order.
+//! One stream of an endpoint: its start-up, messages posted, frames emitted, octets that came, and the frames in them judged in order.
 #![tactic(auto)]
 
 mod answer;
 mod emitting;
 mod incoming;
 mod judging;
+mod starting;
 mod stream;
 
-pub use answer::{Emission, PostRefusal, RecvRefusal, SizeRefusal, Step};
+pub use answer::{Emission, PostRefusal, RecvRefusal, Role, SizeRefusal, Step};
 pub use iw_queues::Kind;
 pub use iw_ranges::Delivery;
+pub use iw_startup::{Agreed, Config, NotAsked, PrivateData, StartupFault};
 pub use stream::Stream;

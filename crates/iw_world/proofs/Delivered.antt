@@ -2,9 +2,10 @@
 use Rattle.std.proofs.Common.{◌≡◌, ℕ, ◌+◌, ◌-◌, ◌≤◌, List, [], ◌∷◌, ◌++◌, length, map, Option, Some, None, Bool, true, false, refl, sym, ap, ◌∙◌, subst, arith, append_assoc}
 use Rattle.std.specs.Prelude.{All}
 use Rattle.std.specs.Option.{option_map}
-use Rattle.std.proofs.lemmas.List.{map-append, length-map}
+use Rattle.std.proofs.lemmas.List.{map-append, length-map, append_cancel_left}
 use Rattle.std.proofs.lemmas.List.Elements.{All-cons}
 use Rattle.std.proofs.lemmas.Option.{none-some, same_Some}
+use Rattle.std.proofs.lemmas.Bool.{true≢false}
 use Rattle.iw_octets.specs.declared.message.Message.{Message}
 use Rattle.iw_octets.specs.declared.message.Message.TheVariants.{Write, Send}
 use Rattle.iw_octets.specs.declared.segment.Segment.{Segment}
@@ -13,7 +14,6 @@ use Rattle.iw_octets.specs.Segment.{segment_octets}
 use Rattle.iw_octets.specs.Stag.{number_of}
 use Rattle.iw_octets.proofs.Segments.{read_segment-spelled}
 use Rattle.iw_ranges.specs.InOrder.{IsOf}
-use Rattle.iw_ranges.proofs.InOrder.{of_prefix}
 use Rattle.iw_fpdu.specs.declared.layout.Layout.{Layout}
 use Rattle.iw_fpdu.specs.Frame.{max_sent}
 use Rattle.iw_fpdu.specs.Sequence.{Carried, intact, sequence, frames_of, first_frame}
@@ -35,7 +35,8 @@ use Rattle.iw_world.proofs.Tracks.{Track, front_is}
 use Rattle.iw_world.proofs.Joins.{whole, count_waiting, count-append}
 use Rattle.iw_world.proofs.Lists.{Each}
 use Rattle.iw_world.proofs.Sending.{IsSendable}
-use Rattle.iw_world.proofs.Owns.{Own}
+use Rattle.iw_world.proofs.Owns.{Emits}
+use Rattle.iw_world.proofs.Heard.{IsHeard, Bare, Clear, reaches}
 
 -- ---- frames that were written
 
@@ -64,6 +65,10 @@ known_first (x ∷ xs) (y ∷ ys) zs e =
     behind [] = []
     behind (o ∷ os) = os
 
+no_segments : (xs : List (Segment Octets)) → map Some xs ≡ [] → xs ≡ []
+no_segments [] e = refl
+no_segments (x ∷ xs) e = absurd (omega (arith, ap length e))
+
 -- frames at the front of what was sent carry the first segments
 first_segments : (layout : Layout) (sent : Octets) (segments firsts : List (Segment Octets)) (frames later : List Carried) → Each IsSendable segments → sent ≡ sequence layout 0 (map segment_octets segments)
     → frames_of layout 0 sent ≡ frames ++ later → map segment_in frames ≡ map Some firsts → (rest : List (Segment Octets)) × (segments ≡ firsts ++ rest)
@@ -75,36 +80,32 @@ first_segments layout sent segments firsts frames later good framed are carried 
 
 -- ---- what came of what was sent
 
--- what was sent is what had its turn, what came in order behind it, and more
-record Reaches (layout : Layout) (s : StreamState) (u : Tale) (k : Track layout s u) (sent : Octets) : Type 0 where
-  pub rest : Octets
-  pub is : sent ≡ k.before ++ (inbox s ++ rest)
-
-reaches : (layout : Layout) (s : StreamState) (u : Tale) (k : Track layout s u) (sent : Octets) → IsOf u.story.came sent → Reaches layout s u k sent
-reaches layout s u k sent of =
-    let p = of_prefix u.story.came sent k.from_start of in
-    record { rest = p.0; is = sym p.1 ∙ ap (λ z. z ++ p.0) k.came ∙ append_assoc k.before (inbox s) p.0 }
-
-pub delivered : (layout : Layout) (c : Connected) (t : Tale) (d : Connected) (u : Tale) (o : Own layout c t) (k : Own layout d u) → IsOf u.story.came t.sent → (later : List (Segment Octets)) × (o.emits.segments ≡ k.track.segments ++ later)
-delivered layout c t d u o k of =
-    let r = reaches layout d.stream u k.track t.sent of in
-    first_segments layout t.sent o.emits.segments k.track.segments k.track.frames (frames_of layout (length k.track.before) (inbox d.stream ++ r.rest)) o.emits.good o.emits.framed
-    (ap (frames_of layout 0) r.is ∙ k.track.split (inbox d.stream ++ r.rest)) k.track.carried
+-- the segments that had their turn are the first of those that were sent
+pub delivered : (c : Connected) (t : Tale) (d : Connected) (u : Tale) (e : Emits c.stream t) (k : Track d.stream u) → IsHeard c t d u e.segments k → IsOf u.story.came t.sent → (later : List (Segment Octets)) × (e.segments ≡ k.segments ++ later)
+delivered c t d u e k (Bare bare) of = (e.segments, ap (λ z. z ++ e.segments) (sym (no_segments k.segments (sym k.carried ∙ ap (map segment_in) bare.frames))))
+delivered c t d u e k (Clear is) of =
+    let layout : Layout = d.stream.expecting in
+    let r = reaches d.stream u k t.sent of in
+    let all : Octets = inbox d.stream ++ r.rest in
+    first_segments layout (k.before ++ all) e.segments k.segments k.frames (frames_of layout (length k.before) all) e.good (append_cancel_left k.intro (k.before ++ all) (sequence layout 0 (map segment_octets e.segments)) (sym r.is ∙ is))
+    (k.split all) k.carried
 
 -- the segment that waits for its turn is the next
-pub waiting : (layout : Layout) (c : Connected) (t : Tale) (d : Connected) (u : Tale) (o : Own layout c t) (k : Own layout d u) → IsOf u.story.came t.sent
+pub waiting : (c : Connected) (t : Tale) (d : Connected) (u : Tale) (e : Emits c.stream t) (k : Track d.stream u) → IsHeard c t d u e.segments k → IsOf u.story.came t.sent → d.stream.placed ≡ true
     → (frame : Carried) (left : Octets) (segment : Segment Octets) → front d.stream ≡ Some (frame, left) → segment_in frame ≡ Some segment
-    → (later : List (Segment Octets)) × (o.emits.segments ≡ (k.track.segments ++ segment ∷ []) ++ later)
-waiting layout c t d u o k of frame left segment e carries =
-    let r = reaches layout d.stream u k.track t.sent of in
-    let at : ℕ = length k.track.before in
+    → (later : List (Segment Octets)) × (e.segments ≡ (k.segments ++ segment ∷ []) ++ later)
+waiting c t d u e k (Bare bare) of placed frame left segment whole carries = absurd (true≢false (sym placed ∙ bare.placed))
+waiting c t d u e k (Clear is) of placed frame left segment whole carries =
+    let layout : Layout = d.stream.expecting in
+    let r = reaches d.stream u k t.sent of in
+    let at : ℕ = length k.before in
     let all : Octets = inbox d.stream ++ r.rest in
-    let first : first_frame layout at all ≡ Some (frame, left ++ r.rest) = first_stays layout at (inbox d.stream) r.rest frame left k.track.between (sym (front_is layout d.stream u k.track) ∙ e) in
+    let first : first_frame layout at all ≡ Some (frame, left ++ r.rest) = first_stays layout at (inbox d.stream) r.rest frame left k.between (sym (front_is d.stream u k) ∙ whole) in
     let others : List Carried = frames_of layout (at + (length all - length (left ++ r.rest))) (left ++ r.rest) in
-    let here : frames_of layout at all ≡ frame ∷ others = frames_first layout at all frame (left ++ r.rest) k.track.between first in
-    first_segments layout t.sent o.emits.segments (k.track.segments ++ segment ∷ []) (k.track.frames ++ frame ∷ []) others o.emits.good o.emits.framed
-    (ap (frames_of layout 0) r.is ∙ k.track.split all ∙ ap (λ z. k.track.frames ++ z) here ∙ sym (append_assoc k.track.frames (frame ∷ []) others))
-    (map-append segment_in k.track.frames (frame ∷ []) ∙ (λ i. k.track.carried i ++ carries i ∷ []) ∙ sym (map-append Some k.track.segments (segment ∷ [])))
+    let here : frames_of layout at all ≡ frame ∷ others = frames_first layout at all frame (left ++ r.rest) k.between first in
+    first_segments layout (k.before ++ all) e.segments (k.segments ++ segment ∷ []) (k.frames ++ frame ∷ []) others e.good (append_cancel_left k.intro (k.before ++ all) (sequence layout 0 (map segment_octets e.segments)) (sym r.is ∙ is))
+    (k.split all ∙ ap (λ z. k.frames ++ z) here ∙ sym (append_assoc k.frames (frame ∷ []) others))
+    (map-append segment_in k.frames (frame ∷ []) ∙ (λ i. k.carried i ++ carries i ∷ []) ∙ sym (map-append Some k.segments (segment ∷ [])))
 
 -- ---- Sends
 
@@ -139,54 +140,54 @@ prefix_whole (x ∷ xs) (y ∷ ys) rest plain e =
     behind (o ∷ os) = os
 
 -- the segments that were sent go on to all that was posted
-record GoesOn (layout : Layout) (c : Connected) (t : Tale) (first : List (Segment Octets)) : Type 0 where
+record GoesOn (t : Tale) (first : List (Segment Octets)) : Type 0 where
   pub later : List (Segment Octets)
   pub spelled : AreSpelled first_numbers 0 (requests t.posted) (first ++ later)
 
-goes_on : (layout : Layout) (c : Connected) (t : Tale) (o : Own layout c t) (first later : List (Segment Octets)) → o.emits.segments ≡ first ++ later → GoesOn layout c t first
-goes_on layout c t o first later e =
-    let w = sends_in_order.whole (requests t.posted) o.emits.segments c.stream.numbers c.stream.queue o.emits.has in
-    record { later = later ++ w.0; spelled = subst (AreSpelled first_numbers 0 (requests t.posted)) (ap (λ z. z ++ w.0) e ∙ append_assoc first later w.0) w.1 }
+goes_on : (s : StreamState) (t : Tale) (e : Emits s t) (first later : List (Segment Octets)) → e.segments ≡ first ++ later → GoesOn t first
+goes_on s t e first later is =
+    let w = sends_in_order.whole (requests t.posted) e.segments s.numbers s.queue e.has in
+    record { later = later ++ w.0; spelled = subst (AreSpelled first_numbers 0 (requests t.posted)) (ap (λ z. z ++ w.0) is ∙ append_assoc first later w.0) w.1 }
 
 -- what was received is a prefix of the Sends posted
-pub received_prefix : (layout : Layout) (c : Connected) (t : Tale) (d : Connected) (u : Tale) → Own layout c t → Own layout d u → IsOf u.story.came t.sent → safe.IsPrefixOf u.received (words.sends t.posted)
-received_prefix layout c t d u o k of =
-    let x = delivered layout c t d u o k of in
-    let g = goes_on layout c t o k.track.segments x.0 x.1 in
-    let p = spelled_in_order first_numbers (requests t.posted) k.track.segments g.later g.spelled in
-    prefix_whole u.received (words.sends t.posted) p.0 k.track.joins.plain (ap (λ z. z ++ p.0) k.track.joins.received_are ∙ p.1 ∙ sends_whole t.posted)
+pub received_prefix : (c : Connected) (t : Tale) (d : Connected) (u : Tale) (e : Emits c.stream t) (k : Track d.stream u) → IsHeard c t d u e.segments k → IsOf u.story.came t.sent → safe.IsPrefixOf u.received (words.sends t.posted)
+received_prefix c t d u e k heard of =
+    let x = delivered c t d u e k heard of in
+    let g = goes_on c.stream t e k.segments x.0 x.1 in
+    let p = spelled_in_order first_numbers (requests t.posted) k.segments g.later g.spelled in
+    prefix_whole u.received (words.sends t.posted) p.0 k.joins.plain (ap (λ z. z ++ p.0) k.joins.received_are ∙ p.1 ∙ sends_whole t.posted)
 
 -- ---- Writes
 
 -- what was placed is not more than what was posted
-most : (layout : Layout) (c : Connected) (t : Tale) (d : Connected) (u : Tale) (o : Own layout c t) (k : Own layout d u) → IsOf u.story.came t.sent → (cell : Cell) → count_writes cell (requests u.placements) ≤ count_writes cell (requests t.posted)
-most layout c t d u o k of cell =
-    let bare : count_segments cell k.track.segments ≤ count_writes cell (requests t.posted) =
-    (let x = delivered layout c t d u o k of in let g = goes_on layout c t o k.track.segments x.0 x.1 in (spelled_covered first_numbers (requests t.posted) k.track.segments g.later g.spelled cell).most) in
-    omega (arith, k.track.joins.counted cell, go d.stream.placed (front d.stream) refl bare)
+most : (c : Connected) (t : Tale) (d : Connected) (u : Tale) (e : Emits c.stream t) (k : Track d.stream u) → IsHeard c t d u e.segments k → IsOf u.story.came t.sent → (cell : Cell) → count_writes cell (requests u.placements) ≤ count_writes cell (requests t.posted)
+most c t d u e k heard of cell =
+    let bare : count_segments cell k.segments ≤ count_writes cell (requests t.posted) =
+    (let x = delivered c t d u e k heard of in let g = goes_on c.stream t e k.segments x.0 x.1 in (spelled_covered first_numbers (requests t.posted) k.segments g.later g.spelled cell).most) in
+    omega (arith, k.joins.counted cell, go d.stream.placed refl (front d.stream) refl bare)
   where
-    shown : (placed : Bool) (p : Option (Segment Octets)) (frame : Carried) (left : Octets) → front d.stream ≡ Some (frame, left) → segment_in frame ≡ p → count_segments cell k.track.segments ≤ count_writes cell (requests t.posted)
-        → count_segments cell k.track.segments + count_waiting cell placed p ≤ count_writes cell (requests t.posted)
-    shown false p frame left e carries bare = omega (arith, bare)
-    shown true None frame left e carries bare = omega (arith, bare)
-    shown true (Some segment) frame left e carries bare =
-        let x = waiting layout c t d u o k of frame left segment e carries in
-        let g = goes_on layout c t o (k.track.segments ++ segment ∷ []) x.0 x.1 in
-        omega (arith, (spelled_covered first_numbers (requests t.posted) (k.track.segments ++ segment ∷ []) g.later g.spelled cell).most, count-append cell k.track.segments (segment ∷ []))
+    shown : (placed : Bool) → d.stream.placed ≡ placed → (p : Option (Segment Octets)) (frame : Carried) (left : Octets) → front d.stream ≡ Some (frame, left) → segment_in frame ≡ p → count_segments cell k.segments ≤ count_writes cell (requests t.posted)
+        → count_segments cell k.segments + count_waiting cell placed p ≤ count_writes cell (requests t.posted)
+    shown false is p frame left whole carries bare = omega (arith, bare)
+    shown true is None frame left whole carries bare = omega (arith, bare)
+    shown true is (Some segment) frame left whole carries bare =
+        let x = waiting c t d u e k heard of is frame left segment whole carries in
+        let g = goes_on c.stream t e (k.segments ++ segment ∷ []) x.0 x.1 in
+        omega (arith, (spelled_covered first_numbers (requests t.posted) (k.segments ++ segment ∷ []) g.later g.spelled cell).most, count-append cell k.segments (segment ∷ []))
 
-    go : (placed : Bool) (f : Front) → front d.stream ≡ f → count_segments cell k.track.segments ≤ count_writes cell (requests t.posted)
-        → count_segments cell k.track.segments + count_waiting cell placed (segment_at f) ≤ count_writes cell (requests t.posted)
-    go false f e bare = omega (arith, bare)
-    go true None e bare = omega (arith, bare)
-    go true (Some (frame, left)) e bare = shown true (segment_in frame) frame left e refl bare
+    go : (placed : Bool) → d.stream.placed ≡ placed → (f : Front) → front d.stream ≡ f → count_segments cell k.segments ≤ count_writes cell (requests t.posted)
+        → count_segments cell k.segments + count_waiting cell placed (segment_at f) ≤ count_writes cell (requests t.posted)
+    go false is f whole bare = omega (arith, bare)
+    go true is None whole bare = omega (arith, bare)
+    go true is (Some (frame, left)) whole bare = shown true is (segment_in frame) frame left whole refl bare
 
-pub writes_covered : (layout : Layout) (c : Connected) (t : Tale) (d : Connected) (u : Tale) → Own layout c t → Own layout d u → IsOf u.story.came t.sent → (cell : Cell) → CoversWrites t.posted u.placements (length u.received) cell
-writes_covered layout c t d u o k of cell =
-    let x = delivered layout c t d u o k of in
-    let g = goes_on layout c t o k.track.segments x.0 x.1 in
-    let covered : IsCovered cell (requests t.posted) k.track.segments = spelled_covered first_numbers (requests t.posted) k.track.segments g.later g.spelled cell in
-    let few : length u.received ≡ length (joined [] k.track.segments) = sym (length-map u.received whole) ∙ ap length k.track.joins.received_are in
+pub writes_covered : (c : Connected) (t : Tale) (d : Connected) (u : Tale) (e : Emits c.stream t) (k : Track d.stream u) → IsHeard c t d u e.segments k → IsOf u.story.came t.sent → (cell : Cell) → CoversWrites t.posted u.placements (length u.received) cell
+writes_covered c t d u e k heard of cell =
+    let x = delivered c t d u e k heard of in
+    let g = goes_on c.stream t e k.segments x.0 x.1 in
+    let covered : IsCovered cell (requests t.posted) k.segments = spelled_covered first_numbers (requests t.posted) k.segments g.later g.spelled cell in
+    let few : length u.received ≡ length (joined [] k.segments) = sym (length-map u.received whole) ∙ ap length k.joins.received_are in
     record {
-      before = λ n lt. omega (arith, covered.before n (omega (arith, lt, few)), k.track.joins.counted cell);
-      most = most layout c t d u o k of cell;
+      before = λ n lt. omega (arith, covered.before n (omega (arith, lt, few)), k.joins.counted cell);
+      most = most c t d u e k heard of cell;
     }

@@ -1,21 +1,25 @@
 -- What one more act does to the streams of an end, and to what its acts say of them.
-use Rattle.std.proofs.Common.{◌≡◌, ◌≢◌, ℕ, zero, suc, ◌<◌, List, [], ◌∷◌, ◌++◌, length, Option, Some, None, Bool, true, false, cond, eqb, refl, sym, ap, ◌∙◌, subst, arith, eqb-true}
+use Rattle.std.proofs.Common.{◌≡◌, ◌≢◌, ℕ, zero, suc, ◌+◌, ◌<◌, List, [], ◌∷◌, ◌++◌, length, Option, Some, None, Ok, Err, Bool, true, false, cond, eqb, refl, sym, ap, ◌∙◌, subst, arith, eqb-true}
 use Rattle.std.specs.Prelude.{slice_set, slice_index_or, unwrap_or, is_some, not, nat_le}
 use Rattle.std.proofs.lemmas.Bool.Decides.{nat_tests}
 use Rattle.std.proofs.lemmas.List.{append-nil, get_or-set_same, get_or-set_other, length-set}
 use Rattle.std.proofs.lemmas.Bool.{eq-eqb, false≢true, true≢false}
 use Rattle.iw_memory.specs.Table.{is_added}
 use Rattle.iw_ranges.specs.declared.Delivery.TheVariants.{Kept, Dropped}
-use Rattle.iw_stream.specs.Stream.{StreamState}
+use Rattle.std.specs.Option.{option_map_or}
+use Rattle.iw_startup.specs.State.{StartupState}
+use Rattle.iw_queues.specs.Queue.{part_sent}
+use Rattle.iw_queues.specs.Segments.{numbers_behind}
+use Rattle.iw_stream.specs.Stream.{StreamState, owes_frame, part_due, after_frame, after_hearing}
 use Rattle.iw_events.specs.declared.act.OpenRefusal.TheVariants.{NumberTaken, BadNumber, NoDomain}
 use Rattle.iw_events.specs.declared.act.Act.{Act}
 use Rattle.iw_events.specs.declared.act.Act.TheVariants.{Domain, Register, Deregister, Invalidate, Store, Open, Stream}
 use Rattle.iw_events.specs.declared.act.StreamAct.{StreamAct}
-use Rattle.iw_events.specs.declared.act.StreamAct.TheVariants.{Recv, Post, Emit, Deliver, Raw, Mulpdu, Work}
+use Rattle.iw_events.specs.declared.act.StreamAct.TheVariants.{Recv, Post, Emit, Deliver, Raw, Mulpdu, Accept, Reject, Work}
 use Rattle.iw_events.specs.declared.act.Shown.TheVariants.{Frame, Nothing}
 use Rattle.iw_events.specs.declared.act.Seen.TheVariants as seen
-use Rattle.iw_world.specs.Words.{Octets, Opening, stream_acts, stream_acts_by, openings, openings_by, layout_for, domain_in, domain_of, table_after, table_by}
-use Rattle.iw_world.specs.Rules.{Connected, connected, unconnected, EndState, stream_numbers, has_stream, stream_at, open_refusal, Rule, stream_after, connected_after, streams_after, end_after}
+use Rattle.iw_world.specs.Words.{Octets, Opening, stream_acts, stream_acts_by, openings, openings_by, opening_in, domain_of, table_after, table_by}
+use Rattle.iw_world.specs.Rules.{opening_by, Connected, connected, unconnected, EndState, stream_numbers, has_stream, stream_at, open_refusal, Rule, stream_after, connected_after, streams_after, end_after}
 use Rattle.iw_world.proofs.Tales.{table-push, stream_acts-push, openings-push}
 
 there : {A : Type 0} (xs : List (Option A)) (i : ℕ) → is_some (slice_index_or xs i None) ≡ true → i < length xs
@@ -60,12 +64,32 @@ opens s n pd e = go (has_stream s n) (nat_le stream_numbers n) refl refl (is_add
     go false false h z added e' = record { fresh = h; number = grind (arith, nat_tests) }
 
 -- a stream keeps its domain
+framed_domain : (s : StreamState) (n : ℕ) → (after_frame s n).domain ≡ s.domain
+framed_domain s n = go (owes_frame s)
+  where
+    go : (b : Bool)
+        → (cond b (record s { spoken = true; sent = s.sent + n }) (record s { queue = part_sent s.queue (part_due s); numbers = option_map_or (numbers_behind s.numbers) (part_due s) s.numbers; sent = s.sent + n })).domain
+        ≡ s.domain
+    go true = refl
+    go false = refl
+
+heard_domain : (s : StreamState) (u : Option StartupState) → (after_hearing s u).domain ≡ s.domain
+heard_domain s None = refl
+heard_domain s (Some u) = refl
+
 pub same_domain : (s : StreamState) (act : StreamAct Octets) → (stream_after s act).domain ≡ s.domain
 same_domain s (Recv len None) = refl
 same_domain s (Recv len (Some refusal)) = refl
 same_domain s (Post m None) = refl
 same_domain s (Post m (Some refusal)) = refl
-same_domain s (Emit (Frame from octets)) = refl
+same_domain s (Emit (Frame from octets)) = framed_domain s (length octets)
+same_domain s (Accept private (Ok agreed)) = refl
+same_domain s (Accept private (Err refusal)) = refl
+same_domain s (Reject private None) = refl
+same_domain s (Reject private (Some refusal)) = refl
+same_domain s (Work (seen.Asked private)) = heard_domain s s.startup
+same_domain s (Work (seen.Opened agreed private)) = heard_domain s s.startup
+same_domain s (Work (seen.Closed fault)) = heard_domain s s.startup
 same_domain s (Emit Nothing) = refl
 same_domain s (Deliver from octets Kept) = refl
 same_domain s (Raw from octets Kept) = refl
@@ -107,7 +131,7 @@ keeps_number s done act n k same none silent =
     let opened_same : openings n (done ++ act ∷ []) ≡ openings n done = opens_same n done act none in
     record {
       has = ap is_some same ∙ k.opened n ∙ ap was_opened (sym opened_same);
-      domain = λ h. ap (λ o. (unwrap_or o unconnected).stream.domain) same ∙ k.domain n (ap is_some (sym same) ∙ h) ∙ ap domain_in (sym opened_same);
+      domain = λ h. ap (λ o. (unwrap_or o unconnected).stream.domain) same ∙ k.domain n (ap is_some (sym same) ∙ h) ∙ ap (λ os. (opening_in os).domain) (sym opened_same);
       unused = λ h. stream_acts-push n done act ∙ (λ i. k.unused n (ap is_some (sym same) ∙ h) i ++ silent i);
     }
 
@@ -131,19 +155,19 @@ number_after s peer done (Open m pd role options private (Some refusal)) n k rul
 number_after s peer done (Open m pd role options private None) n k rule = go (eqb m n) refl
   where
     go : (b : Bool) → eqb m n ≡ b → KeepsNumber s done (Open m pd role options private None) n
-    go false e = keeps_number s done (Open m pd role options private None) n k (at_other s m n (Some (connected pd (layout_for options))) e) (opening_none (eqb m n) (record { domain = pd; options = options }) e) refl
+    go false e = keeps_number s done (Open m pd role options private None) n k (at_other s m n (Some (connected (opening_by pd role options private))) e) (opening_none (eqb m n) (opening_by pd role options private) e) refl
     go true e =
         let o = opens s m pd rule in
         let same : m ≡ n = eqb-true m n e in
         let room : m < length s.streams = omega (arith, o.number, k.numbers) in
-        let here : slice_index_or (slice_set s.streams m (Some (connected pd (layout_for options)))) n None ≡ Some (connected pd (layout_for options)) =
-        subst (λ j. slice_index_or (slice_set s.streams m (Some (connected pd (layout_for options)))) j None ≡ Some (connected pd (layout_for options))) same (at_same s m (connected pd (layout_for options)) room) in
+        let here : slice_index_or (slice_set s.streams m (Some (connected (opening_by pd role options private)))) n None ≡ Some (connected (opening_by pd role options private)) =
+        subst (λ j. slice_index_or (slice_set s.streams m (Some (connected (opening_by pd role options private)))) j None ≡ Some (connected (opening_by pd role options private))) same (at_same s m (connected (opening_by pd role options private)) room) in
         let before : openings n done ≡ [] = unopened (openings n done) (sym (k.opened n) ∙ subst (λ j. has_stream s j ≡ false) same o.fresh) in
-        let now : openings n (done ++ Open m pd role options private None ∷ []) ≡ record { domain = pd; options = options } ∷ [] =
-        openings-push n done (Open m pd role options private None) ∙ (λ i. before i ++ opening_one (eqb m n) (record { domain = pd; options = options }) e i) in
+        let now : openings n (done ++ Open m pd role options private None ∷ []) ≡ opening_by pd role options private ∷ [] =
+        openings-push n done (Open m pd role options private None) ∙ (λ i. before i ++ opening_one (eqb m n) (opening_by pd role options private) e i) in
         record {
           has = ap is_some here ∙ ap was_opened (sym now);
-          domain = λ h. ap (λ z. (unwrap_or z unconnected).stream.domain) here ∙ ap domain_in (sym now);
+          domain = λ h. ap (λ z. (unwrap_or z unconnected).stream.domain) here ∙ ap (λ os. (opening_in os).domain) (sym now);
           unused = λ h. absurd (true≢false (sym (ap is_some here) ∙ h));
         }
 number_after s peer done (Stream m act) n k rule = go (eqb m n) refl
@@ -160,7 +184,7 @@ number_after s peer done (Stream m act) n k rule = go (eqb m n) refl
         record {
           has = ap is_some here ∙ sym has ∙ k.opened n ∙ ap was_opened (sym opened_same);
           domain = λ h. ap (λ z. (unwrap_or z unconnected).stream.domain) here ∙ same_domain (stream_at s m).stream act
-              ∙ ap (λ j. (stream_at s j).stream.domain) same ∙ k.domain n has ∙ ap domain_in (sym opened_same);
+              ∙ ap (λ j. (stream_at s j).stream.domain) same ∙ k.domain n has ∙ ap (λ os. (opening_in os).domain) (sym opened_same);
           unused = λ h. absurd (true≢false (sym (ap is_some here) ∙ h));
         }
 
@@ -171,7 +195,7 @@ numbers_after s (Register pd base rights octets answer) = refl
 numbers_after s (Deregister stag answer) = refl
 numbers_after s (Invalidate stag refused) = refl
 numbers_after s (Store stag to octets refused) = refl
-numbers_after s (Open m pd role options private None) = length-set s.streams m (Some (connected pd (layout_for options)))
+numbers_after s (Open m pd role options private None) = length-set s.streams m (Some (connected (opening_by pd role options private)))
 numbers_after s (Open m pd role options private (Some refusal)) = refl
 numbers_after s (Stream m act) = length-set s.streams m (Some (connected_after (stream_at s m) act))
 

@@ -57,23 +57,29 @@ placed_stand table s right stag to len w =
     ∙ sym w.payload_is
 
 -- the table that a step leaves is the one that what is seen of it leaves
-pub table_of_seen : (table : Table) (s : StreamState) (step : Step (List ℕ)) → step ≡ work_step table s
-    → table_worked table s step ≡ table_seen table (seen_of (table_worked table s step) step)
-table_of_seen table s (steps.Placed right stag to len) e =
+pub table_of_seen : (table : Table) (s : StreamState) (private : List ℕ) (step : Step (List ℕ)) → step ≡ work_step table s
+    → table_worked table s step ≡ table_seen table (seen_of (table_worked table s step) private step)
+table_of_seen table s private (steps.Placed right stag to len) e =
     ap (put table stag to) (sym (placed_stand table s right stag to len (writes table s right stag to len (working table s (steps.Placed right stag to len) e))))
-table_of_seen table s (steps.Done kind) e = refl
-table_of_seen table s (steps.Buffered msn mo len) e = refl
-table_of_seen table s steps.Passed e = refl
-table_of_seen table s (steps.Received buffer len solicited invalidate) e = refl
-table_of_seen table s (steps.Fault fault) e = refl
-table_of_seen table s steps.Idle e = refl
+table_of_seen table s private (steps.Done kind) e = refl
+table_of_seen table s private steps.Asked e = refl
+table_of_seen table s private (steps.Opened agreed) e = refl
+table_of_seen table s private (steps.Closed fault) e = refl
+table_of_seen table s private (steps.Buffered msn mo len) e = refl
+table_of_seen table s private steps.Passed e = refl
+table_of_seen table s private (steps.Received buffer len solicited invalidate) e = refl
+table_of_seen table s private (steps.Fault fault) e = refl
+table_of_seen table s private steps.Idle e = refl
 
 -- and so is the stream
-pub worked_seen : (table : Table) (s : StreamState) (step : Step (List ℕ)) → worked s (step_of (seen_of table step)) ≡ worked s step
-worked_seen table s (steps.Placed right stag to len) = refl
-worked_seen table s (steps.Done kind) = refl
-worked_seen table s (steps.Buffered msn mo len) = refl
-worked_seen table s steps.Passed = refl
-worked_seen table s (steps.Received buffer len solicited invalidate) = refl
-worked_seen table s (steps.Fault fault) = refl
-worked_seen table s steps.Idle = refl
+pub worked_seen : (table : Table) (private : List ℕ) (s : StreamState) (step : Step (List ℕ)) → worked s (step_of (seen_of table private step)) ≡ worked s step
+worked_seen table private s (steps.Placed right stag to len) = refl
+worked_seen table private s (steps.Done kind) = refl
+worked_seen table private s steps.Asked = refl
+worked_seen table private s (steps.Opened agreed) = refl
+worked_seen table private s (steps.Closed fault) = refl
+worked_seen table private s (steps.Buffered msn mo len) = refl
+worked_seen table private s steps.Passed = refl
+worked_seen table private s (steps.Received buffer len solicited invalidate) = refl
+worked_seen table private s (steps.Fault fault) = refl
+worked_seen table private s steps.Idle = refl

@@ -1,5 +1,5 @@
 -- The parts that an end sends, and their segments.
-use Rattle.std.proofs.Common.{◌≡◌, ℕ, zero, suc, ◌+◌, ◌-◌, ◌%◌, ◌^◌, ◌<◌, ◌≤◌, List, [], ◌∷◌, length, take, drop, Option, Some, None, Bool, true, false, cond, refl, sym, subst, arith, length-take}
+use Rattle.std.proofs.Common.{◌≡◌, ℕ, zero, suc, ◌+◌, ◌-◌, ◌%◌, ◌^◌, ◌<◌, ◌≤◌, List, [], ◌∷◌, length, take, drop, Option, Some, None, Bool, true, false, cond, refl, sym, subst, arith, length-take, inl, inr, ◌⊎◌, ◌||◌, not}
 use Rattle.std.specs.Prelude.{All, is_some, min}
 use Rattle.std.specs.Option.{option_map, option_map_or}
 use Rattle.std.proofs.lemmas.Option.{none-some, same_Some}
@@ -22,7 +22,7 @@ use Rattle.iw_queues.specs.Queue as queues
 use Rattle.iw_queues.specs.Segments.{Numbers, numbers_after, numbers_behind, control_of, send_opcode, segment_with, segment_of}
 use Rattle.iw_stream.specs.declared.answer.PostRefusal.TheVariants as post_refusals
 use Rattle.iw_stream.specs.declared.answer.Emission.TheVariants as emissions
-use Rattle.iw_stream.specs.Stream.{StreamState, post_refusal, post_refusal_of, part_due, frame_of, emission_of, emitted}
+use Rattle.iw_stream.specs.Stream.{StreamState, post_refusal, post_refusal_of, is_open, own_frame, owes_frame, keeps_silent, part_due, frame_of_part, emission_of, emitted}
 use Rattle.iw_events.specs.declared.act.Shown.TheVariants.{Frame, Nothing}
 use Rattle.iw_world.specs.Fitting.{FitsMessage, FitsOptional}
 use Rattle.iw_world.specs.Words.{Octets}
@@ -40,51 +40,81 @@ pub record IsSendable (segment : Segment Octets) : Type 0 where
 
 -- ---- postings
 
--- a message that is accepted is not refused by the queue
-pub accepted : (s : StreamState) (m : Message Octets) → None ≡ post_refusal s m → (s.ended ≡ false) × (queues.post_refusal s.queue (Posted m) ≡ None)
-accepted s m e = go s.ended (queues.post_refusal s.queue (Posted m)) refl e
+-- a message that is accepted is posted on an open stream, and not refused by the queue
+pub record IsAccepted (s : StreamState) (m : Message Octets) : Type 0 where
+  pub running : s.ended ≡ false
+  pub started : is_open s ≡ true
+  pub posted : queues.post_refusal s.queue (Posted m) ≡ None
+
+pub accepted : (s : StreamState) (m : Message Octets) → None ≡ post_refusal s m → IsAccepted s m
+accepted s m e = go s.ended (is_open s) (queues.post_refusal s.queue (Posted m)) refl refl refl e
   where
-    go : (ended : Bool) (o : Option Refusal) → s.ended ≡ ended → None ≡ cond ended (Some post_refusals.NotOpen) (option_map post_refusal_of o) → (s.ended ≡ false) × (o ≡ None)
-    go true o is h = absurd (none-some _ h)
-    go false (Some refusal) is h = absurd (none-some _ h)
-    go false None is h = (is, refl)
+    go : (ended started : Bool) (o : Option Refusal) → s.ended ≡ ended → is_open s ≡ started → queues.post_refusal s.queue (Posted m) ≡ o
+        → None ≡ cond (ended || not started) (Some post_refusals.NotOpen) (option_map post_refusal_of o) → IsAccepted s m
+    go true started o a b c h = absurd (none-some _ h)
+    go false false o a b c h = absurd (none-some _ h)
+    go false true (Some refusal) a b c h = absurd (none-some _ h)
+    go false true None a b c h = record { running = a; started = b; posted = c }
 
 -- ---- emissions
 
--- a frame that is emitted is that of the part that is due
+-- the start-up frame is emitted
+pub record EmitsStart (s : StreamState) (from : ℕ) (octets : Octets) : Type 0 where
+  pub owes : owes_frame s ≡ true
+  pub octets_are : octets ≡ own_frame s
+
+-- a frame is emitted: that of the part that is due, on an open stream that has not ended and need not keep silent
 pub record EmitsPart (s : StreamState) (from : ℕ) (octets : Octets) : Type 0 where
+  pub spoken : owes_frame s ≡ false
+  pub running : s.ended ≡ false
+  pub started : is_open s ≡ true
+  pub loud : keeps_silent s ≡ false
   pub part : Part (Request Octets)
   pub due : part_due s ≡ Some part
-  pub from_is : from ≡ s.sent
-  pub octets_are : octets ≡ frame_of s part
+  pub octets_are : octets ≡ frame_of_part s part
 
-pub emits_part : (s : StreamState) (from : ℕ) (octets : Octets) → Frame from octets ≡ shown_of (emission_of s) (emitted s) → EmitsPart s from octets
-emits_part s from octets e = go s.ended (part_due s) refl e
+pub emits_frame : (s : StreamState) (from : ℕ) (octets : Octets) → Frame from octets ≡ shown_of (emission_of s) (emitted s) → EmitsStart s from octets ⊎ EmitsPart s from octets
+emits_frame s from octets e = go (owes_frame s) s.ended (is_open s) (keeps_silent s) (part_due s) refl refl refl refl refl e
   where
-    go : (ended : Bool) (o : Option (Part (Request Octets))) → part_due s ≡ o
-        → Frame from octets ≡ shown_of (cond ended emissions.Nothing (option_map_or (λ part. emissions.Frame s.sent (length (frame_of s part))) o emissions.Nothing)) (cond ended [] (option_map_or (frame_of s) o []))
-        → EmitsPart s from octets
-    go true o is h = cc
-    go false None is h = cc
-    go false (Some part) is h =
-        let from_is : from ≡ s.sent = cc in
-        let octets_are : octets ≡ frame_of s part = cc in
-        record { part = part; due = is; from_is = from_is; octets_are = octets_are }
+    go : (owes ended started silent : Bool) (o : Option (Part (Request Octets))) → owes_frame s ≡ owes → s.ended ≡ ended → is_open s ≡ started → keeps_silent s ≡ silent → part_due s ≡ o
+        → Frame from octets
+        ≡ shown_of
+        (cond owes (emissions.Frame s.sent (length (own_frame s)))
+        (cond (ended || (not started || silent)) emissions.Nothing (option_map_or (λ part. emissions.Frame s.sent (length (frame_of_part s part))) o emissions.Nothing)))
+        (cond owes (own_frame s) (cond (ended || (not started || silent)) [] (option_map_or (frame_of_part s) o [])))
+        → EmitsStart s from octets ⊎ EmitsPart s from octets
+    go true ended started silent o a b c d is h = inl (record { owes = a; octets_are = let same : octets ≡ own_frame s = cc in same })
+    go false true started silent o a b c d is h = cc
+    go false false false silent o a b c d is h = cc
+    go false false true true o a b c d is h = cc
+    go false false true false None a b c d is h = cc
+    go false false true false (Some part) a b c d is h =
+        let same : octets ≡ frame_of_part s part = cc in
+        inr (record { spoken = a; running = b; started = c; loud = d; part = part; due = is; octets_are = same })
 
--- where nothing is emitted, the stream has ended or no part is due
+-- where nothing is emitted, the start-up frame is not owed, and the stream has ended, is not open, keeps silent, or no part is due
 pub data Rests (s : StreamState) : Type 0 where
   Ended : s.ended ≡ true → Rests s
+  Shut : is_open s ≡ false → Rests s
+  Silent : keeps_silent s ≡ true → Rests s
   Sent : part_due s ≡ None → Rests s
 
-pub rests : (s : StreamState) → Nothing ≡ shown_of (emission_of s) (emitted s) → Rests s
-rests s e = go s.ended (part_due s) refl refl e
+pub rests : (s : StreamState) → Nothing ≡ shown_of (emission_of s) (emitted s) → (owes_frame s ≡ false) × Rests s
+rests s e = go (owes_frame s) s.ended (is_open s) (keeps_silent s) (part_due s) refl refl refl refl refl e
   where
-    go : (ended : Bool) (o : Option (Part (Request Octets))) → s.ended ≡ ended → part_due s ≡ o
-        → Nothing ≡ shown_of (cond ended emissions.Nothing (option_map_or (λ part. emissions.Frame s.sent (length (frame_of s part))) o emissions.Nothing)) (cond ended [] (option_map_or (frame_of s) o []))
-        → Rests s
-    go true o over is h = Ended over
-    go false None over is h = Sent is
-    go false (Some part) over is h = cc
+    go : (owes ended started silent : Bool) (o : Option (Part (Request Octets))) → owes_frame s ≡ owes → s.ended ≡ ended → is_open s ≡ started → keeps_silent s ≡ silent → part_due s ≡ o
+        → Nothing
+        ≡ shown_of
+        (cond owes (emissions.Frame s.sent (length (own_frame s)))
+        (cond (ended || (not started || silent)) emissions.Nothing (option_map_or (λ part. emissions.Frame s.sent (length (frame_of_part s part))) o emissions.Nothing)))
+        (cond owes (own_frame s) (cond (ended || (not started || silent)) [] (option_map_or (frame_of_part s) o [])))
+        → (owes_frame s ≡ false) × Rests s
+    go true ended started silent o a b c d is h = cc
+    go false true started silent o a b c d is h = (a, Ended b)
+    go false false false silent o a b c d is h = (a, Shut c)
+    go false false true true o a b c d is h = (a, Silent d)
+    go false false true false None a b c d is h = (a, Sent is)
+    go false false true false (Some part) a b c d is h = cc
 
 -- where no part is due, nothing is left to be sent
 pub none_left : (q : Queue) (max : ℕ) → next_part q max ≡ None → q.unsent ≡ []

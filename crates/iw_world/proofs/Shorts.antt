@@ -1,16 +1,19 @@
 -- How many octets the entries of a trace can have emitted, and how many frames can have had their turn.
-use Rattle.std.proofs.Common.{◌≡◌, ℕ, ◌+◌, ◌*◌, ◌^◌, ◌<◌, ◌≤◌, List, [], ◌∷◌, ◌++◌, length, Some, None, Bool, true, false, eqb, refl, sym, ap, ◌∙◌, subst, arith, append_assoc, length-append}
-use Rattle.std.specs.Prelude.{fold}
+use Rattle.std.proofs.Common.{◌≡◌, ℕ, ◌+◌, ◌*◌, ◌^◌, ◌<◌, ◌≤◌, List, [], ◌∷◌, ◌++◌, length, Some, None, Ok, Err, Bool, true, false, cond, eqb, refl, sym, ap, ◌∙◌, subst, arith, append_assoc, length-append}
+use Rattle.std.specs.Prelude.{fold, Option, is_some, not, ◌&&◌}
+use Rattle.std.specs.Option.{option_map_or}
+use Rattle.iw_startup.specs.State.{StartupState}
+use Rattle.iw_stream.specs.Stream.{StreamState}
+use Rattle.iw_world.proofs.Tracks.{Track}
 use Rattle.std.proofs.lemmas.List.{append-nil, length_push}
-use Rattle.iw_fpdu.specs.declared.layout.Layout.{Layout}
 use Rattle.iw_events.specs.declared.call.End.{End}
 use Rattle.iw_events.specs.declared.act.Act.{Act}
 use Rattle.iw_events.specs.declared.act.Act.TheVariants.{Domain, Register, Deregister, Invalidate, Store, Open, Stream}
 use Rattle.iw_events.specs.declared.act.StreamAct.{StreamAct}
-use Rattle.iw_events.specs.declared.act.StreamAct.TheVariants.{Recv, Post, Emit, Deliver, Raw, Mulpdu, Work}
+use Rattle.iw_events.specs.declared.act.StreamAct.TheVariants.{Recv, Post, Emit, Deliver, Raw, Mulpdu, Accept, Reject, Work}
 use Rattle.iw_events.specs.declared.act.Seen.TheVariants as seen
 use Rattle.iw_events.specs.declared.act.Entry.{Entry}
-use Rattle.iw_world.specs.Words.{Octets, other, acts, stream_acts, stream_acts_by, layout_of, sent, sent_by}
+use Rattle.iw_world.specs.Words.{Octets, other, acts, stream_acts, stream_acts_by, Opening, opening_of, sent, sent_by}
 use Rattle.iw_world.specs.Turns.{Story, story, story_after, story_of, untold}
 use Rattle.iw_world.specs.Rules.{EndState, State, end_of, stream_at, start, Rule, after_entry, state_after, Follows}
 use Rattle.iw_world.specs.Bounds.{IsShortEnd, IsShortState}
@@ -30,7 +33,7 @@ silent n done act none = stream_acts-push n done act ∙ ap (λ z. stream_acts n
 same_sent : (n : ℕ) (done : List (Act Octets)) (act : Act Octets) → stream_acts_by n act ≡ [] → sent_on n (done ++ act ∷ []) ≤ sent_on n done + 2 ^ 17
 same_sent n done act none = let same : sent_on n (done ++ act ∷ []) ≡ sent_on n done = ap (λ z. length (sent z)) (silent n done act none) in omega arith
 
-one_frame : (s peer : EndState) (done : List (Act Octets)) (act : Act Octets) (n : ℕ) → ((n : ℕ) → Own (layout_of n done) (stream_at s n) (tale n done)) → Rule s peer act
+one_frame : (s peer : EndState) (done : List (Act Octets)) (act : Act Octets) (n : ℕ) → ((n : ℕ) → Own (opening_of n done) (stream_at s n) (tale n done)) → Rule s peer act
     → sent_on n (done ++ act ∷ []) ≤ sent_on n done + 2 ^ 17
 one_frame s peer done (Domain pd None) n p rule = same_sent n done (Domain pd None) refl
 one_frame s peer done (Domain pd (Some refusal)) n p rule = same_sent n done (Domain pd (Some refusal)) refl
@@ -44,17 +47,22 @@ one_frame s peer done (Stream m act) n p rule = go (eqb m n) refl
     go : (b : Bool) → eqb m n ≡ b → sent_on n (done ++ Stream m act ∷ []) ≤ sent_on n done + 2 ^ 17
     go false e = same_sent n done (Stream m act) (acts_none m n act e)
     go true e =
-        let few : length (sent_by act) ≤ 2 ^ 17 = emits_few (layout_of m done) s.table (stream_at peer m).wire (stream_at s m) (tale m done) act rule.2 (p m) in
+        let few : length (sent_by act) ≤ 2 ^ 17 = emits_few (opening_of m done) s.table (stream_at peer m).wire (stream_at s m) (tale m done) act rule.2 (p m) in
         let more : sent_on n (done ++ Stream m act ∷ []) ≡ length (sent (stream_acts n done) ++ sent_by act) =
         ap (λ (t : Tale). length t.sent) (tale_next n done m act e) in
         omega (arith, more, length-append (sent (stream_acts n done)) (sent_by act), few)
 
--- ---- how many frames had their turn
+-- ---- how many frames were read
 
 abbrev turn_after : ℕ → StreamAct Octets → ℕ
 turn_after turns (Work seen.Passed) = turns + 1
 turn_after turns (Work (seen.Received octets solicited invalidate)) = turns + 1
 turn_after turns (Work (seen.Done kind)) = turns
+turn_after turns (Work (seen.Asked private)) = turns + 1
+turn_after turns (Work (seen.Opened agreed private)) = turns + 1
+turn_after turns (Work (seen.Closed fault)) = turns + 1
+turn_after turns (Accept private answer) = turns
+turn_after turns (Reject private refused) = turns
 turn_after turns (Work (seen.Placed right stag to octets)) = turns
 turn_after turns (Work (seen.Buffered msn mo len)) = turns
 turn_after turns (Work (seen.Fault fault)) = turns
@@ -72,35 +80,60 @@ turns_in done = fold turn_after 0 done
 turns_on : ℕ → List (Act Octets) → ℕ
 turns_on n done = turns_in (stream_acts n done)
 
--- a story counts them so, however the frames are laid out
-counts : (layout : Layout) (t : Story) (act : StreamAct Octets) → (story_after layout t act).turns ≡ turn_after t.turns act
-counts layout t (Work seen.Passed) = refl
-counts layout t (Work (seen.Received octets solicited invalidate)) = refl
-counts layout t (Work (seen.Done kind)) = refl
-counts layout t (Work (seen.Placed right stag to octets)) = refl
-counts layout t (Work (seen.Buffered msn mo len)) = refl
-counts layout t (Work (seen.Fault fault)) = refl
-counts layout t (Work seen.Idle) = refl
-counts layout t (Deliver from octets delivery) = refl
-counts layout t (Raw from octets delivery) = refl
-counts layout t (Mulpdu size refused) = refl
-counts layout t (Recv len None) = refl
-counts layout t (Recv len (Some refusal)) = refl
-counts layout t (Emit shown) = refl
-counts layout t (Post m refused) = refl
+-- how many frames a story has read, the start-up frame among them
+abbrev frames_read : Story → ℕ
+frames_read t = t.turns + cond t.heard 1 0
 
-counts_all : (layout : Layout) (t : Story) (done : List (StreamAct Octets)) → (fold (story_after layout) t done).turns ≡ fold turn_after t.turns done
-counts_all layout t [] = refl
-counts_all layout t (act ∷ done) = counts_all layout (story_after layout t act) done ∙ ap (λ n. fold turn_after n done) (counts layout t act)
+-- it counts no more
+counts : (t : Story) (act : StreamAct Octets) (n : ℕ) → frames_read t ≤ n → frames_read (story_after t act) ≤ turn_after n act
+counts t (Work seen.Passed) n h = omega (arith, h)
+counts t (Work (seen.Received octets solicited invalidate)) n h = omega (arith, h)
+counts t (Work (seen.Done kind)) n h = omega (arith, h)
+counts t (Work (seen.Asked private)) n h = omega (arith, h)
+counts t (Work (seen.Opened agreed private)) n h = omega (arith, h)
+counts t (Work (seen.Closed fault)) n h = omega (arith, h)
+counts t (Work (seen.Placed right stag to octets)) n h = omega (arith, h)
+counts t (Work (seen.Buffered msn mo len)) n h = omega (arith, h)
+counts t (Work (seen.Fault fault)) n h = omega (arith, h)
+counts t (Work seen.Idle) n h = omega (arith, h)
+counts t (Deliver from octets delivery) n h = omega (arith, h)
+counts t (Raw from octets delivery) n h = omega (arith, h)
+counts t (Mulpdu size refused) n h = omega (arith, h)
+counts t (Accept private (Ok agreed)) n h = omega (arith, h)
+counts t (Accept private (Err refusal)) n h = omega (arith, h)
+counts t (Reject private None) n h = omega (arith, h)
+counts t (Reject private (Some refusal)) n h = omega (arith, h)
+counts t (Recv len None) n h = omega (arith, h)
+counts t (Recv len (Some refusal)) n h = omega (arith, h)
+counts t (Emit shown) n h = omega (arith, h)
+counts t (Post m refused) n h = omega (arith, h)
 
-story_turns : (layout : Layout) (done : List (StreamAct Octets)) → (story layout done).turns ≡ turns_in done
+counts_all : (t : Story) (done : List (StreamAct Octets)) (n : ℕ) → frames_read t ≤ n → frames_read (fold story_after t done) ≤ fold turn_after n done
+counts_all t [] n h = h
+counts_all t (act ∷ done) n h = counts_all (story_after t act) done (turn_after n act) (counts t act n h)
+
+story_turns : (o : Opening) (done : List (StreamAct Octets)) → frames_read (story o done) ≤ turns_in done
 unfolding story turns_in
-story_turns layout done = counts_all layout untold done
+story_turns o done = counts_all (untold o) done 0 (omega arith)
+
+-- the peer's start-up frame is counted once it was read
+intro_few : (s : StreamState) (t : Tale) (k : Track s t) → length k.intro ≤ 262144 * cond t.story.heard 1 0
+intro_few s t k = subst (λ b. length k.intro ≤ 262144 * cond b 1 0) (sym k.begins.heard) (go s.heard s.startup refl refl)
+  where
+    go : (heard : Bool) (u : Option StartupState) → s.heard ≡ heard → s.startup ≡ u → length k.intro ≤ 262144 * cond heard 1 0
+    go true u h is = omega (arith, k.early)
+    go false None h is = omega (arith, ap length (k.begins.octets ∙ ap (λ o. option_map_or (λ (v : StartupState). v.octets) o []) is))
+    go false (Some u) h is = omega (arith, ap length (k.begins.unheard (λ i. is_some (is i) && not (h i))))
 
 one_turn : (turns : ℕ) (act : StreamAct Octets) → turn_after turns act ≤ turns + 1
 one_turn turns (Work seen.Passed) = omega arith
 one_turn turns (Work (seen.Received octets solicited invalidate)) = omega arith
 one_turn turns (Work (seen.Done kind)) = omega arith
+one_turn turns (Work (seen.Asked private)) = omega arith
+one_turn turns (Work (seen.Opened agreed private)) = omega arith
+one_turn turns (Work (seen.Closed fault)) = omega arith
+one_turn turns (Accept private answer) = omega arith
+one_turn turns (Reject private refused) = omega arith
 one_turn turns (Work (seen.Placed right stag to octets)) = omega arith
 one_turn turns (Work (seen.Buffered msn mo len)) = omega arith
 one_turn turns (Work (seen.Fault fault)) = omega arith
@@ -138,9 +171,9 @@ turns_more n done (Stream m act) = go (eqb m n) refl
     go false e = same_turns n done (Stream m act) (acts_none m n act e)
     go true e = omega (arith, next e, one_turn (turns_on n done) act)
 
-turns_are : (n : ℕ) (done : List (Act Octets)) → (story_of n done).turns ≡ turns_on n done
+turns_are : (n : ℕ) (done : List (Act Octets)) → frames_read (story_of n done) ≤ turns_on n done
 unfolding turns_on
-turns_are n done = story_turns (layout_of n done) (stream_acts n done)
+turns_are n done = story_turns (opening_of n done) (stream_acts n done)
 
 -- at most a turn an entry
 abbrev FewTurns : List (Entry Octets) → Type 0
@@ -215,8 +248,8 @@ short_end trace w k few bound x = record {
       let p = k.pairs x n in
       let mine : sent_on n (acts x trace) ≤ 2 ^ 17 * length trace = few x n in
       let had : turns_on n (acts x trace) ≤ length trace = turns_all trace x n in
-      let turns : (story_of n (acts x trace)).turns ≡ turns_on n (acts x trace) = turns_are n (acts x trace) in
-      record { sent = omega (arith, p.own.sent, mine, bound); point = omega (arith, p.own.track.point, p.own.track.near, p.own.track.turns, turns, had, bound) };
+      let turns : frames_read (story_of n (acts x trace)) ≤ turns_on n (acts x trace) = turns_are n (acts x trace) in
+      record { sent = omega (arith, p.own.sent, mine, bound); point = omega (arith, p.own.track.point, p.own.track.near, intro_few (stream_at (end_of x w) n).stream (tale n (acts x trace)) p.own.track, p.own.track.turns, turns, had, bound) };
   wires = λ n.
       let p = k.pairs x n in
       let mine : sent_on n (acts x trace) ≤ 2 ^ 17 * length trace = few x n in

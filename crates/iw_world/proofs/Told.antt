@@ -7,11 +7,12 @@ use Rattle.iw_queues.specs.declared.completions.Done.{Done}
 use Rattle.iw_queues.specs.Queue.{done_in}
 use Rattle.iw_stream.specs.declared.answer.Step.{Step}
 use Rattle.iw_stream.specs.declared.answer.Step.TheVariants as steps
-use Rattle.iw_stream.specs.Stream.{StreamState, front, segment_at, payload_of}
+use Rattle.iw_startup.specs.declared.progress.Progress.TheVariants as progress
+use Rattle.iw_stream.specs.Stream.{StreamState, front, segment_at, payload_of, private_of, worked}
 use Rattle.iw_stream.specs.Judging.{work_step, table_worked}
-use Rattle.iw_stream.proofs.Inverse.{Working, working, PlacesWrite, PlacesSend, Passes, Completes}
+use Rattle.iw_stream.proofs.Inverse.{Working, working, Hears, HearsReply, PlacesWrite, PlacesSend, Passes, Completes}
 use Rattle.iw_events.specs.declared.act.StreamAct.{StreamAct}
-use Rattle.iw_events.specs.declared.act.StreamAct.TheVariants.{Recv, Post, Emit, Deliver, Raw, Mulpdu, Work}
+use Rattle.iw_events.specs.declared.act.StreamAct.TheVariants.{Recv, Post, Emit, Deliver, Raw, Mulpdu, Accept, Reject, Work}
 use Rattle.iw_events.specs.declared.act.Seen.{Seen}
 use Rattle.iw_events.specs.declared.act.Seen.TheVariants as seen
 use Rattle.iw_world.specs.Words.{Octets}
@@ -34,6 +35,9 @@ pub record SeesReceive (s : StreamState) (octets : List ℕ) : Type 0 where
 -- what is seen of a step tells of the stream and the regions
 abbrev pub Sees : Table → StreamState → Seen Octets → Type 0
 Sees table s (seen.Done kind) = (done : Done) × (done_in s.queue ≡ Some done)
+Sees table s (seen.Asked private) = Hears s progress.Asked × (private ≡ private_of (worked s steps.Asked))
+Sees table s (seen.Opened agreed private) = HearsReply s agreed × (private ≡ private_of (worked s (steps.Opened agreed)))
+Sees table s (seen.Closed fault) = Hears s (progress.Faulted fault)
 Sees table s (seen.Placed right stag to octets) = SeesWrite table s right stag to octets
 Sees table s (seen.Buffered msn mo len) = PlacesSend s (steps.Buffered msn mo len)
 Sees table s seen.Passed = Passes s
@@ -41,8 +45,11 @@ Sees table s (seen.Received octets solicited invalidate) = SeesReceive s octets 
 Sees table s (seen.Fault fault) = Unit {0}
 Sees table s seen.Idle = Unit {0}
 
-sees_step : (table : Table) (s : StreamState) (step : Step (List ℕ)) → Working table s step → Sees table s (seen_of (table_worked table s step) step)
+sees_step : (table : Table) (s : StreamState) (step : Step (List ℕ)) → Working table s step → Sees table s (seen_of (table_worked table s step) (private_of (worked s step)) step)
 sees_step table s (steps.Done kind) w = w
+sees_step table s steps.Asked w = (w, refl)
+sees_step table s (steps.Opened agreed) w = (w, refl)
+sees_step table s (steps.Closed fault) w = w
 sees_step table s (steps.Placed right stag to len) w =
     let wr = writes table s right stag to len w in
     let stand = placed_stand table s right stag to len wr in
@@ -63,7 +70,7 @@ sees_step table s (steps.Received buffer len solicited invalidate) w =
 sees_step table s (steps.Fault fault) w = tt
 sees_step table s steps.Idle w = tt
 
-pub sees : (table : Table) (s : StreamState) (step : Seen Octets) → step ≡ seen_of (table_worked table s (work_step table s)) (work_step table s) → Sees table s step
+pub sees : (table : Table) (s : StreamState) (step : Seen Octets) → step ≡ seen_of (table_worked table s (work_step table s)) (private_of (worked s (work_step table s))) (work_step table s) → Sees table s step
 sees table s step e = subst (Sees table s) (sym e) (sees_step table s (work_step table s) (working table s (work_step table s) refl))
 
 -- the rule at a stream, with steps told apart
@@ -74,6 +81,8 @@ Told table peer s (Post message refused) = StreamRule table peer s (Post message
 Told table peer s (Emit shown) = StreamRule table peer s (Emit shown)
 Told table peer s (Deliver from octets delivery) = StreamRule table peer s (Deliver from octets delivery)
 Told table peer s (Raw from octets delivery) = StreamRule table peer s (Raw from octets delivery)
+Told table peer s (Accept private answer) = StreamRule table peer s (Accept private answer)
+Told table peer s (Reject private refused) = StreamRule table peer s (Reject private refused)
 Told table peer s (Mulpdu size refused) = StreamRule table peer s (Mulpdu size refused)
 
 pub told : (table : Table) (peer : List ℕ) (s : StreamState) (act : StreamAct Octets) → StreamRule table peer s act → Told table peer s act
@@ -83,4 +92,6 @@ told table peer s (Post message refused) rule = rule
 told table peer s (Emit shown) rule = rule
 told table peer s (Deliver from octets delivery) rule = rule
 told table peer s (Raw from octets delivery) rule = rule
+told table peer s (Accept private answer) rule = rule
+told table peer s (Reject private refused) rule = rule
 told table peer s (Mulpdu size refused) rule = rule

@@ -1,5 +1,5 @@
 -- Whatever follows the rules is as the laws say.
-use Rattle.std.proofs.Common.{◌≡◌, ℕ, zero, suc, ◌^◌, ◌<◌, ◌≤◌, List, [], ◌∷◌, ◌++◌, length, take, drop, replicate, Option, Some, None, Bool, true, false, cond, eqb, refl, sym, ap, ◌∙◌, subst, arith, append_assoc, eqb-true}
+use Rattle.std.proofs.Common.{◌≡◌, ℕ, zero, suc, ◌^◌, ◌<◌, ◌≤◌, List, [], ◌∷◌, ◌++◌, length, take, drop, replicate, Option, Some, None, Bool, true, false, cond, eqb, refl, sym, ap, ◌∙◌, subst, arith, append_assoc, length-append, length-take, eqb-true, ◌-◌, Ok, Err, inl, inr, ◌⊎◌}
 use Rattle.std.specs.Prelude.{map, is_some, slice_index_or, unwrap_or}
 use Rattle.std.proofs.lemmas.List.{append-nil}
 use Rattle.std.proofs.lemmas.Bool.{false≢true, true≢false}
@@ -9,7 +9,20 @@ use Rattle.iw_ranges.specs.declared.Delivery.TheVariants.{Kept, Dropped}
 use Rattle.iw_ranges.specs.Arrived.{nothing, taken_in, advanced}
 use Rattle.iw_ranges.specs.InOrder.{IsOf}
 use Rattle.iw_ranges.proofs.InOrder.{window_nothing, of_nothing, of_takes, of_more}
-use Rattle.iw_fpdu.specs.declared.layout.Layout.{Layout}
+use Rattle.std.specs.Option.{option_map_or}
+use Rattle.iw_startup.specs.declared.config.Config.{Config}
+use Rattle.iw_startup.specs.declared.side.Side.{Side}
+use Rattle.iw_startup.specs.declared.side.Side.TheVariants as sides
+use Rattle.iw_startup.specs.declared.side.Reply.TheVariants as replies
+use Rattle.iw_startup.specs.Frame.{flags}
+use Rattle.iw_startup.specs.State.{StartupState, IsReached, begun, own_frame, frame_of, agreed_of}
+use Rattle.iw_startup.proofs.Openings.{nothing_agreed}
+use Rattle.iw_startup.proofs.Reached.{reached-initiator, reached-responder}
+use Rattle.iw_startup.proofs.Handshake.{length-written}
+use Rattle.iw_stream.specs.declared.answer.Role.{Role}
+use Rattle.iw_stream.specs.declared.answer.Role.TheVariants.{Preset, Initiator, Responder}
+use Rattle.iw_stream.specs.Stream.{StreamState, plain, layout_in, layout_out, layout_at_first, startup_at_first}
+use Rattle.iw_stream.specs.Stream as streams
 use Rattle.iw_fpdu.specs.Sequence.{sequence, place_behind}
 use Rattle.iw_fpdu.specs.Laws.{IsBetween}
 use Rattle.iw_fpdu.proofs.Follows.{frames_follow}
@@ -22,133 +35,209 @@ use Rattle.iw_events.specs.declared.call.End.TheVariants.{A, B}
 use Rattle.iw_events.specs.declared.act.Act.{Act}
 use Rattle.iw_events.specs.declared.act.Act.TheVariants.{Domain, Register, Deregister, Invalidate, Store, Open, Stream}
 use Rattle.iw_events.specs.declared.act.StreamAct.{StreamAct}
-use Rattle.iw_events.specs.declared.act.StreamAct.TheVariants.{Recv, Post, Emit, Deliver, Raw, Mulpdu, Work}
+use Rattle.iw_events.specs.declared.act.StreamAct.TheVariants.{Recv, Post, Emit, Deliver, Raw, Mulpdu, Accept, Reject, Work}
 use Rattle.iw_events.specs.declared.act.Shown.TheVariants.{Frame, Nothing}
 use Rattle.iw_events.specs.declared.act.Entry.{Entry}
 use Rattle.iw_events.specs.declared.act.Seen.TheVariants as seen
 use Rattle.iw_world.specs.Turns.{story}
-use Rattle.iw_world.specs.Words.{Octets, other, acts, stream_acts, stream_acts_by, openings, openings_by, layout_in, layout_of, layout_for, posted, received, ended, sent, sent_by, placements, table_after, buffers}
-use Rattle.iw_world.specs.Rules.{Connected, connected, unconnected, EndState, State, end_of, with_end, has_stream, stream_at, no_streams, fresh, start, Rule, StreamRule, connected_after, streams_after, end_after, after_entry, state_after, Follows}
+use Rattle.iw_world.specs.Words.{Octets, other, acts, stream_acts, stream_acts_by, Opening, no_opening, opening_in, opening_of, openings, openings_by, posted, received, ended, sent, sent_by, placements, table_after, buffers}
+use Rattle.iw_world.specs.Rules.{opening_by, Connected, connected, unconnected, EndState, State, end_of, with_end, has_stream, stream_at, no_streams, fresh, start, Rule, StreamRule, connected_after, streams_after, end_after, after_entry, state_after, Follows}
 use Rattle.iw_world.proofs.Told.{told}
 use Rattle.iw_world.proofs.Tales.{Tale, tale_of, tale_after, tale-push, stream_acts-push, openings-push, acts_mine, acts_other}
-use Rattle.iw_world.proofs.Sending.{emits_part, shown_good}
-use Rattle.iw_world.proofs.Owns.{Own, owning, first_fits}
+use Rattle.iw_world.proofs.Sending.{shown_good, EmitsStart, EmitsPart, emits_frame}
+use Rattle.iw_world.proofs.Tracks.{OnStartup, Track}
+use Rattle.iw_world.proofs.Owns.{Own, owning, first_fits, Emits, Unspoken, IsSmall, IsStartOf, behind_start}
 use Rattle.iw_world.proofs.Ends.{EndSeen, end_step, opens, opens_same, at_same, at_other, number_there, unopened, opening_none, opening_one}
 
 -- what the acts of an end say of a stream
 abbrev pub tale : ℕ → List (Act Octets) → Tale
-tale n done = tale_of (layout_of n done) (stream_acts n done)
+tale n done = tale_of (opening_of n done) (stream_acts n done)
 
 -- a stream at both ends, with what the acts say of each; where no raw octets came, what came is what the other end sent
-pub record Pair (l : Layout) (c : Connected) (t : Tale) (m : Layout) (d : Connected) (u : Tale) : Type 0 where
+pub record Pair (l : Opening) (c : Connected) (t : Tale) (m : Opening) (d : Connected) (u : Tale) : Type 0 where
   pub own : Own l c t
   pub own_peer : Own m d u
   pub out : u.raw ≡ false → IsOf u.story.came t.sent
   pub back : t.raw ≡ false → IsOf t.story.came u.sent
 
-swapped : {l m : Layout} {c d : Connected} {t u : Tale} → Pair l c t m d u → Pair m d u l c t
+swapped : {l m : Opening} {c d : Connected} {t u : Tale} → Pair l c t m d u → Pair m d u l c t
 swapped p = record { own = p.own_peer; own_peer = p.own; out = p.back; back = p.out }
 
-moved : {l l' : Layout} {c c' : Connected} {t t' : Tale} (m : Layout) (d : Connected) (u : Tale) → l ≡ l' → c ≡ c' → t ≡ t' → Pair l c t m d u → Pair l' c' t' m d u
+moved : {l l' : Opening} {c c' : Connected} {t t' : Tale} (m : Opening) (d : Connected) (u : Tale) → l ≡ l' → c ≡ c' → t ≡ t' → Pair l c t m d u → Pair l' c' t' m d u
 moved {l = l} {l' = l'} {c = c} {c' = c'} {t = t} {t' = t'} m d u e a b p = subst (λ z. Pair l' c' z m d u) b (subst (λ z. Pair l' z t m d u) a (subst (λ z. Pair z c t m d u) e p))
 
 -- what came stays what the other end sent
-still_of : (layout : Layout) (table : Table) (peer : List ℕ) (c : Connected) (t : Tale) (u : Tale) (act : StreamAct Octets) → StreamRule table peer c.stream act → peer ≡ u.sent → (t.raw ≡ false → IsOf t.story.came u.sent)
-    → (tale_after layout t act).raw ≡ false → IsOf (tale_after layout t act).story.came u.sent
-still_of layout table peer c t u (Deliver from octets Kept) rule same h raw =
+still_of : (table : Table) (peer : List ℕ) (c : Connected) (t : Tale) (u : Tale) (act : StreamAct Octets) → StreamRule table peer c.stream act → peer ≡ u.sent → (t.raw ≡ false → IsOf t.story.came u.sent)
+    → (tale_after t act).raw ≡ false → IsOf (tale_after t act).story.came u.sent
+still_of table peer c t u (Deliver from octets Kept) rule same h raw =
     subst (λ z. IsOf (taken_in t.story.came from z) u.sent) (sym (rule.1 ∙ ap (λ z. take (length octets) (drop from z)) same)) (of_takes t.story.came from (length octets) u.sent (h raw))
-still_of layout table peer c t u (Deliver from octets Dropped) rule same h raw = h raw
-still_of layout table peer c t u (Raw from octets delivery) rule same h raw = absurd (true≢false raw)
-still_of layout table peer c t u (Mulpdu size refused) rule same h raw = h raw
-still_of layout table peer c t u (Emit shown) rule same h raw = h raw
-still_of layout table peer c t u (Post m refused) rule same h raw = h raw
-still_of layout table peer c t u (Recv len None) rule same h raw = h raw
-still_of layout table peer c t u (Recv len (Some refusal)) rule same h raw = h raw
-still_of layout table peer c t u (Work (seen.Done kind)) rule same h raw = h raw
-still_of layout table peer c t u (Work (seen.Placed right stag to octets)) rule same h raw = h raw
-still_of layout table peer c t u (Work (seen.Buffered msn mo len)) rule same h raw = h raw
-still_of layout table peer c t u (Work seen.Passed) rule same h raw = h raw
-still_of layout table peer c t u (Work (seen.Received octets solicited invalidate)) rule same h raw = h raw
-still_of layout table peer c t u (Work (seen.Fault fault)) rule same h raw = h raw
-still_of layout table peer c t u (Work seen.Idle) rule same h raw = h raw
+still_of table peer c t u (Deliver from octets Dropped) rule same h raw = h raw
+still_of table peer c t u (Raw from octets delivery) rule same h raw = absurd (true≢false raw)
+still_of table peer c t u (Mulpdu size refused) rule same h raw = h raw
+still_of table peer c t u (Accept private (Ok agreed)) rule same h raw = h raw
+still_of table peer c t u (Accept private (Err refusal)) rule same h raw = h raw
+still_of table peer c t u (Reject private None) rule same h raw = h raw
+still_of table peer c t u (Reject private (Some refusal)) rule same h raw = h raw
+still_of table peer c t u (Work (seen.Asked private)) rule same h raw = h raw
+still_of table peer c t u (Work (seen.Opened agreed private)) rule same h raw = h raw
+still_of table peer c t u (Work (seen.Closed fault)) rule same h raw = h raw
+still_of table peer c t u (Emit shown) rule same h raw = h raw
+still_of table peer c t u (Post m refused) rule same h raw = h raw
+still_of table peer c t u (Recv len None) rule same h raw = h raw
+still_of table peer c t u (Recv len (Some refusal)) rule same h raw = h raw
+still_of table peer c t u (Work (seen.Done kind)) rule same h raw = h raw
+still_of table peer c t u (Work (seen.Placed right stag to octets)) rule same h raw = h raw
+still_of table peer c t u (Work (seen.Buffered msn mo len)) rule same h raw = h raw
+still_of table peer c t u (Work seen.Passed) rule same h raw = h raw
+still_of table peer c t u (Work (seen.Received octets solicited invalidate)) rule same h raw = h raw
+still_of table peer c t u (Work (seen.Fault fault)) rule same h raw = h raw
+still_of table peer c t u (Work seen.Idle) rule same h raw = h raw
 
 -- an act of the stream
-streamed : (table : Table) (l : Layout) (c : Connected) (t : Tale) (m : Layout) (d : Connected) (u : Tale) (act : StreamAct Octets) → StreamRule table d.wire c.stream act → Pair l c t m d u
-    → Pair l (connected_after c act) (tale_after l t act) m d u
+streamed : (table : Table) (l : Opening) (c : Connected) (t : Tale) (m : Opening) (d : Connected) (u : Tale) (act : StreamAct Octets) → StreamRule table d.wire c.stream act → Pair l c t m d u
+    → Pair l (connected_after c act) (tale_after t act) m d u
 streamed table l c t m d u act rule p = record {
   own = owning l table d.wire c t act (told table d.wire c.stream act rule) p.own;
   own_peer = p.own_peer;
   out = λ raw. of_more u.story.came t.sent (sent_by act) (p.out raw);
-  back = still_of l table d.wire c t u act rule p.own_peer.wire p.back;
+  back = still_of table d.wire c t u act rule p.own_peer.wire p.back;
 }
 
 -- ---- at the start, and at an opening
-
-nothing_framed : (layout : Layout) → [] ≡ sequence layout 0 []
-unfolding sequence
-nothing_framed layout = refl
 
 nothing_moves : nothing ≡ advanced nothing 0
 unfolding advanced
 nothing_moves = refl
 
-no_own : (domain : ℕ) (layout : Layout) → Own layout (connected domain layout) (tale_of layout [])
-unfolding posted received sent buffers placements story ended
-no_own domain layout = record {
+-- how a stream begins
+expects_at_first : (role : Role) (config : Config) → layout_at_first role config ≡ option_map_or (λ (u : StartupState). option_map_or layout_in (agreed_of u) plain) (startup_at_first role config) (layout_at_first role config)
+expects_at_first Preset config = refl
+expects_at_first Initiator config = ap (λ o. option_map_or layout_in o plain) (sym (nothing_agreed (begun sides.Initiator config) refl))
+expects_at_first Responder config = ap (λ o. option_map_or layout_in o plain) (sym (nothing_agreed (begun (sides.Responder None) config) refl))
+
+sends_at_first : (role : Role) (config : Config) → layout_at_first role config ≡ option_map_or (λ (u : StartupState). option_map_or layout_out (agreed_of u) plain) (startup_at_first role config) (layout_at_first role config)
+sends_at_first Preset config = refl
+sends_at_first Initiator config = ap (λ o. option_map_or layout_out o plain) (sym (nothing_agreed (begun sides.Initiator config) refl))
+sends_at_first Responder config = ap (λ o. option_map_or layout_out o plain) (sym (nothing_agreed (begun (sides.Responder None) config) refl))
+
+reached_at_first : (role : Role) (config : Config) → OnStartup IsReached (startup_at_first role config)
+reached_at_first Preset config = tt
+reached_at_first Initiator config = reached-initiator config
+reached_at_first Responder config = reached-responder config
+
+first_place : (role : Role) (config : Config) → 0 ≡ option_map_or (λ (u : StartupState). length u.octets) (startup_at_first role config) 0
+first_place Preset config = refl
+first_place Initiator config = refl
+first_place Responder config = refl
+
+first_octets : (role : Role) (config : Config) → [] ≡ option_map_or (λ (u : StartupState). u.octets) (startup_at_first role config) []
+first_octets Preset config = refl
+first_octets Initiator config = refl
+first_octets Responder config = refl
+
+starts_at_first : (o : Opening) → IsStartOf o (startup_at_first o.role o.config)
+starts_at_first o = go o.role refl
+  where
+    go : (r : Role) → o.role ≡ r → IsStartOf o (startup_at_first r o.config)
+    go Preset e = e
+    go Initiator e = record { config = refl; role = sym e; small = tt }
+    go Responder e = record { config = refl; role = sym e; small = tt }
+
+-- a stream to which nothing has happened
+no_emits : (o : Opening) → Emits (connected o).stream (tale_of o [])
+unfolding posted sent
+no_emits o = record {
+  segments = [];
+  has = sends_in_order.start;
+  good = tt;
+  framed = Unspoken refl refl refl;
+  spoke = λ h. absurd (false≢true h);
+  shut = λ h. refl;
+  silent = λ h. refl;
+  limits = limits_start;
+  fit = tt;
+  number = omega arith;
+  enough = omega arith;
+  few = omega arith;
+}
+
+no_track : (o : Opening) → Track (connected o).stream (tale_of o [])
+unfolding received placements story
+no_track o = record {
+  intro = [];
+  begins = record {
+    startup = refl;
+    heard = refl;
+    expects = expects_at_first o.role o.config;
+    sends = sends_at_first o.role o.config;
+    reached = reached_at_first o.role o.config;
+    first = first_place o.role o.config;
+    octets = first_octets o.role o.config;
+    unheard = λ h. refl;
+  };
+  frames = [];
+  before = [];
+  shut = λ h. record { frames = refl; before = refl; placed = refl };
+  from_start = refl;
+  came = refl;
+  arrived = nothing_moves;
+  point = refl;
+  between = frames_follow.first (layout_at_first o.role o.config).markers;
+  split = λ more. refl;
+  turns = refl;
+  passed = refl;
+  placed = refl;
+  receiving = refl;
+  window = window_nothing;
+  near = omega arith;
+  early = omega arith;
+  segments = [];
+  carried = refl;
+  joins = record {
+    received_are = refl;
+    plain = tt;
+    begins = λ e p. record { octets = refl; count = refl };
+    waits = λ e p. absurd (false≢true p);
+    counted = λ c. refl;
+  };
+}
+
+no_own : (o : Opening) → length o.config.private.items ≤ 512 → Own o (connected o) (tale_of o [])
+unfolding sent buffers received ended story
+no_own o small = record {
   wire = refl;
   sent = refl;
   lengths = refl;
   due = refl;
-  emits = record { sends = refl; segments = []; has = sends_in_order.start; good = tt; framed = nothing_framed layout; limits = limits_start; fit = tt; number = omega arith; enough = omega arith; few = omega arith };
-  track = record {
-    expects = refl;
-    frames = [];
-    before = [];
-    from_start = refl;
-    came = refl;
-    arrived = nothing_moves;
-    point = refl;
-    between = frames_follow.first layout.markers;
-    split = λ more. refl;
-    turns = refl;
-    placed = refl;
-    receiving = refl;
-    window = window_nothing;
-    near = omega arith;
-    segments = [];
-    carried = refl;
-    joins = record {
-      received_are = refl;
-      plain = tt;
-      begins = λ e p. record { octets = refl; count = refl };
-      waits = λ e p. absurd (false≢true p);
-      counted = λ c. refl;
-    };
-  };
+  starts = starts_at_first o;
+  small = small;
+  laid = refl;
+  emits = no_emits o;
+  track = no_track o;
   ended = refl;
 }
 
 -- nothing came of it
-nothing_of : (layout : Layout) (octets : List ℕ) → IsOf (tale_of layout []).story.came octets
+nothing_of : (o : Opening) (octets : List ℕ) → IsOf (tale_of o []).story.came octets
 unfolding story
-nothing_of layout octets = of_nothing octets
+nothing_of o octets = of_nothing octets
 
 -- a stream to which nothing has happened is opened
-reopened : (domain : ℕ) (layout l m : Layout) (c : Connected) (done : List (StreamAct Octets)) (d : Connected) (u : Tale) → done ≡ [] → Pair l c (tale_of l done) m d u → Pair layout (connected domain layout) (tale_of layout []) m d u
-reopened domain layout l m c done d u none p = record {
-  own = no_own domain layout;
+reopened : (o l m : Opening) (c : Connected) (done : List (StreamAct Octets)) (d : Connected) (u : Tale) → length o.config.private.items ≤ 512 → done ≡ [] → Pair l c (tale_of l done) m d u → Pair o (connected o) (tale_of o []) m d u
+reopened o l m c done d u small none p = record {
+  own = no_own o small;
   own_peer = p.own_peer;
   out = λ raw. subst (IsOf u.story.came) (ap sent none) (p.out raw);
-  back = λ raw. nothing_of layout u.sent;
+  back = λ raw. nothing_of o u.sent;
 }
 
 -- an act that neither opens the stream nor is one of it
-same_stream : (s : EndState) (act : Act Octets) (n : ℕ) (done : List (Act Octets)) (m : Layout) (d : Connected) (u : Tale) → slice_index_or (streams_after s.streams act) n None ≡ slice_index_or s.streams n None → openings_by n act ≡ []
-    → stream_acts_by n act ≡ [] → Pair (layout_of n done) (stream_at s n) (tale n done) m d u → Pair (layout_of n (done ++ act ∷ [])) (stream_at (end_after s act) n) (tale n (done ++ act ∷ [])) m d u
+same_stream : (s : EndState) (act : Act Octets) (n : ℕ) (done : List (Act Octets)) (m : Opening) (d : Connected) (u : Tale) → slice_index_or (streams_after s.streams act) n None ≡ slice_index_or s.streams n None → openings_by n act ≡ []
+    → stream_acts_by n act ≡ [] → Pair (opening_of n done) (stream_at s n) (tale n done) m d u → Pair (opening_of n (done ++ act ∷ [])) (stream_at (end_after s act) n) (tale n (done ++ act ∷ [])) m d u
 same_stream s act n done m d u same closed none p =
-    let layouts : layout_of n (done ++ act ∷ []) ≡ layout_of n done = ap layout_in (opens_same n done act closed) in
+    let same_opening : opening_of n (done ++ act ∷ []) ≡ opening_of n done = ap opening_in (opens_same n done act closed) in
     let acts_are : stream_acts n (done ++ act ∷ []) ≡ stream_acts n done = stream_acts-push n done act ∙ ap (λ z. stream_acts n done ++ z) none ∙ append-nil (stream_acts n done) in
-    moved m d u (sym layouts) (ap (λ o. unwrap_or o unconnected) (sym same)) (λ i. tale_of (sym layouts i) (sym acts_are i)) p
+    moved m d u (sym same_opening) (ap (λ o. unwrap_or o unconnected) (sym same)) (λ i. tale_of (sym same_opening i) (sym acts_are i)) p
 
 pub acts_none : (m n : ℕ) (act : StreamAct Octets) → eqb m n ≡ false → stream_acts_by n (Stream m act) ≡ []
 acts_none m n act e = ap (λ b. cond b (act ∷ []) []) e
@@ -157,14 +246,14 @@ pub acts_one : (m n : ℕ) (act : StreamAct Octets) → eqb m n ≡ true → str
 acts_one m n act e = ap (λ b. cond b (act ∷ []) []) e
 
 -- one more act of a stream, in what is said of it
-pub tale_next : (n : ℕ) (done : List (Act Octets)) (m : ℕ) (act : StreamAct Octets) → eqb m n ≡ true → tale n (done ++ Stream m act ∷ []) ≡ tale_after (layout_of n done) (tale n done) act
+pub tale_next : (n : ℕ) (done : List (Act Octets)) (m : ℕ) (act : StreamAct Octets) → eqb m n ≡ true → tale n (done ++ Stream m act ∷ []) ≡ tale_after (tale n done) act
 tale_next n done m act e =
-    (λ i. tale_of (layout_in (opens_same n done (Stream m act) refl i)) ((stream_acts-push n done (Stream m act) ∙ ap (λ z. stream_acts n done ++ z) (acts_one m n act e)) i))
-    ∙ tale-push (layout_of n done) (stream_acts n done) act
+    (λ i. tale_of (opening_in (opens_same n done (Stream m act) refl i)) ((stream_acts-push n done (Stream m act) ∙ ap (λ z. stream_acts n done ++ z) (acts_one m n act e)) i))
+    ∙ tale-push (opening_of n done) (stream_acts n done) act
 
 -- an act of an end, as each of its streams sees it
-acted : (s peer : EndState) (done : List (Act Octets)) (act : Act Octets) (n : ℕ) (l : Layout) (u : Tale) → EndSeen s done → Rule s peer act → Pair (layout_of n done) (stream_at s n) (tale n done) l (stream_at peer n) u
-    → Pair (layout_of n (done ++ act ∷ [])) (stream_at (end_after s act) n) (tale n (done ++ act ∷ [])) l (stream_at peer n) u
+acted : (s peer : EndState) (done : List (Act Octets)) (act : Act Octets) (n : ℕ) (l : Opening) (u : Tale) → EndSeen s done → Rule s peer act → Pair (opening_of n done) (stream_at s n) (tale n done) l (stream_at peer n) u
+    → Pair (opening_of n (done ++ act ∷ [])) (stream_at (end_after s act) n) (tale n (done ++ act ∷ [])) l (stream_at peer n) u
 acted s peer done (Domain pd None) n l u k rule p = same_stream s (Domain pd None) n done l (stream_at peer n) u refl refl refl p
 acted s peer done (Domain pd (Some refusal)) n l u k rule p = same_stream s (Domain pd (Some refusal)) n done l (stream_at peer n) u refl refl refl p
 acted s peer done (Register pd base rights octets answer) n l u k rule p = same_stream s (Register pd base rights octets answer) n done l (stream_at peer n) u refl refl refl p
@@ -177,24 +266,24 @@ acted s peer done (Open m pd role options private None) n l u k rule p = go (eqb
     act : Act Octets
     act = Open m pd role options private None
 
-    go : (b : Bool) → eqb m n ≡ b → Pair (layout_of n (done ++ act ∷ [])) (stream_at (end_after s act) n) (tale n (done ++ act ∷ [])) l (stream_at peer n) u
-    go false e = same_stream s act n done l (stream_at peer n) u (at_other s m n (Some (connected pd (layout_for options))) e) (opening_none (eqb m n) (record { domain = pd; options = options }) e) refl p
+    go : (b : Bool) → eqb m n ≡ b → Pair (opening_of n (done ++ act ∷ [])) (stream_at (end_after s act) n) (tale n (done ++ act ∷ [])) l (stream_at peer n) u
+    go false e = same_stream s act n done l (stream_at peer n) u (at_other s m n (Some (connected (opening_by pd role options private))) e) (opening_none (eqb m n) (opening_by pd role options private) e) refl p
     go true e =
         let o = opens s m pd rule in
         let same : m ≡ n = eqb-true m n e in
-        let c : Connected = connected pd (layout_for options) in
+        let c : Connected = connected (opening_by pd role options private) in
         let room : m < length s.streams = omega (arith, o.number, k.numbers) in
         let here : slice_index_or (streams_after s.streams act) n None ≡ Some c = subst (λ j. slice_index_or (streams_after s.streams act) j None ≡ Some c) same (at_same s m c room) in
         let closed : has_stream s n ≡ false = subst (λ j. has_stream s j ≡ false) same o.fresh in
         let before : openings n done ≡ [] = unopened (openings n done) (sym (k.opened n) ∙ closed) in
-        let now : layout_of n (done ++ act ∷ []) ≡ layout_for options =
-        ap layout_in (openings-push n done act ∙ (λ i. before i ++ opening_one (eqb m n) (record { domain = pd; options = options }) e i)) in
+        let now : opening_of n (done ++ act ∷ []) ≡ opening_by pd role options private =
+        ap opening_in (openings-push n done act ∙ (λ i. before i ++ opening_one (eqb m n) (opening_by pd role options private) e i)) in
         let silent : stream_acts n (done ++ act ∷ []) ≡ [] = stream_acts-push n done act ∙ ap (λ z. z ++ []) (k.unused n closed) in
         moved l (stream_at peer n) u (sym now) (ap (λ z. unwrap_or z unconnected) (sym here)) (λ i. tale_of (sym now i) (sym silent i))
-        (reopened pd (layout_for options) (layout_of n done) l (stream_at s n) (stream_acts n done) (stream_at peer n) u (k.unused n closed) p)
+        (reopened (opening_by pd role options private) (opening_of n done) l (stream_at s n) (stream_acts n done) (stream_at peer n) u (omega (arith, length-take 512 private)) (k.unused n closed) p)
 acted s peer done (Stream m act) n l u k rule p = go (eqb m n) refl
   where
-    go : (b : Bool) → eqb m n ≡ b → Pair (layout_of n (done ++ Stream m act ∷ [])) (stream_at (end_after s (Stream m act)) n) (tale n (done ++ Stream m act ∷ [])) l (stream_at peer n) u
+    go : (b : Bool) → eqb m n ≡ b → Pair (opening_of n (done ++ Stream m act ∷ [])) (stream_at (end_after s (Stream m act)) n) (tale n (done ++ Stream m act ∷ [])) l (stream_at peer n) u
     go false e = same_stream s (Stream m act) n done l (stream_at peer n) u (at_other s m n (Some (connected_after (stream_at s m) act)) e) refl (acts_none m n act e) p
     go true e =
         let same : m ≡ n = eqb-true m n e in
@@ -205,32 +294,55 @@ acted s peer done (Stream m act) n l u k rule p = go (eqb m n) refl
         ap (λ j. connected_after (stream_at s j) act) (sym same) ∙ ap (λ z. unwrap_or z unconnected) (sym here) in
         let own_rule : StreamRule s.table (stream_at peer n).wire (stream_at s n).stream act =
         subst (λ j. StreamRule s.table (stream_at peer j).wire (stream_at s j).stream act) same rule.2 in
-        moved l (stream_at peer n) u (ap layout_in (sym (opens_same n done (Stream m act) refl))) is (sym (tale_next n done m act e))
-        (streamed s.table (layout_of n done) (stream_at s n) (tale n done) l (stream_at peer n) u act own_rule p)
+        moved l (stream_at peer n) u (ap opening_in (sym (opens_same n done (Stream m act) refl))) is (sym (tale_next n done m act e))
+        (streamed s.table (opening_of n done) (stream_at s n) (tale n done) l (stream_at peer n) u act own_rule p)
 
 -- ---- what an act may emit
 
-pub emits_few : (layout : Layout) (table : Table) (peer : List ℕ) (c : Connected) (t : Tale) (act : StreamAct Octets) → StreamRule table peer c.stream act → Own layout c t → length (sent_by act) ≤ 2 ^ 17
-emits_few layout table peer c t (Emit (Frame from octets)) rule o =
-    let p = emits_part c.stream from octets rule in
-    let good = shown_good c.stream.numbers c.stream.queue c.stream.mulpdu p.part p.due o.emits.limits o.emits.enough o.emits.few o.emits.number (first_fits c.stream.queue o.emits.fit) in
-    let us : List (List ℕ) = map segment_octets o.emits.segments in
-    let between : IsBetween layout.markers (place_behind layout 0 us) = between_behind layout 0 us (frames_follow.first layout.markers) in
-    let place : place_behind layout 0 us ≡ c.stream.sent = place_is layout 0 us (frames_follow.first layout.markers) ∙ omega (arith, ap length o.emits.framed, o.sent) in
-    subst (λ z. length z ≤ 2 ^ 17) (sym p.octets_are) (written_few c.stream.sending c.stream.sent (segment_octets (segment_of c.stream.numbers p.part)) (omega (arith, between.aligned, place)) good.small)
-emits_few layout table peer c t (Emit Nothing) rule o = omega arith
-emits_few layout table peer c t (Recv len refused) rule o = omega arith
-emits_few layout table peer c t (Post m refused) rule o = omega arith
-emits_few layout table peer c t (Deliver from octets delivery) rule o = omega arith
-emits_few layout table peer c t (Raw from octets delivery) rule o = omega arith
-emits_few layout table peer c t (Mulpdu size refused) rule o = omega arith
-emits_few layout table peer c t (Work step) rule o = omega arith
+-- a start-up frame is short
+few_side : (config : Config) (side : Side) → length config.private.items ≤ 512 → IsSmall side → length (own_frame config side) ≤ 532
+few_side config sides.Initiator few small = omega (arith, length-written (sides.Responder None) (flags config.markers config.crc false) config.private.items, few)
+few_side config (sides.Responder None) few small = omega arith
+few_side config (sides.Responder (Some (replies.Accept private))) few small = omega (arith, length-written sides.Initiator (flags config.markers config.crc false) private.items, small)
+few_side config (sides.Responder (Some (replies.Reject private))) few small = omega (arith, length-written sides.Initiator (flags config.markers config.crc true) private.items, small)
+
+few_start : (o : Opening) (u : Option StartupState) → length o.config.private.items ≤ 512 → IsStartOf o u → length (option_map_or frame_of u []) ≤ 532
+few_start o None few h = omega arith
+few_start o (Some u) few h = few_side u.config u.side (subst (λ (z : Config). length z.private.items ≤ 512) (sym h.config) few) h.small
+
+pub emits_few : (opening : Opening) (table : Table) (peer : List ℕ) (c : Connected) (t : Tale) (act : StreamAct Octets) → StreamRule table peer c.stream act → Own opening c t → length (sent_by act) ≤ 2 ^ 17
+emits_few opening table peer c t (Emit (Frame from octets)) rule o = go (emits_frame c.stream from octets rule)
+  where
+    part : EmitsPart c.stream from octets → length octets ≤ 2 ^ 17
+    part p =
+        let s : StreamState = c.stream in
+        let own : Octets = streams.own_frame s in
+        let good = shown_good s.numbers s.queue s.mulpdu p.part p.due o.emits.limits o.emits.enough o.emits.few o.emits.number (first_fits s.queue o.emits.fit) in
+        let us : List (List ℕ) = map segment_octets o.emits.segments in
+        let framed : t.sent ≡ own ++ sequence s.sending 0 us = behind_start s t o.emits p.spoken in
+        let between : IsBetween s.sending.markers (place_behind s.sending 0 us) = between_behind s.sending 0 us (frames_follow.first s.sending.markers) in
+        let place : place_behind s.sending 0 us ≡ s.sent - length own =
+        place_is s.sending 0 us (frames_follow.first s.sending.markers) ∙ omega (arith, ap length framed, length-append own (sequence s.sending 0 us), o.sent) in
+        subst (λ z. length z ≤ 2 ^ 17) (sym p.octets_are) (written_few s.sending (s.sent - length own) (segment_octets (segment_of s.numbers p.part)) (omega (arith, between.aligned, place)) good.small)
+
+    go : EmitsStart c.stream from octets ⊎ EmitsPart c.stream from octets → length octets ≤ 2 ^ 17
+    go (inl p) = omega (arith, ap length p.octets_are, few_start opening c.stream.startup o.small o.starts)
+    go (inr p) = part p
+emits_few opening table peer c t (Emit Nothing) rule o = omega arith
+emits_few opening table peer c t (Recv len refused) rule o = omega arith
+emits_few opening table peer c t (Post m refused) rule o = omega arith
+emits_few opening table peer c t (Deliver from octets delivery) rule o = omega arith
+emits_few opening table peer c t (Raw from octets delivery) rule o = omega arith
+emits_few opening table peer c t (Mulpdu size refused) rule o = omega arith
+emits_few opening table peer c t (Accept private answer) rule o = omega arith
+emits_few opening table peer c t (Reject private refused) rule o = omega arith
+emits_few opening table peer c t (Work step) rule o = omega arith
 
 -- ---- both ends
 
 -- a stream of a number at two ends, by their acts
 abbrev PairAt : EndState → List (Act Octets) → EndState → List (Act Octets) → ℕ → Type 0
-PairAt s own peer others n = Pair (layout_of n own) (stream_at s n) (tale n own) (layout_of n others) (stream_at peer n) (tale n others)
+PairAt s own peer others n = Pair (opening_of n own) (stream_at s n) (tale n own) (opening_of n others) (stream_at peer n) (tale n others)
 
 -- what the entries and the state have in common
 pub record Seen (trace : List (Entry Octets)) (w : State) : Type 0 where
@@ -274,7 +386,7 @@ one_more trace w e k rule =
     let P : End → Type 0 = λ v. (n : ℕ) → PairAt (end_of v w') (D v) (end_of (other v) w') (D (other v)) n in
     let pair_mine : P x = λ n.
     let next : PairAt s' (acts x trace ++ e.act ∷ []) (end_of y w) (acts y trace) n =
-    acted s (end_of y w) (acts x trace) e.act n (layout_of n (acts y trace)) (tale n (acts y trace)) (k.ends x) rule (k.pairs x n) in
+    acted s (end_of y w) (acts x trace) e.act n (opening_of n (acts y trace)) (tale n (acts y trace)) (k.ends x) rule (k.pairs x n) in
     subst (λ z. PairAt z (D x) (end_of y w') (D y) n) (sym here)
     (subst (λ z. PairAt s' z (end_of y w') (D y) n) (sym mine)
     (subst (λ z. PairAt s' (acts x trace ++ e.act ∷ []) z (D y) n) (sym there)
@@ -304,12 +416,12 @@ state_after-push (x ∷ xs) e w = state_after-push xs e (after_entry w x)
 
 -- ---- at the start
 
-no_pair : Pair (layout_in []) unconnected (tale_of (layout_in []) []) (layout_in []) unconnected (tale_of (layout_in []) [])
+no_pair : Pair no_opening unconnected (tale_of no_opening []) no_opening unconnected (tale_of no_opening [])
 no_pair = record {
-  own = no_own 0 (layout_in []);
-  own_peer = no_own 0 (layout_in []);
-  out = λ raw. nothing_of (layout_in []) (tale_of (layout_in []) []).sent;
-  back = λ raw. nothing_of (layout_in []) (tale_of (layout_in []) []).sent;
+  own = no_own no_opening (omega arith);
+  own_peer = no_own no_opening (omega arith);
+  out = λ raw. nothing_of no_opening (tale_of no_opening []).sent;
+  back = λ raw. nothing_of no_opening (tale_of no_opening []).sent;
 }
 
 none_at : (n : ℕ) → slice_index_or no_streams n None ≡ None
@@ -332,11 +444,11 @@ fresh_end x = record {
 }
 
 -- nothing was done
-nothing_opened : (n : ℕ) (x : End) → layout_in [] ≡ layout_of n (acts x [])
+nothing_opened : (n : ℕ) (x : End) → no_opening ≡ opening_of n (acts x [])
 unfolding acts openings
 nothing_opened n x = refl
 
-nothing_said : (n : ℕ) (x : End) → tale_of (layout_in []) [] ≡ tale n (acts x [])
+nothing_said : (n : ℕ) (x : End) → tale_of no_opening [] ≡ tale n (acts x [])
 unfolding acts openings stream_acts
 nothing_said n x = refl
 
@@ -353,8 +465,8 @@ unsaid = record { ends = start_end; pairs = start_pair }
 
     start_pair : (x : End) (n : ℕ) → PairAt (end_of x start) (acts x []) (end_of (other x) start) (acts (other x) []) n
     start_pair x n =
-        moved (layout_of n (acts (other x) [])) (stream_at (end_of (other x) start) n) (tale n (acts (other x) [])) (nothing_opened n x) (start_at n x) (nothing_said n x)
-        (swapped (moved (layout_in []) unconnected (tale_of (layout_in []) []) (nothing_opened n (other x)) (start_at n (other x)) (nothing_said n (other x)) no_pair))
+        moved (opening_of n (acts (other x) [])) (stream_at (end_of (other x) start) n) (tale n (acts (other x) [])) (nothing_opened n x) (start_at n x) (nothing_said n x)
+        (swapped (moved no_opening unconnected (tale_of no_opening []) (nothing_opened n (other x)) (start_at n (other x)) (nothing_said n (other x)) no_pair))
 
 pub seen_at : (past future trace : List (Entry Octets)) → Follows start trace → trace ≡ past ++ future → Seen past (state_after start past)
 seen_at past future trace follows is = onward [] past start unsaid (follows_split past future start (subst (Follows start) is follows)).0

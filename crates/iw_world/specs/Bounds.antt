@@ -4,7 +4,7 @@ use Rattle.iw_events.specs.declared.call.End.{End}
 use Rattle.iw_events.specs.declared.call.Call.{Call}
 use Rattle.iw_events.specs.declared.call.Call.TheVariants.{Domain, Register, Deregister, Invalidate, Store, Open, Stream}
 use Rattle.iw_events.specs.declared.call.StreamCall.{StreamCall}
-use Rattle.iw_events.specs.declared.call.StreamCall.TheVariants.{Recv, Post, Emit, Deliver, Raw, Mulpdu, Work}
+use Rattle.iw_events.specs.declared.call.StreamCall.TheVariants.{Recv, Post, Emit, Deliver, Raw, Mulpdu, Accept, Reject, Work}
 use Rattle.iw_stream.specs.Stream.{StreamState}
 use Rattle.iw_world.specs.Words.{Octets}
 use Rattle.iw_world.specs.Rules.{EndState, State, end_of, has_stream, stream_at, needs_peer}
@@ -28,6 +28,8 @@ abbrev pub AsksOver : List ℕ → StreamCall Octets → Type 0
 AsksOver peer (Deliver from len) = length peer < from + len
 AsksOver peer (Raw from octets) = ⊥
 AsksOver peer (Mulpdu size) = ⊥
+AsksOver peer (Accept private) = ⊥
+AsksOver peer (Reject private) = ⊥
 AsksOver peer (Recv len) = ⊥
 AsksOver peer (Post message) = ⊥
 AsksOver peer Emit = ⊥

@@ -5,12 +5,15 @@ use Rattle.iw_octets.specs.declared.stag.Stag.{Stag}
 use Rattle.iw_memory.specs.declared.refusal.NoRegion.{NoRegion}
 use Rattle.iw_memory.specs.declared.refusal.RegisterRefusal.{RegisterRefusal}
 use Rattle.iw_memory.specs.Table.{Table, empty, is_added, domain_refusal, register_refusal, store_refusal, next_stag, region_at, octets_at}
-use Rattle.iw_fpdu.specs.declared.layout.Layout.{Layout}
+use Rattle.arrayvec.specs.ArrayVec.{ArrayVec}
+use Rattle.iw_startup.specs.declared.config.Agreed.{Agreed}
+use Rattle.iw_startup.specs.declared.startup.NotAsked.{NotAsked}
+use Rattle.iw_stream.specs.declared.answer.Role.{Role}
 use Rattle.iw_stream.specs.declared.answer.Step.{Step}
 use Rattle.iw_stream.specs.declared.answer.Step.TheVariants as steps
 use Rattle.iw_stream.specs.declared.answer.Emission.{Emission}
 use Rattle.iw_stream.specs.declared.answer.Emission.TheVariants as emissions
-use Rattle.iw_stream.specs.Stream.{StreamState, opened, with_buffer, with_message, with_mulpdu, recv_refusal, post_refusal, size_refusal, emission_of, emitted, after_emit, delivery_of, after_deliver, worked}
+use Rattle.iw_stream.specs.Stream.{StreamState, opened, with_buffer, with_message, with_mulpdu, recv_refusal, post_refusal, size_refusal, emission_of, emitted, after_emit, delivery_of, after_deliver, may_answer, accepted_agreed, accepted, rejected, private_of, worked}
 use Rattle.iw_stream.specs.Judging.{work_step, table_worked}
 use Rattle.iw_events.specs.declared.call.End.{End}
 use Rattle.iw_events.specs.declared.call.End.TheVariants.{A, B}
@@ -23,13 +26,13 @@ use Rattle.iw_events.specs.declared.act.OpenRefusal.TheVariants.{NumberTaken, Ba
 use Rattle.iw_events.specs.declared.act.Act.{Act}
 use Rattle.iw_events.specs.declared.act.Act.TheVariants.{Domain, Register, Deregister, Invalidate, Store, Open, Stream}
 use Rattle.iw_events.specs.declared.act.StreamAct.{StreamAct}
-use Rattle.iw_events.specs.declared.act.StreamAct.TheVariants.{Recv, Post, Emit, Deliver, Raw, Mulpdu, Work}
+use Rattle.iw_events.specs.declared.act.StreamAct.TheVariants.{Recv, Post, Emit, Deliver, Raw, Mulpdu, Accept, Reject, Work}
 use Rattle.iw_events.specs.declared.act.Shown.{Shown}
 use Rattle.iw_events.specs.declared.act.Shown.TheVariants.{Frame, Nothing}
 use Rattle.iw_events.specs.declared.act.Seen.{Seen}
 use Rattle.iw_events.specs.declared.act.Seen.TheVariants as seen
 use Rattle.iw_events.specs.declared.act.Entry.{Entry}
-use Rattle.iw_world.specs.Words.{Octets, other, sent_by, table_by, layout_for, layout_in}
+use Rattle.iw_world.specs.Words.{Octets, other, sent_by, table_by, Opening, no_opening, config_for}
 use Rattle.iw_world.specs.Fitting.{FitsMessage}
 
 -- ---- states
@@ -39,12 +42,12 @@ pub record Connected : Type 0 where
   pub stream : StreamState
   pub wire : List ℕ
 
-abbrev pub connected : ℕ → Layout → Connected
-connected domain layout = record { stream = opened domain layout; wire = [] }
+abbrev pub connected : Opening → Connected
+connected o = record { stream = opened o.domain o.role o.config; wire = [] }
 
 -- one to which nothing has happened, in no domain
 abbrev pub unconnected : Connected
-unconnected = connected 0 (layout_in [])
+unconnected = connected no_opening
 
 -- one end: its regions, and its streams by number
 pub record EndState : Type 0 where
@@ -92,15 +95,29 @@ abbrev pub shown_of : Emission → List ℕ → Shown Octets
 shown_of (emissions.Frame from len) octets = Frame from octets
 shown_of emissions.Nothing octets = Nothing
 
--- what was seen of a step, where it left this table
-abbrev pub seen_of : Table → Step Octets → Seen Octets
-seen_of table (steps.Done kind) = seen.Done kind
-seen_of table (steps.Placed right stag to len) = seen.Placed right stag to (octets_at table stag to len)
-seen_of table (steps.Buffered msn mo len) = seen.Buffered msn mo len
-seen_of table steps.Passed = seen.Passed
-seen_of table (steps.Received buffer len solicited invalidate) = seen.Received (take len buffer) solicited invalidate
-seen_of table (steps.Fault fault) = seen.Fault fault
-seen_of table steps.Idle = seen.Idle
+-- what was seen of a step, where it left this table and the peer's private data is this
+abbrev pub seen_of : Table → Octets → Step Octets → Seen Octets
+seen_of table private (steps.Done kind) = seen.Done kind
+seen_of table private steps.Asked = seen.Asked private
+seen_of table private (steps.Opened agreed) = seen.Opened agreed private
+seen_of table private (steps.Closed fault) = seen.Closed fault
+seen_of table private (steps.Placed right stag to len) = seen.Placed right stag to (octets_at table stag to len)
+seen_of table private (steps.Buffered msn mo len) = seen.Buffered msn mo len
+seen_of table private steps.Passed = seen.Passed
+seen_of table private (steps.Received buffer len solicited invalidate) = seen.Received (take len buffer) solicited invalidate
+seen_of table private (steps.Fault fault) = seen.Fault fault
+seen_of table private steps.Idle = seen.Idle
+
+-- why a responder's user may not answer
+abbrev pub answer_refusal : StreamState → Option NotAsked
+answer_refusal s = if may_answer s then None else Some (record {})
+
+abbrev pub accept_answer : StreamState → Result Agreed NotAsked
+accept_answer s = if may_answer s then Ok (accepted_agreed s) else Err (record {})
+
+-- private data as a start-up frame has it
+abbrev pub private_data : Octets → ArrayVec ℕ
+private_data private = record { items = take 512 private }
 
 -- the right answer at a stream; peer is what the other end has emitted on it
 abbrev pub StreamRule : Table → List ℕ → StreamState → StreamAct Octets → Type 0
@@ -111,13 +128,17 @@ StreamRule table peer s (Deliver from octets delivery) =
     (from + length octets ≤ length peer) × (octets ≡ take (length octets) (drop from peer)) × (delivery ≡ delivery_of s from (length octets))
 StreamRule table peer s (Raw from octets delivery) = delivery ≡ delivery_of s from (length octets)
 StreamRule table peer s (Mulpdu size refused) = refused ≡ size_refusal size
-StreamRule table peer s (Work step) = step ≡ seen_of (table_worked table s (work_step table s)) (work_step table s)
+StreamRule table peer s (Accept private answer) = answer ≡ accept_answer s
+StreamRule table peer s (Reject private refused) = refused ≡ answer_refusal s
+StreamRule table peer s (Work step) = step ≡ seen_of (table_worked table s (work_step table s)) (private_of (worked s (work_step table s))) (work_step table s)
 
 -- a delivery needs the stream at the other end too
 abbrev pub needs_peer : StreamCall Octets → Bool
 needs_peer (stream_calls.Deliver from len) = true
 needs_peer (stream_calls.Raw from octets) = false
 needs_peer (stream_calls.Mulpdu size) = false
+needs_peer (stream_calls.Accept private) = false
+needs_peer (stream_calls.Reject private) = false
 needs_peer (stream_calls.Recv len) = false
 needs_peer (stream_calls.Post message) = false
 needs_peer stream_calls.Emit = false
@@ -155,6 +176,9 @@ Rule s peer (Stream n act) =
 -- a step that would be seen so
 abbrev pub step_of : Seen Octets → Step Octets
 step_of (seen.Done kind) = steps.Done kind
+step_of (seen.Asked private) = steps.Asked
+step_of (seen.Opened agreed private) = steps.Opened agreed
+step_of (seen.Closed fault) = steps.Closed fault
 step_of (seen.Placed right stag to octets) = steps.Placed right stag to (length octets)
 step_of (seen.Buffered msn mo len) = steps.Buffered msn mo len
 step_of seen.Passed = steps.Passed
@@ -173,13 +197,20 @@ stream_after s (Deliver from octets delivery) = after_deliver s from octets deli
 stream_after s (Raw from octets delivery) = after_deliver s from octets delivery
 stream_after s (Mulpdu size None) = with_mulpdu s size
 stream_after s (Mulpdu size (Some refusal)) = s
+stream_after s (Accept private (Ok agreed)) = accepted s (private_data private)
+stream_after s (Accept private (Err refusal)) = s
+stream_after s (Reject private None) = rejected s (private_data private)
+stream_after s (Reject private (Some refusal)) = s
 stream_after s (Work step) = worked s (step_of step)
 
 abbrev pub connected_after : Connected → StreamAct Octets → Connected
 connected_after c act = record { stream = stream_after c.stream act; wire = c.wire ++ sent_by act }
 
+abbrev pub opening_by : ℕ → Role → Options → Octets → Opening
+opening_by pd role options private = record { domain = pd; role = role; config = config_for options private }
+
 abbrev pub streams_after : List (Option Connected) → Act Octets → List (Option Connected)
-streams_after streams (Open n pd role options private None) = slice_set streams n (Some (connected pd (layout_for options)))
+streams_after streams (Open n pd role options private None) = slice_set streams n (Some (connected (opening_by pd role options private)))
 streams_after streams (Open n pd role options private (Some refusal)) = streams
 streams_after streams (Stream n act) = slice_set streams n (Some (connected_after (unwrap_or (slice_index_or streams n None) unconnected) act))
 streams_after streams (Domain pd refused) = streams
@@ -189,9 +220,9 @@ streams_after streams (Invalidate stag refused) = streams
 streams_after streams (Store stag to octets refused) = streams
 
 -- the end behind an opening
-abbrev pub opened_end : EndState → ℕ → ℕ → Options → Option OpenRefusal → EndState
-opened_end s n pd options None = record s { streams = slice_set s.streams n (Some (connected pd (layout_for options))) }
-opened_end s n pd options (Some refusal) = s
+abbrev pub opened_end : EndState → ℕ → Opening → Option OpenRefusal → EndState
+opened_end s n opening None = record s { streams = slice_set s.streams n (Some (connected opening)) }
+opened_end s n opening (Some refusal) = s
 
 abbrev pub end_after : EndState → Act Octets → EndState
 end_after s act = record { table = table_by s.table act; streams = streams_after s.streams act }

@@ -1,11 +1,10 @@
 -- What holds of every trace of two ends, in words of the trace alone.
-use Rattle.std.specs.Prelude.{◌≡◌, ◌⊎◌, true, false, ℕ, ◌+◌, ◌<◌, ◌≤◌, List, [], ◌∷◌, ◌++◌, length, map, slice_get, Some, Ok, option_map}
+use Rattle.std.specs.Prelude.{◌≡◌, ◌⊎◌, Bool, true, false, ℕ, ◌+◌, ◌<◌, ◌≤◌, List, [], ◌∷◌, ◌++◌, length, map, slice_get, Some, Ok, option_map}
 use Rattle.iw_octets.specs.declared.message.Message.{Message}
 use Rattle.iw_octets.specs.declared.segment.Segment.{Segment}
 use Rattle.iw_octets.specs.Segment.{segment_octets}
 use Rattle.iw_memory.specs.Laws.{Allows}
 use Rattle.iw_memory.specs.Table.{region_at}
-use Rattle.iw_fpdu.specs.declared.layout.Layout.{Layout}
 use Rattle.iw_fpdu.specs.Sequence.{sequence}
 use Rattle.iw_untagged.specs.Receiving.{ahead_of}
 use Rattle.iw_queues.specs.declared.request.Request.{Request}
@@ -13,7 +12,6 @@ use Rattle.iw_queues.specs.declared.request.Request.TheVariants.{Message as Post
 use Rattle.iw_queues.specs.Segments.{first_numbers, AreSpelled}
 use Rattle.iw_queues.specs.Joined.{Cell, count_writes, count_before}
 use Rattle.iw_events.specs.declared.call.End.{End}
-use Rattle.iw_events.specs.declared.call.Options.{Options}
 use Rattle.iw_events.specs.declared.act.Act.{Act}
 use Rattle.iw_events.specs.declared.act.Act.TheVariants.{Deregister, Stream}
 use Rattle.iw_events.specs.declared.act.StreamAct.{StreamAct}
@@ -21,20 +19,26 @@ use Rattle.iw_events.specs.declared.act.StreamAct.TheVariants.{Emit, Work}
 use Rattle.iw_events.specs.declared.act.Shown.TheVariants.{Nothing}
 use Rattle.iw_events.specs.declared.act.Seen.TheVariants as seen
 use Rattle.iw_events.specs.declared.act.Entry.{Entry}
-use Rattle.iw_world.specs.Words.{Octets, other, acts, stream_acts, openings, layout_of, domain_of, posted, sends, received, has_raw, ended, sent, placements, table_after, buffers, due}
+use Rattle.iw_stream.specs.declared.answer.Role.TheVariants.{Preset, Initiator, Responder}
+use Rattle.iw_world.specs.Turns.{Story, story_of, start_frame, sending, is_open, is_silent}
+use Rattle.iw_world.specs.Words.{Octets, other, acts, stream_acts, openings, Opening, domain_of, posted, sends, received, has_raw, ended, sent, placements, table_after, buffers, due}
 
 abbrev pub IsPrefixOf : {A : Type 0} → List A → List A → Type 0
 IsPrefixOf {A} xs ys = (rest : List A) × (xs ++ rest ≡ ys)
 
 -- ---- receives
 
--- both ends were opened, and asked for the same
-abbrev pub AskAlike : ℕ → List (Entry Octets) → Type 0
-AskAlike n trace = (options : Options) × ((x : End) → map (λ opening. opening.options) (openings n (acts x trace)) ≡ options ∷ [])
+-- openings that understand each other: open at once with the same options, or an initiator's and a responder's
+abbrev pub Fits : Opening → Opening → Type 0
+Fits a b =
+    ((a.role ≡ Preset) × (b.role ≡ Preset) × (a.config.markers ≡ b.config.markers) × (a.config.crc ≡ b.config.crc))
+    ⊎ (((a.role ≡ Initiator) × (b.role ≡ Responder)) ⊎ ((a.role ≡ Responder) × (b.role ≡ Initiator)))
 
--- and both were given nothing but what the other end sent there
+-- both ends were opened so, and were given nothing but what the other end sent there
 pub record IsHonest (n : ℕ) (trace : List (Entry Octets)) : Type 0 where
-  pub alike : AskAlike n trace
+  pub opening : End → Opening
+  pub opened : (x : End) → openings n (acts x trace) ≡ opening x ∷ []
+  pub fits : (x : End) → Fits (opening x) (opening (other x))
   pub calm : (x : End) → has_raw (stream_acts n (acts x trace)) ≡ false
 
 -- at every moment, what an end has received on an honest stream is a prefix of the Sends posted at the other end
@@ -60,31 +64,41 @@ Covered trace = (past future : List (Entry Octets)) → trace ≡ past ++ future
 
 -- ---- what goes out
 
--- these octets are the frames, one behind the other, of the first segments that carry these messages in order and whole
-pub record AreFirstFrames (layout : Layout) (octets : List ℕ) (messages : List (Message Octets)) : Type 0 where
+-- these octets are this end's start-up frame, if it has one, and behind it the frames, one behind the other, of the first segments that carry these messages in
+-- order and whole; or they are none
+pub record AreFirstFrames (t : Story) (octets : List ℕ) (messages : List (Message Octets)) : Type 0 where
   pub begun : List (Segment Octets)
   pub later : List (Segment Octets)
   pub carry : AreSpelled first_numbers 0 (requests messages) (begun ++ later)
-  pub framed : octets ≡ sequence layout 0 (map segment_octets begun)
+  pub framed : ((octets ≡ []) × (begun ≡ [])) ⊎ (octets ≡ start_frame t ++ sequence (sending t) 0 (map segment_octets begun))
+  pub closed : is_open t ≡ false → begun ≡ []
+  pub silent : is_silent t ≡ true → begun ≡ []
 
--- at every moment, what an end has sent on a stream is the first frames of the messages posted there
+-- at every moment, what an end has sent on a stream
 abbrev pub Emission : List (Entry Octets) → Type 0
 Emission trace = (past future : List (Entry Octets)) → trace ≡ past ++ future → (x : End) (n : ℕ) →
-    AreFirstFrames (layout_of n (acts x past)) (sent (stream_acts n (acts x past))) (posted (stream_acts n (acts x past)))
+    AreFirstFrames (story_of n (acts x past)) (sent (stream_acts n (acts x past))) (posted (stream_acts n (acts x past)))
 
--- these octets are all the frames of segments that carry these messages
-pub record AreAllFrames (layout : Layout) (octets : List ℕ) (messages : List (Message Octets)) : Type 0 where
+-- these octets are the start-up frame and all the frames of segments that carry these messages
+pub record AreAllFrames (t : Story) (octets : List ℕ) (messages : List (Message Octets)) : Type 0 where
   pub segments : List (Segment Octets)
   pub carry : AreSpelled first_numbers 0 (requests messages) segments
-  pub framed : octets ≡ sequence layout 0 (map segment_octets segments)
+  pub framed : octets ≡ start_frame t ++ sequence (sending t) 0 (map segment_octets segments)
 
--- where nothing is emitted, all that was posted has been sent, or the stream has ended
-abbrev pub NothingDue : Layout → List (StreamAct Octets) → StreamAct Octets → Type 0
-NothingDue layout before (Emit Nothing) = (ended before ≡ true) ⊎ AreAllFrames layout (sent before) (posted before)
-NothingDue layout before _ = Unit {0}
+-- why nothing is emitted: the stream has ended, or is not open, or keeps silent; or all that was posted has been sent
+pub data HasNothing (over : Bool) (t : Story) (octets : List ℕ) (messages : List (Message Octets)) : Type 0 where
+  Over : over ≡ true → HasNothing over t octets messages
+  Closed : is_open t ≡ false → HasNothing over t octets messages
+  Silent : is_silent t ≡ true → HasNothing over t octets messages
+  AllSent : AreAllFrames t octets messages → HasNothing over t octets messages
+
+-- where nothing is emitted, the start-up frame, if there is one, has been sent, and there is a reason
+abbrev pub NothingDue : Story → List (StreamAct Octets) → StreamAct Octets → Type 0
+NothingDue t before (Emit Nothing) = IsPrefixOf (start_frame t) (sent before) × HasNothing (ended before) t (sent before) (posted before)
+NothingDue t before _ = Unit {0}
 
 abbrev pub NothingAct : List (Act Octets) → Act Octets → Type 0
-NothingAct before (Stream n act) = NothingDue (layout_of n before) (stream_acts n before) act
+NothingAct before (Stream n act) = NothingDue (story_of n before) (stream_acts n before) act
 NothingAct before _ = Unit {0}
 
 -- at every entry, at the moment before it

@@ -1,6 +1,6 @@
 -- What became of each frame that came, in words of the trace alone.
-use Rattle.std.specs.Prelude.{◌≡◌, ◌⊎◌, ℕ, ◌+◌, List, ◌++◌, ◌∷◌, length, take, replicate, slice_get, fold, Bool, true, false, if◌then◌else◌, Option, Some, None}
-use Rattle.std.specs.Option.{option_map_or}
+use Rattle.std.specs.Prelude.{◌≡◌, ℕ, ◌+◌, ◌==◌, ◌&&◌, List, [], ◌++◌, ◌∷◌, length, take, drop, replicate, is_some, Ok, Err, slice_get, fold, Bool, true, false, if◌then◌else◌, Option, Some, None}
+use Rattle.std.specs.Option.{option_map, option_map_or}
 use Rattle.iw_octets.specs.declared.fault.Fault.{Fault}
 use Rattle.iw_octets.specs.declared.fault.TheConstants.Fault as faults
 use Rattle.iw_octets.specs.declared.segment.Segment.{Segment}
@@ -11,65 +11,121 @@ use Rattle.iw_ranges.specs.Arrived.{Arrived, nothing, in_order}
 use Rattle.iw_fpdu.specs.declared.layout.Layout.{Layout}
 use Rattle.iw_fpdu.specs.Sequence.{Carried, frames_of}
 use Rattle.iw_untagged.specs.Receiving.{Receiving, nothing_received, with_buffer, written, finished, oldest, turn_fault}
-use Rattle.iw_stream.specs.Stream.{segment_in, payload_of, turned_by}
+use Rattle.iw_startup.specs.declared.config.Agreed.{Agreed}
+use Rattle.iw_startup.specs.declared.progress.Progress.{Progress}
+use Rattle.iw_startup.specs.declared.progress.Progress.TheVariants as progress
+use Rattle.iw_startup.specs.declared.side.Reply.{Reply}
+use Rattle.iw_startup.specs.declared.side.Reply.TheVariants as replies
+use Rattle.iw_startup.specs.Peer.{frame_part, progress_of}
+use Rattle.iw_startup.specs.State.{StartupState, is_responder, pushed, answered, frame_of, agreed_of, agreement, private_of}
+use Rattle.iw_stream.specs.Stream.{plain, layout_in, layout_out, layout_at_first, startup_at_first, segment_in, payload_of, turned_by}
 use Rattle.iw_stream.specs.Judging.{mismatch_fault, tagged_fault, untagged_fault}
 use Rattle.iw_events.specs.declared.act.Act.{Act}
 use Rattle.iw_events.specs.declared.act.Act.TheVariants.{Stream}
 use Rattle.iw_events.specs.declared.act.StreamAct.{StreamAct}
-use Rattle.iw_events.specs.declared.act.StreamAct.TheVariants.{Recv, Post, Emit, Deliver, Raw, Mulpdu, Work}
+use Rattle.iw_events.specs.declared.act.StreamAct.TheVariants.{Recv, Post, Emit, Deliver, Raw, Mulpdu, Accept, Reject, Work}
 use Rattle.iw_events.specs.declared.act.Seen.{Seen}
 use Rattle.iw_events.specs.declared.act.Seen.TheVariants as seen
 use Rattle.iw_events.specs.declared.act.Entry.{Entry}
-use Rattle.iw_world.specs.Words.{Octets, acts, stream_acts, layout_of, domain_of, ended, came_after, table_after}
+use Rattle.iw_world.specs.Words.{Octets, acts, stream_acts, Opening, opening_of, domain_of, ended, came_after, table_after}
 
 -- ---- what the acts of a stream say of the frames that came
 
 pub record Story : Type 0 where
   pub came : Arrived  -- the octets that came, each at its place
+  pub startup : Option StartupState  -- what this end asked for and answered, and the peer's start-up frame once it was read; none where the stream has none
+  pub heard : Bool  -- the peer's start-up frame was read
+  pub layout : Layout  -- of a stream that has no start-up
   pub turns : ℕ  -- how many frames had their turn
   pub placed : Bool  -- the frame whose turn is next has been placed
   pub receiving : Receiving  -- the receive buffers, with what was placed in them
 
--- the frames that lie whole in the octets that came without a gap, one behind the other
-abbrev pub frames_in : Layout → Arrived → List Carried
-frames_in layout came = frames_of layout 0 (in_order came)
+-- frames go both ways: at once, or once both ends agree
+abbrev pub is_open : Story → Bool
+is_open t = option_map_or (λ u. is_some (agreed_of u)) t.startup true
+
+-- how the frames of the peer are laid out, and those of this end
+abbrev pub expecting : Story → Layout
+expecting t = option_map_or (λ u. option_map_or layout_in (agreed_of u) plain) t.startup t.layout
+
+abbrev pub sending : Story → Layout
+sending t = option_map_or (λ u. option_map_or layout_out (agreed_of u) plain) t.startup t.layout
+
+-- this end's start-up frame
+abbrev pub start_frame : Story → Octets
+start_frame t = option_map_or frame_of t.startup []
+
+-- the place behind the peer's start-up frame
+abbrev pub first_place : Story → ℕ
+first_place t = option_map_or (λ u. length u.octets) t.startup 0
+
+-- a responder at which no frame had its turn
+abbrev pub is_silent : Story → Bool
+is_silent t = option_map_or (λ u. is_responder u.side) t.startup false && (t.turns == 0)
+
+-- the frames that lie whole in the octets that came without a gap behind the start-up frame, one behind the other
+abbrev pub frames_in : Story → List Carried
+frames_in t = frames_of (expecting t) 0 (drop (first_place t) (in_order t.came))
 
 -- the frame whose turn is next, where it is whole
-abbrev pub next_frame : Layout → Story → Option Carried
-next_frame layout t = slice_get (frames_in layout t.came) t.turns
+abbrev pub next_frame : Story → Option Carried
+next_frame t = slice_get (frames_in t) t.turns
 
 abbrev pub segment_of : Option Carried → Option (Segment Octets)
 segment_of None = None
 segment_of (Some frame) = segment_in frame
 
 -- the segment of that frame
-abbrev pub next_segment : Layout → Story → Option (Segment Octets)
-next_segment layout t = segment_of (next_frame layout t)
+abbrev pub next_segment : Story → Option (Segment Octets)
+next_segment t = segment_of (next_frame t)
 
-abbrev pub story_seen : Layout → Story → Seen Octets → Story
-story_seen layout t (seen.Placed right stag to octets) = record t { placed = true }
-story_seen layout t (seen.Buffered msn mo len) = record t { placed = true; receiving = written t.receiving msn mo (payload_of (next_segment layout t)) }
-story_seen layout t seen.Passed = record t { turns = t.turns + 1; placed = false; receiving = turned_by t.receiving (next_segment layout t) }
-story_seen layout t (seen.Received octets solicited invalidate) = record t { turns = t.turns + 1; placed = false; receiving = finished t.receiving }
-story_seen layout t (seen.Done kind) = t
-story_seen layout t (seen.Fault fault) = t
-story_seen layout t seen.Idle = t
+-- the peer's start-up frame is read off the octets that came
+abbrev pub hears : Story → Story
+hears t = record t { startup = option_map (λ u. pushed u (in_order t.came)) t.startup; heard = true }
 
-abbrev pub story_after : Layout → Story → StreamAct Octets → Story
-story_after layout t (Work step) = story_seen layout t step
-story_after layout t (Deliver from octets delivery) = record t { came = came_after t.came (Deliver from octets delivery) }
-story_after layout t (Raw from octets delivery) = record t { came = came_after t.came (Raw from octets delivery) }
-story_after layout t (Mulpdu size refused) = t
-story_after layout t (Recv len None) = record t { receiving = with_buffer t.receiving (replicate len 0) }
-story_after layout t (Recv len (Some refusal)) = t
-story_after layout t (Emit shown) = t
-story_after layout t (Post message refused) = t
+abbrev pub answers_with : Story → Reply → Story
+answers_with t reply = record t { startup = option_map (λ u. answered u reply) t.startup }
 
-abbrev pub untold : Story
-untold = record { came = nothing; turns = 0; placed = false; receiving = nothing_received }
+abbrev pub story_seen : Story → Seen Octets → Story
+story_seen t (seen.Asked private) = hears t
+story_seen t (seen.Opened agreed private) = hears t
+story_seen t (seen.Closed fault) = hears t
+story_seen t (seen.Placed right stag to octets) = record t { placed = true }
+story_seen t (seen.Buffered msn mo len) = record t { placed = true; receiving = written t.receiving msn mo (payload_of (next_segment t)) }
+story_seen t seen.Passed = record t { turns = t.turns + 1; placed = false; receiving = turned_by t.receiving (next_segment t) }
+story_seen t (seen.Received octets solicited invalidate) = record t { turns = t.turns + 1; placed = false; receiving = finished t.receiving }
+story_seen t (seen.Done kind) = t
+story_seen t (seen.Fault fault) = t
+story_seen t seen.Idle = t
 
-unfoldable pub story : Layout → List (StreamAct Octets) → Story
-story layout done = fold (story_after layout) untold done
+abbrev pub story_after : Story → StreamAct Octets → Story
+story_after t (Work step) = story_seen t step
+story_after t (Deliver from octets delivery) = record t { came = came_after t.came (Deliver from octets delivery) }
+story_after t (Raw from octets delivery) = record t { came = came_after t.came (Raw from octets delivery) }
+story_after t (Accept private (Ok agreed)) = answers_with t (replies.Accept (record { items = take 512 private }))
+story_after t (Accept private (Err refusal)) = t
+story_after t (Reject private None) = answers_with t (replies.Reject (record { items = take 512 private }))
+story_after t (Reject private (Some refusal)) = t
+story_after t (Mulpdu size refused) = t
+story_after t (Recv len None) = record t { receiving = with_buffer t.receiving (replicate len 0) }
+story_after t (Recv len (Some refusal)) = t
+story_after t (Emit shown) = t
+story_after t (Post message refused) = t
+
+-- of a stream that was opened so
+abbrev pub untold : Opening → Story
+untold o = record {
+  came = nothing;
+  startup = startup_at_first o.role o.config;
+  heard = false;
+  layout = layout_at_first o.role o.config;
+  turns = 0;
+  placed = false;
+  receiving = nothing_received;
+}
+
+unfoldable pub story : Opening → List (StreamAct Octets) → Story
+story o done = fold story_after (untold o) done
 
 -- ---- how a frame is answered
 
@@ -108,30 +164,49 @@ abbrev pub turn_of : Standing → Carried → Seen Octets
 turn_of s frame = turn_by s (segment_in frame)
 
 -- an answer is that of the frame whose turn is next, which is whole: a frame that was not placed is judged, and a placed one has its turn
-pub record AnswersNext (layout : Layout) (t : Story) (s : Standing) (step : Seen Octets) : Type 0 where
+pub record AnswersNext (t : Story) (s : Standing) (step : Seen Octets) : Type 0 where
   pub frame : Carried
-  pub is_next : next_frame layout t ≡ Some frame
+  pub is_next : next_frame t ≡ Some frame
   pub answer : step ≡ (if t.placed then turn_of s frame else verdict s frame)
+
+-- the peer's start-up frame was awaited, and comes to this by the octets that came
+pub record HearsFrame (t : Story) (outcome : Progress) : Type 0 where
+  pub startup : StartupState
+  pub is : t.startup ≡ Some startup
+  pub awaited : t.heard ≡ false
+  pub comes : progress_of startup.side (in_order t.came) ≡ outcome
+
+-- so an initiator learns what was agreed
+pub record HearsReply (t : Story) (agreed : Agreed) : Type 0 where
+  pub hears : HearsFrame t progress.Agreed
+  pub agreed_is : agreed ≡ agreement hears.startup.config (frame_part hears.startup.side (in_order t.came))
+
+-- the private data of the peer's frame, once that is read
+abbrev pub private_heard : Story → Octets
+private_heard t = option_map_or private_of (hears t).startup []
 
 -- ---- the law
 
 abbrev pub story_of : ℕ → List (Act Octets) → Story
-story_of n before = story (layout_of n before) (stream_acts n before)
+story_of n before = story (opening_of n before) (stream_acts n before)
 
 abbrev pub standing : ℕ → List (Act Octets) → Standing
 standing n before = record { table = table_after before; domain = domain_of n before; receiving = (story_of n before).receiving }
 
-abbrev pub TurnsSeen : Layout → Story → Standing → Seen Octets → Type 0
-TurnsSeen layout t s (seen.Done kind) = Unit {0}
-TurnsSeen layout t s seen.Idle = Unit {0}
-TurnsSeen layout t s (seen.Placed right stag to octets) = AnswersNext layout t s (seen.Placed right stag to octets)
-TurnsSeen layout t s (seen.Buffered msn mo len) = AnswersNext layout t s (seen.Buffered msn mo len)
-TurnsSeen layout t s seen.Passed = AnswersNext layout t s seen.Passed
-TurnsSeen layout t s (seen.Received octets solicited invalidate) = AnswersNext layout t s (seen.Received octets solicited invalidate)
-TurnsSeen layout t s (seen.Fault fault) = AnswersNext layout t s (seen.Fault fault)
+abbrev pub TurnsSeen : Story → Standing → Seen Octets → Type 0
+TurnsSeen t s (seen.Done kind) = Unit {0}
+TurnsSeen t s seen.Idle = Unit {0}
+TurnsSeen t s (seen.Asked private) = HearsFrame t progress.Asked × (private ≡ private_heard t)
+TurnsSeen t s (seen.Opened agreed private) = HearsReply t agreed × (private ≡ private_heard t)
+TurnsSeen t s (seen.Closed fault) = HearsFrame t (progress.Faulted fault)
+TurnsSeen t s (seen.Placed right stag to octets) = AnswersNext t s (seen.Placed right stag to octets)
+TurnsSeen t s (seen.Buffered msn mo len) = AnswersNext t s (seen.Buffered msn mo len)
+TurnsSeen t s seen.Passed = AnswersNext t s seen.Passed
+TurnsSeen t s (seen.Received octets solicited invalidate) = AnswersNext t s (seen.Received octets solicited invalidate)
+TurnsSeen t s (seen.Fault fault) = AnswersNext t s (seen.Fault fault)
 
 abbrev pub TurnsStream : List (Act Octets) → ℕ → StreamAct Octets → Type 0
-TurnsStream before n (Work step) = TurnsSeen (layout_of n before) (story_of n before) (standing n before) step
+TurnsStream before n (Work step) = TurnsSeen (story_of n before) (standing n before) step
 TurnsStream before n _ = Unit {0}
 
 abbrev pub TurnsAct : List (Act Octets) → Act Octets → Type 0
@@ -144,9 +219,15 @@ Turns trace = (past : List (Entry Octets)) (e : Entry Octets) (future : List (En
 
 -- ---- rest
 
--- where there is nothing to do, every frame that came had its turn, or the stream has ended
+-- why there is nothing to do: the stream has ended; the peer's start-up frame is not whole; the user has not answered it; or every frame that came had its turn
+pub data IsAtRest (over : Bool) (t : Story) : Type 0 where
+  Over : over ≡ true → IsAtRest over t
+  AwaitsFrame : HearsFrame t progress.More → IsAtRest over t
+  AwaitsAnswer : is_open t ≡ false → t.heard ≡ true → IsAtRest over t
+  NoFrame : next_frame t ≡ None → IsAtRest over t
+
 abbrev pub IdleStream : List (Act Octets) → ℕ → StreamAct Octets → Type 0
-IdleStream before n (Work seen.Idle) = (ended (stream_acts n before) ≡ true) ⊎ (next_frame (layout_of n before) (story_of n before) ≡ None)
+IdleStream before n (Work seen.Idle) = IsAtRest (ended (stream_acts n before)) (story_of n before)
 IdleStream before n _ = Unit {0}
 
 abbrev pub IdleAct : List (Act Octets) → Act Octets → Type 0

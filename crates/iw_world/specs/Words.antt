@@ -1,5 +1,5 @@
 -- What a trace says has happened, by its entries alone.
-use Rattle.std.specs.Prelude.{ℕ, ◌+◌, ◌%◌, ◌^◌, ◌==◌, List, [], ◌∷◌, ◌++◌, length, drop, Bool, true, false, if◌then◌else◌, Option, Some, None, Ok, Err, fold}
+use Rattle.std.specs.Prelude.{ℕ, ◌+◌, ◌%◌, ◌^◌, ◌==◌, List, [], ◌∷◌, ◌++◌, length, take, drop, Bool, true, false, if◌then◌else◌, Option, Some, None, Ok, Err, fold}
 use Rattle.std.specs.List.{flat_map}
 use Rattle.iw_octets.specs.declared.stag.Stag.{Stag}
 use Rattle.iw_octets.specs.declared.message.Message.{Message}
@@ -11,11 +11,13 @@ use Rattle.iw_ranges.specs.Arrived.{Arrived, taken_in}
 use Rattle.iw_events.specs.declared.call.End.{End}
 use Rattle.iw_events.specs.declared.call.End.TheVariants.{A, B}
 use Rattle.iw_events.specs.declared.call.Options.{Options}
-use Rattle.iw_fpdu.specs.declared.layout.Layout.{Layout}
+use Rattle.iw_startup.specs.declared.config.Config.{Config}
+use Rattle.iw_stream.specs.declared.answer.Role.{Role}
+use Rattle.iw_stream.specs.declared.answer.Role.TheVariants.{Preset}
 use Rattle.iw_events.specs.declared.act.Act.{Act}
 use Rattle.iw_events.specs.declared.act.Act.TheVariants.{Domain, Register, Deregister, Invalidate, Store, Open, Stream}
 use Rattle.iw_events.specs.declared.act.StreamAct.{StreamAct}
-use Rattle.iw_events.specs.declared.act.StreamAct.TheVariants.{Recv, Post, Emit, Deliver, Raw, Mulpdu, Work}
+use Rattle.iw_events.specs.declared.act.StreamAct.TheVariants.{Recv, Post, Emit, Deliver, Raw, Mulpdu, Accept, Reject, Work}
 use Rattle.iw_events.specs.declared.act.Shown.TheVariants.{Frame, Nothing}
 use Rattle.iw_events.specs.declared.act.Seen.{Seen}
 use Rattle.iw_events.specs.declared.act.Seen.TheVariants as seen
@@ -54,13 +56,18 @@ stream_acts n done = flat_map (stream_acts_by n) done
 
 -- ---- a stream that was opened
 
--- in which domain, and what the end asked for
+-- in which domain, in which role, and what the end asked for
 pub record Opening : Type 0 where
   pub domain : ℕ
-  pub options : Options
+  pub role : Role
+  pub config : Config
+
+-- a start-up frame has room for 512 octets of private data
+abbrev pub config_for : Options → Octets → Config
+config_for options private = record { markers = options.markers; crc = options.crc; private = record { items = take 512 private } }
 
 abbrev pub openings_by : ℕ → Act Octets → List Opening
-openings_by n (Open number pd role options private None) = if number == n then record { domain = pd; options = options } ∷ [] else []
+openings_by n (Open number pd role options private None) = if number == n then record { domain = pd; role = role; config = config_for options private } ∷ [] else []
 openings_by n (Open number pd role options private (Some refusal)) = []
 openings_by n (Stream number act) = []
 openings_by n (Domain pd refused) = []
@@ -73,25 +80,20 @@ openings_by n (Store stag to octets refused) = []
 unfoldable pub openings : ℕ → List (Act Octets) → List Opening
 openings n done = flat_map (openings_by n) done
 
--- how the frames of a stream with these options are laid out, in both directions
-abbrev pub layout_for : Options → Layout
-layout_for options = record { markers = options.markers; crc = options.crc }
+-- what stands for an opening where there was none
+abbrev pub no_opening : Opening
+no_opening = record { domain = 0; role = Preset; config = record { markers = false; crc = false; private = record { items = [] } } }
 
--- how those of the stream are; plain where none was opened
-abbrev pub layout_in : List Opening → Layout
-layout_in [] = record { markers = false; crc = false }
-layout_in (opening ∷ others) = layout_for opening.options
+abbrev pub opening_in : List Opening → Opening
+opening_in [] = no_opening
+opening_in (opening ∷ others) = opening
 
-abbrev pub layout_of : ℕ → List (Act Octets) → Layout
-layout_of n done = layout_in (openings n done)
+abbrev pub opening_of : ℕ → List (Act Octets) → Opening
+opening_of n done = opening_in (openings n done)
 
 -- the domain that the stream was opened in
-abbrev pub domain_in : List Opening → ℕ
-domain_in [] = 0
-domain_in (opening ∷ others) = opening.domain
-
 abbrev pub domain_of : ℕ → List (Act Octets) → ℕ
-domain_of n done = domain_in (openings n done)
+domain_of n done = (opening_of n done).domain
 
 -- ---- messages
 
@@ -103,6 +105,8 @@ posted_by (Emit shown) = []
 posted_by (Deliver from octets delivery) = []
 posted_by (Raw from octets delivery) = []
 posted_by (Mulpdu size refused) = []
+posted_by (Accept private answer) = []
+posted_by (Reject private refused) = []
 posted_by (Work step) = []
 
 -- the messages accepted, in order
@@ -123,6 +127,9 @@ sends (Send octets solicited invalidate ∷ ms) = record { octets = octets; soli
 abbrev pub received_in : Seen Octets → List Sent
 received_in (seen.Received octets solicited invalidate) = record { octets = octets; solicited = solicited; invalidate = invalidate } ∷ []
 received_in (seen.Done kind) = []
+received_in (seen.Asked private) = []
+received_in (seen.Opened agreed private) = []
+received_in (seen.Closed fault) = []
 received_in (seen.Placed right stag to octets) = []
 received_in (seen.Buffered msn mo len) = []
 received_in seen.Passed = []
@@ -137,6 +144,8 @@ received_by (Emit shown) = []
 received_by (Deliver from octets delivery) = []
 received_by (Raw from octets delivery) = []
 received_by (Mulpdu size refused) = []
+received_by (Accept private answer) = []
+received_by (Reject private refused) = []
 
 -- the Sends received, in order
 unfoldable pub received : List (StreamAct Octets) → List Sent
@@ -147,6 +156,8 @@ received done = flat_map received_by done
 abbrev pub raw_after : Bool → StreamAct Octets → Bool
 raw_after raw (Raw from octets delivery) = true
 raw_after raw (Mulpdu size refused) = raw
+raw_after raw (Accept private answer) = raw
+raw_after raw (Reject private refused) = raw
 raw_after raw (Deliver from octets delivery) = raw
 raw_after raw (Emit shown) = raw
 raw_after raw (Post message refused) = raw
@@ -162,6 +173,9 @@ has_raw done = fold raw_after false done
 abbrev pub ended_seen : Bool → Seen Octets → Bool
 ended_seen ended (seen.Fault fault) = true
 ended_seen ended (seen.Done kind) = ended
+ended_seen ended (seen.Asked private) = ended
+ended_seen ended (seen.Opened agreed private) = ended
+ended_seen ended (seen.Closed fault) = true
 ended_seen ended (seen.Placed right stag to octets) = ended
 ended_seen ended (seen.Buffered msn mo len) = ended
 ended_seen ended seen.Passed = ended
@@ -173,11 +187,14 @@ ended_after ended (Work step) = ended_seen ended step
 ended_after ended (Deliver from octets delivery) = ended
 ended_after ended (Raw from octets delivery) = ended
 ended_after ended (Mulpdu size refused) = ended
+ended_after ended (Accept private answer) = ended
+ended_after ended (Reject private None) = true
+ended_after ended (Reject private (Some refusal)) = ended
 ended_after ended (Emit shown) = ended
 ended_after ended (Post message refused) = ended
 ended_after ended (Recv len refused) = ended
 
--- whether the stream has ended, which a fault alone does
+-- whether the stream has ended: by a fault, by the peer's start-up frame, or by this end's rejection
 unfoldable pub ended : List (StreamAct Octets) → Bool
 ended done = fold ended_after false done
 
@@ -191,6 +208,8 @@ sent_by (Recv len refused) = []
 sent_by (Deliver from octets delivery) = []
 sent_by (Raw from octets delivery) = []
 sent_by (Mulpdu size refused) = []
+sent_by (Accept private answer) = []
+sent_by (Reject private refused) = []
 sent_by (Work step) = []
 
 -- the octets emitted, in order
@@ -204,6 +223,8 @@ came_after came (Raw from octets Kept) = taken_in came from octets
 came_after came (Deliver from octets Dropped) = came
 came_after came (Raw from octets Dropped) = came
 came_after came (Mulpdu size refused) = came
+came_after came (Accept private answer) = came
+came_after came (Reject private refused) = came
 came_after came (Emit shown) = came
 came_after came (Post message refused) = came
 came_after came (Recv len refused) = came
@@ -215,6 +236,9 @@ abbrev pub table_seen : Table → Seen Octets → Table
 table_seen table (seen.Placed right stag to octets) = put table stag to octets
 table_seen table (seen.Received octets solicited invalidate) = table
 table_seen table (seen.Done kind) = table
+table_seen table (seen.Asked private) = table
+table_seen table (seen.Opened agreed private) = table
+table_seen table (seen.Closed fault) = table
 table_seen table (seen.Buffered msn mo len) = table
 table_seen table seen.Passed = table
 table_seen table (seen.Fault fault) = table
@@ -225,6 +249,8 @@ table_by_stream table (Work step) = table_seen table step
 table_by_stream table (Deliver from octets delivery) = table
 table_by_stream table (Raw from octets delivery) = table
 table_by_stream table (Mulpdu size refused) = table
+table_by_stream table (Accept private answer) = table
+table_by_stream table (Reject private refused) = table
 table_by_stream table (Emit shown) = table
 table_by_stream table (Post message refused) = table
 table_by_stream table (Recv len refused) = table
@@ -255,6 +281,9 @@ placed_in (seen.Placed rights.Read stag to octets) = []
 placed_in (seen.Placed rights.Sink stag to octets) = []
 placed_in (seen.Received octets solicited invalidate) = []
 placed_in (seen.Done kind) = []
+placed_in (seen.Asked private) = []
+placed_in (seen.Opened agreed private) = []
+placed_in (seen.Closed fault) = []
 placed_in (seen.Buffered msn mo len) = []
 placed_in seen.Passed = []
 placed_in (seen.Fault fault) = []
@@ -265,6 +294,8 @@ placed_by (Work step) = placed_in step
 placed_by (Deliver from octets delivery) = []
 placed_by (Raw from octets delivery) = []
 placed_by (Mulpdu size refused) = []
+placed_by (Accept private answer) = []
+placed_by (Reject private refused) = []
 placed_by (Emit shown) = []
 placed_by (Post message refused) = []
 placed_by (Recv len refused) = []
@@ -279,6 +310,9 @@ abbrev pub buffers_seen : List ℕ → Seen Octets → List ℕ
 buffers_seen lens (seen.Received octets solicited invalidate) = drop 1 lens
 buffers_seen lens (seen.Placed right stag to octets) = lens
 buffers_seen lens (seen.Done kind) = lens
+buffers_seen lens (seen.Asked private) = lens
+buffers_seen lens (seen.Opened agreed private) = lens
+buffers_seen lens (seen.Closed fault) = lens
 buffers_seen lens (seen.Buffered msn mo len) = lens
 buffers_seen lens seen.Passed = lens
 buffers_seen lens (seen.Fault fault) = lens
@@ -291,6 +325,8 @@ buffers_after lens (Work step) = buffers_seen lens step
 buffers_after lens (Deliver from octets delivery) = lens
 buffers_after lens (Raw from octets delivery) = lens
 buffers_after lens (Mulpdu size refused) = lens
+buffers_after lens (Accept private answer) = lens
+buffers_after lens (Reject private refused) = lens
 buffers_after lens (Emit shown) = lens
 buffers_after lens (Post message refused) = lens
 

@@ -2,14 +2,13 @@ ghost use Rattle.std.specs.Prelude.{◌≡◌, ◌≢◌, ◌+◌, ◌<◌, ◌�
 ghost use Rattle.iw_memory.specs.Table.{Table};
 ghost use Rattle.iw_events.specs.Events.{stream_call_of};
 
-use crate::copies::{known, shared, standing};
+use crate::copies::{known, message_in, private_data, shared, standing};
 use crate::fault::Failure;
 use bytes::Bytes;
 use iw_events::{Seen, Shown, StreamAct, StreamCall};
-use iw_fpdu::Layout;
 use iw_memory::Memory;
-use iw_octets::Message;
-use iw_stream::{Emission, PostRefusal, RecvRefusal, Step, Stream};
+use iw_octets::{Message, Octets};
+use iw_stream::{Agreed, Config, Emission, NotAsked, PostRefusal, RecvRefusal, Role, Step, Stream};
 use std::alloc::{AllocError, Allocator, Global};
 use std::marker::Model;
 
@@ -30,15 +29,20 @@ impl<A: Allocator> Model for Connection<A> {
 
 impl<A: Allocator + Copy> Connection<A> {
     ghost use Rattle.iw_world.specs.Words.{table_by_stream};
-    ghost use Rattle.iw_stream.specs.Stream.{post_refusal};
-    ghost use Rattle.iw_world.specs.Rules.{connected, connected_after, StreamRule};
+    ghost use Rattle.iw_stream.specs.Stream.{post_refusal, private_of};
+    ghost use Rattle.iw_world.specs.Rules.{connected, connected_after, StreamRule, seen_of, accept_answer, answer_refusal};
     ghost use Rattle.iw_world.specs.Bounds.{IsShort, AsksOver};
 
-    pub(crate) fn new(alloc: A, domain: u8, layout: Layout) -> Result<Connection<A>, AllocError>
-        ensures { IfOk result (λ connection. connection ≡ connected domain layout) }
+    pub(crate) fn new(
+        alloc: A,
+        domain: u8,
+        role: Role,
+        config: Config,
+    ) -> Result<Connection<A>, AllocError>
+        ensures { IfOk result (λ connection. connection ≡ connected (record { domain = domain; role = role; config = config })) }
     {
         Ok(Connection {
-            stream: Stream::new(alloc, domain, layout)?,
+            stream: Stream::new(alloc, domain, role, config)?,
             wire: Vec::new(alloc),
         })
     }
@@ -74,6 +78,8 @@ impl<A: Allocator + Copy> Connection<A> {
             StreamCall::Deliver { from, len } => self.deliver(alloc, peer, *from, *len),
             StreamCall::Raw { from, octets } => self.raw(*from, octets),
             StreamCall::Mulpdu { size } => Ok(self.mulpdu(*size)),
+            StreamCall::Accept { private } => self.accept(private),
+            StreamCall::Reject { private } => self.reject(private),
             StreamCall::Work => self.work(alloc, memory),
         }
     }
@@ -200,7 +206,53 @@ impl<A: Allocator + Copy> Connection<A> {
         StreamAct::Mulpdu { size, refused }
     }
 
-    #[tactic(auto, using(crate::proofs::Seeing::table_of_seen))]
+    fn accept(&mut self, private: &Bytes<A>) -> Result<StreamAct<Bytes<A>>, Failure>
+        ensures rule { IfOk result (λ act. (table : Table) (peer : List ℕ) → StreamRule table peer self.old.stream act) }
+        ensures call { IfOk result (λ act. stream_call_of act ≡ StreamCall.Accept private.now) }
+        ensures state { IfOk result (λ act. self.new ≡ connected_after self.old act) }
+        ensures memory { IfOk result (λ act. (table : Table) → table_by_stream table act ≡ table) }
+        ensures failure { IfErr result (λ failure. failure ≡ Failure.NoMemory) }
+    {
+        let copy = private.clone()?;
+        let answer = self.try_accept(private.as_slice());
+        Ok(StreamAct::Accept {
+            private: copy,
+            answer,
+        })
+    }
+
+    // Accepts the Request that came: what was agreed, or that there is none to answer.
+    fn try_accept(&mut self, private: &[u8]) -> Result<Agreed, NotAsked>
+        ensures rule { result ≡ accept_answer self.old.stream }
+        ensures state { self.new ≡ connected_after self.old (StreamAct.Accept private.now result) }
+    {
+        self.stream.accept(private_data(private))
+    }
+
+    fn reject(&mut self, private: &Bytes<A>) -> Result<StreamAct<Bytes<A>>, Failure>
+        ensures rule { IfOk result (λ act. (table : Table) (peer : List ℕ) → StreamRule table peer self.old.stream act) }
+        ensures call { IfOk result (λ act. stream_call_of act ≡ StreamCall.Reject private.now) }
+        ensures state { IfOk result (λ act. self.new ≡ connected_after self.old act) }
+        ensures memory { IfOk result (λ act. (table : Table) → table_by_stream table act ≡ table) }
+        ensures failure { IfErr result (λ failure. failure ≡ Failure.NoMemory) }
+    {
+        let copy = private.clone()?;
+        let refused = self.try_reject(private.as_slice());
+        Ok(StreamAct::Reject {
+            private: copy,
+            refused,
+        })
+    }
+
+    // Rejects the Request that came, or tells that there is none to answer.
+    fn try_reject(&mut self, private: &[u8]) -> Option<NotAsked>
+        ensures rule { result ≡ answer_refusal self.old.stream }
+        ensures state { self.new ≡ connected_after self.old (StreamAct.Reject private.now result) }
+    {
+        self.stream.reject(private_data(private)).err()
+    }
+
+    #[tactic(auto, using(crate::proofs::Seeing::table_of_seen, crate::proofs::Seeing::worked_seen))]
     fn work(&mut self, alloc: A, memory: &mut Memory<A>) -> Result<StreamAct<Bytes<A>>, Failure>
         requires { IsShort self.old.stream }
         ensures rule { IfOk result (λ act. (peer : List ℕ) → StreamRule memory.old peer self.old.stream act) }
@@ -209,38 +261,62 @@ impl<A: Allocator + Copy> Connection<A> {
         ensures memory { IfOk result (λ act. memory.new ≡ table_by_stream memory.old act) }
         ensures failure { IfErr result (λ failure. failure ≡ Failure.NoMemory) }
     {
-        let seen = match self.stream.work(memory) {
-            Step::Done(kind) => Seen::Done(kind),
+        let step = self.stream.work(memory);
+        let seen = self.seen(alloc, memory, step)?;
+        Ok(StreamAct::Work(seen))
+    }
+
+    // What is shown of a step that left the stream and the memory so.
+    fn seen(
+        &self,
+        alloc: A,
+        memory: &Memory<A>,
+        step: Step<Octets<A>>,
+    ) -> Result<Seen<Bytes<A>>, AllocError>
+        ensures { IfOk result (λ seen. seen ≡ seen_of memory.now (private_of self.now.stream) step) }
+    {
+        match step {
+            Step::Done(kind) => Ok(Seen::Done(kind)),
+            Step::Asked => Ok(Seen::Asked {
+                private: self.private(alloc)?,
+            }),
+            Step::Opened(agreed) => Ok(Seen::Opened {
+                agreed,
+                private: self.private(alloc)?,
+            }),
+            Step::Closed(fault) => Ok(Seen::Closed(fault)),
             Step::Placed {
                 right,
                 stag,
                 to,
                 len,
-            } => Seen::Placed {
+            } => Ok(Seen::Placed {
                 right,
                 stag,
                 to,
                 octets: standing(alloc, memory, stag, to, len)?,
-            },
-            Step::Buffered { msn, mo, len } => Seen::Buffered { msn, mo, len },
-            Step::Passed => Seen::Passed,
+            }),
+            Step::Buffered { msn, mo, len } => Ok(Seen::Buffered { msn, mo, len }),
+            Step::Passed => Ok(Seen::Passed),
             Step::Received {
                 buffer,
                 len,
                 solicited,
                 invalidate,
-            } => {
-                let mut octets = Bytes::from_vec(buffer.into_vec())?;
-                octets.truncate(len);
-                Seen::Received {
-                    octets,
-                    solicited,
-                    invalidate,
-                }
-            }
-            Step::Fault(fault) => Seen::Fault(fault),
-            Step::Idle => Seen::Idle,
-        };
-        Ok(StreamAct::Work(seen))
+            } => Ok(Seen::Received {
+                octets: message_in(buffer, len)?,
+                solicited,
+                invalidate,
+            }),
+            Step::Fault(fault) => Ok(Seen::Fault(fault)),
+            Step::Idle => Ok(Seen::Idle),
+        }
+    }
+
+    // The private data of the peer's start-up frame, once that was read.
+    fn private(&self, alloc: A) -> Result<Bytes<A>, AllocError>
+        ensures { IfOk result (λ private. private ≡ private_of self.now.stream) }
+    {
+        Bytes::copy_from_slice(alloc, self.stream.private())
     }
 }

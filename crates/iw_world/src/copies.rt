@@ -4,10 +4,13 @@ ghost use Rattle.std.specs.Prelude.{◌≡◌, ◌+◌, ◌-◌, ◌≤◌, ◌<
 ghost use Rattle.iw_world.specs.Fitting.{FitsMessage};
 ghost use Rattle.iw_octets.specs.Stag.{FitsStag};
 ghost use Rattle.iw_memory.specs.Table.{octets_at};
+ghost use Rattle.iw_world.specs.Rules.{private_data};
 
 use bytes::Bytes;
 use iw_memory::{Memory, Stag};
-use iw_octets::Message;
+use iw_octets::{Message, Octets};
+use iw_startup::MAX_PRIVATE;
+use iw_stream::PrivateData;
 use std::alloc::{AllocError, Allocator};
 
 /// The same message; its octets are shared, not copied.
@@ -78,4 +81,25 @@ pub(crate) fn standing<A: Allocator + Copy>(
     let at = to.saturating_sub(facts.base).min(octets.len() as u64) as usize;
     let rest = &octets[at..];
     Bytes::copy_from_slice(alloc, &rest[..len.min(rest.len())])
+}
+
+/// Private data as a start-up frame has it: the first 512 octets.
+pub(crate) fn private_data(octets: &[u8]) -> PrivateData
+    ensures { result ≡ private_data octets.now }
+{
+    let mut private = PrivateData::new();
+    let _ = private.try_extend_from_slice(&octets[..MAX_PRIVATE.min(octets.len())]);
+    private
+}
+
+/// The message that a buffer holds: its first `len` octets.
+pub(crate) fn message_in<A: Allocator + Copy>(
+    buffer: Octets<A>,
+    len: usize,
+) -> Result<Bytes<A>, AllocError>
+    ensures { IfOk result (λ message. message ≡ take len buffer) }
+{
+    let mut octets = Bytes::from_vec(buffer.into_vec())?;
+    octets.truncate(len);
+    Ok(octets)
 }

@@ -1,16 +1,17 @@
 ghost use Rattle.std.specs.Prelude.{◌≡◌, ◌≤◌, ◌^◌, true, false, length, is_some, unwrap_or, IfOk, IfErr, OnErr, Some, None, slice_index_or};
-ghost use Rattle.iw_world.specs.Words.{table_by_stream, layout_for};
+ghost use Rattle.iw_world.specs.Words.{table_by_stream, config_for};
 ghost use Rattle.iw_world.specs.Rules.{unconnected, connected_after, StreamRule, needs_peer};
 ghost use Rattle.iw_world.specs.Bounds.{IsShort, AsksOver};
 ghost use Rattle.std.specs.Option.{option_copied};
 ghost use Rattle.iw_events.specs.Events.{call_of, stream_call_of};
 
 use crate::connection::Connection;
+use crate::copies::private_data;
 use crate::fault::Failure;
 use bytes::Bytes;
 use iw_events::{Act, Call, OpenRefusal, Options, StreamAct, StreamCall};
-use iw_fpdu::Layout;
 use iw_memory::{Memory, RegisterRefusal, Rights, Stag};
+use iw_stream::{Config, Role};
 use std::alloc::{AllocError, Allocator, Global};
 use std::marker::Model;
 
@@ -104,18 +105,7 @@ impl<A: Allocator + Copy> Endpoint<A> {
                 role,
                 options,
                 private,
-            } => {
-                let private = private.clone()?;
-                let refused = self.open(alloc, *stream, *pd, *options)?;
-                Ok(Act::Open {
-                    stream: *stream,
-                    pd: *pd,
-                    role: *role,
-                    options: *options,
-                    private,
-                    refused,
-                })
-            }
+            } => self.open(alloc, *stream, *pd, *role, *options, private),
             Call::Stream { stream, call } => {
                 let act = self.act_on(alloc, peer, *stream, call)?;
                 Ok(Act::Stream {
@@ -224,16 +214,44 @@ impl<A: Allocator + Copy> Endpoint<A> {
         })
     }
 
-    // Opens a stream in a domain, or tells why not. An `Err` is want of memory, and changes nothing.
     fn open(
         &mut self,
         alloc: A,
         number: u8,
         pd: u8,
+        role: Role,
         options: Options,
+        private: &Bytes<A>,
+    ) -> Result<Act<Bytes<A>>, Failure>
+        ensures rule { IfOk result (λ act. Rule self.old self.old act) }
+        ensures call { IfOk result (λ act. call_of act ≡ Call.Open number pd role options private.now) }
+        ensures state { IfOk result (λ act. self.new ≡ end_after self.old act) }
+        ensures failure { IfErr result (λ failure. failure ≡ Failure.NoMemory) }
+    {
+        let copy = private.clone()?;
+        let config = config_for(options, private.as_slice());
+        let refused = self.try_open(alloc, number, pd, role, config)?;
+        Ok(Act::Open {
+            stream: number,
+            pd,
+            role,
+            options,
+            private: copy,
+            refused,
+        })
+    }
+
+    // Opens a stream in a domain, or tells why not. An `Err` is want of memory, and changes nothing.
+    fn try_open(
+        &mut self,
+        alloc: A,
+        number: u8,
+        pd: u8,
+        role: Role,
+        config: Config,
     ) -> Result<Option<OpenRefusal>, AllocError>
         ensures rule { IfOk result (λ refused. refused ≡ open_refusal self.old number pd) }
-        ensures state { IfOk result (λ refused. self.new ≡ opened_end self.old number pd options refused) }
+        ensures state { IfOk result (λ refused. self.new ≡ opened_end self.old number (record { domain = pd; role = role; config = config }) refused) }
         ensures err { OnErr result (self.new ≡ self.old) }
     {
         if self.has_stream(number) {
@@ -245,7 +263,7 @@ impl<A: Allocator + Copy> Endpoint<A> {
         if !self.memory.has_domain(pd) {
             return Ok(Some(OpenRefusal::NoDomain));
         }
-        let connection = Connection::new(alloc, pd, layout_for(options))?;
+        let connection = Connection::new(alloc, pd, role, config)?;
         if let Some(place) = self.streams.get_mut(number as usize) {
             *place = Some(connection);
         }
@@ -279,13 +297,14 @@ impl<A: Allocator + Copy> Endpoint<A> {
     }
 }
 
-// How the frames of a stream with these options are laid out.
-fn layout_for(options: Options) -> Layout
-    ensures { result ≡ layout_for options }
+// What an end asks for that opens a stream with these options and this private data.
+fn config_for(options: Options, private: &[u8]) -> Config
+    ensures { result ≡ config_for options private.now }
 {
-    Layout {
+    Config {
         markers: options.markers,
         crc: options.crc,
+        private: private_data(private),
     }
 }
 
@@ -300,6 +319,8 @@ fn needs_peer<A: Allocator>(call: &StreamCall<Bytes<A>>) -> bool
         | StreamCall::Emit
         | StreamCall::Raw { .. }
         | StreamCall::Mulpdu { .. }
+        | StreamCall::Accept { .. }
+        | StreamCall::Reject { .. }
         | StreamCall::Work => false,
     }
 }
