@@ -1,5 +1,6 @@
 use iw_program::{ReplayFault, Status, replay};
 use iw_testing::{Endless, FailsAt, Halting};
+use std::alloc::Global;
 use std::io::ErrorKind;
 use std::process::Abort;
 use std::test::Fail;
@@ -30,6 +31,44 @@ a emit 0 frame 28 00144143000000000000000000000001000000006869000000000000
 b deliver 0 kept
 b work 0 placed write 01000000 4096 1122334455667788
 b work 0 passed
+b work 0 buffered 1 0 2
+b work 0 received 6869 plain -
+";
+
+// Start-up with markers one way and CRCs, and a message.
+const START_UP: &str = "a domain 1
+b domain 1
+a open 0 1 initiator m cafe
+b open 0 1 responder c -
+a emit 0
+b deliver 0 0 22
+b work 0
+b accept 0 beef
+b emit 0
+a deliver 0 0 22
+a work 0
+b recv 0 2
+a send 0 plain - 6869
+a emit 0
+b deliver 0 22 28
+b work 0 2
+";
+
+const START_UP_TRACE: &str = "a domain 1 ok
+b domain 1 ok
+a open 0 ok
+b open 0 ok
+a emit 0 frame 0 4d504120494420526571204672616d6580010002cafe
+b deliver 0 kept
+b work 0 asked cafe
+b accept 0 ok sc
+b emit 0 frame 0 4d504120494420526570204672616d6540010002beef
+a deliver 0 kept
+a work 0 opened ec beef
+b recv 0 ok
+a send 0 ok
+a emit 0 frame 22 0014414300000000000000000000000100000000686900000b3ab392
+b deliver 0 kept
 b work 0 buffered 1 0 2
 b work 0 received 6869 plain -
 ";
@@ -143,31 +182,42 @@ fn an_input_without_end_is_at_fault(rt: HostRuntime) -> Result<(), Fail> {
     Ok(())
 }
 
-// The first allocation is refused, then the second alone, and so on until none is left to refuse.
-#[test]
-fn a_refused_allocation_leaves_nothing_written(rt: HostRuntime) -> Result<(), Fail> {
-    let mut refusals = 0u64;
+// The first allocation is refused, then the second alone, and so on until none is left to refuse. It tells how many
+// there were.
+fn refusals_of(rt: &impl Abort, alloc: Global, schedule: &str, trace: &str) -> Result<u64, Fail> {
     for n in 0..1_000u64 {
-        let heap = FailsAt::new(rt.alloc(), n);
-        let mut input = Halting::new(SCHEDULE.as_bytes(), READ);
-        let mut output = Vec::new(rt.alloc());
+        let heap = FailsAt::new(alloc, n);
+        let mut input = Halting::new(schedule.as_bytes(), READ);
+        let mut output = Vec::new(alloc);
         let answer = replay(&heap, &mut input, &mut output);
         if !heap.has_refused() {
             assert_eq!(rt; answer, Ok(Status::Completed));
-            assert_eq!(rt; output.as_slice(), TRACE.as_bytes());
-            break;
+            assert_eq!(rt; output.as_slice(), trace.as_bytes());
+            return Ok(n);
         }
         let Err(fault) = answer else {
             return Err("a refusal was ignored".into());
         };
         assert_eq!(rt;
-            format!(in rt.alloc(); "{fault}")?.as_str(),
+            format!(in alloc; "{fault}")?.as_str(),
             "no memory",
             "at {n}"
         );
         assert!(rt; output.is_empty());
-        refusals = n + 1;
     }
+    Err("some allocation is always refused".into())
+}
+
+#[test]
+fn a_refused_allocation_leaves_nothing_written(rt: HostRuntime) -> Result<(), Fail> {
+    let refusals = refusals_of(&rt, rt.alloc(), SCHEDULE, TRACE)?;
+    assert!(rt; refusals > 10);
+    Ok(())
+}
+
+#[test]
+fn a_start_up_stands_each_refusal(rt: HostRuntime) -> Result<(), Fail> {
+    let refusals = refusals_of(&rt, rt.alloc(), START_UP, START_UP_TRACE)?;
     assert!(rt; refusals > 10);
     Ok(())
 }

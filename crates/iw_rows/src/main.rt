@@ -21,7 +21,7 @@ enum Ending {
 }
 
 /// The schedules, by the names of their files, `NAME.schedule`. The trace of one that has a trace is in `NAME.trace`.
-const ROWS: [(&str, Ending); 27] = [
+const ROWS: [(&str, Ending); 35] = [
     ("first", Ending::Completed),
     ("one-write", Ending::Completed),
     ("empty-messages", Ending::Completed),
@@ -33,6 +33,7 @@ const ROWS: [(&str, Ending); 27] = [
     ("the-later-part-comes-first", Ending::Completed),
     ("invalidated-between-two-parts", Ending::Faulted),
     ("the-window", Ending::Completed),
+    ("one-island-too-many", Ending::Completed),
     ("first-copies-stay", Ending::Completed),
     ("a-changed-pad-octet", Ending::Faulted),
     ("markers-and-crc", Ending::Completed),
@@ -40,6 +41,13 @@ const ROWS: [(&str, Ending); 27] = [
     ("the-last-tagged-offset", Ending::Faulted),
     ("a-message-too-many", Ending::Completed),
     ("sizes-of-a-ulpdu", Ending::Completed),
+    ("start-up-and-a-send-each-way", Ending::Completed),
+    ("a-rejected-start-up", Ending::Faulted),
+    ("an-initiator-is-given-a-request", Ending::Faulted),
+    ("a-request-in-two-deliveries", Ending::Completed),
+    ("a-request-cut-at-each-octet", Ending::Completed),
+    ("answers-that-were-not-asked-for", Ending::Completed),
+    ("start-up-octet-by-octet", Ending::Completed),
     ("options-out-of-order", Ending::Refused("line 1: BadOctets")),
     ("empty", Ending::Completed),
     ("unknown-word", Ending::Refused("line 2: BadWord")),
