@@ -1,9 +1,10 @@
 -- The frame at the in-order point is the first of the octets that came without a gap.
 use Rattle.std.proofs.Common.{◌≡◌, ℕ, ◌+◌, ◌-◌, ◌<◌, ◌≤◌, ◌^◌, Bool, true, false, length, Option, Some, None, sym, ap, ◌∙◌, subst, arith, inl, inr}
-use Rattle.std.specs.Prelude.{MatchOption, IfSome, IfNone}
+use Rattle.std.specs.Prelude.{not, MatchOption, IfSome, IfNone}
 use Rattle.std.proofs.lemmas.Bool.{cases_lt, true≢false}
-use Rattle.iw_ranges.specs.Arrived.{Arrived, Cell, Missing, Here, Gone, IsWithinLimits, cells_between, has_come, in_order, window}
+use Rattle.iw_ranges.specs.Arrived.{Arrived, Cell, Missing, Here, Gone, IsWithinLimits, cell_at, cells_between, is_missing, has_come, in_order, window}
 use Rattle.iw_ranges.specs.InOrder.{IsHeld, is_gone}
+use Rattle.iw_ranges.proofs.ByPlace.{below}
 use Rattle.iw_ranges.proofs.InOrder.{octet_at, stands, ends}
 use Rattle.iw_fpdu.specs.declared.layout.Layout.{Layout}
 use Rattle.iw_fpdu.specs.Places.{frame_start}
@@ -85,3 +86,23 @@ pub front_none : (layout : Layout) (a : Arrived) (base start : ℕ) (result : Op
 front_none layout a base start None behind b kept is read =
     frames_in_sequence.found.lacking a layout base (a.floor - base) (in_order a) b (stand a base behind kept) (subst (λ s. LacksOctet a layout.markers base s) is read)
 front_none layout a base start (Some found) behind b kept is read = tt
+
+-- where nothing came from the place on at which the frame begins
+pub none_there : (layout : Layout) (a : Arrived) (base missing : ℕ) → base ≤ a.floor → IsBetween layout.markers (a.floor - base) → IsHeld a → cell_at a missing ≡ Missing
+    → missing ≤ base + frame_start layout.markers (a.floor - base) → first_frame layout (a.floor - base) (in_order a) ≡ None
+none_there layout a base missing behind b kept gap early =
+    let m : Bool = layout.markers in
+    let at : ℕ = a.floor - base in
+    let start : ℕ = frame_start m at in
+    let found : Found = front_of layout a base in
+    let low : a.floor ≤ missing = past gap in
+    let place : base + (missing - base) ≡ missing = omega (arith, low, behind) in
+    let long : start + 2 ≤ end_of found = length_within m start (ulpdu_len found) (begins m at b) in
+    frames_in_sequence.found.lacking a layout base at (in_order a) b (stand a base behind kept)
+    (missing - base, omega (arith, b.span, low, behind), omega (arith, early, long, behind, low), ap (has_come a) place ∙ ap (λ c. not (is_missing c)) gap)
+  where
+    past : cell_at a missing ≡ Missing → a.floor ≤ missing
+    past gap = elim (cases_lt missing a.floor) [
+      | inl before ↦ absurd (let gone : cell_at a missing ≡ Gone = below a missing before in cc)
+      | inr after ↦ after
+    ]

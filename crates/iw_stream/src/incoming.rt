@@ -18,6 +18,7 @@ pub(crate) struct Incoming<A: Allocator = Global> {
 
 impl<A: Allocator> Incoming<A> {
     /// The frame at the in-order point, where it is whole; frame place 0 is place `base` of the stream.
+    #[inline(always)]
     pub(crate) fn front(&self, base: u64) -> Option<Fpdu<'_, A>>
         requires behind { base ≤ self.now.arrived.arrived.floor }
         requires between { IsBetween self.now.expecting.markers (self.now.arrived.arrived.floor - base) }
@@ -27,6 +28,10 @@ impl<A: Allocator> Incoming<A> {
         ensures none { IfNone result (first_frame self.now.expecting (self.now.arrived.arrived.floor - base) (in_order self.now.arrived.arrived) ≡ None) }
     {
         let start = self.expecting.start_of(self.arrived.floor() - base);
+        // Nothing of it came, as behind the last frame that did.
+        if self.arrived.missing() <= base + start {
+            return None;
+        }
         Fpdu::read(self.expecting, base, start, &self.arrived)
     }
 }

@@ -1,8 +1,23 @@
 use Rattle.std.proofs.Common.{◌≡◌, ◌+◌, ◌-◌, ap, ◌∙◌, sym, subst, arith}
 use Rattle.iw_fpdu.specs.Places.{IsStart, frame_start}
 use Rattle.iw_fpdu.proofs.Follows.{begins}
-use Rattle.iw_stream.proofs.Fronts.{front_none, front_some, kept_cell, start_near}
+use Rattle.iw_stream.proofs.Fronts.{front_none, front_some, kept_cell, none_there, start_near}
 use Rattle.iw_stream.proofs.incoming.Incoming.front.Goals as goal
+
+pub overflow_add-base : goal.overflow_add-base
+overflow_add-base g c =
+    let i = c.args.self.now in
+    let at = i.arrived.arrived.floor - c.args.base in
+    let start : c.start_of-start.result ≡ frame_start i.expecting.markers at = c.start_of-start.ensures ∙ ap (λ f. frame_start i.expecting.markers (f - c.args.base)) c.floor.ensures.floor in
+    omega (arith, start, (start_near i.expecting.markers at c.requires.between).1, c.requires.place, c.requires.behind)
+
+pub returns-then-missing-base-clause-none : goal.returns-then-missing-base-clause-none
+returns-then-missing-base-clause-none g c =
+    let i = c.args.self.now in
+    let at = i.arrived.arrived.floor - c.args.base in
+    let start : c.start_of-start.result ≡ frame_start i.expecting.markers at = c.start_of-start.ensures ∙ ap (λ f. frame_start i.expecting.markers (f - c.args.base)) c.floor.ensures.floor in
+    none_there i.expecting i.arrived.arrived c.args.base c.missing.result c.requires.behind c.requires.between c.requires.held c.missing.ensures.missing
+    (omega (arith, start, c.if-missing-base.true))
 
 pub read-requires-clause-low : goal.read-requires-clause-low
 read-requires-clause-low g c =
