@@ -1,30 +1,19 @@
 // Times writing and checking of frames with markers, beside a copy and the bare CRC of the same octets, prints the ratios, and
 // ends with status 1 where a limit is missed. It reads the processor's time of this thread, in which other work shows little.
+#[path = "../clock.rs"]
+mod clock;
 
-#[repr(C)]
-struct Time {
-    seconds: i64,
-    nanoseconds: i64,
-}
+use clock::now;
 
 unsafe extern "C" {
-    fn clock_gettime(clock: i32, time: *mut Time) -> i32;
     fn fpdu_copies(rounds: usize, octets: *const u8, n: usize) -> usize;
     fn fpdu_writes(crc: bool, rounds: usize, octets: *const u8, n: usize) -> usize;
     fn fpdu_sums(rounds: usize, octets: *const u8, n: usize) -> u32;
     fn fpdu_checks(crc: bool, rounds: usize, octets: *const u8, n: usize) -> usize;
 }
 
-const THREAD_TIME: i32 = 3;
 const SIZES: [usize; 3] = [128, 1_400, 64_000];
 const TURNS: usize = 25;
-
-/// The processor's time of this thread, in nanoseconds.
-fn now() -> f64 {
-    let mut time = Time { seconds: 0, nanoseconds: 0 };
-    assert_eq!(unsafe { clock_gettime(THREAD_TIME, &mut time) }, 0);
-    time.seconds as f64 * 1e9 + time.nanoseconds as f64
-}
 
 fn time(mut work: impl FnMut()) -> f64 {
     let start = now();

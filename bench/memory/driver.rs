@@ -1,30 +1,19 @@
 // Times writes to one region while few and many others live, and prints the ratios and what the last may be at most.
 // It reads the processor's time of this thread, in which other work on the machine shows little.
+#[path = "../clock.rs"]
+mod clock;
 
-#[repr(C)]
-struct Time {
-    seconds: i64,
-    nanoseconds: i64,
-}
+use clock::now;
 
 unsafe extern "C" {
-    fn clock_gettime(clock: i32, time: *mut Time) -> i32;
     fn memory_writes(others: usize, rounds: usize, octets: *const u8, n: usize) -> usize;
 }
 
-const THREAD_TIME: i32 = 3;
 const OTHERS: [usize; 3] = [1, 100, 100_000];
 const OCTETS: [u8; 64] = [0x5a; 64];
 const ROUNDS: usize = 20_000_000;
 const TURNS: usize = 9;
 const MOST: f64 = 1.5;
-
-/// The processor's time of this thread, in nanoseconds.
-fn now() -> f64 {
-    let mut time = Time { seconds: 0, nanoseconds: 0 };
-    assert_eq!(unsafe { clock_gettime(THREAD_TIME, &mut time) }, 0);
-    time.seconds as f64 * 1e9 + time.nanoseconds as f64
-}
 
 /// The time to register the regions and make so many writes, in nanoseconds.
 fn time(others: usize, rounds: usize) -> f64 {
