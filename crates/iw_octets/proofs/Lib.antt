@@ -8,3 +8,4 @@ pub mod Words
 pub mod Folds
 pub mod FoldSteps
 pub mod Stags
+pub mod Again

@@ -1,5 +1,7 @@
--- Reading undoes writing, whatever stands behind; and what is read is read off the octets at the front.
-use Rattle.std.specs.Prelude.{ℕ, ◌≡◌, List, ◌++◌, Some, codes, replicate}
+-- Reading undoes writing, whatever stands behind, and writing undoes reading; what is read is read off the octets at the front.
+use Rattle.std.specs.Prelude.{ℕ, ◌≡◌, ◌<◌, ◌+◌, ◌*◌, ◌/◌, ◌%◌, true, false, List, [], ◌∷◌, ◌++◌, slice_index, Some, codes, replicate}
+use Rattle.iw_octets.specs.declared.fault.Fault.{Fault}
+use Rattle.iw_octets.specs.declared.fault.TheConstants.Fault as faults
 use Rattle.iw_octets.specs.declared.head.TaggedHead.{TaggedHead}
 use Rattle.iw_octets.specs.declared.head.UntaggedHead.{UntaggedHead}
 use Rattle.iw_octets.specs.declared.payload.ReadRequest.{ReadRequest}
@@ -8,7 +10,7 @@ use Rattle.iw_octets.specs.declared.segment.Segment.{Segment}
 use Rattle.iw_octets.specs.declared.stag.Stag.{Stag}
 use Rattle.iw_octets.specs.Stag.{number_of, FitsStag}
 use Rattle.iw_octets.specs.Crc.{after_octets, crc32c}
-use Rattle.iw_octets.specs.Head.{tagged_octets, untagged_octets, read_tagged, read_untagged, FitsTagged, FitsUntagged}
+use Rattle.iw_octets.specs.Head.{is_tagged, tagged_octets, untagged_octets, read_tagged, read_untagged, FitsTagged, FitsUntagged}
 use Rattle.iw_octets.specs.Payload.{request_octets, read_request, word_octets, read_word, FitsRequest, FitsWord}
 use Rattle.iw_octets.specs.Segment.{segment_octets, read_segment, FitsSegment, with_behind}
 
@@ -20,6 +22,57 @@ pub record ReadsAgain : Type 0 where
   pub segment : (segment : Segment (List ℕ)) → FitsSegment segment → read_segment (segment_octets segment) ≡ Some segment
   pub behind : (octets more : List ℕ) (segment : Segment (List ℕ)) → read_segment octets ≡ Some segment → read_segment (octets ++ more) ≡ Some (with_behind segment more)
 
+-- each is an octet
+abbrev pub AreOctets : List ℕ → Type 0
+AreOctets octets = (i : ℕ) → slice_index octets i < 256
+
+-- the same with a segment's reserved bits zero: the four between the flags and the version
+abbrev pub plain_segment : List ℕ → List ℕ
+plain_segment [] = []
+plain_segment (first ∷ rest) = (first / 0x40 * 0x40 + first % 4) ∷ rest
+
+-- the same with those of a Terminate's first word zero: the 13 behind its three flags
+abbrev pub plain_word : List ℕ → List ℕ
+plain_word (cause ∷ code ∷ flags ∷ reserved ∷ rest) = cause ∷ code ∷ (flags / 0x20 * 0x20) ∷ 0 ∷ rest
+plain_word octets = octets
+
+-- what was read is written again, with the reserved bits zero; a Read Request has none
+pub record WritesAgain : Type 0 where
+  pub tagged : (octets : List ℕ) (head : TaggedHead) (rest : List ℕ) → AreOctets octets → is_tagged (slice_index octets 0) ≡ true → read_tagged octets ≡ Some (head, rest) → tagged_octets head ++ rest ≡ plain_segment octets
+  pub untagged : (octets : List ℕ) (head : UntaggedHead) (rest : List ℕ) → AreOctets octets → is_tagged (slice_index octets 0) ≡ false → read_untagged octets ≡ Some (head, rest) → untagged_octets head ++ rest ≡ plain_segment octets
+  pub request : (octets : List ℕ) (request : ReadRequest) (rest : List ℕ) → AreOctets octets → read_request octets ≡ Some (request, rest) → request_octets request ++ rest ≡ octets
+  pub word : (octets : List ℕ) (word : TerminateWord) (rest : List ℕ) → AreOctets octets → read_word octets ≡ Some (word, rest) → word_octets word ++ rest ≡ plain_word octets
+  pub segment : (octets : List ℕ) (segment : Segment (List ℕ)) → AreOctets octets → read_segment octets ≡ Some segment → segment_octets segment ≡ plain_segment octets
+
+-- a fault's numbers: the layer, the error type, the error code
+abbrev pub numbered : ℕ → ℕ → ℕ → Fault
+numbered layer kind code = record { layer = layer; kind = kind; code = code }
+
+-- the numbers that the RFCs give: RDMAP's (RFC 5040 4.8), DDP's (RFC 5041 7.2) and MPA's (RFC 5044 8)
+pub record KnownFaults : Type 0 where
+  pub protection_invalid_stag : faults.PROTECTION_INVALID_STAG ≡ numbered 0 1 0
+  pub protection_bounds : faults.PROTECTION_BOUNDS ≡ numbered 0 1 1
+  pub protection_rights : faults.PROTECTION_RIGHTS ≡ numbered 0 1 2
+  pub protection_not_associated : faults.PROTECTION_NOT_ASSOCIATED ≡ numbered 0 1 3
+  pub protection_offset_wrap : faults.PROTECTION_OFFSET_WRAP ≡ numbered 0 1 4
+  pub protection_cannot_invalidate : faults.PROTECTION_CANNOT_INVALIDATE ≡ numbered 0 1 9
+  pub operation_version : faults.OPERATION_VERSION ≡ numbered 0 2 5
+  pub operation_unexpected : faults.OPERATION_UNEXPECTED ≡ numbered 0 2 6
+  pub segment_short : faults.SEGMENT_SHORT ≡ numbered 1 0 0
+  pub tagged_invalid_stag : faults.TAGGED_INVALID_STAG ≡ numbered 1 1 0
+  pub tagged_bounds : faults.TAGGED_BOUNDS ≡ numbered 1 1 1
+  pub tagged_not_associated : faults.TAGGED_NOT_ASSOCIATED ≡ numbered 1 1 2
+  pub tagged_offset_wrap : faults.TAGGED_OFFSET_WRAP ≡ numbered 1 1 3
+  pub tagged_version : faults.TAGGED_VERSION ≡ numbered 1 1 4
+  pub untagged_invalid_queue : faults.UNTAGGED_INVALID_QUEUE ≡ numbered 1 2 1
+  pub untagged_no_buffer : faults.UNTAGGED_NO_BUFFER ≡ numbered 1 2 2
+  pub untagged_msn_range : faults.UNTAGGED_MSN_RANGE ≡ numbered 1 2 3
+  pub untagged_invalid_offset : faults.UNTAGGED_INVALID_OFFSET ≡ numbered 1 2 4
+  pub untagged_too_long : faults.UNTAGGED_TOO_LONG ≡ numbered 1 2 5
+  pub untagged_version : faults.UNTAGGED_VERSION ≡ numbered 1 2 6
+  pub crc_mismatch : faults.CRC_MISMATCH ≡ numbered 2 0 2
+  pub marker_mismatch : faults.MARKER_MISMATCH ≡ numbered 2 0 3
+
 -- two STags of one number are one
 pub record NumbersTell : Type 0 where
   pub same : (a b : Stag) → FitsStag a → FitsStag b → number_of a ≡ number_of b → a ≡ b
@@ -28,8 +81,14 @@ pub record NumbersTell : Type 0 where
 pub record AddsInPieces : Type 0 where
   pub pieces : (remainder : ℕ) (octets more : List ℕ) → after_octets remainder (octets ++ more) ≡ after_octets (after_octets remainder octets) more
 
--- values that the definition of the CRC computes to
+-- the segment that RFC 5044 prints in two frames (figures 5 and 6), up to its message sequence number
+abbrev pub printed_send : List ℕ
+printed_send = 0 ∷ 0x2a ∷ 0x41 ∷ 0x43 ∷ replicate 11 0
+
+-- values that the definition of the CRC computes to: the two printed frames, and runs of octets
 pub record KnownValues : Type 0 where
+  pub first_frame : crc32c (replicate 4 0 ++ printed_send ++ 1 ∷ replicate 28 0) ≡ 0x8399_2352
+  pub second_frame : crc32c (printed_send ++ 2 ∷ replicate 4 0 ++ 0 ∷ 0 ∷ 0 ∷ 0x14 ∷ replicate 24 0) ≡ 0x9858_9284
   pub digits : crc32c (codes "123456789") ≡ 0xe306_9283
   pub zeros : crc32c (replicate 32 0) ≡ 0x8a91_36aa
   pub ones : crc32c (replicate 32 0xff) ≡ 0x62a8_ab43

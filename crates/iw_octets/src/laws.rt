@@ -1,8 +1,18 @@
-ghost use Rattle.iw_octets.specs.Laws.{AddsInPieces, KnownValues, NumbersTell, ReadsAgain};
+ghost use Rattle.iw_octets.specs.Laws.{AddsInPieces, KnownFaults, KnownValues, NumbersTell, ReadsAgain, WritesAgain};
 
 /// What is written is read again, whatever stands behind it, and more octets behind a segment are more of its payload.
 pub fn reads_again()
     ensures { ReadsAgain }
+{}
+
+/// What is read is written again, with the reserved bits zero.
+pub fn writes_again()
+    ensures { WritesAgain }
+{}
+
+/// The constants of [`Fault`](crate::Fault) have the numbers that the RFCs give.
+pub fn known_faults()
+    ensures { KnownFaults }
 {}
 
 /// The CRC of octets is the same in whatever pieces they are added.
@@ -10,7 +20,7 @@ pub fn adds_in_pieces()
     ensures { AddsInPieces }
 {}
 
-/// The definition of the CRC gives the values that are known for it (RFC 3720 B.4 among them).
+/// The definition of the CRC gives the values that are known for it (RFC 3720 B.4, and the frames that RFC 5044 prints).
 pub fn known_values()
     ensures { KnownValues }
 {}

@@ -17,7 +17,9 @@ mod tables;
 pub use crc::{Crc, crc32c};
 pub use fault::Fault;
 pub use head::{Short, TaggedHead, UntaggedHead, is_tagged};
-pub use laws::{adds_in_pieces, known_values, numbers_tell, reads_again};
+pub use laws::{
+    adds_in_pieces, known_faults, known_values, numbers_tell, reads_again, writes_again,
+};
 pub use message::Message;
 pub use octets::Octets;
 pub use payload::{ReadRequest, TerminateWord};
