@@ -14,10 +14,10 @@ use Rattle.iw_octets.specs.declared.stag.Stag.{Stag}
 use Rattle.iw_memory.specs.declared.slots.Slot.{Slot}
 use Rattle.iw_memory.specs.declared.refusal.RegisterRefusal.{RegisterRefusal}
 use Rattle.iw_memory.specs.declared.refusal.RegisterRefusal.TheVariants.{NoDomain, DomainFull, TooLong, BaseWrap}
-use Rattle.iw_memory.specs.Region.{Region, IsWithinLimits, overlay, region_with}
+use Rattle.iw_memory.specs.Region.{Region, IsWithinLimits, overlay, region_with, made_invalid}
 use Rattle.iw_memory.specs.Held.{Held}
 use Rattle.iw_memory.specs.Part.{SlotState, unused, under_key, own_slot, free_slot, with_room}
-use Rattle.iw_memory.specs.Table.{Table, empty, part_of, with_part, slots_of, region_at, with_slot, with_region, put, register_refusal, is_added, added, registered, deregistered}
+use Rattle.iw_memory.specs.Table.{Table, empty, part_of, with_part, slots_of, region_at, with_slot, with_region, put, register_refusal, is_added, added, registered, deregistered, invalidated}
 use Rattle.iw_memory.specs.Laws.{HoldsLimits}
 use Rattle.iw_memory.specs.Inside.{Slots, table_of, states_of, state_of, region_in, slots_in, link_at, link_of, free, IsHeldFor, IsSound, Keeps, SetsSlots, is_free, with_room_at}
 use Rattle.iw_memory.proofs.ListLemmas.{map-replicate, map-same, map-set_others, set-set}
@@ -327,6 +327,42 @@ slot_within {A} domains stag k link = elim (cases_lt stag.slot (length (slots_in
   | inl within ↦ within
   | inr past ↦ absurd (none-some k (sym (ap (λ (s : Slot). s.at) (get_or_past (slots_in domains stag.domain) stag.slot free past)) ∙ (link_of_slot domains stag k link).1))
 ]
+
+-- where the code found the region, by what the tables of slots are read as
+pub found_at : {A : Type 0} {read domains : Slots A} {found : Option ℕ} {k : ℕ} (stag : Stag) → read ≡ domains → found ≡ link_of read stag → found ≡ Some k → link_of domains stag ≡ Some k
+found_at {A} {read} {domains} {found} {k} stag same link is = ap (λ ds. link_of ds stag) (sym same) ∙ sym link ∙ is
+
+pub octets-held : {A : Type 0} {table : Table} (domains : Slots A) (regions : Slab Held) (stag : Stag) (k : ℕ) (h : Held) → link_of domains stag ≡ Some k → get regions k ≡ Some h → table_of domains regions ≡ table
+    → Some h.region.octets ≡ option_map (λ r. r.octets) (region_at table stag)
+octets-held {A} {table} domains regions stag k h link held view =
+    sym (ap (option_map (λ (r : Region). r.octets)) (region_at-held domains regions stag k h link held)) ∙ ap (λ t. option_map (λ (r : Region). r.octets) (region_at t stag)) view
+
+-- the region that the STag names is taken out, and its slot is free under the next key
+pub table_of-taken : {A : Type 0} {old new : Slots A} {regions after : Slab Held} {table : Table} → IsSound old regions → (stag : Stag) (k : ℕ) (h : Held) → link_of old stag ≡ Some k → get regions k ≡ Some h → Updates regions after k None
+    → SetsSlots old new stag.domain (set (slots_in old stag.domain) stag.slot (record { key = (stag.key + 1) % 256; at = None })) → table_of old regions ≡ table → table_of new after ≡ deregistered table stag
+table_of-taken {A} {old} {new} {regions} {after} {table} sound stag k h link held updates sets view =
+    table_of-set_slot old new regions after stag.domain stag.slot (record { key = (stag.key + 1) % 256; at = None }) sets (same_after_removal sound stag k link updates)
+    ∙ sym (deregistered-found (table_of old regions) stag h.region (region_at-held old regions stag k h link held))
+    ∙ ap (λ t. deregistered t stag) view
+
+pub IsSound-taken : {A : Type 0} {old new : Slots A} {regions after : Slab Held} → IsSound old regions → (stag : Stag) (k key : ℕ) → link_of old stag ≡ Some k → Updates regions after k None
+    → SetsSlots old new stag.domain (set (slots_in old stag.domain) stag.slot (record { key = key; at = None })) → IsSound new after
+IsSound-taken {A} {old} sound stag k key link updates sets =
+    IsSound-set_slot sound stag.domain stag.slot (record { key = key; at = None }) sets (slot_within old stag k link) (same_after_removal sound stag k link updates) (λ k e. absurd (none-some k e))
+
+-- the region that the STag names is changed, where its view was this
+pub changed-held : {A : Type 0} {domains : Slots A} {regions : Slab Held} {table : Table} → IsSound domains regions → (stag : Stag) (k : ℕ) (h new : Held) (change : Region → Region) → link_of domains stag ≡ Some k → get regions k ≡ Some h
+    → new.region ≡ change h.region → table_of domains regions ≡ table → table_of domains (with_value regions k new) ≡ with_region table stag change
+changed-held sound stag k h new change link held is view = table_of-change sound stag k h new change link held is ∙ ap (λ t. with_region t stag change) view
+
+-- the region that the STag names is invalidated
+pub table_of-invalid : {A : Type 0} {domains : Slots A} {regions : Slab Held} {table : Table} → IsSound domains regions → (stag : Stag) (k : ℕ) (h seen : Held) → link_of domains stag ≡ Some k → get regions k ≡ Some h → seen ≡ h → table_of domains regions ≡ table
+    → table_of domains (with_value regions k (record seen { region = made_invalid seen.region })) ≡ invalidated table stag
+table_of-invalid sound stag k h seen link held same view = changed-held sound stag k h (record seen { region = made_invalid seen.region }) made_invalid link held (ap (λ (x : Held). made_invalid x.region) same) view
+
+pub IsSound-invalid : {A : Type 0} {domains : Slots A} {regions : Slab Held} → IsSound domains regions → (k : ℕ) (h seen : Held) → get regions k ≡ Some h → seen ≡ h → IsSound domains (with_value regions k (record seen { region = made_invalid seen.region }))
+IsSound-invalid sound k h seen held same =
+    IsSound-with_value sound k h (record seen { region = made_invalid seen.region }) held (ap (λ (x : Held). x.domain) same) (ap (λ (x : Held). x.slot) same) (ap (λ (x : Held). x.region.base) same) (ap (λ (x : Held). length x.region.octets) same)
 
 -- ---- a domain is added, and a region
 

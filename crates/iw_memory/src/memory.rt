@@ -200,8 +200,7 @@ impl<A: Allocator> Memory<A> {
             at: None,
         };
         set_slot(&mut self.domains, stag.domain, stag.slot as usize, free);
-        let Stored { octets, .. } = stored;
-        Ok(octets)
+        Ok(stored.into_octets())
     }
 
     /// Ends the use of a region by peers. It stays registered, and keeps its slot; an invalid region stays as it is.

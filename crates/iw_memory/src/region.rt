@@ -85,6 +85,13 @@ impl<A: Allocator> Stored<A> {
         at <= len as u64 && n <= len - at as usize
     }
 
+    /// The octets of a region that is stored no longer.
+    pub(crate) fn into_octets(self) -> Vec<u8, A>
+        ensures { result.items ≡ self.region.octets }
+    {
+        self.octets
+    }
+
     /// All octets, for writing.
     pub(crate) fn octets_mut(&mut self) -> &mut [u8]
         ensures* lends { sem 𝓛 (LendsOctets A.row A.Allocator self.entry 0 result) }
