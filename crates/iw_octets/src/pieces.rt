@@ -4,7 +4,7 @@ ghost use Rattle.iw_octets.specs.Pieces.{AddUpTo, GivesOctets, JoinTo};
 
 use std::marker::Model;
 
-/// Gives octets in pieces of one size; the last may be shorter.
+/// Gives octets in pieces, none of them empty, from first to last.
 #[derive(Drop)]
 pub struct InPieces<'a> {
     octets: &'a [u8],
