@@ -1,0 +1,79 @@
+//! A region from its registration to its end, at the end of the tagged offsets.
+use iw_memory::{Deny, InvalidateDeny, Memory, RegisterRefusal, Right, Rights, Stag, StoreRefusal};
+use std::alloc::Global;
+use std::test::Fail;
+
+const WRITE: Rights = Rights {
+    write: true,
+    read: false,
+    sink: false,
+    invalidate: true,
+};
+
+fn registered(
+    alloc: Global,
+    memory: &mut Memory,
+    base: u64,
+) -> Result<Result<u32, RegisterRefusal>, Fail> {
+    let octets = vec![in alloc; 0; 8]?;
+    match memory.register(1, base, octets, WRITE) {
+        Ok(stag) => Ok(Ok(stag.into())),
+        Err((refusal, _octets)) => Ok(Err(refusal)),
+    }
+}
+
+#[test]
+fn a_part_may_end_at_the_last_offset(rt: HostRuntime) -> Result<(), Fail> {
+    let mut memory = Memory::new(rt.alloc())?;
+    assert_eq!(rt; memory.add_domain(1), Ok(()));
+    assert_eq!(rt;
+        registered(rt.alloc(), &mut memory, u64::MAX - 6)?,
+        Err(RegisterRefusal::BaseWrap)
+    );
+    assert_eq!(rt;
+        registered(rt.alloc(), &mut memory, u64::MAX - 7)?,
+        Ok(0x0100_0000)
+    );
+    let stag = Stag::from(0x0100_0000);
+    assert_eq!(rt;
+        memory.place(1, stag, u64::MAX, "ab".as_bytes(), Right::Write),
+        Err(Deny::ToWrap)
+    );
+    assert_eq!(rt;
+        memory.place(1, stag, u64::MAX, "a".as_bytes(), Right::Write),
+        Ok(())
+    );
+    assert_eq!(rt; memory.store(stag, u64::MAX - 1, "ba".as_bytes()), Ok(()));
+    assert_eq!(rt;
+        memory.store(stag, 0, "b".as_bytes()),
+        Err(StoreRefusal::Outside)
+    );
+    assert_eq!(rt;
+        memory.check(1, stag, u64::MAX, 1, Right::Read),
+        Err(Deny::Rights)
+    );
+    assert_eq!(rt;
+        memory.check(2, stag, u64::MAX, 1, Right::Write),
+        Err(Deny::NotAssociated)
+    );
+    assert_eq!(rt; memory.invalidate_remote(1, stag), Ok(()));
+    assert_eq!(rt;
+        memory.invalidate_remote(1, stag),
+        Err(InvalidateDeny::Invalid)
+    );
+    assert!(rt;
+        matches!(memory.deregister(stag), Ok(octets) if octets.as_slice() == "\0\0\0\0\0\0ba".as_bytes())
+    );
+    assert_eq!(rt; registered(rt.alloc(), &mut memory, 0)?, Ok(0x0100_0001));
+    Ok(())
+}
+
+#[test]
+fn rights_print_as_letters(rt: HostRuntime) -> Result<(), Fail> {
+    assert_eq!(rt; format!(in rt.alloc(); "{WRITE}")?.as_str(), "wi");
+    assert_eq!(rt;
+        format!(in rt.alloc(); "{}", Rights::default())?.as_str(),
+        "-"
+    );
+    Ok(())
+}

@@ -17,6 +17,3 @@ pub use memory::Memory;
 pub use refusal::{Deny, DomainRefusal, InvalidateDeny, NoRegion, RegisterRefusal, StoreRefusal};
 pub use region::Facts;
 pub use rights::{Right, Rights};
-
-#[cfg(test)]
-mod tests;

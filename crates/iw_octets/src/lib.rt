@@ -26,6 +26,3 @@ pub use payload::{ReadRequest, TerminateWord};
 pub use pieces::{InPieces, copy_in_pieces, gather};
 pub use segment::Segment;
 pub use stag::Stag;
-
-#[cfg(test)]
-mod tests;

@@ -19,6 +19,3 @@ pub use laws::{
 pub use progress::{Progress, StartupFault};
 pub use side::{Reply, Side};
 pub use startup::{NotAsked, Startup};
-
-#[cfg(test)]
-mod tests;
