@@ -14,10 +14,10 @@ use Rattle.iw_octets.specs.declared.stag.Stag.{Stag}
 use Rattle.iw_memory.specs.declared.slots.Slot.{Slot}
 use Rattle.iw_memory.specs.declared.refusal.RegisterRefusal.{RegisterRefusal}
 use Rattle.iw_memory.specs.declared.refusal.RegisterRefusal.TheVariants.{NoDomain, DomainFull, TooLong, BaseWrap}
-use Rattle.iw_memory.specs.Region.{Region, IsWithinLimits, overlay, region_with, made_invalid}
+use Rattle.iw_memory.specs.Region.{Region, IsWithinLimits, overlay, region_with, octets_from, made_invalid}
 use Rattle.iw_memory.specs.Held.{Held}
 use Rattle.iw_memory.specs.Part.{SlotState, unused, under_key, own_slot, free_slot, with_room}
-use Rattle.iw_memory.specs.Table.{Table, empty, part_of, with_part, slots_of, region_at, with_slot, with_region, put, register_refusal, is_added, added, registered, deregistered, invalidated}
+use Rattle.iw_memory.specs.Table.{Table, empty, part_of, with_part, slots_of, region_at, with_slot, with_region, put, register_refusal, is_added, added, registered, deregistered, invalidated, octets_at}
 use Rattle.iw_memory.specs.Laws.{HoldsLimits}
 use Rattle.iw_memory.specs.Inside.{Slots, table_of, states_of, state_of, region_in, slots_in, link_at, link_of, free, IsHeldFor, IsSound, Keeps, SetsSlots, is_free, with_room_at}
 use Rattle.iw_memory.proofs.ListLemmas.{map-replicate, map-same, map-set_others, set-set}
@@ -336,6 +336,11 @@ pub octets-held : {A : Type 0} {table : Table} (domains : Slots A) (regions : Sl
     → Some h.region.octets ≡ option_map (λ r. r.octets) (region_at table stag)
 octets-held {A} {table} domains regions stag k h link held view =
     sym (ap (option_map (λ (r : Region). r.octets)) (region_at-held domains regions stag k h link held)) ∙ ap (λ t. option_map (λ (r : Region). r.octets) (region_at t stag)) view
+
+pub part-held : {A : Type 0} {table : Table} (domains : Slots A) (regions : Slab Held) (stag : Stag) (to n k : ℕ) (h : Held) → link_of domains stag ≡ Some k → get regions k ≡ Some h → table_of domains regions ≡ table
+    → octets_from h.region to n ≡ octets_at table stag to n
+part-held {A} {table} domains regions stag to n k h link held view =
+    sym (ap (λ o. option_map_or (λ r. octets_from r to n) o []) (region_at-held domains regions stag k h link held)) ∙ ap (λ t. octets_at t stag to n) view
 
 -- the region that the STag names is taken out, and its slot is free under the next key
 pub table_of-taken : {A : Type 0} {old new : Slots A} {regions after : Slab Held} {table : Table} → IsSound old regions → (stag : Stag) (k : ℕ) (h : Held) → link_of old stag ≡ Some k → get regions k ≡ Some h → Updates regions after k None

@@ -23,6 +23,6 @@ pub use laws::{
 pub use message::Message;
 pub use octets::Octets;
 pub use payload::{ReadRequest, TerminateWord};
-pub use pieces::{InPieces, copy_in_pieces, gather};
+pub use pieces::{InPieces, gather};
 pub use segment::Segment;
 pub use stag::Stag;

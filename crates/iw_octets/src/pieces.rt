@@ -69,12 +69,3 @@ pub fn gather<'a, I: Iterator<Item = &'a [u8]>>(pieces: I, out: &mut [u8])
         at += piece.len();
     }
 }
-
-/// Copies octets piece by piece.
-pub fn copy_in_pieces(octets: &[u8], size: usize, out: &mut [u8])
-    requires size { 0 < size }
-    requires room { length out.old ≡ length octets.now }
-    ensures { out.new ≡ octets.now }
-{
-    gather(InPieces::new(octets, size), out);
-}
