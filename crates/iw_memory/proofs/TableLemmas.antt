@@ -365,9 +365,10 @@ pub table_of-invalid : {A : Type 0} {domains : Slots A} {regions : Slab Held} {t
     → table_of domains (with_value regions k (record seen { region = made_invalid seen.region })) ≡ invalidated table stag
 table_of-invalid sound stag k h seen link held same view = changed-held sound stag k h (record seen { region = made_invalid seen.region }) made_invalid link held (ap (λ (x : Held). made_invalid x.region) same) view
 
-pub IsSound-invalid : {A : Type 0} {domains : Slots A} {regions : Slab Held} → IsSound domains regions → (k : ℕ) (h seen : Held) → get regions k ≡ Some h → seen ≡ h → IsSound domains (with_value regions k (record seen { region = made_invalid seen.region }))
-IsSound-invalid sound k h seen held same =
-    IsSound-with_value sound k h (record seen { region = made_invalid seen.region }) held (ap (λ (x : Held). x.domain) same) (ap (λ (x : Held). x.slot) same) (ap (λ (x : Held). x.region.base) same) (ap (λ (x : Held). length x.region.octets) same)
+pub IsSound-validity : {A : Type 0} {domains : Slots A} {regions : Slab Held} → IsSound domains regions → (k : ℕ) (h seen : Held) (valid : Bool) → get regions k ≡ Some h → seen ≡ h
+    → IsSound domains (with_value regions k (record seen { region = record seen.region { valid = valid } }))
+IsSound-validity sound k h seen valid held same =
+    IsSound-with_value sound k h (record seen { region = record seen.region { valid = valid } }) held (ap (λ (x : Held). x.domain) same) (ap (λ (x : Held). x.slot) same) (ap (λ (x : Held). x.region.base) same) (ap (λ (x : Held). length x.region.octets) same)
 
 -- ---- a domain is added, and a region
 

@@ -1,6 +1,6 @@
 -- The one stored region that the STag names is changed.
 use Rattle.std.proofs.Common.{refl}
-use Rattle.iw_memory.proofs.TableLemmas.{found_at, held_at, table_of-invalid, IsSound-invalid}
+use Rattle.iw_memory.proofs.TableLemmas.{found_at, held_at, table_of-invalid, IsSound-validity}
 use Rattle.iw_memory.proofs.memory.Memory.invalidate.Goals as goal
 
 pub index_mut-stored-requires : goal.index_mut-stored-requires
@@ -9,7 +9,7 @@ index_mut-stored-requires g c =
 
 pub invariant_of-self : goal.invariant_of-self
 invariant_of-self g c = record {
-  sound = IsSound-invalid c.self.invariant.sound c.in-Some.at c.index_mut-stored.result.now _ c.index_mut-stored.ensures.value c.stored.view_is;
+  sound = IsSound-validity c.self.invariant.sound c.in-Some.at c.index_mut-stored.result.now _ _ c.index_mut-stored.ensures.value c.stored.view_is;
   no_octets = c.self.invariant.no_octets;
 }
 
