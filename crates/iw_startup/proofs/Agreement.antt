@@ -11,12 +11,12 @@ use Rattle.iw_startup.specs.declared.side.Reply.TheVariants.{Accept, Reject}
 use Rattle.iw_startup.specs.declared.side.Side.{Side}
 use Rattle.iw_startup.specs.declared.side.Side.TheVariants.{Initiator, Responder}
 use Rattle.iw_startup.specs.Frame.{flags}
-use Rattle.iw_startup.specs.Laws.{agreed_between, from_other_end, initiator}
-use Rattle.iw_startup.specs.Peer.{frame_end, frame_part, progress_of}
-use Rattle.iw_startup.specs.State.{StartupState, IsReached, progress, private_in, own_frame, reply_frame, agreement, has_agreed, agreed_of, answered}
+use Rattle.iw_startup.specs.Laws.{agreed_between, from_other_end}
+use Rattle.iw_startup.specs.Peer.{frame_end, frame_part}
+use Rattle.iw_startup.specs.State.{StartupState, IsReached, progress, private_in, own_frame, reply_frame, agreement, has_agreed, agreed_of}
 use Rattle.iw_startup.proofs.Pieces.{frame_part-whole}
 use Rattle.iw_startup.proofs.Openings.{told_whole}
-use Rattle.iw_startup.proofs.Handshake.{written, frame_end-written, has_request, opened, accepted, closed}
+use Rattle.iw_startup.proofs.Handshake.{written, frame_end-written, opened, accepted, closed}
 
 -- an end that has agreed
 pub data IsAgreed (u : StartupState) : Type 0 where

@@ -1,10 +1,8 @@
 -- What the peer's frame comes to, and when an end has agreed.
-use Rattle.std.proofs.Common.{◌≡◌, ◌≢◌, ℕ, ◌+◌, ◌<◌, ◌≤◌, List, [], ◌++◌, length, take, drop, Option, Some, None, Bool, true, false, cond, refl, sym, ap, ◌∙◌, subst, arith, nat_le, length-append, length-take, inl, inr}
-use Rattle.std.specs.Prelude.{not, nat_eq, bit_and, IsTrue}
+use Rattle.std.proofs.Common.{◌≡◌, ◌≢◌, ℕ, ◌≤◌, List, [], ◌++◌, length, Option, Some, None, Bool, true, false, cond, refl, sym, ap, ◌∙◌, subst, arith, inl, inr}
+use Rattle.std.specs.Prelude.{not, IsTrue}
 use Rattle.std.specs.Option.{option_map_or}
-use Rattle.std.proofs.lemmas.Bool.{cases_lt, false≢true}
-use Rattle.std.proofs.lemmas.Bool.Decides.{nat_tests}
-use Rattle.std.proofs.lemmas.List.{take-append-drop, get_or_append_left}
+use Rattle.std.proofs.lemmas.Bool.{cases_lt}
 use Rattle.arrayvec.specs.ArrayVec.{ArrayVec}
 use Rattle.iw_startup.specs.declared.progress.Progress.{Progress}
 use Rattle.iw_startup.specs.declared.progress.Progress.TheVariants as progress
@@ -15,9 +13,9 @@ use Rattle.iw_startup.specs.declared.side.Reply.TheVariants.{Accept, Reject}
 use Rattle.iw_startup.specs.declared.side.Side.{Side}
 use Rattle.iw_startup.specs.declared.side.Side.TheVariants.{Initiator, Responder}
 use Rattle.iw_startup.specs.Frame.{rejects}
-use Rattle.iw_startup.specs.Peer.{fixed_fault, frame_end, frame_part, is_whole, outcome, progress_of}
+use Rattle.iw_startup.specs.Peer.{fixed_fault, frame_end, frame_part, is_whole, progress_of}
 use Rattle.iw_startup.specs.State.{StartupState, IsReached, pushed, answered, has_agreed, is_answered, agreement, agreed_of}
-use Rattle.iw_startup.proofs.Ends.{fixed_fault-append, frame_end-append, frame_end-frame_part, least_end}
+use Rattle.iw_startup.proofs.Ends.{least_end}
 use Rattle.iw_startup.proofs.Reached.{progress_of-short}
 use Rattle.iw_startup.proofs.Heard.{progress_of-frame_part}
 
