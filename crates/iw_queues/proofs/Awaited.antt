@@ -10,7 +10,7 @@ use Rattle.iw_queues.specs.declared.completions.Sent.{Sent}
 use Rattle.iw_queues.specs.declared.send_queue.Part.{Part}
 use Rattle.iw_queues.specs.Completions.{Outstanding, next_ticket, added, place_of, IsAwaited, finished, done_from}
 use Rattle.iw_queues.specs.Request.{kind_of}
-use Rattle.iw_queues.specs.Queue.{Queue, part_from, next_part, part_sent, handed_from}
+use Rattle.iw_queues.specs.Queue.{Queue, part_from, next_part, part_sent, handed_from, oldest_among}
 use Rattle.iw_queues.specs.Laws.{AwaitsReads}
 
 abbrev awaited : Sent
@@ -86,10 +86,17 @@ handed q first (m ∷ ms) ticket f t p at h = go m.finished refl p at h
         cc
     go true e (suc p) at h = subst (λ i. slice_get ms i ≡ Some awaited) (sym (place_behind first ticket p f t at)) h
 
+given_up : (q : Queue) (first : ℕ) (messages : List Sent) (ticket : ℕ) → first < 2 ^ 64 → ticket < 2 ^ 64 → ticket ≢ first → (p : ℕ) → (ticket + (2 ^ 64 - first)) % 2 ^ 64 ≡ p → slice_get messages p ≡ Some awaited
+    → IsAwaited (handed_from (record q { sent = record { first = first; messages = messages } }) (oldest_among first messages q.unsent)).sent ticket
+given_up q first [] ticket f t apart p at h = cc
+given_up q first (m ∷ ms) ticket f t apart zero at h = absurd (apart (omega (arith, at)))
+given_up q first (m ∷ ms) ticket f t apart (suc p) at h = subst (λ i. slice_get ms i ≡ Some awaited) (sym (place_behind first ticket p f t at)) h
+
 pub awaits : AwaitsReads
 awaits = record {
   sent = λ q max part limits first e is. sent_read q.sent q.unsent q.offset max part (omega (arith, limits.posted)) first e is;
   others_sent = λ q max ticket h. others_sent q ticket (next_part q max) h;
   others_finished = others_finished;
   handed_out = λ q ticket first small h. handed q q.sent.first q.sent.messages ticket first small (place_of q.sent ticket) refl h;
+  others_given_up = λ q ticket first small apart h. given_up q q.sent.first q.sent.messages ticket first small apart (place_of q.sent ticket) refl h;
 }

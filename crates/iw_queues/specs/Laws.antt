@@ -61,13 +61,14 @@ pub record IsFilled (max : ℕ) (part : Part (Request (List ℕ))) : Type 0 wher
 abbrev pub FillsParts : Type 0
 FillsParts = (q : Queue) (max : ℕ) (part : Part (Request (List ℕ))) → 128 ≤ max → IsWithinLimits q → next_part q max ≡ Some part → IsFilled max part
 
--- a Read is awaited from the sending of its request on until it is finished or handed out, whatever else is done
+-- a Read is awaited from the sending of its request on until it is finished, or given up as the oldest, whatever else is done
 pub record AwaitsReads : Type 0 where
   pub sent : (q : Queue) (max : ℕ) (part : Part (Request (List ℕ))) → IsWithinLimits q → q.sent.first < 2 ^ 64 → next_part q max ≡ Some part → kind_of part.message ≡ kinds.Read
       → IsAwaited (part_sent q (Some part)).sent part.ticket
   pub others_sent : (q : Queue) (max ticket : ℕ) → IsAwaited q.sent ticket → IsAwaited (part_sent q (next_part q max)).sent ticket
   pub others_finished : (c : Outstanding) (ticket other : ℕ) → c.first < 2 ^ 64 → ticket < 2 ^ 64 → other < 2 ^ 64 → ticket ≢ other → IsAwaited c ticket → IsAwaited (finished c other) ticket
   pub handed_out : (q : Queue) (ticket : ℕ) → q.sent.first < 2 ^ 64 → ticket < 2 ^ 64 → IsAwaited q.sent ticket → IsAwaited (handed_from q (done_in q)).sent ticket
+  pub others_given_up : (q : Queue) (ticket : ℕ) → q.sent.first < 2 ^ 64 → ticket < 2 ^ 64 → ticket ≢ q.sent.first → IsAwaited q.sent ticket → IsAwaited (handed_from q (oldest_in q)).sent ticket
 
 -- ---- order
 -- what the messages are that are not handed out, in posting order

@@ -1,4 +1,4 @@
-ghost use Rattle.std.specs.Prelude.{◌≡◌, ◌+◌, ◌<◌, ◌≤◌, ◌↔◌, ◌^◌, [], length, IsTrue, MatchBool, OnOk};
+ghost use Rattle.std.specs.Prelude.{◌≡◌, ◌+◌, ◌<◌, ◌≤◌, ◌↔◌, ◌^◌, [], length, IsTrue, MatchBool, OnOk, OnErr};
 
 use crate::request::Kind;
 use std::alloc::{AllocError, Allocator, Global};
@@ -82,6 +82,8 @@ impl<A: Allocator> Completions<A> {
     pub fn ready(&mut self, n: usize) -> Result<(), AllocError>
         ensures same { self.new.outstanding ≡ self.old.outstanding }
         ensures ok { OnOk result (n ≤ self.new.room) }
+        // Want of memory only where the room is not there.
+        ensures full { OnErr result (self.old.room < n) }
         ensures room { self.old.room ≤ self.new.room }
     {
         self.messages.reserve(n)

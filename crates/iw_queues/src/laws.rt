@@ -28,7 +28,7 @@ pub fn parts_are_filled()
     ensures { FillsParts }
 {}
 
-/// A Read is awaited from the sending of its request on until it is finished or handed out.
+/// A Read is awaited from the sending of its request on until it is finished, or given up as the oldest.
 pub fn reads_are_awaited()
     ensures { AwaitsReads }
 {}

@@ -11,6 +11,3 @@ mod send_queue;
 pub use completions::{Completions, Done};
 pub use request::{Kind, Refusal, Request};
 pub use send_queue::{Part, SendQueue};
-
-#[cfg(test)]
-mod tests;
