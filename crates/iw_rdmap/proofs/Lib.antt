@@ -1,3 +1,4 @@
+pub mod Causes
 pub mod Fronts
 pub mod Plain
 pub mod Told

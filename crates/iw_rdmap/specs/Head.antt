@@ -11,6 +11,21 @@ header_octets (Send head) = 18
 header_octets (Request head request) = 18
 header_octets (Terminate head word) = 18
 
+-- and of a Read Request's own header behind it (RFC 5040 4.4)
+abbrev pub headers_octets : Head → ℕ
+headers_octets (Write head) = 14
+headers_octets (Response head) = 14
+headers_octets (Send head) = 18
+headers_octets (Request head request) = 46
+headers_octets (Terminate head word) = 18
+
+abbrev pub is_request : Head → Bool
+is_request (Write head) = false
+is_request (Response head) = false
+is_request (Send head) = false
+is_request (Request head request) = true
+is_request (Terminate head word) = false
+
 -- what may be placed before the segments in front of it have come: its payload goes to the place that its header names (RFC 5041 5.3, RFC 5040 5.5)
 abbrev pub is_early : Head → Bool
 is_early (Write head) = true

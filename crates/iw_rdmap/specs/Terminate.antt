@@ -5,6 +5,8 @@ use Rattle.iw_octets.specs.declared.fault.Fault.{Fault}
 use Rattle.iw_octets.specs.declared.payload.TerminateWord.{TerminateWord}
 use Rattle.iw_octets.specs.Head.{is_tagged}
 use Rattle.iw_octets.specs.Payload.{word_octets}
+use Rattle.iw_rdmap.specs.declared.head.Head.{Head}
+use Rattle.iw_rdmap.specs.Head.{headers_octets, is_request}
 
 -- the layer and the type fit the four bits that a Terminate has for each
 pub record FitsFault (fault : Fault) : Type 0 where
@@ -41,6 +43,11 @@ header_len first = if is_tagged (slice_index first 0) then 14 else 18
 pub record HasCause (fault : Fault) (first : List ℕ) (request : Bool) : Type 0 where
   pub segment : IsTrue (has_segment fault) → header_len first ≤ length first
   pub request_header : IsTrue (has_request fault request) → header_len first + 28 ≤ length first
+
+-- the headers of a segment that was judged are there, and so is what comes with whatever fault it is found to have later
+pub record HasHeaders (head : Head) (first : List ℕ) : Type 0 where
+  pub headers : headers_octets head ≤ length first
+  pub cause : (fault : Fault) → HasCause fault first (is_request head)
 
 -- the word, and what comes with the fault, its octets as they came: of a segment of `len` octets that begins with `first`
 abbrev pub terminate_octets : Fault → List ℕ → ℕ → Bool → List ℕ

@@ -1,7 +1,7 @@
-ghost use Rattle.std.specs.Prelude.{◌≡◌, ◌≤◌, IfOk, IfErr};
+ghost use Rattle.std.specs.Prelude.{◌≡◌, ◌≤◌, Bool, IfOk, IfErr};
 ghost use Rattle.iw_rdmap.specs.Head.{header_octets};
 ghost use Rattle.iw_rdmap.specs.Judging.{IsFront, judged, tagged_checked, untagged_checked, judged_request, judged_terminate};
-ghost use Rattle.iw_rdmap.specs.Terminate.{FitsFault};
+ghost use Rattle.iw_rdmap.specs.Terminate.{FitsFault, HasCause, HasHeaders};
 
 use crate::head::Head;
 use crate::operation::{RDMAP_VERSION, TaggedOperation, UntaggedOperation, rdmap_version};
@@ -21,8 +21,7 @@ const MOST_UNANSWERED: usize = 16;
 
 /// The checks of a tagged header up to that of its opcode: the operation, or the first fault.
 pub(crate) fn tagged_operation(head: &TaggedHead) -> Result<TaggedOperation, Fault>
-    ensures judged { result ≡ tagged_checked head.now }
-    ensures fits { IfErr result (λ fault. FitsFault fault) }
+    ensures { result ≡ tagged_checked head.now }
 {
     if head.ddp_version != DDP_VERSION {
         return Err(Fault::TAGGED_VERSION);
@@ -35,8 +34,7 @@ pub(crate) fn tagged_operation(head: &TaggedHead) -> Result<TaggedOperation, Fau
 
 /// The checks of an untagged header up to that of its opcode: the operation, or the first fault.
 pub(crate) fn untagged_operation(head: &UntaggedHead) -> Result<UntaggedOperation, Fault>
-    ensures judged { result ≡ untagged_checked head.now }
-    ensures fits { IfErr result (λ fault. FitsFault fault) }
+    ensures { result ≡ untagged_checked head.now }
 {
     if head.ddp_version != DDP_VERSION {
         return Err(Fault::UNTAGGED_VERSION);
@@ -63,9 +61,7 @@ fn judge_request(
     unanswered: usize,
 ) -> Result<Head, Fault>
     requires { IsFront READ_REQUEST payload.now n }
-    ensures judged { result ≡ judged_request head payload.now n next unanswered }
-    ensures header { IfOk result (λ head. header_octets head ≡ UNTAGGED_HEADER) }
-    ensures fits { IfErr result (λ fault. FitsFault fault) }
+    ensures { result ≡ judged_request head payload.now n next unanswered }
 {
     if head.msn != next {
         return Err(Fault::UNTAGGED_MSN_RANGE);
@@ -89,9 +85,7 @@ fn judge_request(
 #[tactic(auto, unfolding(iw_octets::specs::Payload::read_word))]
 fn judge_terminate(head: UntaggedHead, payload: &[u8], n: usize) -> Result<Head, Fault>
     requires { IsFront READ_REQUEST payload.now n }
-    ensures judged { result ≡ judged_terminate head payload.now n }
-    ensures header { IfOk result (λ head. header_octets head ≡ UNTAGGED_HEADER) }
-    ensures fits { IfErr result (λ fault. FitsFault fault) }
+    ensures { result ≡ judged_terminate head payload.now n }
 {
     if head.msn != FIRST_MSN {
         return Err(Fault::UNTAGGED_MSN_RANGE);
@@ -125,11 +119,23 @@ fn judge_terminate(head: UntaggedHead, payload: &[u8], n: usize) -> Result<Head,
 ///   or not the message's last segment; [`Fault::SEGMENT_SHORT`], fewer than 28.
 /// - Then of a Terminate: [`Fault::UNTAGGED_MSN_RANGE`], its number is not 1; [`Fault::UNTAGGED_INVALID_OFFSET`];
 ///   [`Fault::UNTAGGED_TOO_LONG`], more than 52 octets, or not the last segment; [`Fault::SEGMENT_SHORT`], fewer than 4.
+///
+/// What [`terminate`](crate::terminate) takes of the ULPDU is in `first`: with the fault, and with any that is found later
+/// of a segment that passes, also the 28 octets of a Read Request's header where it is one.
 pub fn judge(first: &[u8], len: u16, next: u32, unanswered: usize) -> Result<Head, Fault>
     requires { IsFront FIRST_OCTETS first.now len }
     ensures judged { result ≡ judged first.now len next unanswered }
     ensures header { IfOk result (λ head. header_octets head ≤ len) }
+    ensures headers { IfOk result (λ head. HasHeaders head first.now) }
     ensures fits { IfErr result (λ fault. FitsFault fault) }
+    ensures cause { IfErr result (λ fault. (request : Bool) → HasCause fault first.now request) }
+{
+    judge_segment(first, len, next, unanswered)
+}
+
+fn judge_segment(first: &[u8], len: u16, next: u32, unanswered: usize) -> Result<Head, Fault>
+    requires { IsFront FIRST_OCTETS first.now len }
+    ensures { result ≡ judged first.now len next unanswered }
 {
     match Segment::read(first) {
         Err(Short) => Err(Fault::SEGMENT_SHORT),

@@ -18,6 +18,3 @@ pub use laws::{first_path_is_judge, front_will_do, operations_are_told, terminat
 pub use operation::{TaggedOperation, UntaggedOperation};
 pub use sizes::{FIRST_OCTETS, MAX_TERMINATE};
 pub use terminating::terminate;
-
-#[cfg(test)]
-mod tests;

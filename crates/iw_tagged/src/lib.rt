@@ -13,6 +13,3 @@ pub use cutting::cut;
 pub use laws::{known_parts, parts_cover, passes_where_allowed};
 pub use parts::{Cut, Part};
 pub use placing::{Placed, check, place};
-
-#[cfg(test)]
-mod tests;

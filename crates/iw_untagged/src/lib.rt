@@ -11,6 +11,3 @@ mod received;
 pub use laws::{known_answers, numbers_follow, places_there_alone};
 pub use queue::{BufferRefusal, RecvQueue};
 pub use received::Received;
-
-#[cfg(test)]
-mod tests;

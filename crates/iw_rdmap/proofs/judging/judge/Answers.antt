@@ -1,32 +1,14 @@
-use Rattle.iw_rdmap.proofs.Fronts.{payload_front, tagged_header_within, untagged_header_within}
+use Rattle.iw_rdmap.proofs.Causes.{said_header, said_headers, said_fits, said_cause}
 use Rattle.iw_rdmap.proofs.judging.judge.Goals as goal
 
-pub overflow_sub-n : goal.overflow_sub-n
-overflow_sub-n c =
-    let read = rw c.in-Ok-Untagged.field-0-is at c.in-Ok-Untagged.ensures in
-    (payload_front c.args.first.now c.in-Ok-Untagged.head c.in-Ok-Untagged.payload.now c.args.len c.from-n.result read c.requires c.from-n.ensures).0
+pub returns-clause-header : goal.returns-clause-header
+returns-clause-header c = said_header c.args.first.now c.args.len c.args.next c.args.unanswered c.judge_segment.result c.judge_segment.ensures c.requires
 
-pub judge_request-requires : goal.judge_request-requires
-judge_request-requires c =
-    let read = rw c.in-Ok-Untagged.field-0-is at c.in-Ok-Untagged.ensures in
-    (payload_front c.args.first.now c.in-Ok-Untagged.head c.in-Ok-Untagged.payload.now c.args.len c.from-n.result read c.requires c.from-n.ensures).1
+pub returns-clause-headers : goal.returns-clause-headers
+returns-clause-headers c = said_headers c.args.first.now c.args.len c.args.next c.args.unanswered c.judge_segment.result c.judge_segment.ensures c.requires
 
-pub judge_terminate-requires : goal.judge_terminate-requires
-judge_terminate-requires c =
-    let read = rw c.in-Ok-Untagged.field-0-is at c.in-Ok-Untagged.ensures in
-    (payload_front c.args.first.now c.in-Ok-Untagged.head c.in-Ok-Untagged.payload.now c.args.len c.from-n.result read c.requires c.from-n.ensures).1
+pub returns-clause-fits : goal.returns-clause-fits
+returns-clause-fits c = said_fits c.args.first.now c.args.len c.args.next c.args.unanswered c.judge_segment.result c.judge_segment.ensures c.requires
 
-pub returns-in-Write-clause-header : goal.returns-in-Write-clause-header
-returns-in-Write-clause-header c =
-    let read = rw c.in-Ok-Tagged.field-0-is at c.in-Ok-Tagged.ensures in
-    tagged_header_within c.args.first.now c.in-Ok-Tagged.head c.in-Ok-Tagged.field-0-1.now c.args.len read c.requires
-
-pub returns-in-ReadResponse-clause-header : goal.returns-in-ReadResponse-clause-header
-returns-in-ReadResponse-clause-header c =
-    let read = rw c.in-Ok-Tagged.field-0-is at c.in-Ok-Tagged.ensures in
-    tagged_header_within c.args.first.now c.in-Ok-Tagged.head c.in-Ok-Tagged.field-0-1.now c.args.len read c.requires
-
-pub returns-in-Send-clause-header : goal.returns-in-Send-clause-header
-returns-in-Send-clause-header c =
-    let read = rw c.in-Ok-Untagged.field-0-is at c.in-Ok-Untagged.ensures in
-    untagged_header_within c.args.first.now c.in-Ok-Untagged.head c.in-Ok-Untagged.payload.now c.args.len read c.requires
+pub returns-clause-cause : goal.returns-clause-cause
+returns-clause-cause c = said_cause c.args.first.now c.args.len c.args.next c.args.unanswered c.judge_segment.result c.judge_segment.ensures c.requires
