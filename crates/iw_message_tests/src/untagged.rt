@@ -1,0 +1,69 @@
+//! Untagged messages that are placed in any order and delivered in order.
+use iw_octets::{Fault, InPieces};
+use iw_untagged::{BufferRefusal, Received, RecvQueue};
+use std::alloc::Global;
+use std::test::Fail;
+
+// Places a payload that comes in pieces of three octets.
+fn place(queue: &mut RecvQueue, msn: u32, mo: u32, payload: &[u8]) -> Result<(), Fault> {
+    queue.place(msn, mo, payload.len(), InPieces::new(payload, 3))
+}
+
+fn post(
+    alloc: Global,
+    queue: &mut RecvQueue,
+    len: usize,
+) -> Result<Result<(), BufferRefusal>, Fail> {
+    match queue.post(Vec::from_elem(alloc, 0, len)?) {
+        Ok(()) => Ok(Ok(())),
+        Err((refusal, _)) => Ok(Err(refusal)),
+    }
+}
+
+// Two messages around the last number, the second placed first; its buffer is given up.
+#[test]
+fn segments_in_any_order(rt: HostRuntime) -> Result<(), Fail> {
+    let mut queue = RecvQueue::starting_at(rt.alloc(), u32::MAX)?;
+    for len in [8, 4] {
+        assert_eq!(rt; post(rt.alloc(), &mut queue, len)?, Ok(()));
+    }
+    let segments: [(u32, u32, &[u8]); 3] = [
+        (0, 1, &[9, 8]),
+        (u32::MAX, 4, &[5, 6]),
+        (u32::MAX, 0, &[1, 2, 3, 4]),
+    ];
+    for (msn, mo, payload) in segments {
+        assert_eq!(rt; place(&mut queue, msn, mo, payload), Ok(()));
+    }
+    for (mo, n) in [(0, 4), (4, 2)] {
+        assert_eq!(rt; (queue.len(), queue.room()), (2, 8));
+        assert_eq!(rt; queue.turn(u32::MAX, mo, n), Ok(()));
+    }
+    assert_eq!(rt; queue.len(), 2);
+    let Received { msn, buffer, len } = queue.finish();
+    assert_eq!(rt; (msn, len), (u32::MAX, 6));
+    assert_eq!(rt; buffer.as_slice(), [1, 2, 3, 4, 5, 6, 0, 0].as_slice());
+    assert!(rt;
+        matches!(queue.flush(), Some(buffer) if buffer.as_slice() == [0, 9, 8, 0].as_slice())
+    );
+    assert!(rt; queue.is_empty());
+    Ok(())
+}
+
+#[test]
+fn at_most_256_buffers(rt: HostRuntime) -> Result<(), Fail> {
+    let mut queue = RecvQueue::new(rt.alloc())?;
+    for _i in 0..256usize {
+        assert_eq!(rt; post(rt.alloc(), &mut queue, 1)?, Ok(()));
+    }
+    assert_eq!(rt; post(rt.alloc(), &mut queue, 1)?, Err(BufferRefusal::Full));
+    let faults = [
+        (256, Ok(())),
+        (257, Err(Fault::UNTAGGED_MSN_RANGE)),
+        (0, Err(Fault::UNTAGGED_MSN_RANGE)),
+    ];
+    for (msn, fault) in faults {
+        assert_eq!(rt; place(&mut queue, msn, 0, &[7]), fault);
+    }
+    Ok(())
+}

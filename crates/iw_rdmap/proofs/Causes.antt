@@ -85,7 +85,7 @@ sound_tagged first len head is long within = go (head.ddp_version == 1) (rdmap_v
 sound_request : (first : List ℕ) (len n : ℕ) (head : Head) → header_octets head ≡ 18 → headers_octets head ≡ 46 → header_len first ≡ 18 → 18 ≤ length first → IsFront 46 first len → n ≡ len - 18
     → (number full offset last : Bool)
     → IsSound first len (fault_or (if number then Some faults.UNTAGGED_MSN_RANGE else if full then Some faults.UNTAGGED_NO_BUFFER else if offset then Some faults.UNTAGGED_INVALID_OFFSET
-        else if nat_lt 28 n || last then Some faults.UNTAGGED_TOO_LONG else if nat_lt n 28 then Some faults.SEGMENT_SHORT else None) head)
+    else if nat_lt 28 n || last then Some faults.UNTAGGED_TOO_LONG else if nat_lt n 28 then Some faults.SEGMENT_SHORT else None) head)
 sound_request first len n head ddp all is long front rest number full offset last = go number full offset (nat_lt 28 n || last) (nat_lt n 28) refl
   where
     there : header_len first ≤ length first
@@ -93,7 +93,7 @@ sound_request first len n head ddp all is long front rest number full offset las
 
     go : (number full offset over under : Bool) → nat_lt n 28 ≡ under
         → IsSound first len (fault_or (if number then Some faults.UNTAGGED_MSN_RANGE else if full then Some faults.UNTAGGED_NO_BUFFER else if offset then Some faults.UNTAGGED_INVALID_OFFSET
-            else if over then Some faults.UNTAGGED_TOO_LONG else if under then Some faults.SEGMENT_SHORT else None) head)
+        else if over then Some faults.UNTAGGED_TOO_LONG else if under then Some faults.SEGMENT_SHORT else None) head)
     go true full offset over under e = fails first faults.UNTAGGED_MSN_RANGE there (omega arith) (omega arith) refl
     go false true offset over under e = fails first faults.UNTAGGED_NO_BUFFER there (omega arith) (omega arith) refl
     go false false true over under e = fails first faults.UNTAGGED_INVALID_OFFSET there (omega arith) (omega arith) refl
@@ -107,7 +107,7 @@ sound_request first len n head ddp all is long front rest number full offset las
 sound_terminate : (first : List ℕ) (len : ℕ) (head : Head) → is_request head ≡ false → header_octets head ≡ headers_octets head → header_len first ≡ header_octets head → header_len first ≤ length first → length first ≤ len
     → (number offset over under : Bool)
     → IsSound first len (fault_or (if number then Some faults.UNTAGGED_MSN_RANGE else if offset then Some faults.UNTAGGED_INVALID_OFFSET
-        else if over then Some faults.UNTAGGED_TOO_LONG else if under then Some faults.SEGMENT_SHORT else None) head)
+    else if over then Some faults.UNTAGGED_TOO_LONG else if under then Some faults.SEGMENT_SHORT else None) head)
 sound_terminate first len head other same is there within true offset over under = fails first faults.UNTAGGED_MSN_RANGE there (omega arith) (omega arith) refl
 sound_terminate first len head other same is there within false true over under = fails first faults.UNTAGGED_INVALID_OFFSET there (omega arith) (omega arith) refl
 sound_terminate first len head other same is there within false false true under = fails first faults.UNTAGGED_TOO_LONG there (omega arith) (omega arith) refl
@@ -127,7 +127,7 @@ sound_untagged first len next unanswered head payload is long front =
 
     go : (ddp over rdmap : Bool) (operation : Option UntaggedOperation)
         → IsSound first len (judged_untagged head payload (len - 18) next unanswered
-            (if not ddp then Err faults.UNTAGGED_VERSION else if over then Err faults.UNTAGGED_INVALID_QUEUE else if not rdmap then Err faults.OPERATION_VERSION else expected operation))
+        (if not ddp then Err faults.UNTAGGED_VERSION else if over then Err faults.UNTAGGED_INVALID_QUEUE else if not rdmap then Err faults.OPERATION_VERSION else expected operation))
     go false over rdmap operation = fails first faults.UNTAGGED_VERSION there (omega arith) (omega arith) refl
     go true true rdmap operation = fails first faults.UNTAGGED_INVALID_QUEUE there (omega arith) (omega arith) refl
     go true false false operation = fails first faults.OPERATION_VERSION there (omega arith) (omega arith) refl

@@ -1,5 +1,5 @@
 ghost use Rattle.std.specs.Prelude.{◌≡◌};
-ghost use Rattle.iw_rdmap.specs.Head.{header_octets, is_early};
+ghost use Rattle.iw_rdmap.specs.Head.{header_octets, is_request, is_early};
 
 use crate::sizes::{TAGGED_HEADER, UNTAGGED_HEADER};
 use iw_octets::{ReadRequest, TaggedHead, TerminateWord, UntaggedHead};
@@ -30,6 +30,13 @@ impl Head {
             Head::Write(_) | Head::Response(_) => TAGGED_HEADER,
             Head::Send(_) | Head::Request(..) | Head::Terminate(..) => UNTAGGED_HEADER,
         }
+    }
+
+    /// Whether it is a Read Request, whose own header a Terminate may take along.
+    pub fn is_request(&self) -> bool
+        ensures { result ≡ is_request self.now }
+    {
+        matches!(self, Head::Request(..))
     }
 }
 
