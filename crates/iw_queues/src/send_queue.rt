@@ -109,20 +109,29 @@ impl<A: Allocator> SendQueue<A> {
         ensures ticket { IfOk result (λ ticket. ticket ≡ ticket_behind self.old) }
         ensures ok { OnOk result (self.new ≡ posted self.old message) }
     {
+        if let Some(refusal) = self.refusal(&message) {
+            return Err((refusal, message));
+        }
         let unsent = self.unsent.len();
-        let posted = self.sent.len() + unsent;
-        if posted >= MAX_POSTED {
-            return Err((Refusal::Full, message));
-        }
-        if message.size() > MAX_OCTETS {
-            return Err((Refusal::TooLong, message));
-        }
         if self.sent.ready(unsent + 1).is_err() || self.unsent.reserve(1).is_err() {
             return Err((Refusal::NoMemory, message));
         }
         let ticket = self.sent.next_ticket().wrapping_add(unsent as u64);
         self.unsent.push_back_reserved(message);
         Ok(ticket)
+    }
+
+    // Why the message is not posted, but for want of memory.
+    fn refusal(&self, message: &Request<Bytes<A>>) -> Option<Refusal>
+        ensures { result ≡ post_refusal self.now message.now }
+    {
+        if self.len() >= MAX_POSTED {
+            return Some(Refusal::Full);
+        }
+        if message.size() > MAX_OCTETS {
+            return Some(Refusal::TooLong);
+        }
+        None
     }
 
     /// The part that is to be sent next, if a message is left to be sent. It only looks.
