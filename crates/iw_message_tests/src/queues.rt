@@ -58,19 +58,25 @@ fn sent(rt: &impl Abort, queue: &mut SendQueue, max: usize) -> (u64, usize, usiz
     told
 }
 
-// In ULPDUs of 1,500 a Write of 2,048 octets has a part of 1,486 and one of 562 (RFC 5041 5.2).
-#[test]
-fn messages_are_sent_and_done_in_order(rt: HostRuntime) -> Result<(), Fail> {
-    let mut queue = SendQueue::new(rt.alloc());
+// A Write, a Read and two Sends.
+fn posted(alloc: Global) -> Result<SendQueue, Fail> {
+    let mut queue = SendQueue::new(alloc);
     let messages = [
-        write_of(zeros(rt.alloc(), 2048)?),
+        write_of(zeros(alloc, 2048)?),
         read_of(4),
-        send_of(zeros(rt.alloc(), 222)?),
+        send_of(zeros(alloc, 222)?),
         send_of(Bytes::new()),
     ];
     for message in messages {
-        assert!(rt; post(&mut queue, message).is_ok());
+        post(&mut queue, message)?;
     }
+    Ok(queue)
+}
+
+// In ULPDUs of 1,500 a Write of 2,048 octets has a part of 1,486 and one of 562 (RFC 5041 5.2).
+#[test]
+fn messages_are_sent_and_done_in_order(rt: HostRuntime) -> Result<(), Fail> {
+    let mut queue = posted(rt.alloc())?;
     let parts = [
         (1500, (0, 0, 1486, false)),
         (1500, (0, 1486, 562, true)),
