@@ -78,11 +78,11 @@ impl<A: Allocator> Completions<A> {
         self.first.wrapping_add(self.messages.len() as u64)
     }
 
-    /// Makes room for `n` more messages. The room stays until it is used.
+    /// Makes room for `n` more messages. The room stays until it is used. An `Err`, where there is no memory, leaves the
+    /// messages as they are, and comes only where the room is not there.
     pub fn ready(&mut self, n: usize) -> Result<(), AllocError>
         ensures same { self.new.outstanding ≡ self.old.outstanding }
         ensures ok { OnOk result (n ≤ self.new.room) }
-        // Want of memory only where the room is not there.
         ensures full { OnErr result (self.old.room < n) }
         ensures room { self.old.room ≤ self.new.room }
     {

@@ -2,7 +2,6 @@
 use Rattle.std.proofs.Common.{◌≡◌, ℕ, ◌+◌, ◌-◌, ◌≤◌, Bool, true, false, List, length, drop, get_or, Some, refl, ap, sym, ◌∙◌, arith, length-drop, inl, inr}
 use Rattle.std.proofs.lemmas.Bool.{cases_lt}
 use Rattle.std.proofs.lemmas.Option.{none-some, same_Some}
-use Rattle.iw_octets.specs.declared.head.TaggedHead.{TaggedHead}
 use Rattle.iw_octets.specs.declared.head.UntaggedHead.{UntaggedHead}
 use Rattle.iw_octets.specs.declared.segment.Segment.{Segment}
 use Rattle.iw_octets.specs.declared.segment.Segment.TheVariants.{Tagged, Untagged}
@@ -38,21 +37,6 @@ length-segment octets segment e = go (is_tagged (get_or octets 0 0)) refl
           let all : length octets ≡ length (drop 18 octets) + 18 = omega (arith, length-drop 18 octets) in
           all ∙ ap (λ s. length (payload_of s) + header_of s) same
     ]
-
--- a header that was read is in the ULPDU
-pub tagged_header_within : (octets : List ℕ) (head : TaggedHead) (payload : List ℕ) (len : ℕ) → Some (Tagged head payload) ≡ read_segment octets → IsFront 46 octets len → 14 ≤ len
-unfolding payload_of header_of
-tagged_header_within octets head payload len e front =
-    let all : length octets ≡ length payload + 14 = length-segment octets (Tagged head payload) (sym e) in
-    let within = front.within in
-    omega arith
-
-pub untagged_header_within : (octets : List ℕ) (head : UntaggedHead) (payload : List ℕ) (len : ℕ) → Some (Untagged head payload) ≡ read_segment octets → IsFront 46 octets len → 18 ≤ len
-unfolding payload_of header_of
-untagged_header_within octets head payload len e front =
-    let all : length octets ≡ length payload + 18 = length-segment octets (Untagged head payload) (sym e) in
-    let within = front.within in
-    omega arith
 
 -- the first octets of a ULPDU of n octets whose header is untagged have the first ones of its payload
 pub payload_front : (octets : List ℕ) (head : UntaggedHead) (payload : List ℕ) (len n : ℕ) → Some (Untagged head payload) ≡ read_segment octets →
