@@ -150,19 +150,33 @@ keeps_few a place n near few =
     and_false false = refl
 
 -- ---- the places that came once a segment came too
--- one that ends before the first missing place adds nothing
-after_low : (f : Fields) → IsSound f → (place n p : ℕ) → place + n ≤ first_end f.spans → come_after (arrived_in f) place n p ≡ in_spans p f.spans
-after_low f ok place n p low =
+-- of one whose places all came before
+abbrev pub AllCame : Fields → ℕ → ℕ → Type 0
+AllCame f from to = (p : ℕ) → from ≤ p → p < to → in_spans p f.spans ≡ true
+
+-- it adds nothing
+after_came : (f : Fields) → IsSound f → (place n p : ℕ) → AllCame f place (place + n) → come_after (arrived_in f) place n p ≡ in_spans p f.spans
+after_came f ok place n p all = go (in_segment place n p) refl
+  where
+    go : (v : Bool) → in_segment place n p ≡ v → come_after (arrived_in f) place n p ≡ in_spans p f.spans
+    go true h =
+        let low : place ≤ p = grind (arith, nat_tests) in
+        let high : p < place + n = grind (arith, nat_tests) in
+        ap (λ b. b || in_segment place n p) (come_is f ok p ∙ all p low high) ∙ sym (all p low high)
+    go false h = or_false (has_come (arrived_in f) p) (in_segment place n p) h ∙ come_is f ok p
+
+-- all came where they did from the first place on that is missing
+pub all_low : (f : Fields) → IsSound f → (from to : ℕ) → to ≤ first_end f.spans → AllCame f from to
+all_low f ok from to low p a b = first_covers f.spans p ok.order (omega arith)
+
+pub all_from : (f : Fields) → IsSound f → (place from to : ℕ) → from ≡ place + (first_end f.spans - place) → AllCame f from to → AllCame f place to
+all_from f ok place from to e all p low high =
     elim (cases_lt p (first_end f.spans)) [
-      | inl before ↦
-          let came : in_spans p f.spans ≡ true = first_covers f.spans p ok.order before in
-          ap (λ b. b || in_segment place n p) (come_is f ok p ∙ came) ∙ sym came
-      | inr past ↦
-          let out : in_segment place n p ≡ false = grind (arith, nat_tests) in
-          or_false (has_come (arrived_in f) p) (in_segment place n p) out ∙ come_is f ok p
+      | inl before ↦ first_covers f.spans p ok.order before
+      | inr behind ↦ all p (omega arith) high
     ]
 
--- one that ends behind it adds its places from there on
+-- one that ends behind the first missing place adds its places from there on
 after_is : (f : Fields) → IsSound f → (place n from p : ℕ) → from ≡ place + (first_end f.spans - place) → first_end f.spans < place + n
     → come_after (arrived_in f) place n p ≡ in_spans p (add_span from (place + n) f.spans)
 after_is f ok place n from p e high =
@@ -181,9 +195,6 @@ after_is f ok place n from p e high =
 near_spans : (f : Fields) → IsSound f → (p : ℕ) → in_spans p f.spans ≡ true → p < f.floor + window
 near_spans f ok p t = omega (arith, ok.within p t, ok.windowed)
 
-pub few_low : (f : Fields) → IsSound f → (place n : ℕ) → place + n ≤ first_end f.spans → island_count (come_after (arrived_in f) place n) f.floor ≤ max_islands
-few_low f ok place n low = omega (arith, ok.few, islands_are (come_after (arrived_in f) place n) f.floor f.spans ok.order ok.reached (near_spans f ok) (λ p. after_low f ok place n p low))
-
 pub islands_put : (f : Fields) → IsSound f → (place n from : ℕ) → from ≡ place + (first_end f.spans - place) → first_end f.spans < place + n → place + n ≤ f.floor + window → 0 < n
     → island_count (come_after (arrived_in f) place n) f.floor + 1 ≡ length (add_span from (place + n) f.spans)
 islands_put f ok place n from e high near some =
@@ -200,8 +211,10 @@ islands_put f ok place n from e high near some =
         grind (arith, nat_tests)
 
 -- ---- whether a segment is dropped, by the spans
-pub dropped_low : (f : Fields) → IsSound f → (place n : ℕ) → place + n ≤ first_end f.spans → is_dropped (arrived_in f) place n ≡ false
-dropped_low f ok place n low = keeps_few (arrived_in f) place n (omega (arith, ok.windowed, top_reaches f ok)) (few_low f ok place n low)
+pub dropped_came : (f : Fields) → IsSound f → (place n : ℕ) → place + n ≤ f.floor + window → AllCame f place (place + n) → is_dropped (arrived_in f) place n ≡ false
+dropped_came f ok place n near all =
+    keeps_few (arrived_in f) place n near
+    (omega (arith, ok.few, islands_are (come_after (arrived_in f) place n) f.floor f.spans ok.order ok.reached (near_spans f ok) (λ p. after_came f ok place n p all)))
 
 pub dropped_put : (f : Fields) → IsSound f → (place n from : ℕ) → from ≡ place + (first_end f.spans - place) → first_end f.spans < place + n → place + n ≤ f.floor + window → 0 < n
     → 1025 < length (add_span from (place + n) f.spans) → is_dropped (arrived_in f) place n ≡ true

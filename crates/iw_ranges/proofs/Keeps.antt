@@ -12,7 +12,7 @@ use Rattle.iw_ranges.proofs.Reaches.{in_order_start}
 use Rattle.iw_ranges.proofs.Adds.{in_add, add_from_start, add_first}
 use Rattle.iw_ranges.proofs.Fills.{in_octets, in_the_spans}
 use Rattle.iw_ranges.proofs.Cells.{cell_missing, cell_gone, cell_here, cell_is, first_covers, top_reaches, end_is, same_drawn}
-use Rattle.iw_ranges.proofs.Counts.{or_false, or_true}
+use Rattle.iw_ranges.proofs.Counts.{AllCame, or_false, or_true}
 
 -- ---- octets that change nothing
 pub taken_none : (a : Arrived) (place : ℕ) (octets : List ℕ) → length octets ≡ 0 → taken_in a place octets ≡ a
@@ -41,17 +41,19 @@ not_copied place p octets (Here x) h = refl
 not_copied place p octets Gone h = refl
 
 -- all of them came before
-pub taken_low : (f : Fields) → IsSound f → (place : ℕ) (octets : List ℕ) → 0 < length octets → place + length octets ≤ first_end f.spans → taken_in (arrived_in f) place octets ≡ arrived_in f
-taken_low f ok place octets some low =
+pub taken_came : (f : Fields) → IsSound f → (place : ℕ) (octets : List ℕ) → 0 < length octets → AllCame f place (place + length octets) → taken_in (arrived_in f) place octets ≡ arrived_in f
+taken_came f ok place octets some all =
     taken_some (arrived_in f) place octets some
     ∙ same_drawn f.floor (max (end_of (arrived_in f)) (place + length octets)) (f.base + length f.octets) (λ p. first_copy place octets p (cell_at (arrived_in f) p)) (cell_of f)
-    (omega (arith, end_is f ok, top_reaches f ok)) same
+    (omega (arith, end_is f ok, ok.within (place + length octets - 1) (all (place + length octets - 1) (omega arith) (omega arith))))
+    (λ p high. ap (first_copy place octets p) (cell_is f ok p high) ∙ same p (in_segment place (length octets) p) refl)
   where
-    same : (p : ℕ) → f.floor ≤ p → first_copy place octets p (cell_at (arrived_in f) p) ≡ cell_of f p
-    same p high = ap (first_copy place octets p) (cell_is f ok p high) ∙ elim (cases_lt p (first_end f.spans)) [
-      | inl before ↦ came_stays f place octets p (first_covers f.spans p ok.order before)
-      | inr past ↦ not_copied place p octets (cell_of f p) (let out : in_segment place (length octets) p ≡ false = grind (arith, nat_tests) in out)
-    ]
+    same : (p : ℕ) (v : Bool) → in_segment place (length octets) p ≡ v → first_copy place octets p (cell_of f p) ≡ cell_of f p
+    same p true h =
+        let low : place ≤ p = grind (arith, nat_tests) in
+        let high : p < place + length octets = grind (arith, nat_tests) in
+        came_stays f place octets p (all p low high)
+    same p false h = not_copied place p octets (cell_of f p) h
 
 -- ---- octets that are put in, from the first missing place on
 pub record PutsIn (f after : Fields) (from to : ℕ) (octets : List ℕ) : Type 0 where

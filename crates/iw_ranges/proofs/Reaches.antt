@@ -64,7 +64,7 @@ first_from_point ss from i within point = record {
   reaches = λ d lt. let t = point.1 i d (omega arith) lt in grind (arith, nat_tests, t);
 }
 
--- ---- whether a range lies in the spans: `at` is the first span that reaches behind `from`
+-- ---- whether a range lies in the spans: `at` is the first span that reaches `from`
 abbrev pub AllOrSome : Bool → (ℕ → Bool) → ℕ → ℕ → Type 0
 AllOrSome r came from to = MatchBool r ((p : ℕ) → from ≤ p → p < to → came p ≡ true) ((p : ℕ) × (from ≤ p) × (p < to) × (came p ≡ false))
 
@@ -73,7 +73,7 @@ pub answer_via : (r : Bool) (f g : ℕ → Bool) (from to : ℕ) → ((p : ℕ) 
 answer_via true f g from to same all = λ p a b. same p a ∙ all p a b
 answer_via false f g from to same some = (some.0, some.1, some.2, same some.0 some.1 ∙ some.3)
 
-answer_to : (from to : ℕ) (s : Span) (ss : List Span) → from < to → IsInOrder (s ∷ ss) → s.from ≤ from → from < s.to → AllOrSome (nat_le to s.to) (λ p. in_spans p (s ∷ ss)) from to
+answer_to : (from to : ℕ) (s : Span) (ss : List Span) → from < to → IsInOrder (s ∷ ss) → s.from ≤ from → from ≤ s.to → AllOrSome (nat_le to s.to) (λ p. in_spans p (s ∷ ss)) from to
 answer_to from to s ss some order low inside =
     elim (cases_lt s.to to) [
       | inl more ↦
@@ -86,34 +86,34 @@ answer_to from to s ss some order low inside =
           subst (λ b. AllOrSome b (λ p. in_spans p (s ∷ ss)) from to) (sym t) (λ p a b. inside_first p s ss (omega arith) (omega arith))
     ]
 
-answer_before : (from to : ℕ) (s : Span) (ss : List Span) → from < to → IsInOrder (s ∷ ss) → from < s.from → from < s.to → AllOrSome (nat_le s.from from) (λ p. in_spans p (s ∷ ss)) from to
-answer_before from to s ss some order before inside =
+answer_before : (from to : ℕ) (s : Span) (ss : List Span) → from < to → IsInOrder (s ∷ ss) → from < s.from → AllOrSome (nat_le s.from from) (λ p. in_spans p (s ∷ ss)) from to
+answer_before from to s ss some order before =
     let t : nat_le s.from from ≡ false = grind (arith, nat_tests) in
     let out : in_span from s ≡ false = grind (arith, nat_tests) in
     subst (λ b. AllOrSome b (λ p. in_spans p (s ∷ ss)) from to) (sym t)
-    (from, omega arith, some, ap (λ b. b || in_spans from ss) out ∙ below_apart s.to from ss order.1 (omega arith))
+    (from, omega arith, some, ap (λ b. b || in_spans from ss) out ∙ below_apart s.to from ss order.1 (omega (arith, order.0)))
 
 -- the span at `at`, and those behind it
 tail_is : (ss : List Span) (at : ℕ) (s : Span) → at < length ss → s ≡ get_or ss at s → drop at ss ≡ s ∷ drop (at + 1) ss
 tail_is ss at s lt is = drop_more ss at s lt ∙ ap (λ x. x ∷ drop (at + 1) ss) (sym is)
 
-in_tail : (ss : List Span) (from at : ℕ) (s : Span) → IsFirstReaching ss (from + 1) at → at < length ss → s ≡ get_or ss at s → (p : ℕ) → from ≤ p → in_spans p ss ≡ in_spans p (s ∷ drop (at + 1) ss)
-in_tail ss from at s first lt is p low = sym (in_rest ss (from + 1) at p first.before (omega arith)) ∙ ap (in_spans p) (tail_is ss at s lt is)
+in_tail : (ss : List Span) (from at : ℕ) (s : Span) → IsFirstReaching ss from at → at < length ss → s ≡ get_or ss at s → (p : ℕ) → from ≤ p → in_spans p ss ≡ in_spans p (s ∷ drop (at + 1) ss)
+in_tail ss from at s first lt is p low = sym (in_rest ss from at p first.before (omega arith)) ∙ ap (in_spans p) (tail_is ss at s lt is)
 
-reached : (ss : List Span) (from at : ℕ) (s : Span) → IsFirstReaching ss (from + 1) at → at < length ss → s ≡ get_or ss at s → from < s.to
-reached ss from at s first lt is = let h : from + 1 ≤ s.to = subst (λ (x : Span). from + 1 ≤ x.to) (sym is) (first.reaches s lt) in omega arith
+reached : (ss : List Span) (from at : ℕ) (s : Span) → IsFirstReaching ss from at → at < length ss → s ≡ get_or ss at s → from ≤ s.to
+reached ss from at s first lt is = subst (λ (x : Span). from ≤ x.to) (sym is) (first.reaches s lt)
 
-pub answer_at_to : (ss : List Span) (at : ℕ) (s : Span) (from to : ℕ) → at < length ss → s ≡ get_or ss at s → from < to → IsInOrder ss → IsFirstReaching ss (from + 1) at → s.from ≤ from
+pub answer_at_to : (ss : List Span) (at : ℕ) (s : Span) (from to : ℕ) → at < length ss → s ≡ get_or ss at s → from < to → IsInOrder ss → IsFirstReaching ss from at → s.from ≤ from
     → AllOrSome (nat_le to s.to) (λ p. in_spans p ss) from to
 answer_at_to ss at s from to lt is some order first low =
     answer_via (nat_le to s.to) (λ p. in_spans p ss) (λ p. in_spans p (s ∷ drop (at + 1) ss)) from to (in_tail ss from at s first lt is)
     (answer_to from to s (drop (at + 1) ss) some (subst IsInOrder (tail_is ss at s lt is) (in_order_drop at ss order)) low (reached ss from at s first lt is))
 
-pub answer_at_from : (ss : List Span) (at : ℕ) (s : Span) (from to : ℕ) → at < length ss → s ≡ get_or ss at s → from < to → IsInOrder ss → IsFirstReaching ss (from + 1) at → from < s.from
+pub answer_at_from : (ss : List Span) (at : ℕ) (s : Span) (from to : ℕ) → at < length ss → s ≡ get_or ss at s → from < to → IsInOrder ss → IsFirstReaching ss from at → from < s.from
     → AllOrSome (nat_le s.from from) (λ p. in_spans p ss) from to
 answer_at_from ss at s from to lt is some order first before =
     answer_via (nat_le s.from from) (λ p. in_spans p ss) (λ p. in_spans p (s ∷ drop (at + 1) ss)) from to (in_tail ss from at s first lt is)
-    (answer_before from to s (drop (at + 1) ss) some (subst IsInOrder (tail_is ss at s lt is) (in_order_drop at ss order)) before (reached ss from at s first lt is))
+    (answer_before from to s (drop (at + 1) ss) some (subst IsInOrder (tail_is ss at s lt is) (in_order_drop at ss order)) before)
 
-pub none_reaches : (ss : List Span) (at from : ℕ) → IsFirstReaching ss (from + 1) at → length ss ≤ at → in_spans from ss ≡ false
-none_reaches ss at from first past = sym (in_rest ss (from + 1) at from first.before (omega arith)) ∙ ap (in_spans from) (drop_all at ss past)
+pub none_reaches : (ss : List Span) (at from : ℕ) → IsFirstReaching ss from at → length ss ≤ at → in_spans from ss ≡ false
+none_reaches ss at from first past = sym (in_rest ss from at from first.before (omega arith)) ∙ ap (in_spans from) (drop_all at ss past)

@@ -1,5 +1,5 @@
 -- What came of a stream, place by place, and what each call makes of it.
-use Rattle.std.specs.Prelude.{ℕ, ◌≡◌, ◌≤◌, ◌+◌, ◌-◌, ◌^◌, zero, suc, Bool, true, false, ◌&&◌, ◌||◌, not, nat_lt, nat_le, List, [], ◌∷◌, length, map, drop, max, if◌then◌else◌, slice_index, slice_index_or}
+use Rattle.std.specs.Prelude.{ℕ, ◌≡◌, ◌<◌, ◌≤◌, ◌+◌, ◌-◌, ◌^◌, zero, suc, Bool, true, false, ◌&&◌, ◌||◌, not, nat_lt, nat_le, List, [], ◌∷◌, length, map, drop, max, if◌then◌else◌, slice_index, slice_index_or}
 use Rattle.std.specs.List.{range_with_len}
 use Rattle.iw_ranges.specs.declared.Delivery.{Delivery}
 use Rattle.iw_ranges.specs.declared.Delivery.TheVariants.{Kept, Dropped}
@@ -106,6 +106,10 @@ taken_in a place octets =
 -- a segment is dropped whole, or taken in
 abbrev pub delivered : Arrived → ℕ → List ℕ → Arrived
 delivered a place octets = if is_dropped a place (length octets) then a else taken_in a place octets
+
+-- a segment that is kept and has an octet whose place didn't come: memory may have to grow
+abbrev pub BringsOctets : Arrived → ℕ → ℕ → Type 0
+BringsOctets a place n = (delivery a place n ≡ Kept) × ((p : ℕ) × (place ≤ p) × (p < place + n) × (has_come a p ≡ false))
 
 -- ---- what comes after
 -- the in-order point is `to`, or stays where it lies further on

@@ -7,7 +7,7 @@
 ghost use Rattle.std.specs.Prelude.{◌≡◌, ◌<◌, ◌≤◌, ◌+◌, ◌^◌, ℕ, length, map, All, IfOk, OnOk, OnErr, MatchBool, true, false};
 ghost use Rattle.std.specs.List.{concat};
 ghost use Rattle.std.specs.Iterator.{YieldsFirstBy, item_count};
-ghost use Rattle.iw_ranges.specs.Arrived.{nothing, cell_at, has_come, cells_between, delivery, delivered, advanced, released, IsHere, Here, Missing, IsWithinLimits};
+ghost use Rattle.iw_ranges.specs.Arrived.{nothing, cell_at, has_come, cells_between, delivery, delivered, advanced, released, BringsOctets, IsHere, Here, Missing, IsWithinLimits};
 
 mod buffer;
 pub mod laws;
@@ -86,11 +86,14 @@ impl<A: Allocator> Islands<A> {
     /// It is dropped if one of its octets lies 262,144 or more behind the in-order point, or if there would then be more
     /// than 1,024 islands: runs of octets apart from those that came without a gap from the in-order point on. Otherwise
     /// octets before the in-order point are ignored, and of an octet that came before the first copy stays. A segment
-    /// without octets is kept at any place. `NoMemory` leaves all as it was.
+    /// without octets is kept at any place.
+    ///
+    /// `NoMemory` leaves all as it was. It comes only where the segment would be kept and one of its octets is new.
     pub fn add(&mut self, place: u64, octets: &[u8]) -> Result<Delivery, NoMemory>
         ensures answer { IfOk result (λ answer. answer ≡ delivery self.old.arrived place (length octets.now)) }
         ensures ok { OnOk result (self.new.arrived ≡ delivered self.old.arrived place octets.now) }
         ensures err { OnErr result (self.new.arrived ≡ self.old.arrived) }
+        ensures memory { OnErr result (BringsOctets self.old.arrived place (length octets.now)) }
         ensures room { self.new.room ≡ self.old.room }
     {
         if octets.is_empty() {
@@ -108,6 +111,9 @@ impl<A: Allocator> Islands<A> {
         let (_, fresh) = octets.split_at(before as usize);
         let from = place + before;
         let low = first_reaching(&self.spans, from);
+        if holds_all(&self.spans, low, from, to) {
+            return Ok(Delivery::Kept);
+        }
         if is_one_too_many(&self.spans, low, from, to) {
             return Ok(Delivery::Dropped);
         }
@@ -143,7 +149,7 @@ impl<A: Allocator> Islands<A> {
         ensures { MatchBool result ((p : ℕ) → from ≤ p → p < to → has_come self.now.arrived p ≡ true)
             ((p : ℕ) × (from ≤ p) × (p < to) × (has_come self.now.arrived p ≡ false)) }
     {
-        from >= to || holds_all(&self.spans, from, to)
+        from >= to || holds_all(&self.spans, first_reaching(&self.spans, from), from, to)
     }
 
     /// The octets from place `from` up to place `to`, which came and were not given up.
@@ -178,10 +184,11 @@ impl<A: Allocator> Islands<A> {
         self.octets[(place - self.base) as usize]
     }
 
-    /// Makes room for one release. The room stays until it is used.
+    /// Makes room for one release, where there is none. The room stays until it is used.
     pub fn ready(&mut self) -> Result<(), NoMemory>
         ensures same { self.new.arrived ≡ self.old.arrived }
         ensures ok { OnOk result (0 < self.new.room) }
+        ensures full { OnErr result (self.old.room ≡ 0) }
         ensures room { self.old.room ≤ self.new.room }
     {
         self.gone.reserve(1)

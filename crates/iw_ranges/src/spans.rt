@@ -112,15 +112,20 @@ pub(crate) fn forget<A: Allocator>(gone: &mut VecDeque<Span, A>, to: u64)
     }
 }
 
-/// Whether all places from `from` up to `to` lie in the spans.
-pub(crate) fn holds_all<A: Allocator>(spans: &VecDeque<Span, A>, from: u64, to: u64) -> bool
+/// Whether all places from `from` up to `to` lie in the spans, of which that at `low` is the first that reaches `from`.
+pub(crate) fn holds_all<A: Allocator>(
+    spans: &VecDeque<Span, A>,
+    low: usize,
+    from: u64,
+    to: u64,
+) -> bool
+    requires order { IsInOrder spans.now.items }
+    requires place { IsFirstReaching spans.now.items from low }
     requires some { from < to }
-    requires order { IsFromStart spans.now.items }
     ensures { MatchBool result ((p : ℕ) → from ≤ p → p < to → in_spans p spans.now.items ≡ true)
         ((p : ℕ) × (from ≤ p) × (p < to) × (in_spans p spans.now.items ≡ false)) }
 {
-    let at = first_reaching(spans, from + 1);
-    match spans.get(at) {
+    match spans.get(low) {
         Some(span) => span.from <= from && to <= span.to,
         None => false,
     }
