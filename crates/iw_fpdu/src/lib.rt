@@ -15,6 +15,3 @@ pub use fpdu::{Fpdu, Mismatch};
 pub use layout::Layout;
 pub use pieces::Pieces;
 pub use write::{WriteRefusal, write_fpdu};
-
-#[cfg(test)]
-mod tests;

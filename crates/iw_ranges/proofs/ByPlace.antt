@@ -71,14 +71,6 @@ pub adds_places : AddsPlaces
 adds_places a place octets p kept =
     ap (λ c. not (is_missing c)) (keeps_first_copies a place octets p kept) ∙ come-first_copy place octets p (cell_at a p) (in_segment place (length octets) p) refl
 
--- a place of a segment that is kept is held, unless it was given up
-pub IsHere-first_copy : (place : ℕ) (octets : List ℕ) (p : ℕ) (c : Cell) → place ≤ p → p < place + length octets → (c ≡ Gone → ⊥) → IsHere (first_copy place octets p c)
-IsHere-first_copy place octets p Missing low high held =
-    let t : in_segment place (length octets) p ≡ true = grind (arith, nat_tests) in
-    subst IsHere (sym (ap (λ b. cond b (Here (get_or octets (p - place) 0)) Missing) t)) tt
-IsHere-first_copy place octets p (Here x) low high held = tt
-IsHere-first_copy place octets p Gone low high held = held refl
-
 -- a segment that is kept gives no octet up
 pub first_copy-gone : (place : ℕ) (octets : List ℕ) (p : ℕ) (c : Cell) (v : Bool) → in_segment place (length octets) p ≡ v → first_copy place octets p c ≡ Gone → c ≡ Gone
 first_copy-gone place octets p Missing true h e = absurd (let t : first_copy place octets p Missing ≡ Here (get_or octets (p - place) 0) = ap (λ b. cond b (Here (get_or octets (p - place) 0)) Missing) h in cc)
@@ -89,12 +81,7 @@ first_copy-gone place octets p Gone v h e = e
 pub cell_at-nothing : (p : ℕ) → cell_at nothing p ≡ Missing
 cell_at-nothing p = past nothing p (omega arith)
 
--- the same of what `add` says: the octets of a segment that is kept are held, unless they were given up before, and it gives none up
-pub kept_holds : (old new : Arrived) (place : ℕ) (octets : List ℕ) (answer : Delivery) (p : ℕ) → answer ≡ Kept → answer ≡ delivery old place (length octets) → new ≡ delivered old place octets
-    → place ≤ p → p < place + length octets → (cell_at old p ≡ Gone → ⊥) → IsHere (cell_at new p)
-kept_holds old new place octets answer p kept is after low high held =
-    subst IsHere (sym (ap (λ a. cell_at a p) after ∙ keeps_first_copies old place octets p (sym is ∙ kept))) (IsHere-first_copy place octets p (cell_at old p) low high held)
-
+-- the same of what `add` says
 pub kept_gone : (old new : Arrived) (place : ℕ) (octets : List ℕ) (answer : Delivery) (p : ℕ) → answer ≡ Kept → answer ≡ delivery old place (length octets) → new ≡ delivered old place octets
     → cell_at new p ≡ Gone → cell_at old p ≡ Gone
 kept_gone old new place octets answer p kept is after gone =

@@ -271,6 +271,3 @@ impl<'a> Iterator for Parts<'a> {
         Some(part)
     }
 }
-
-#[cfg(test)]
-mod tests;
