@@ -8,7 +8,7 @@ ghost use Rattle.iw_fpdu.specs.PiecesOctet.{octet_from};
 use crate::layout::{place_of, run_at};
 use std::marker::Model;
 
-/// The octets of a ULPDU, lent piece by piece: each piece reaches to the next marker or to the end.
+/// The octets of a ULPDU, lent piece by piece: no piece has octets of a marker.
 #[derive(Drop)]
 pub struct Pieces<'a> {
     /// Octets of the frame, markers included.
