@@ -1,6 +1,6 @@
 -- Octets written between spans.
 use Rattle.std.proofs.Common.{◌≡◌, ℕ, ◌+◌, ◌-◌, ◌<◌, ◌≤◌, Bool, true, false, not, ◌&&◌, cond, ltb, leb, List, ◌∷◌, ◌++◌, take, drop, length, get_or, min, max, refl, sym, ap, ◌∙◌, subst, arith, ⊎_elim, inl, inr}
-use Rattle.std.proofs.lemmas.List.{get_or-drop, length-drop, length-take-le, get_or-take, drop_more, drop_all, take_at, get_or_past}
+use Rattle.std.proofs.lemmas.List.{get_or-drop, length-drop, length-take-le, get_or-take, drop_more, drop_all, take_at, get_or_past, get_or_append_left, get_or-append_right}
 use Rattle.std.proofs.lemmas.Bool.{cases_lt}
 use Rattle.std.proofs.lemmas.Bool.Decides.{nat_tests}
 use Rattle.iw_ranges.specs.declared.spans.Span.{Span}
@@ -184,4 +184,20 @@ put_octets base ss from front grown filled n i lg lf room wrote =
       | inl inside ↦ wrote i inside
       | inr past ↦
           get_or_past filled i 0 (omega arith) ∙ sym (get_or_past grown i 0 (omega arith)) ∙ sym (behind_octets base ss from front grown i (omega arith))
+    ]
+
+-- octets that are put right behind the buffer
+pub behind_all : (base : ℕ) (ss : List Span) (from : ℕ) (octets buffer : List ℕ) (i : ℕ) → ((p : ℕ) → in_spans p ss ≡ true → p < base + length buffer) → from ≡ base + length buffer
+    → get_or (buffer ++ octets) i 0 ≡ octet_after base ss from octets buffer i
+behind_all base ss from octets buffer i within e =
+    elim (cases_lt i (length buffer)) [
+      | inl inside ↦ get_or_append_left buffer octets 0 i inside ∙ sym (before_octets base ss from octets buffer i (omega arith))
+      | inr past ↦ get_or-append_right buffer octets (length buffer) i 0 refl past ∙ elim (cases_lt i (length buffer + length octets)) [
+        | inl put ↦
+            ap (λ n. get_or octets n 0) (omega arith)
+            ∙ sym (in_octets base ss from octets buffer i (omega arith) (omega arith) (not_in (base + i) (base + length buffer) ss (in_spans (base + i) ss) within (omega arith) refl))
+        | inr none ↦
+            get_or_past octets (i - length buffer) 0 (omega arith) ∙ sym (get_or_past buffer i 0 past)
+            ∙ sym (behind_octets base ss from octets buffer i (omega arith))
+      ]
     ]

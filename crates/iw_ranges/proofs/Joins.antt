@@ -6,7 +6,7 @@ use Rattle.std.proofs.lemmas.Bool.Decides.{nat_tests}
 use Rattle.std.proofs.Math.ListN.{set}
 use Rattle.std.specs.Prelude.{insert, remove, nat_lt, nat_eq, MatchBool}
 use Rattle.iw_ranges.specs.declared.spans.Span.{Span}
-use Rattle.iw_ranges.specs.Spans.{add_span, merge_span, spans_behind, IsFirstReaching}
+use Rattle.iw_ranges.specs.Spans.{add_span, merge_span, spans_behind, IsFirstReaching, IsFromStart, first_end}
 use Rattle.iw_ranges.proofs.Reaches.{AllBefore}
 
 pub skip_one : (from to : ℕ) (s : Span) (ss : List Span) → s.to < from → add_span from to (s ∷ ss) ≡ s ∷ add_span from to ss
@@ -192,3 +192,16 @@ pub few_more : (from to : ℕ) (ss : List Span) (m : ℕ) → m ≡ length ss �
 few_more from to ss m e few =
     let t : nat_lt 1024 m ≡ false = grind (arith, nat_tests) in
     subst (λ b. MatchBool b (1025 < length (add_span from to ss)) (length (add_span from to ss) ≤ 1025)) (sym t) (omega (arith, length_add from to ss))
+
+-- the first span, of those from place 0 on
+pub first_from : (ss : List Span) (d : Span) → IsFromStart ss → (get_or ss 0 d).from ≡ 0
+first_from [] d order = elim order [ ]
+first_from (s ∷ ss) d order = order.0
+
+pub first_to : (ss : List Span) (d : Span) → IsFromStart ss → (get_or ss 0 d).to ≡ first_end ss
+first_to [] d order = elim order [ ]
+first_to (s ∷ ss) d order = refl
+
+pub some_first : (ss : List Span) → IsFromStart ss → 0 < length ss
+some_first [] order = elim order [ ]
+some_first (s ∷ ss) order = omega arith

@@ -12,7 +12,7 @@ use Rattle.iw_ranges.proofs.Reaches.{in_order_start}
 use Rattle.iw_ranges.proofs.Adds.{in_add, add_from_start, add_first}
 use Rattle.iw_ranges.proofs.Fills.{in_octets, in_the_spans}
 use Rattle.iw_ranges.proofs.Cells.{cell_missing, cell_gone, cell_here, cell_is, first_covers, top_reaches, end_is, same_drawn}
-use Rattle.iw_ranges.proofs.Counts.{AllCame, or_false, or_true}
+use Rattle.iw_ranges.proofs.Counts.{AllCame, or_false, or_true, kept_put}
 
 -- ---- octets that change nothing
 pub taken_none : (a : Arrived) (place : ℕ) (octets : List ℕ) → length octets ≡ 0 → taken_in a place octets ≡ a
@@ -59,6 +59,7 @@ taken_came f ok place octets some all =
 pub record PutsIn (f after : Fields) (from to : ℕ) (octets : List ℕ) : Type 0 where
   pub base : after.base ≡ f.base
   pub floor : after.floor ≡ f.floor
+  pub missing : after.missing ≡ first_end after.spans
   pub gone : after.gone ≡ f.gone
   pub spans : after.spans ≡ add_span from to f.spans
   pub end : to ≡ from + length octets
@@ -72,6 +73,7 @@ pub sound_put : (f after : Fields) → IsSound f → (from to : ℕ) (octets : L
     → length (add_span from to f.spans) ≤ 1025 → IsSound after
 sound_put f after ok from to octets some near puts few = record {
   base = omega (arith, ok.base, puts.base, puts.floor);
+  missing = puts.missing;
   order = subst IsFromStart (sym puts.spans) (add_from_start from to f.spans some ok.order);
   reached = omega (arith, ok.reached, puts.floor, add_first from to f.spans ok.order, ap first_end puts.spans);
   within = λ p t. inside p (sym (in_after f after ok from to octets some puts p) ∙ t);
@@ -167,3 +169,12 @@ delivered_kept a place octets h = sym (ap (λ b. cond b a (taken_in a place octe
 
 pub delivered_dropped : (a : Arrived) (place : ℕ) (octets : List ℕ) → is_dropped a place (length octets) ≡ true → a ≡ delivered a place octets
 delivered_dropped a place octets h = sym (ap (λ b. cond b a (taken_in a place octets)) h)
+
+-- once its new octets are put in, a segment that is kept is delivered
+pub put_delivers : (f after : Fields) → IsSound f → (a : Arrived) → arrived_in f ≡ a → (place from : ℕ) (octets part : List ℕ) → first_end f.spans < place + length octets → 0 < length octets
+    → from ≡ place + (first_end f.spans - place) → part ≡ drop (first_end f.spans - place) octets → place + length octets ≤ f.floor + window
+    → length (add_span from (place + length octets) f.spans) ≤ 1025 → PutsIn f after from (place + length octets) part → arrived_in after ≡ delivered a place octets
+put_delivers f after ok a e place from octets part high some is cut near few puts =
+    taken_put f after ok place from octets part high some is cut puts
+    ∙ delivered_kept (arrived_in f) place octets (kept_put f ok place (length octets) from is high near some few)
+    ∙ ap (λ x. delivered x place octets) e

@@ -67,6 +67,7 @@ cells_from f floor top to low high =
 -- the in-order point and, where octets before it were let go, the buffer
 pub record MovesTo (f after : Fields) (to : ℕ) : Type 0 where
   pub floor : after.floor ≡ to
+  pub missing : after.missing ≡ f.missing
   pub spans : after.spans ≡ f.spans
   pub gone : after.gone ≡ spans_behind to f.gone
   pub octets : after.octets ≡ drop (after.base - f.base) f.octets
@@ -77,6 +78,7 @@ pub record MovesTo (f after : Fields) (to : ℕ) : Type 0 where
 pub sound_moved : (f after : Fields) → IsSound f → (to : ℕ) → f.floor ≤ to → to ≤ first_end f.spans → to ≤ 2 ^ 63 → MovesTo f after to → IsSound after
 sound_moved f after ok to low high small moves = record {
   base = omega (arith, moves.floor, moves.high);
+  missing = moves.missing ∙ ok.missing ∙ sym (ap first_end moves.spans);
   order = subst IsFromStart (sym moves.spans) ok.order;
   reached = omega (arith, moves.floor, ap first_end moves.spans);
   within = λ p t. omega (arith, end, ok.within p (sym (ap (in_spans p) moves.spans) ∙ t));
@@ -131,6 +133,7 @@ advanced_back a to back =
 pub record GivesUp (f after : Fields) (from to : ℕ) : Type 0 where
   pub base : after.base ≡ f.base
   pub floor : after.floor ≡ f.floor
+  pub missing : after.missing ≡ f.missing
   pub octets : after.octets ≡ f.octets
   pub spans : after.spans ≡ f.spans
   pub gone : after.gone ≡ add_span from to f.gone
@@ -141,6 +144,7 @@ in_given f after ok from to p some gives = ap (in_spans p) gives.gone ∙ in_add
 pub sound_release : (f after : Fields) → IsSound f → (from to : ℕ) → from < to → ((p : ℕ) → from ≤ p → p < to → in_spans p f.spans ≡ true) → GivesUp f after from to → IsSound after
 sound_release f after ok from to some came gives = record {
   base = omega (arith, ok.base, gives.base, gives.floor);
+  missing = gives.missing ∙ ok.missing ∙ sym (ap first_end gives.spans);
   order = subst IsFromStart (sym gives.spans) ok.order;
   reached = omega (arith, ok.reached, gives.floor, ap first_end gives.spans);
   within = λ p t. omega (arith, gives.base, ap length gives.octets, ok.within p (sym (ap (in_spans p) gives.spans) ∙ t));

@@ -10,12 +10,13 @@ use Rattle.iw_ranges.specs.declared.Islands.TheInside.{Inside}
 pub record Fields : Type 0 where
   pub base : ℕ
   pub floor : ℕ
+  pub missing : ℕ
   pub octets : List ℕ
   pub spans : List Span
   pub gone : List Span
 
 abbrev pub fields_of : {A : Type 0} → Inside A → Fields
-fields_of {A} a = record { base = a.base; floor = a.floor; octets = a.octets.items; spans = a.spans.items; gone = a.gone.items }
+fields_of {A} a = record { base = a.base; floor = a.floor; missing = a.missing; octets = a.octets.items; spans = a.spans.items; gone = a.gone.items }
 
 unfoldable pub cell_of : Fields → ℕ → Cell
 cell_of f p = if in_spans p f.spans then (if in_spans p f.gone then Gone else Here (slice_index f.octets (p - f.base))) else Missing
@@ -29,6 +30,7 @@ held_by {A} a = record { arrived = arrived_in (fields_of a); room = deque_capaci
 pub record IsSound (f : Fields) : Type 0 where
   pub base : f.base ≤ f.floor
   pub order : IsFromStart f.spans
+  pub missing : f.missing ≡ first_end f.spans
   pub reached : f.floor ≤ first_end f.spans
   pub within : (p : ℕ) → in_spans p f.spans ≡ true → p < f.base + length f.octets
   pub windowed : f.base + length f.octets ≤ f.floor + window

@@ -1,8 +1,9 @@
-ghost use Rattle.std.specs.Prelude.{◌≡◌, ◌<◌, ◌≤◌, ◌+◌, ◌-◌, ◌*◌, ◌^◌, ◌&&◌, ℕ, length, vec_len, true, slice_index, if◌then◌else◌, nat_le, nat_lt, OnOk, OnErr, max, take, drop};
+ghost use Rattle.std.specs.Prelude.{◌≡◌, ◌<◌, ◌≤◌, ◌+◌, ◌-◌, ◌*◌, ◌^◌, ◌&&◌, ◌++◌, ℕ, length, vec_len, vec_capacity, true, slice_index, if◌then◌else◌, nat_le, nat_lt, OnOk, OnErr, max, take, drop};
+ghost use Rattle.std.specs.Bool.{OnTrue};
 ghost use Rattle.std.specs.VecDeque.{deque_len, deque_capacity};
-ghost use Rattle.iw_ranges.specs.Spans.{in_spans, add_span, IsFromStart, IsFirstReaching, octet_after};
+ghost use Rattle.iw_ranges.specs.Spans.{in_spans, add_span, IsFromStart, IsFirstReaching, first_end, octet_after};
 
-use crate::spans::{Span, join};
+use crate::spans::{Span, join, widen};
 use std::alloc::{AllocError, Allocator};
 use std::collections::VecDeque;
 
@@ -67,8 +68,58 @@ fn append<A: Allocator>(buffer: &mut Vec<u8, A>, at: usize, octets: &[u8]) -> Re
     Ok(())
 }
 
+/// Appends octets, for which there is room.
+#[inline(always)]
+fn extend<A: Allocator>(buffer: &mut Vec<u8, A>, octets: &[u8])
+    requires { vec_len buffer.old + length octets.now ≤ vec_capacity buffer.old }
+    ensures items { buffer.new.items ≡ buffer.old.items ++ octets.now }
+    ensures len { vec_len buffer.new ≡ vec_len buffer.old + length octets.now }
+{
+    let _ = buffer.extend_from_slice(octets);
+}
+
+/// Whether the octets stand right behind all of the buffer, which begins at place `base`, where they come from place `from` on,
+/// and it has room for them.
+#[inline(always)]
+pub(crate) fn fits_behind<A: Allocator>(
+    buffer: &Vec<u8, A>,
+    base: u64,
+    from: u64,
+    octets: &[u8],
+) -> bool
+    requires { base ≤ from }
+    ensures { OnTrue result ((from ≡ base + vec_len buffer.now) × (vec_len buffer.now + length octets.now ≤ vec_capacity buffer.now)) }
+{
+    from - base == buffer.len() as u64 && octets.len() <= buffer.capacity() - buffer.len()
+}
+
+/// Takes in the octets from place `from` on, where the first span and the buffer end, and adds their places to the spans.
+#[inline(always)]
+pub(crate) fn put_behind<A: Allocator>(
+    buffer: &mut Vec<u8, A>,
+    base: u64,
+    spans: &mut VecDeque<Span, A>,
+    from: u64,
+    octets: &[u8],
+)
+    requires behind { from ≡ base + vec_len buffer.old }
+    requires room { vec_len buffer.old + length octets.now ≤ vec_capacity buffer.old }
+    requires small { from + length octets.now < 2 ^ 64 }
+    requires order { IsFromStart spans.old.items }
+    requires first { from ≡ first_end spans.old.items }
+    requires within { (p : ℕ) → in_spans p spans.old.items ≡ true → p < base + vec_len buffer.old }
+    ensures spans { spans.new.items ≡ add_span from (from + length octets.now) spans.old.items }
+    ensures few { length spans.new.items ≤ length spans.old.items }
+    ensures len { vec_len buffer.new ≡ vec_len buffer.old + length octets.now }
+    ensures octets { (i : ℕ) → slice_index buffer.new.items i ≡ octet_after base spans.old.items from octets.now buffer.old.items i }
+{
+    extend(buffer, octets);
+    widen(spans, 0, from, from + octets.len() as u64);
+}
+
 /// Takes in the octets from place `from` on, but for the places in the spans, and adds their places to the spans, of which
 /// that at `low` is the first that reaches `from`. An `Err` changes nothing.
+#[inline(never)]
 pub(crate) fn put<A: Allocator>(
     buffer: &mut Vec<u8, A>,
     base: u64,

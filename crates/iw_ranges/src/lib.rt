@@ -13,7 +13,7 @@ mod buffer;
 pub mod laws;
 mod spans;
 
-use buffer::{drop_front, put};
+use buffer::{drop_front, fits_behind, put, put_behind};
 use spans::{Span, end_of_first, first_reaching, forget, holds_all, is_one_too_many, join};
 use std::alloc::{AllocError, Allocator, Global};
 use std::collections::VecDeque;
@@ -43,6 +43,8 @@ pub struct Islands<A: Allocator = Global> {
     base: u64,
     /// The in-order point.
     floor: u64,
+    /// The first place that didn't come.
+    missing: u64,
     /// Octets side by side; those at places that didn't come mean nothing.
     octets: Vec<u8, A>,
     /// The places that came, the first span from place 0 on.
@@ -75,6 +77,7 @@ impl<A: Allocator> Islands<A> {
         Ok(Islands {
             base: 0,
             floor: 0,
+            missing: 0,
             octets: Vec::new(alloc),
             spans,
             gone: VecDeque::new(alloc),
@@ -103,13 +106,17 @@ impl<A: Allocator> Islands<A> {
             return Ok(Delivery::Dropped);
         }
         let to = place + octets.len() as u64;
-        let missing = end_of_first(&self.spans);
-        if to <= missing {
+        if to <= self.missing {
             return Ok(Delivery::Kept);
         }
-        let before = missing.saturating_sub(place);
+        let before = self.missing.saturating_sub(place);
         let (_, fresh) = octets.split_at(before as usize);
         let from = place + before;
+        if from == self.missing && fits_behind(&self.octets, self.base, from, fresh) {
+            put_behind(&mut self.octets, self.base, &mut self.spans, from, fresh);
+            self.missing = end_of_first(&self.spans);
+            return Ok(Delivery::Kept);
+        }
         let low = first_reaching(&self.spans, from);
         if holds_all(&self.spans, low, from, to) {
             return Ok(Delivery::Kept);
@@ -125,6 +132,7 @@ impl<A: Allocator> Islands<A> {
             from,
             fresh,
         )?;
+        self.missing = end_of_first(&self.spans);
         Ok(Delivery::Kept)
     }
 
@@ -141,7 +149,7 @@ impl<A: Allocator> Islands<A> {
         ensures come { (p : ℕ) → p < result → has_come self.now.arrived p ≡ true }
         ensures missing { cell_at self.now.arrived result ≡ Missing }
     {
-        end_of_first(&self.spans)
+        self.missing
     }
 
     /// Whether all octets from place `from` up to place `to` came, given up or not.
@@ -149,6 +157,9 @@ impl<A: Allocator> Islands<A> {
         ensures { MatchBool result ((p : ℕ) → from ≤ p → p < to → has_come self.now.arrived p ≡ true)
             ((p : ℕ) × (from ≤ p) × (p < to) × (has_come self.now.arrived p ≡ false)) }
     {
+        if to <= self.missing {
+            return true;
+        }
         from >= to || holds_all(&self.spans, first_reaching(&self.spans, from), from, to)
     }
 

@@ -65,7 +65,8 @@ pub(crate) fn is_one_too_many<A: Allocator>(
 }
 
 /// Makes one span of that at `low`, the places from `from` up to `to`, and all further spans that they touch.
-fn widen<A: Allocator>(spans: &mut VecDeque<Span, A>, low: usize, from: u64, to: u64)
+#[inline(always)]
+pub(crate) fn widen<A: Allocator>(spans: &mut VecDeque<Span, A>, low: usize, from: u64, to: u64)
     requires within { low < deque_len spans.old }
     requires touched { (d : Span) → (slice_index_or spans.old.items low d).from ≤ to }
     ensures items { spans.new.items ≡ take low spans.old.items ++ merge_span from to (drop low spans.old.items) }

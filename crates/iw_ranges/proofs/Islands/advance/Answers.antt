@@ -20,6 +20,7 @@ invariant_of-self g c =
     let high = reaches f c.self.invariant c.args.self.now.arrived (ap (λ (h : Held). h.arrived) c.self.view_is) c.args.to c.requires.come in
     sound_moved f _ c.self.invariant c.args.to (omega (arith, c.if-to-self.false)) high c.requires.place (record {
       floor = refl;
+      missing = refl;
       spans = refl;
       gone = c.forget.ensures.items;
       octets = c.drop_front.ensures.items;
@@ -34,6 +35,7 @@ invariant_of-self-else-dead-len g c =
     let high = reaches f c.self.invariant c.args.self.now.arrived (ap (λ (h : Held). h.arrived) c.self.view_is) c.args.to c.requires.come in
     sound_moved f _ c.self.invariant c.args.to (omega (arith, c.if-to-self.false)) high c.requires.place (record {
       floor = refl;
+      missing = refl;
       spans = refl;
       gone = c.forget.ensures.items;
       octets = sym (drop_none f.base f.octets);
@@ -48,6 +50,7 @@ returns-then-dead-len-clause-arrived g c =
     let high = reaches f c.self.invariant c.args.self.now.arrived (ap (λ (h : Held). h.arrived) c.self.view_is) c.args.to c.requires.come in
     advanced_to f _ c.self.invariant c.args.to (omega (arith, c.if-to-self.false)) high (record {
       floor = refl;
+      missing = refl;
       spans = refl;
       gone = c.forget.ensures.items;
       octets = c.drop_front.ensures.items;
@@ -63,6 +66,7 @@ returns-else-dead-len-clause-arrived g c =
     let high = reaches f c.self.invariant c.args.self.now.arrived (ap (λ (h : Held). h.arrived) c.self.view_is) c.args.to c.requires.come in
     advanced_to f _ c.self.invariant c.args.to (omega (arith, c.if-to-self.false)) high (record {
       floor = refl;
+      missing = refl;
       spans = refl;
       gone = c.forget.ensures.items;
       octets = sym (drop_none f.base f.octets);

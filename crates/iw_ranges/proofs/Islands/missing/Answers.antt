@@ -9,11 +9,11 @@ pub returns-clause-come : goal.returns-clause-come
 returns-clause-come g c = λ p lt.
     let f : Fields = fields_of c.self.inside in
     come_via f c.self.invariant c.args.self.now.arrived (ap (λ (h : Held). h.arrived) c.self.view_is) p
-    ∙ first_covers f.spans p c.self.invariant.order (omega (arith, c.end_of_first.ensures))
+    ∙ first_covers f.spans p c.self.invariant.order (omega (arith, c.self.invariant.missing))
 
 pub returns-clause-missing : goal.returns-clause-missing
 returns-clause-missing g c =
     let f : Fields = fields_of c.self.inside in
-    ap (λ (h : Held). cell_at h.arrived c.end_of_first.result) (sym c.self.view_is)
-    ∙ cell_is f c.self.invariant c.end_of_first.result (omega (arith, c.end_of_first.ensures, c.self.invariant.reached))
-    ∙ cell_missing f c.end_of_first.result (ap (λ q. in_spans q f.spans) c.end_of_first.ensures ∙ first_missing f.spans c.self.invariant.order)
+    ap (λ (h : Held). cell_at h.arrived f.missing) (sym c.self.view_is)
+    ∙ cell_is f c.self.invariant f.missing (omega (arith, c.self.invariant.missing, c.self.invariant.reached))
+    ∙ cell_missing f f.missing (ap (λ q. in_spans q f.spans) c.self.invariant.missing ∙ first_missing f.spans c.self.invariant.order)
