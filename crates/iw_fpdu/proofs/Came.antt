@@ -11,7 +11,7 @@ use Rattle.iw_fpdu.specs.Places.{span_start}
 use Rattle.iw_fpdu.specs.Frame.{frame_end}
 use Rattle.iw_fpdu.specs.PiecesOctet.{octet_from}
 use Rattle.iw_fpdu.specs.Reading.{end_at}
-use Rattle.iw_fpdu.specs.Found.{Found, octet_of, octet_in, IsWhole, is_whole, IsKept, HoldsSpan, IsRead}
+use Rattle.iw_fpdu.specs.Found.{Found, octet_of, octet_in, is_whole, IsKept, HoldsSpan, IsRead}
 use Rattle.iw_fpdu.specs.Laws.{TellsWhole}
 use Rattle.iw_fpdu.proofs.Octets.{all_each, all_hold}
 

@@ -1,5 +1,5 @@
 -- What the calls leave, said of each place.
-use Rattle.std.proofs.Common.{◌≡◌, ℕ, ◌+◌, ◌-◌, ◌<◌, ◌≤◌, Bool, true, false, not, ◌&&◌, ◌||◌, cond, List, map, length, get_or, max, refl, sym, ap, ◌∙◌, subst, arith, inl, inr}
+use Rattle.std.proofs.Common.{◌≡◌, ℕ, ◌+◌, ◌-◌, ◌<◌, ◌≤◌, Bool, true, false, not, ◌&&◌, ◌||◌, cond, List, map, length, get_or, max, refl, sym, ap, ◌∙◌, arith, inl, inr}
 use Rattle.std.proofs.lemmas.List.{get_or_past, get_or-drop}
 use Rattle.std.proofs.lemmas.List.FromFn.{get_or-map-range_with_len, length-map-range_with_len}
 use Rattle.std.proofs.lemmas.Bool.{cases_lt}
@@ -8,7 +8,7 @@ use Rattle.std.specs.List.{range_with_len}
 use Rattle.std.specs.Prelude.{nat_lt, nat_le}
 use Rattle.iw_ranges.specs.declared.Delivery.{Delivery}
 use Rattle.iw_ranges.specs.declared.Delivery.TheVariants.{Kept, Dropped}
-use Rattle.iw_ranges.specs.Arrived.{Cell, Missing, Here, Gone, Arrived, nothing, cell_at, is_missing, IsHere, in_segment, first_copy, given_up, is_dropped, delivery, delivered, taken_in, advanced, released, drawn, end_of}
+use Rattle.iw_ranges.specs.Arrived.{Cell, Missing, Here, Gone, Arrived, nothing, cell_at, is_missing, in_segment, first_copy, given_up, is_dropped, delivery, delivered, taken_in, advanced, released, drawn, end_of}
 use Rattle.iw_ranges.specs.Laws.{KeepsFirstCopies, AddsPlaces, GivesUpPlaces, StaysCome, GivesUpBefore}
 use Rattle.iw_ranges.proofs.Keeps.{taken_none, taken_some, not_copied}
 

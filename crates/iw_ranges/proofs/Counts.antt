@@ -10,7 +10,7 @@ use Rattle.iw_ranges.specs.Fields.{Fields, arrived_in, IsSound}
 use Rattle.iw_ranges.proofs.Reaches.{below_apart, in_order_start, inside_first}
 use Rattle.iw_ranges.proofs.Adds.{in_add, add_from_start, add_first}
 use Rattle.iw_ranges.proofs.Fills.{not_in}
-use Rattle.iw_ranges.proofs.Cells.{first_covers, come_is, cell_is, cell_missing, top_reaches}
+use Rattle.iw_ranges.proofs.Cells.{first_covers, come_is, cell_is, cell_missing}
 
 pub or_false : (x y : Bool) → y ≡ false → (x || y) ≡ x
 or_false true y h = refl

@@ -11,7 +11,7 @@ use Rattle.iw_ranges.specs.Fields.{Fields, cell_of, arrived_in, IsSound}
 use Rattle.iw_ranges.proofs.Reaches.{in_order_start}
 use Rattle.iw_ranges.proofs.Adds.{in_add, add_from_start, add_first}
 use Rattle.iw_ranges.proofs.Fills.{in_octets, in_the_spans}
-use Rattle.iw_ranges.proofs.Cells.{cell_missing, cell_gone, cell_here, cell_is, first_covers, top_reaches, end_is, same_drawn}
+use Rattle.iw_ranges.proofs.Cells.{cell_missing, cell_gone, cell_here, cell_is, first_covers, end_is, same_drawn}
 use Rattle.iw_ranges.proofs.Counts.{AllCame, or_false, or_true, kept_put}
 
 -- ---- octets that change nothing

@@ -7,7 +7,7 @@ use Rattle.iw_ranges.proofs.Adds.{add_from_start}
 use Rattle.iw_ranges.specs.Fields.{Fields, fields_of, arrived_in, IsSound}
 use Rattle.iw_ranges.proofs.Cells.{come_via}
 use Rattle.iw_ranges.proofs.Counts.{AllCame, all_low, all_from, dropped_none, dropped_far, dropped_came, dropped_put, kept_put}
-use Rattle.iw_ranges.proofs.Keeps.{taken_none, taken_came, taken_put, sound_put, put_delivers, PutsIn, kept_is, dropped_is, delivered_kept, delivered_dropped}
+use Rattle.iw_ranges.proofs.Keeps.{taken_none, taken_came, sound_put, put_delivers, PutsIn, kept_is, dropped_is, delivered_kept, delivered_dropped}
 use Rattle.iw_ranges.proofs.Islands.add.Given as given
 use Rattle.iw_ranges.proofs.Islands.add.Goals as goal
 

@@ -1,4 +1,4 @@
-use Rattle.std.proofs.Common.{◌+◌, length, arith, ap, ◌∙◌, get_or, sym}
+use Rattle.std.proofs.Common.{◌+◌, length, arith, ap, ◌∙◌, get_or}
 use Rattle.iw_ranges.specs.declared.spans.Span.{Span}
 use Rattle.iw_ranges.proofs.Fills.{behind_all}
 use Rattle.iw_ranges.proofs.Joins.{add_touched, first_from, first_to, some_first}
