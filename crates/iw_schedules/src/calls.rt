@@ -18,14 +18,14 @@ use iw_octets::{Message, Stag};
 use std::alloc::Allocator;
 
 /// A call of a stream that a line may ask for many times.
-#[derive(Clone, Copy, Debug, PartialEq, Eq)]
+#[derive(Clone, Copy)]
 pub(crate) enum Step {
     Emit,
     Work,
 }
 
 /// The calls that a line stands for. The type of the octets is the parameter.
-#[derive(Debug, PartialEq, Drop)]
+#[derive(Drop)]
 pub(crate) enum Calls<O> {
     One(Call<O>),
     /// Equal calls of a stream.

@@ -28,7 +28,7 @@ pub enum ScheduleFault {
 }
 
 /// Why a part of a line was not read.
-#[derive(Clone, Copy, Debug, PartialEq, Eq)]
+#[derive(Clone, Copy)]
 pub(crate) enum ReadError {
     Fault(FaultName),
     NoMemory,

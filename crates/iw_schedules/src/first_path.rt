@@ -9,7 +9,7 @@ use crate::fault::FaultName;
 use iw_octets::Stag;
 
 /// The kind of a Send.
-#[derive(Clone, Copy, Debug, PartialEq, Eq)]
+#[derive(Clone, Copy)]
 pub(crate) enum SendKind {
     /// It is not solicited and invalidates nothing.
     Plain,

@@ -20,6 +20,3 @@ pub use fault::{FaultName, ScheduleFault};
 pub use laws::{pieces_are_clear, schedules_are_clear};
 pub use schedule::read_schedule;
 pub use trace::print_trace;
-
-#[cfg(test)]
-mod tests;

@@ -10,7 +10,7 @@ use iw_startup::{NotAsked, StartupFault};
 use iw_stream::{PostRefusal, RecvRefusal, SizeRefusal};
 
 /// The number and the name of a refusal, or of what closed a stream.
-#[derive(Clone, Copy, Debug)]
+#[derive(Clone, Copy)]
 pub(crate) struct Refusal {
     pub(crate) number: u8,
     pub(crate) name: &'static str,

@@ -7,7 +7,7 @@ use crate::fault::FaultName;
 use iw_events::{End, Role};
 
 /// What a line calls: its second word.
-#[derive(Clone, Copy, Debug, PartialEq, Eq)]
+#[derive(Clone, Copy)]
 pub(crate) enum CallWord {
     Domain,
     Register,
