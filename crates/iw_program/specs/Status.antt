@@ -2,9 +2,9 @@
 use Rattle.std.specs.Prelude.{ℕ, List, Bool, true, false, if◌then◌else◌}
 use Rattle.std.specs.List.{list_any}
 use Rattle.iw_events.specs.declared.act.Act.{Act}
-use Rattle.iw_events.specs.declared.act.Act.TheVariants.{Stream}
+use Rattle.iw_events.specs.declared.act.Act.TheVariants as acts
 use Rattle.iw_events.specs.declared.act.StreamAct.{StreamAct}
-use Rattle.iw_events.specs.declared.act.StreamAct.TheVariants.{Work}
+use Rattle.iw_events.specs.declared.act.StreamAct.TheVariants as stream_acts
 use Rattle.iw_events.specs.declared.act.Seen.{Seen}
 use Rattle.iw_events.specs.declared.act.Seen.TheVariants as seen
 use Rattle.iw_events.specs.declared.act.Entry.{Entry}
@@ -20,17 +20,36 @@ code_of Refused = 2
 
 -- a step of work found a fault, or one in the peer's start-up frame
 abbrev pub sees_fault : Seen (List ℕ) → Bool
-sees_fault (seen.Fault fault) = true
+sees_fault (seen.Done kind) = false
+sees_fault (seen.Asked private) = false
+sees_fault (seen.Opened agreed private) = false
 sees_fault (seen.Closed fault) = true
-sees_fault _ = false
+sees_fault (seen.Placed right stag to octets) = false
+sees_fault (seen.Buffered msn mo len) = false
+sees_fault seen.Passed = false
+sees_fault (seen.Received octets solicited invalidate) = false
+sees_fault (seen.Fault fault) = true
+sees_fault seen.Idle = false
 
 abbrev pub stream_faults : StreamAct (List ℕ) → Bool
-stream_faults (Work seen) = sees_fault seen
-stream_faults _ = false
+stream_faults (stream_acts.Recv len refused) = false
+stream_faults (stream_acts.Post message refused) = false
+stream_faults (stream_acts.Emit shown) = false
+stream_faults (stream_acts.Deliver from octets delivery) = false
+stream_faults (stream_acts.Raw from octets delivery) = false
+stream_faults (stream_acts.Mulpdu size refused) = false
+stream_faults (stream_acts.Accept private answer) = false
+stream_faults (stream_acts.Reject private refused) = false
+stream_faults (stream_acts.Work seen) = sees_fault seen
 
 abbrev pub act_faults : Act (List ℕ) → Bool
-act_faults (Stream number act) = stream_faults act
-act_faults _ = false
+act_faults (acts.Domain pd refused) = false
+act_faults (acts.Register pd base rights octets answer) = false
+act_faults (acts.Deregister stag answer) = false
+act_faults (acts.Invalidate stag refused) = false
+act_faults (acts.Store stag to octets refused) = false
+act_faults (acts.Open stream pd role options private refused) = false
+act_faults (acts.Stream stream act) = stream_faults act
 
 -- a stream ended by a fault here
 abbrev pub is_fault : Entry (List ℕ) → Bool

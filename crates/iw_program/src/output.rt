@@ -4,7 +4,7 @@ ghost use Rattle.std.specs.Io.KnownBytes.{Appends, Keeps};
 use std::io::{ErrorKind, Write};
 
 /// How many octets a writer took before it failed.
-#[derive(Clone, Copy, Debug, PartialEq, Eq)]
+#[derive(Clone, Copy)]
 pub(crate) struct Short(pub(crate) usize);
 
 /// Writes the text. A writer that takes no octet of those that are left has failed.

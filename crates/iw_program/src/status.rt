@@ -1,5 +1,5 @@
 ghost use Rattle.std.specs.Prelude.{◌≡◌};
-ghost use Rattle.iw_program.specs.Status.{code_of, is_fault, status_of};
+ghost use Rattle.iw_program.specs.Status.{code_of, sees_fault, is_fault, status_of};
 
 use bytes::Bytes;
 use iw_events::{Act, Entry, Seen, StreamAct};
@@ -29,15 +29,32 @@ impl Status {
     }
 }
 
+// Whether a step of work found a fault, or one in the peer's start-up frame.
+fn is_fault_seen<A: Allocator>(seen: &Seen<Bytes<A>>) -> bool
+    ensures { result ≡ sees_fault seen.now }
+{
+    match seen {
+        Seen::Closed(_) | Seen::Fault(_) => true,
+        Seen::Done(_)
+        | Seen::Asked { .. }
+        | Seen::Opened { .. }
+        | Seen::Placed { .. }
+        | Seen::Buffered { .. }
+        | Seen::Passed
+        | Seen::Received { .. }
+        | Seen::Idle => false,
+    }
+}
+
 // Whether a stream ended by a fault here, also one of start-up.
 fn is_fault_entry<A: Allocator>(entry: &Entry<Bytes<A>>) -> bool
     ensures { result ≡ is_fault entry.now }
 {
     match &entry.act {
         Act::Stream {
-            act: StreamAct::Work(Seen::Fault(_) | Seen::Closed(_)),
+            act: StreamAct::Work(seen),
             ..
-        } => true,
+        } => is_fault_seen(seen),
         _ => false,
     }
 }
