@@ -69,8 +69,7 @@ pub(crate) fn numbered<A: Allocator>(
 {
     word(text, first)?;
     number(text, u64::from(reason.number))?;
-    word(text, reason.name)?;
-    Ok(())
+    word(text, reason.name)
 }
 
 pub(crate) fn refusal<A: Allocator>(

@@ -1,8 +1,13 @@
-ghost use Rattle.std.specs.Prelude.{◌≡◌, ◌++◌, IfOk, OnOk, string_bytes};
-ghost use Rattle.iw_schedules.specs.Answers.{kind_text, right_text, send_text, delivery_text, agreed_text, accepted_words, asked_words, opened_words, fault_words, shown_words, done_words, placed_words, buffered_words, received_words, seen_words};
+ghost use Rattle.std.specs.Prelude.{◌≡◌, ◌∷◌, ◌++◌, IfOk, OnOk, string_bytes};
+ghost use Rattle.std.specs.Option.{option_map};
+ghost use Rattle.std.specs.Fmt.{decimal};
+ghost use Rattle.iw_schedules.specs.Shown.{shown_refusal};
+ghost use Rattle.iw_schedules.specs.Words.{call_text};
+ghost use Rattle.iw_schedules.specs.Answers.{stag_text, ok_or_refused, kind_text, right_text, send_text, delivery_text, agreed_text, accepted_words, asked_words, opened_words, fault_words, shown_words, done_words, placed_words, buffered_words, received_words, seen_words};
 ghost use Rattle.iw_schedules.specs.Trace.{registered, deregistered, post_word, call_on, call_of_stag, stream_word, stream_answer, stream_words, act_words, entry_text, trace_text};
 ghost use Rattle.iw_schedules.specs.Appended.{with_words};
 
+use crate::refusals::Refusal;
 use crate::words::{CallWord, end_name};
 use crate::{appending, refusals};
 use bytes::Bytes;
@@ -86,8 +91,7 @@ fn add_fault<A: Allocator>(text: &mut String<A>, fault: Fault) -> Result<(), All
     appending::word(text, "fault")?;
     appending::number(text, u64::from(fault.layer))?;
     appending::number(text, u64::from(fault.kind))?;
-    appending::number(text, u64::from(fault.code))?;
-    Ok(())
+    appending::number(text, u64::from(fault.code))
 }
 
 fn add_shown<A: Allocator + Copy>(
@@ -100,11 +104,10 @@ fn add_shown<A: Allocator + Copy>(
         Shown::Frame { from, octets } => {
             appending::word(text, "frame")?;
             appending::number(text, *from)?;
-            appending::octets(text, octets.as_slice())?;
+            appending::octets(text, octets.as_slice())
         }
-        Shown::Nothing => appending::word(text, "nothing")?,
+        Shown::Nothing => appending::word(text, "nothing"),
     }
-    Ok(())
 }
 
 fn add_placed<A: Allocator + Copy>(
@@ -120,8 +123,7 @@ fn add_placed<A: Allocator + Copy>(
     appending::word(text, right_name(right))?;
     appending::stag(text, stag)?;
     appending::number(text, to)?;
-    appending::octets(text, octets)?;
-    Ok(())
+    appending::octets(text, octets)
 }
 
 fn add_buffered<A: Allocator>(
@@ -135,8 +137,7 @@ fn add_buffered<A: Allocator>(
     appending::word(text, "buffered")?;
     appending::number(text, u64::from(msn))?;
     appending::number(text, u64::from(mo))?;
-    appending::number(text, len as u64)?;
-    Ok(())
+    appending::number(text, len as u64)
 }
 
 fn add_received<A: Allocator + Copy>(
@@ -150,24 +151,21 @@ fn add_received<A: Allocator + Copy>(
     appending::word(text, "received")?;
     appending::octets(text, octets)?;
     appending::word(text, send_name(solicited, invalidate))?;
-    appending::optional_stag(text, invalidate)?;
-    Ok(())
+    appending::optional_stag(text, invalidate)
 }
 
 fn add_done<A: Allocator>(text: &mut String<A>, kind: Kind) -> Result<(), AllocError>
     ensures { OnOk result (string_bytes text.new ≡ with_words (string_bytes text.old) (done_words kind)) }
 {
     appending::word(text, "done")?;
-    appending::word(text, kind_name(kind))?;
-    Ok(())
+    appending::word(text, kind_name(kind))
 }
 
 fn add_asked<A: Allocator + Copy>(text: &mut String<A>, private: &[u8]) -> Result<(), AllocError>
     ensures { OnOk result (string_bytes text.new ≡ with_words (string_bytes text.old) (asked_words private.now)) }
 {
     appending::word(text, "asked")?;
-    appending::octets(text, private)?;
-    Ok(())
+    appending::octets(text, private)
 }
 
 fn add_opened<A: Allocator + Copy>(
@@ -179,8 +177,7 @@ fn add_opened<A: Allocator + Copy>(
 {
     appending::word(text, "opened")?;
     appending::word(text, agreed_name(agreed))?;
-    appending::octets(text, private)?;
-    Ok(())
+    appending::octets(text, private)
 }
 
 fn add_accepted<A: Allocator>(
@@ -236,8 +233,7 @@ fn add_call<A: Allocator>(
     ensures { OnOk result (string_bytes text.new ≡ with_words (string_bytes text.old) (call_on call stream)) }
 {
     appending::word(text, call.text())?;
-    appending::number(text, u64::from(stream))?;
-    Ok(())
+    appending::number(text, u64::from(stream))
 }
 
 // The word of a call, and the STag that it names.
@@ -307,12 +303,39 @@ fn add_stream_act<A: Allocator + Copy>(
     add_stream_answer(text, act)
 }
 
+// A call that names a stream or a domain, and whether it was refused.
+fn add_call_outcome<A: Allocator>(
+    text: &mut String<A>,
+    call: CallWord,
+    n: u8,
+    refused: Option<Refusal>,
+) -> Result<(), AllocError>
+    ensures { OnOk result (string_bytes text.new ≡ with_words (string_bytes text.old) (call_text call ∷ decimal n ∷ ok_or_refused (option_map shown_refusal refused))) }
+{
+    add_call(text, call, n)?;
+    appending::outcome(text, refused)
+}
+
+// A call that names a region, and whether it was refused.
+fn add_named_outcome<A: Allocator + Copy>(
+    text: &mut String<A>,
+    call: CallWord,
+    stag: Stag,
+    refused: Option<Refusal>,
+) -> Result<(), AllocError>
+    ensures { OnOk result (string_bytes text.new ≡ with_words (string_bytes text.old) (call_text call ∷ stag_text stag ∷ ok_or_refused (option_map shown_refusal refused))) }
+{
+    add_named(text, call, stag)?;
+    appending::outcome(text, refused)
+}
+
 fn add_registered<A: Allocator + Copy>(
     text: &mut String<A>,
     answer: Result<Stag, RegisterRefusal>,
 ) -> Result<(), AllocError>
-    ensures { OnOk result (string_bytes text.new ≡ with_words (string_bytes text.old) (registered answer)) }
+    ensures { OnOk result (string_bytes text.new ≡ with_words (string_bytes text.old) (call_text CallWord.Register ∷ registered answer)) }
 {
+    appending::word(text, CallWord::Register.text())?;
     match answer {
         Ok(stag) => appending::stag(text, stag),
         Err(refusal) => appending::refusal(text, refusals::of_register(refusal)),
@@ -321,10 +344,12 @@ fn add_registered<A: Allocator + Copy>(
 
 fn add_deregistered<A: Allocator + Copy>(
     text: &mut String<A>,
+    stag: Stag,
     answer: &Result<Bytes<A>, NoRegion>,
 ) -> Result<(), AllocError>
-    ensures { OnOk result (string_bytes text.new ≡ with_words (string_bytes text.old) (deregistered answer.now)) }
+    ensures { OnOk result (string_bytes text.new ≡ with_words (string_bytes text.old) (call_text CallWord.Deregister ∷ stag_text stag ∷ deregistered answer.now)) }
 {
+    add_named(text, CallWord::Deregister, stag)?;
     match answer {
         Ok(octets) => {
             appending::word(text, "ok")?;
@@ -339,32 +364,26 @@ fn add_act<A: Allocator + Copy>(text: &mut String<A>, act: &Act<Bytes<A>>) -> Re
 {
     match act {
         Act::Domain { pd, refused } => {
-            add_call(text, CallWord::Domain, *pd)?;
-            appending::outcome(text, refused.map(refusals::of_domain))
+            let refused = refused.map(refusals::of_domain);
+            add_call_outcome(text, CallWord::Domain, *pd, refused)
         }
-        Act::Register { answer, .. } => {
-            appending::word(text, CallWord::Register.text())?;
-            add_registered(text, *answer)
-        }
-        Act::Deregister { stag, answer } => {
-            add_named(text, CallWord::Deregister, *stag)?;
-            add_deregistered(text, answer)
-        }
+        Act::Register { answer, .. } => add_registered(text, *answer),
+        Act::Deregister { stag, answer } => add_deregistered(text, *stag, answer),
         Act::Invalidate { stag, refused } => {
-            add_named(text, CallWord::Invalidate, *stag)?;
-            appending::outcome(text, refused.map(refusals::of_missing))
+            let refused = refused.map(refusals::of_missing);
+            add_named_outcome(text, CallWord::Invalidate, *stag, refused)
         }
         Act::Store { stag, refused, .. } => {
-            add_named(text, CallWord::Store, *stag)?;
-            appending::outcome(text, refused.map(refusals::of_store))
+            let refused = refused.map(refusals::of_store);
+            add_named_outcome(text, CallWord::Store, *stag, refused)
         }
         Act::Open {
             stream,
             refused,
             ..
         } => {
-            add_call(text, CallWord::Open, *stream)?;
-            appending::outcome(text, refused.map(refusals::of_open))
+            let refused = refused.map(refusals::of_open);
+            add_call_outcome(text, CallWord::Open, *stream, refused)
         }
         Act::Stream { stream, act } => add_stream_act(text, *stream, act),
     }
