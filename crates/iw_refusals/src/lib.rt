@@ -1,4 +1,7 @@
 //! What is left where memory is refused, or input or output fails, for the crates below.
+//!
+//! Each growth is refused in turn: the first allocation, then the second alone, and so on until none is left to refuse.
+//! Where a call has no memory the same call is made again; that the refused one changed nothing is its own promise.
 #![tactic(auto)]
 
 #[cfg(test)]
@@ -13,5 +16,3 @@ mod ranges;
 mod replay;
 #[cfg(test)]
 mod untagged;
-#[cfg(test)]
-mod world;

@@ -1,10 +1,11 @@
 use iw_program::{ReplayFault, Status, replay};
 use iw_testing::{Endless, FailsAt, Halting};
 use std::alloc::Global;
-use std::io::ErrorKind;
+use std::io::{ErrorKind, Read};
 use std::process::Abort;
 use std::test::Fail;
 
+// A Write and a Send.
 const SCHEDULE: &str = "a domain 1
 b domain 1
 b register 1 4096 w 00*8
@@ -73,40 +74,77 @@ b work 0 buffered 1 0 2
 b work 0 received 6869 plain -
 ";
 
+// A region that is written to by its owner, and by octets that no end of ours sent, before and after it is invalidated.
+// Each frame is a Write of two octets at tagged offset 2: length, header, payload, pad and CRC field (RFC 5044 4.1, RFC 5041 4.2).
+const INVALIDATED: &str = "b domain 1
+b register 1 0 w 00*8
+b open 0 1 preset - -
+b store 01000000 4 cc
+b raw 0 0 0010c140010000000000000000000002aabb000000000000
+b work 0 2
+b invalidate 01000000
+b raw 0 24 0010c140010000000000000000000002aabb000000000000
+b work 0 2
+b store 01000000 8 dd
+b deregister 01000000
+";
+
+const INVALIDATED_TRACE: &str = "b domain 1 ok
+b register 01000000
+b open 0 ok
+b store 01000000 ok
+b raw 0 kept
+b work 0 placed write 01000000 2 aabb
+b work 0 passed
+b invalidate 01000000 ok
+b raw 0 kept
+b work 0 fault 1 1 0
+b work 0 idle
+b store 01000000 refused 2 Outside
+b deregister 01000000 ok 0000aabbcc000000
+";
+
 /// The most octets of a read and of a write.
 const READ: usize = 16;
 
 const WRITE: usize = 32;
 
-#[test]
-fn one_octet_a_call_is_enough(rt: HostRuntime) -> Result<(), Fail> {
-    let mut input = Halting::new(SCHEDULE.as_bytes(), 1);
-    let mut output = Halting::new(Vec::new(rt.alloc()), 1);
-    assert_eq!(rt;
-        replay(rt.alloc(), &mut input, &mut output),
-        Ok(Status::Completed)
-    );
-    assert_eq!(rt; input.calls(), SCHEDULE.len() as u64 + 1);
-    assert_eq!(rt; output.into_inner().as_slice(), TRACE.as_bytes());
-    Ok(())
+/// What a replay answered, how often it read and wrote, and what it wrote.
+#[derive(Drop)]
+struct Ended {
+    answer: Result<Status, ReplayFault>,
+    reads: u64,
+    writes: u64,
+    written: Vec<u8>,
+}
+
+fn replayed<R: Read + Drop>(alloc: Global, input: Halting<R>, output: Halting<Vec<u8>>) -> Ended {
+    let mut input = input;
+    let mut output = output;
+    let answer = replay(alloc, &mut input, &mut output);
+    Ended {
+        answer,
+        reads: input.calls(),
+        writes: output.calls(),
+        written: output.into_inner(),
+    }
+}
+
+fn input(most: usize) -> Halting<&'static [u8]> {
+    Halting::new(SCHEDULE.as_bytes(), most)
+}
+
+fn output(alloc: Global, most: usize) -> Halting<Vec<u8>> {
+    Halting::new(Vec::new(alloc), most)
 }
 
 #[test]
 fn a_failed_read_leaves_nothing_written(rt: HostRuntime) -> Result<(), Fail> {
-    let reads = SCHEDULE.len().div_ceil(READ) as u64 + 1;
-    for call in 1..=reads {
-        let mut input = Halting::new(SCHEDULE.as_bytes(), READ).failing_at(
-            call,
-            ErrorKind::BrokenPipe,
-        );
-        let mut output = Vec::new(rt.alloc());
-        assert_eq!(rt;
-            replay(rt.alloc(), &mut input, &mut output),
-            Err(ReplayFault::Input),
-            "at {call}"
-        );
-        assert_eq!(rt; input.calls(), call);
-        assert!(rt; output.is_empty());
+    for call in 1..=SCHEDULE.len().div_ceil(READ) as u64 + 1 {
+        let failing = input(READ).failing_at(call, ErrorKind::BrokenPipe);
+        let ended = replayed(rt.alloc(), failing, output(rt.alloc(), WRITE));
+        assert_eq!(rt; ended.answer, Err(ReplayFault::Input), "at {call}");
+        assert_eq!(rt; (ended.reads, ended.writes), (call, 0));
     }
     Ok(())
 }
@@ -114,95 +152,65 @@ fn a_failed_read_leaves_nothing_written(rt: HostRuntime) -> Result<(), Fail> {
 // The last call flushes the trace, which was written whole.
 #[test]
 fn a_failed_write_leaves_the_front_written(rt: HostRuntime) -> Result<(), Fail> {
-    let writes = TRACE.len().div_ceil(WRITE) + 1;
-    for call in 1..=writes {
-        let mut input = SCHEDULE.as_bytes();
-        let mut output = Halting::new(Vec::new(rt.alloc()), WRITE).failing_at(
-            call as u64,
-            ErrorKind::BrokenPipe,
-        );
-        assert_eq!(rt;
-            replay(rt.alloc(), &mut input, &mut output),
-            Err(ReplayFault::Output),
-            "at {call}"
-        );
-        assert_eq!(rt; output.calls(), call as u64);
+    for call in 1..=TRACE.len().div_ceil(WRITE) + 1 {
+        let failing = output(rt.alloc(), WRITE).failing_at(call as u64, ErrorKind::BrokenPipe);
+        let ended = replayed(rt.alloc(), input(READ), failing);
+        assert_eq!(rt; ended.answer, Err(ReplayFault::Output), "at {call}");
+        assert_eq!(rt; ended.writes, call as u64);
         let written = TRACE.len().min(WRITE * (call - 1));
-        assert_eq!(rt;
-            output.into_inner().as_slice(),
-            &TRACE.as_bytes()[..written]
-        );
+        assert_eq!(rt; ended.written.as_slice(), &TRACE.as_bytes()[..written]);
     }
     Ok(())
 }
 
+// Also where each call moves one octet.
 #[test]
 fn an_interrupted_call_is_made_again(rt: HostRuntime) -> Result<(), Fail> {
-    for call in 1..=TRACE.len().div_ceil(WRITE) as u64 {
-        let mut input = Halting::new(SCHEDULE.as_bytes(), READ).failing_at(
-            call,
-            ErrorKind::Interrupted,
-        );
-        let mut output = Halting::new(Vec::new(rt.alloc()), WRITE).failing_at(
-            call,
-            ErrorKind::Interrupted,
-        );
-        assert_eq!(rt;
-            replay(rt.alloc(), &mut input, &mut output),
-            Ok(Status::Completed),
-            "at {call}"
-        );
-        assert_eq!(rt; output.into_inner().as_slice(), TRACE.as_bytes());
+    for call in 1..=TRACE.len() as u64 {
+        let input = input(1).failing_at(call, ErrorKind::Interrupted);
+        let output = output(rt.alloc(), 1).failing_at(call, ErrorKind::Interrupted);
+        let ended = replayed(rt.alloc(), input, output);
+        assert_eq!(rt; ended.answer, Ok(Status::Completed), "at {call}");
+        assert_eq!(rt; ended.written.as_slice(), TRACE.as_bytes());
     }
     Ok(())
 }
 
 #[test]
-fn an_output_that_takes_nothing_is_at_fault(rt: HostRuntime) -> Result<(), Fail> {
-    let mut input = SCHEDULE.as_bytes();
-    let mut output = Halting::new(Vec::new(rt.alloc()), 0);
-    assert_eq!(rt;
-        replay(rt.alloc(), &mut input, &mut output),
-        Err(ReplayFault::Output)
-    );
-    assert_eq!(rt; output.calls(), 1);
+fn what_goes_on_for_ever_is_at_fault(rt: HostRuntime) -> Result<(), Fail> {
+    let endless = Halting::new(Endless::new(b'#'), 1);
+    let read = replayed(rt.alloc(), endless, output(rt.alloc(), WRITE));
+    assert_eq!(rt; read.answer, Err(ReplayFault::Input));
+    assert_eq!(rt; (read.reads, read.writes), (1_000_000, 0));
+    let wrote = replayed(rt.alloc(), input(READ), output(rt.alloc(), 0));
+    assert_eq!(rt; wrote.answer, Err(ReplayFault::Output));
+    assert_eq!(rt; wrote.writes, 1);
     Ok(())
 }
 
-#[test]
-fn an_input_without_end_is_at_fault(rt: HostRuntime) -> Result<(), Fail> {
-    let mut input = Halting::new(Endless::new(b'#'), 1);
-    let mut output = Vec::new(rt.alloc());
-    assert_eq!(rt;
-        replay(rt.alloc(), &mut input, &mut output),
-        Err(ReplayFault::Input)
-    );
-    assert_eq!(rt; input.calls(), 1_000_000);
-    assert!(rt; output.is_empty());
-    Ok(())
-}
-
-// The first allocation is refused, then the second alone, and so on until none is left to refuse. It tells how many
-// there were.
-fn refusals_of(rt: &impl Abort, alloc: Global, schedule: &str, trace: &str) -> Result<u64, Fail> {
+// Replays with the first allocation refused, then the second alone, and so on until none is left to refuse. It tells how
+// many there were.
+fn refusals_of(
+    rt: &impl Abort,
+    alloc: Global,
+    schedule: &str,
+    trace: &str,
+    status: Status,
+) -> Result<u64, Fail> {
     for n in 0..1_000u64 {
         let heap = FailsAt::new(alloc, n);
         let mut input = Halting::new(schedule.as_bytes(), READ);
         let mut output = Vec::new(alloc);
         let answer = replay(&heap, &mut input, &mut output);
         if !heap.has_refused() {
-            assert_eq!(rt; answer, Ok(Status::Completed));
+            assert_eq!(rt; answer, Ok(status));
             assert_eq!(rt; output.as_slice(), trace.as_bytes());
             return Ok(n);
         }
         let Err(fault) = answer else {
             return Err("a refusal was ignored".into());
         };
-        assert_eq!(rt;
-            format!(in alloc; "{fault}")?.as_str(),
-            "no memory",
-            "at {n}"
-        );
+        assert_eq!(rt; fault.to_string(alloc)?.as_str(), "no memory", "at {n}");
         assert!(rt; output.is_empty());
     }
     Err("some allocation is always refused".into())
@@ -210,14 +218,13 @@ fn refusals_of(rt: &impl Abort, alloc: Global, schedule: &str, trace: &str) -> R
 
 #[test]
 fn a_refused_allocation_leaves_nothing_written(rt: HostRuntime) -> Result<(), Fail> {
-    let refusals = refusals_of(&rt, rt.alloc(), SCHEDULE, TRACE)?;
-    assert!(rt; refusals > 10);
-    Ok(())
-}
-
-#[test]
-fn a_start_up_stands_each_refusal(rt: HostRuntime) -> Result<(), Fail> {
-    let refusals = refusals_of(&rt, rt.alloc(), START_UP, START_UP_TRACE)?;
-    assert!(rt; refusals > 10);
+    for (schedule, trace, status) in [
+        (SCHEDULE, TRACE, Status::Completed),
+        (START_UP, START_UP_TRACE, Status::Completed),
+        (INVALIDATED, INVALIDATED_TRACE, Status::Failed),
+    ] {
+        let refusals = refusals_of(&rt, rt.alloc(), schedule, trace, status)?;
+        assert!(rt; refusals > 10);
+    }
     Ok(())
 }
