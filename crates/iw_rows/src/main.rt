@@ -21,7 +21,7 @@ enum Ending {
 }
 
 /// The schedules, by the names of their files, `NAME.schedule`. The trace of one that has a trace is in `NAME.trace`.
-const ROWS: [(&str, Ending); 35] = [
+const ROWS: [(&str, Ending); 37] = [
     ("first", Ending::Completed),
     ("one-write", Ending::Completed),
     ("empty-messages", Ending::Completed),
@@ -48,6 +48,8 @@ const ROWS: [(&str, Ending); 35] = [
     ("a-request-cut-at-each-octet", Ending::Completed),
     ("answers-that-were-not-asked-for", Ending::Completed),
     ("start-up-octet-by-octet", Ending::Completed),
+    ("refusals-of-memory", Ending::Completed),
+    ("refusals-of-streams", Ending::Faulted),
     ("options-out-of-order", Ending::Refused("line 1: BadOctets")),
     ("empty", Ending::Completed),
     ("unknown-word", Ending::Refused("line 2: BadWord")),
