@@ -21,7 +21,7 @@ enum Ending {
 }
 
 /// The schedules, by the names of their files, `NAME.schedule`. The trace of one that has a trace is in `NAME.trace`.
-const ROWS: [(&str, Ending); 37] = [
+const ROWS: [(&str, Ending); 40] = [
     ("first", Ending::Completed),
     ("one-write", Ending::Completed),
     ("empty-messages", Ending::Completed),
@@ -48,6 +48,9 @@ const ROWS: [(&str, Ending); 37] = [
     ("a-request-cut-at-each-octet", Ending::Completed),
     ("answers-that-were-not-asked-for", Ending::Completed),
     ("start-up-octet-by-octet", Ending::Completed),
+    ("start-up", Ending::Completed),
+    ("many-segments", Ending::Completed),
+    ("capture", Ending::Completed),
     ("refusals-of-memory", Ending::Completed),
     ("refusals-of-streams", Ending::Faulted),
     ("options-out-of-order", Ending::Refused("line 1: BadOctets")),
