@@ -29,7 +29,9 @@ use Rattle.iw_stream.proofs.Inverse.{PlacesWrite, Hears, HearsReply, unheard}
 use Rattle.iw_events.specs.declared.act.Seen.{Seen}
 use Rattle.iw_events.specs.declared.act.Seen.TheVariants as seen
 use Rattle.iw_world.specs.Words.{Octets}
-use Rattle.iw_world.specs.Turns.{Standing, placement, verdict, turn_by, turn_of, fault_or, completed, next_frame, AnswersNext, TurnsSeen, HearsFrame, private_heard, IsAtRest, Over, AwaitsFrame, AwaitsAnswer, NoFrame}
+use Rattle.iw_world.specs.Turns.{Standing, placement, verdict, turn_by, turn_of, fault_or, completed, next_frame, ReadsFrames, IsJudged, HasTurn, TurnsSeen, HearsFrame, private_heard}
+use Rattle.iw_world.specs.Turns.{is_open as words_open}
+use Rattle.iw_world.specs.Rest.{HasRest, Over, AwaitsFrame, AwaitsAnswer, NoFrame}
 use Rattle.iw_world.specs.Rules.{seen_of}
 use Rattle.iw_world.proofs.Tales.{Tale}
 use Rattle.iw_world.proofs.Seeing.{writes, placed_stand}
@@ -42,19 +44,31 @@ standing_of table s = record { table = table; domain = s.domain; receiving = s.r
 abbrev seen_step : Table → StreamState → Step Octets → Seen Octets
 seen_step table s step = seen_of (table_worked table s step) (private_of (worked s step)) step
 
--- what a step of work says of a frame
-pub record OfFront (table : Table) (s : StreamState) (step : Seen Octets) : Type 0 where
+-- what a step of work says of a frame: the one at the in-order point was not placed and is judged, or was placed and has its turn
+pub record Judged (table : Table) (s : StreamState) (step : Seen Octets) : Type 0 where
+  pub running : s.ended ≡ false
+  pub started : is_open s ≡ true
   pub frame : Carried
   pub rest : Octets
   pub whole : front s ≡ Some (frame, rest)
-  pub answer : step ≡ cond s.placed (turn_of (standing_of table s) frame) (verdict (standing_of table s) frame)
+  pub unplaced : s.placed ≡ false
+  pub answer : step ≡ verdict (standing_of table s) frame
+
+pub record Turned (table : Table) (s : StreamState) (step : Seen Octets) : Type 0 where
+  pub running : s.ended ≡ false
+  pub started : is_open s ≡ true
+  pub frame : Carried
+  pub rest : Octets
+  pub whole : front s ≡ Some (frame, rest)
+  pub placed : s.placed ≡ true
+  pub answer : step ≡ turn_of (standing_of table s) frame
 
 -- why there is nothing to do, as the state has it
 data Resting (s : StreamState) : Type 0 where
   Ended : s.ended ≡ true → Resting s
   Unheard : Hears s progress.More → Resting s
   Unanswered : awaits_frame s ≡ false → is_open s ≡ false → Resting s
-  Without : front s ≡ None → Resting s
+  Without : is_open s ≡ true → front s ≡ None → Resting s
 
 -- nothing is said of a frame where a message is finished; where there is nothing to do there is none, or the stream has ended
 abbrev Says : Table → StreamState → Seen Octets → Type 0
@@ -63,76 +77,74 @@ Says table s seen.Idle = Resting s
 Says table s (seen.Asked private) = Hears s progress.Asked × (private ≡ private_of (worked s steps.Asked))
 Says table s (seen.Opened agreed private) = HearsReply s agreed × (private ≡ private_of (worked s (steps.Opened agreed)))
 Says table s (seen.Closed fault) = Hears s (progress.Faulted fault)
-Says table s (seen.Placed right stag to octets) = OfFront table s (seen.Placed right stag to octets)
-Says table s (seen.Buffered msn mo len) = OfFront table s (seen.Buffered msn mo len)
-Says table s seen.Passed = OfFront table s seen.Passed
-Says table s (seen.Received octets solicited invalidate) = OfFront table s (seen.Received octets solicited invalidate)
-Says table s (seen.Fault fault) = OfFront table s (seen.Fault fault)
+Says table s (seen.Placed right stag to octets) = Judged table s (seen.Placed right stag to octets)
+Says table s (seen.Buffered msn mo len) = Judged table s (seen.Buffered msn mo len)
+Says table s seen.Passed = Turned table s seen.Passed
+Says table s (seen.Received octets solicited invalidate) = Turned table s (seen.Received octets solicited invalidate)
+Says table s (seen.Fault fault) = Judged table s (seen.Fault fault) ⊎ Turned table s (seen.Fault fault)
 
-judged_front : (table : Table) (s : StreamState) (frame : Carried) (rest : Octets) (answer : Seen Octets) → front s ≡ Some (frame, rest) → s.placed ≡ false → answer ≡ verdict (standing_of table s) frame → OfFront table s answer
-judged_front table s frame rest answer whole placed e =
-    record { frame = frame; rest = rest; whole = whole; answer = e ∙ ap (λ b. cond b (turn_of (standing_of table s) frame) (verdict (standing_of table s) frame)) (sym placed) }
+judged_front : (table : Table) (s : StreamState) (frame : Carried) (rest : Octets) (answer : Seen Octets) → s.ended ≡ false → is_open s ≡ true → front s ≡ Some (frame, rest) → s.placed ≡ false → answer ≡ verdict (standing_of table s) frame → Judged table s answer
+judged_front table s frame rest answer running started whole placed e = record { running = running; started = started; frame = frame; rest = rest; whole = whole; unplaced = placed; answer = e }
 
-turned_front : (table : Table) (s : StreamState) (frame : Carried) (rest : Octets) (answer : Seen Octets) → front s ≡ Some (frame, rest) → s.placed ≡ true → answer ≡ turn_of (standing_of table s) frame → OfFront table s answer
-turned_front table s frame rest answer whole placed e =
-    record { frame = frame; rest = rest; whole = whole; answer = e ∙ ap (λ b. cond b (turn_of (standing_of table s) frame) (verdict (standing_of table s) frame)) (sym placed) }
+turned_front : (table : Table) (s : StreamState) (frame : Carried) (rest : Octets) (answer : Seen Octets) → s.ended ≡ false → is_open s ≡ true → front s ≡ Some (frame, rest) → s.placed ≡ true → answer ≡ turn_of (standing_of table s) frame → Turned table s answer
+turned_front table s frame rest answer running started whole placed e = record { running = running; started = started; frame = frame; rest = rest; whole = whole; placed = placed; answer = e }
 
 -- a frame with which nothing is wrong is judged by its segment
-placed_front : (table : Table) (s : StreamState) (frame : Carried) (rest : Octets) (o : Option (Segment Octets)) (answer : Seen Octets) → front s ≡ Some (frame, rest) → s.placed ≡ false → frame.mismatch ≡ None
-    → segment_in frame ≡ o → answer ≡ placement (standing_of table s) o → OfFront table s answer
-placed_front table s frame rest o answer whole placed sound carries e =
-    judged_front table s frame rest answer whole placed
+placed_front : (table : Table) (s : StreamState) (frame : Carried) (rest : Octets) (o : Option (Segment Octets)) (answer : Seen Octets) → s.ended ≡ false → is_open s ≡ true → front s ≡ Some (frame, rest) → s.placed ≡ false → frame.mismatch ≡ None
+    → segment_in frame ≡ o → answer ≡ placement (standing_of table s) o → Judged table s answer
+placed_front table s frame rest o answer running started whole placed sound carries e =
+    judged_front table s frame rest answer running started whole placed
     (e ∙ ap (placement (standing_of table s)) (sym carries) ∙ ap (λ m. option_map_or (λ wrong. seen.Fault (mismatch_fault wrong)) m (placement (standing_of table s) (segment_in frame))) (sym sound))
 
 places : (table : Table) (s : StreamState) (frame : Carried) (rest : Octets) (o : Option (Segment Octets)) → done_in s.queue ≡ None → s.ended ≡ false → awaits_frame s ≡ false → is_open s ≡ true → s.placed ≡ false → front s ≡ Some (frame, rest) → frame.mismatch ≡ None
     → segment_in frame ≡ o → Says table s (seen_step table s (placed_step table s o))
-places table s frame rest None finished running heard started placed whole sound carries = placed_front table s frame rest None (seen.Fault faults.SEGMENT_SHORT) whole placed sound carries refl
+places table s frame rest None finished running heard started placed whole sound carries = inl (placed_front table s frame rest None (seen.Fault faults.SEGMENT_SHORT) running started whole placed sound carries refl)
 places table s frame rest (Some (Tagged head payload)) finished running heard started placed whole sound carries = go (tagged_fault table s.domain head (length payload)) refl
   where
     go : (f : Option Fault) → tagged_fault table s.domain head (length payload) ≡ f → Says table s (seen_step table s (judging.fault_or f (steps.Placed Write head.stag head.to (length payload))))
-    go (Some fault) e = placed_front table s frame rest (Some (Tagged head payload)) (seen.Fault fault) whole placed sound carries (ap (λ o. fault_or o (seen.Placed Write head.stag head.to payload)) (sym e))
+    go (Some fault) e = inl (placed_front table s frame rest (Some (Tagged head payload)) (seen.Fault fault) running started whole placed sound carries (ap (λ o. fault_or o (seen.Placed Write head.stag head.to payload)) (sym e)))
     go None e =
         let write : PlacesWrite table s (steps.Placed Write head.stag head.to (length payload)) =
         record { head = head; payload = payload; fronts = record { finished = finished; running = running; heard = heard; started = started; placed = placed; frame = frame; rest = rest; whole = whole; carries = carries }; checked = e; is = refl } in
         let stand = placed_stand table s Write head.stag head.to (length payload) (writes table s Write head.stag head.to (length payload) write) in
-        placed_front table s frame rest (Some (Tagged head payload)) (seen_step table s (steps.Placed Write head.stag head.to (length payload))) whole placed sound carries
+        placed_front table s frame rest (Some (Tagged head payload)) (seen_step table s (steps.Placed Write head.stag head.to (length payload))) running started whole placed sound carries
         (ap (λ z. seen.Placed Write head.stag head.to z) (stand ∙ ap (λ (o : Front). payload_of (segment_at o)) whole ∙ ap payload_of carries) ∙ ap (λ o. fault_or o (seen.Placed Write head.stag head.to payload)) (sym e))
 places table s frame rest (Some (Untagged head payload)) finished running heard started placed whole sound carries = go (untagged_fault s.receiving head (length payload)) refl
   where
     go : (f : Option Fault) → untagged_fault s.receiving head (length payload) ≡ f → Says table s (seen_step table s (judging.fault_or f (steps.Buffered head.msn head.mo (length payload))))
     go (Some fault) e =
-        placed_front table s frame rest (Some (Untagged head payload)) (seen.Fault fault) whole placed sound carries (ap (λ o. fault_or o (seen.Buffered head.msn head.mo (length payload))) (sym e))
+        inl (placed_front table s frame rest (Some (Untagged head payload)) (seen.Fault fault) running started whole placed sound carries (ap (λ o. fault_or o (seen.Buffered head.msn head.mo (length payload))) (sym e)))
     go None e =
-        placed_front table s frame rest (Some (Untagged head payload)) (seen.Buffered head.msn head.mo (length payload)) whole placed sound carries
+        placed_front table s frame rest (Some (Untagged head payload)) (seen.Buffered head.msn head.mo (length payload)) running started whole placed sound carries
         (ap (λ o. fault_or o (seen.Buffered head.msn head.mo (length payload))) (sym e))
 
 judges : (table : Table) (s : StreamState) (o : Front) → done_in s.queue ≡ None → s.ended ≡ false → awaits_frame s ≡ false → is_open s ≡ true → s.placed ≡ false → front s ≡ o → Says table s (seen_step table s (judged_step table s o))
-judges table s None finished running heard started placed whole = Without whole
+judges table s None finished running heard started placed whole = Without started whole
 judges table s (Some (frame, rest)) finished running heard started placed whole = go frame.mismatch refl
   where
     go : (m : Option Mismatch) → frame.mismatch ≡ m → Says table s (seen_step table s (option_map_or (λ wrong. steps.Fault (mismatch_fault wrong)) m (placed_step table s (segment_in frame))))
     go (Some wrong) e =
-        judged_front table s frame rest (seen.Fault (mismatch_fault wrong)) whole placed
-        (ap (λ o. option_map_or (λ w. seen.Fault (mismatch_fault w)) o (placement (standing_of table s) (segment_in frame))) (sym e))
+        inl (judged_front table s frame rest (seen.Fault (mismatch_fault wrong)) running started whole placed
+        (ap (λ o. option_map_or (λ w. seen.Fault (mismatch_fault w)) o (placement (standing_of table s) (segment_in frame))) (sym e)))
     go None e = places table s frame rest (segment_in frame) finished running heard started placed whole e refl
 
-passes : (table : Table) (s : StreamState) (frame : Carried) (rest : Octets) (o : Option (Segment Octets)) → s.placed ≡ true → front s ≡ Some (frame, rest) → segment_in frame ≡ o → Says table s (seen_step table s (passed_step s o))
-passes table s frame rest None placed whole carries = turned_front table s frame rest (seen.Fault faults.SEGMENT_SHORT) whole placed (ap (turn_by (standing_of table s)) (sym carries))
-passes table s frame rest (Some (Tagged head payload)) placed whole carries = turned_front table s frame rest seen.Passed whole placed (ap (turn_by (standing_of table s)) (sym carries))
-passes table s frame rest (Some (Untagged head payload)) placed whole carries = go (turn_fault s.receiving head.msn head.mo) refl head.last refl
+passes : (table : Table) (s : StreamState) (frame : Carried) (rest : Octets) (o : Option (Segment Octets)) → s.ended ≡ false → is_open s ≡ true → s.placed ≡ true → front s ≡ Some (frame, rest) → segment_in frame ≡ o → Says table s (seen_step table s (passed_step s o))
+passes table s frame rest None running started placed whole carries = inr (turned_front table s frame rest (seen.Fault faults.SEGMENT_SHORT) running started whole placed (ap (turn_by (standing_of table s)) (sym carries)))
+passes table s frame rest (Some (Tagged head payload)) running started placed whole carries = turned_front table s frame rest seen.Passed running started whole placed (ap (turn_by (standing_of table s)) (sym carries))
+passes table s frame rest (Some (Untagged head payload)) running started placed whole carries = go (turn_fault s.receiving head.msn head.mo) refl head.last refl
   where
     turn : turn_by (standing_of table s) (Some (Untagged head payload)) ≡ turn_of (standing_of table s) frame
     turn = ap (turn_by (standing_of table s)) (sym carries)
 
     go : (f : Option Fault) → turn_fault s.receiving head.msn head.mo ≡ f → (last : Bool) → head.last ≡ last
         → Says table s (seen_step table s (judging.fault_or f (cond last (steps.Received (oldest s.receiving) (s.receiving.turned + length payload) false None) steps.Passed)))
-    go (Some fault) e last l = turned_front table s frame rest (seen.Fault fault) whole placed (ap (λ o. fault_or o (cond head.last (completed s.receiving (length payload)) seen.Passed)) (sym e) ∙ turn)
-    go None e true l = turned_front table s frame rest (completed s.receiving (length payload)) whole placed ((λ i. fault_or (sym e i) (cond (sym l i) (completed s.receiving (length payload)) seen.Passed)) ∙ turn)
-    go None e false l = turned_front table s frame rest seen.Passed whole placed ((λ i. fault_or (sym e i) (cond (sym l i) (completed s.receiving (length payload)) seen.Passed)) ∙ turn)
+    go (Some fault) e last l = inr (turned_front table s frame rest (seen.Fault fault) running started whole placed (ap (λ o. fault_or o (cond head.last (completed s.receiving (length payload)) seen.Passed)) (sym e) ∙ turn))
+    go None e true l = turned_front table s frame rest (completed s.receiving (length payload)) running started whole placed ((λ i. fault_or (sym e i) (cond (sym l i) (completed s.receiving (length payload)) seen.Passed)) ∙ turn)
+    go None e false l = turned_front table s frame rest seen.Passed running started whole placed ((λ i. fault_or (sym e i) (cond (sym l i) (completed s.receiving (length payload)) seen.Passed)) ∙ turn)
 
-turns : (table : Table) (s : StreamState) (o : Front) → s.placed ≡ true → front s ≡ o → Says table s (seen_step table s (turned_step s o))
-turns table s None placed whole = Without whole
-turns table s (Some (frame, rest)) placed whole = passes table s frame rest (segment_in frame) placed whole refl
+turns : (table : Table) (s : StreamState) (o : Front) → s.ended ≡ false → is_open s ≡ true → s.placed ≡ true → front s ≡ o → Says table s (seen_step table s (turned_step s o))
+turns table s None running started placed whole = Without started whole
+turns table s (Some (frame, rest)) running started placed whole = passes table s frame rest (segment_in frame) running started placed whole refl
 
 hearing : (table : Table) (s : StreamState) (o : Option StartupState) → done_in s.queue ≡ None → s.ended ≡ false → awaits_frame s ≡ true → s.startup ≡ o → Says table s (seen_step table s (startup_step s o))
 hearing table s None finished running awaits is = absurd (false≢true (ap (λ z. is_some z && not s.heard) (sym is) ∙ awaits))
@@ -155,7 +167,7 @@ works table s = go (done_in s.queue) refl
     on true awaits started placed none e a o p = Ended e
     on false true started placed none e a o p = hearing table s s.startup none e a refl
     on false false false placed none e a o p = Unanswered a o
-    on false false true true none e a o p = turns table s (front s) p refl
+    on false false true true none e a o p = turns table s (front s) e o p refl
     on false false true false none e a o p = judges table s (front s) none e a o p refl
 
     go : (done : Option Done) → done_in s.queue ≡ done
@@ -163,12 +175,18 @@ works table s = go (done_in s.queue) refl
     go None e = on s.ended (awaits_frame s) (is_open s) s.placed e refl refl refl refl
     go (Some done) e = tt
 
-next : (table : Table) (s : StreamState) (t : Tale) (step : Seen Octets) → Track s t → OfFront table s step → AnswersNext t.story (standing_of table s) step
-next table s t step k o = record {
-  frame = o.frame;
-  is_next = next_whole s t o.frame o.rest k o.whole;
-  answer = o.answer ∙ ap (λ b. cond b (turn_of (standing_of table s) o.frame) (verdict (standing_of table s) o.frame)) (sym k.placed);
-}
+-- the stream is open in the state where it is in the acts
+pub open_same : (s : StreamState) (t : Tale) → Track s t → words_open t.story ≡ is_open s
+open_same s t k = ap (λ z. option_map_or (λ v. is_some (agreed_of v)) z true) k.begins.startup
+
+reads : (s : StreamState) (t : Tale) → Track s t → s.ended ≡ t.ended → s.ended ≡ false → is_open s ≡ true → ReadsFrames t.ended t.story
+reads s t k over running started = record { running = sym over ∙ running; open_now = open_same s t k ∙ started }
+
+judged : (table : Table) (s : StreamState) (t : Tale) (step : Seen Octets) → Track s t → Judged table s step → IsJudged t.story (standing_of table s) step
+judged table s t step k o = record { frame = o.frame; is_next = next_whole s t o.frame o.rest k o.whole; unplaced = k.placed ∙ o.unplaced; answer = o.answer }
+
+turned : (table : Table) (s : StreamState) (t : Tale) (step : Seen Octets) → Track s t → Turned table s step → HasTurn t.story (standing_of table s) step
+turned table s t step k o = record { frame = o.frame; is_next = next_whole s t o.frame o.rest k o.whole; placed = k.placed ∙ o.placed; answer = o.answer }
 
 -- what is heard is what came
 bare_came : (s : StreamState) (t : Tale) (k : Track s t) (p : Progress) → Hears s p → in_order t.story.came ≡ in_order s.arrived
@@ -176,8 +194,9 @@ bare_came s t k p h =
     let n = unread s t h.startup k h.is h.unheard in
     k.came ∙ (λ i. n.intro i ++ (n.bare.before i ++ in_order s.arrived))
 
-abbrev heard_frame : (s : StreamState) (t : Tale) (k : Track s t) (p : Progress) → Hears s p → HearsFrame t.story p
-heard_frame s t k p h = record {
+abbrev heard_frame : (s : StreamState) (t : Tale) (k : Track s t) → s.ended ≡ t.ended → (p : Progress) → Hears s p → HearsFrame t.ended t.story p
+heard_frame s t k over p h = record {
+  running = sym over ∙ h.running;
   startup = h.startup;
   is = k.begins.startup ∙ h.is;
   awaited = k.begins.heard ∙ h.unheard;
@@ -190,24 +209,28 @@ heard_private s t k p h =
     ∙ (λ i. option_map_or startups.private_of (option_map (λ u. pushed u (sym (bare_came s t k p h) i)) (sym (k.begins.startup ∙ h.is) i)) [])
 
 -- each step of work answers for the frame whose turn is next, or for the peer's start-up frame
-pub answers : (table : Table) (s : StreamState) (t : Tale) (step : Seen Octets) → step ≡ seen_of (table_worked table s (work_step table s)) (private_of (worked s (work_step table s))) (work_step table s) → Track s t
-    → TurnsSeen t.story (standing_of table s) step
-answers table s t step rule k = told step (subst (Says table s) (sym rule) (works table s))
+pub answers : (table : Table) (s : StreamState) (t : Tale) (step : Seen Octets) → step ≡ seen_of (table_worked table s (work_step table s)) (private_of (worked s (work_step table s))) (work_step table s) → Track s t → s.ended ≡ t.ended
+    → TurnsSeen t.ended t.story (standing_of table s) step
+answers table s t step rule k over = told step (subst (Says table s) (sym rule) (works table s))
   where
-    told : (step : Seen Octets) → Says table s step → TurnsSeen t.story (standing_of table s) step
+    read : s.ended ≡ false → is_open s ≡ true → ReadsFrames t.ended t.story
+    read = reads s t k over
+
+    told : (step : Seen Octets) → Says table s step → TurnsSeen t.ended t.story (standing_of table s) step
     told (seen.Done kind) h = tt
     told seen.Idle h = tt
-    told (seen.Asked private) h = (heard_frame s t k progress.Asked h.0, h.1 ∙ heard_private s t k progress.Asked h.0)
+    told (seen.Asked private) h = (heard_frame s t k over progress.Asked h.0, h.1 ∙ heard_private s t k progress.Asked h.0)
     told (seen.Opened agreed private) h = (
-      record { hears = heard_frame s t k progress.Agreed h.0.hears; agreed_is = h.0.agreed_is ∙ ap (λ z. agreement h.0.hears.startup.config (frame_part h.0.hears.startup.side z)) (sym (bare_came s t k progress.Agreed h.0.hears)) },
+      record { hears = heard_frame s t k over progress.Agreed h.0.hears; agreed_is = h.0.agreed_is ∙ ap (λ z. agreement h.0.hears.startup.config (frame_part h.0.hears.startup.side z)) (sym (bare_came s t k progress.Agreed h.0.hears)) },
       h.1 ∙ heard_private s t k progress.Agreed h.0.hears,
     )
-    told (seen.Closed fault) h = heard_frame s t k (progress.Faulted fault) h
-    told (seen.Placed right stag to octets) h = next table s t (seen.Placed right stag to octets) k h
-    told (seen.Buffered msn mo len) h = next table s t (seen.Buffered msn mo len) k h
-    told seen.Passed h = next table s t seen.Passed k h
-    told (seen.Received octets solicited invalidate) h = next table s t (seen.Received octets solicited invalidate) k h
-    told (seen.Fault fault) h = next table s t (seen.Fault fault) k h
+    told (seen.Closed fault) h = heard_frame s t k over (progress.Faulted fault) h
+    told (seen.Placed right stag to octets) h = (read h.running h.started, judged table s t (seen.Placed right stag to octets) k h)
+    told (seen.Buffered msn mo len) h = (read h.running h.started, judged table s t (seen.Buffered msn mo len) k h)
+    told seen.Passed h = (read h.running h.started, turned table s t seen.Passed k h)
+    told (seen.Received octets solicited invalidate) h = (read h.running h.started, turned table s t (seen.Received octets solicited invalidate) k h)
+    told (seen.Fault fault) (inl h) = (read h.running h.started, inl (judged table s t (seen.Fault fault) k h))
+    told (seen.Fault fault) (inr h) = (read h.running h.started, inr (turned table s t (seen.Fault fault) k h))
 
 -- the start-up of a stream that is not open was read
 was_heard : (s : StreamState) → awaits_frame s ≡ false → is_open s ≡ false → s.heard ≡ true
@@ -219,11 +242,22 @@ was_heard s a o = go s.startup s.heard a o
     go (Some u) false x y = absurd (true≢false x)
 
 -- and where there is nothing to do, there is a reason
-pub idles : (table : Table) (s : StreamState) (t : Tale) → seen.Idle ≡ seen_of (table_worked table s (work_step table s)) (private_of (worked s (work_step table s))) (work_step table s) → Track s t → IsAtRest s.ended t.story
-idles table s t rule k = go (subst (Says table s) (sym rule) (works table s))
+pub idles : (table : Table) (s : StreamState) (t : Tale) → seen.Idle ≡ seen_of (table_worked table s (work_step table s)) (private_of (worked s (work_step table s))) (work_step table s) → Track s t → s.ended ≡ t.ended → HasRest t.ended t.story
+idles table s t rule k over = go (subst (Says table s) (sym rule) (works table s))
   where
-    go : Resting s → IsAtRest s.ended t.story
-    go (Ended over) = Over over
-    go (Unheard h) = AwaitsFrame (heard_frame s t k progress.More h)
-    go (Unanswered a o) = AwaitsAnswer (ap (λ z. option_map_or (λ v. is_some (agreed_of v)) z true) k.begins.startup ∙ o) (k.begins.heard ∙ was_heard s a o)
-    go (Without none) = NoFrame (next_none s t k none)
+    go : Resting s → HasRest t.ended t.story
+    go (Ended e) = Over (sym over ∙ e)
+    go (Unheard h) = AwaitsFrame (heard_frame s t k over progress.More h)
+    go (Unanswered a o) = AwaitsAnswer (open_same s t k ∙ o) (k.begins.heard ∙ was_heard s a o)
+    go (Without o none) = NoFrame (open_same s t k ∙ o) (next_none s t k none)
+
+-- and no message is finished
+pub idle_unfinished : (table : Table) (s : StreamState) → seen.Idle ≡ seen_of (table_worked table s (work_step table s)) (private_of (worked s (work_step table s))) (work_step table s) → done_in s.queue ≡ None
+idle_unfinished table s rule = go (done_in s.queue) refl
+  where
+    rest : Step Octets
+    rest = cond s.ended steps.Idle (cond (awaits_frame s) (startup_step s s.startup) (cond (not (is_open s)) steps.Idle (cond s.placed (turned_step s (front s)) (judged_step table s (front s)))))
+
+    go : (d : Option Done) → done_in s.queue ≡ d → d ≡ None
+    go None e = refl
+    go (Some done) e = let shown : seen.Idle ≡ seen.Done done.kind = rule ∙ ap (λ d. seen_step table s (step_behind d rest)) e in cc

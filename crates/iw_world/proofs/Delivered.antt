@@ -19,7 +19,7 @@ use Rattle.iw_fpdu.specs.Frame.{max_sent}
 use Rattle.iw_fpdu.specs.Sequence.{Carried, intact, sequence, frames_of, first_frame}
 use Rattle.iw_fpdu.proofs.Follows.{frames_follow}
 use Rattle.iw_fpdu.proofs.Sequences.{first_stays, frames_first, frames_written}
-use Rattle.iw_queues.specs.Joined.{Whole, Cell, joined, sends, count_writes, count_segments}
+use Rattle.iw_queues.specs.Joined.{IsPrefixOf, Whole, Cell, joined, sends, count_writes, count_segments}
 use Rattle.iw_queues.specs.Segments.{first_numbers, AreSpelled}
 use Rattle.iw_queues.specs.Laws.{IsCovered}
 use Rattle.iw_queues.proofs.Cuts.{in_order as spelled_in_order, covered as spelled_covered}
@@ -29,9 +29,8 @@ use Rattle.iw_world.specs.Words.{Octets, Sent}
 use Rattle.iw_world.specs.Words as words
 use Rattle.iw_world.specs.Rules.{Connected}
 use Rattle.iw_world.specs.Safe.{requests, CoversWrites}
-use Rattle.iw_world.specs.Safe as safe
 use Rattle.iw_world.proofs.Tales.{Tale}
-use Rattle.iw_world.proofs.Tracks.{Track, front_is}
+use Rattle.iw_world.proofs.Tracks.{Track, front_is, split_is}
 use Rattle.iw_world.proofs.Joins.{whole, count_waiting, count-append}
 use Rattle.iw_world.proofs.Lists.{Each}
 use Rattle.iw_world.proofs.Sending.{IsSendable}
@@ -88,7 +87,7 @@ delivered c t d u e k (Clear is) of =
     let r = reaches d.stream u k t.sent of in
     let all : Octets = inbox d.stream ++ r.rest in
     first_segments layout (k.before ++ all) e.segments k.segments k.frames (frames_of layout (length k.before) all) e.good (append_cancel_left k.intro (k.before ++ all) (sequence layout 0 (map segment_octets e.segments)) (sym r.is ∙ is))
-    (k.split all) k.carried
+    (split_is d.stream u k all) k.carried
 
 -- the segment that waits for its turn is the next
 pub waiting : (c : Connected) (t : Tale) (d : Connected) (u : Tale) (e : Emits c.stream t) (k : Track d.stream u) → IsHeard c t d u e.segments k → IsOf u.story.came t.sent → d.stream.placed ≡ true
@@ -104,7 +103,7 @@ waiting c t d u e k (Clear is) of placed frame left segment whole carries =
     let others : List Carried = frames_of layout (at + (length all - length (left ++ r.rest))) (left ++ r.rest) in
     let here : frames_of layout at all ≡ frame ∷ others = frames_first layout at all frame (left ++ r.rest) k.between first in
     first_segments layout (k.before ++ all) e.segments (k.segments ++ segment ∷ []) (k.frames ++ frame ∷ []) others e.good (append_cancel_left k.intro (k.before ++ all) (sequence layout 0 (map segment_octets e.segments)) (sym r.is ∙ is))
-    (k.split all ∙ ap (λ z. k.frames ++ z) here ∙ sym (append_assoc k.frames (frame ∷ []) others))
+    (split_is d.stream u k all ∙ ap (λ z. k.frames ++ z) here ∙ sym (append_assoc k.frames (frame ∷ []) others))
     (map-append segment_in k.frames (frame ∷ []) ∙ (λ i. k.carried i ++ carries i ∷ []) ∙ sym (map-append Some k.segments (segment ∷ [])))
 
 -- ---- Sends
@@ -124,7 +123,7 @@ same_whole x y plain e =
     let none : y.invalidate ≡ None = sym (no_stag y.invalidate (ap (option_map number_of) (sym plain) ∙ ap (λ (w : Whole). w.invalidate) e)) in
     λ i. record { octets = ap (λ (w : Whole). w.octets) e i; solicited = ap (λ (w : Whole). w.solicited) e i; invalidate = (plain ∙ sym none) i }
 
-prefix_whole : (xs ys : List Sent) (rest : List Whole) → Each (λ (x : Sent). x.invalidate ≡ None) xs → map whole xs ++ rest ≡ map whole ys → safe.IsPrefixOf xs ys
+prefix_whole : (xs ys : List Sent) (rest : List Whole) → Each (λ (x : Sent). x.invalidate ≡ None) xs → map whole xs ++ rest ≡ map whole ys → IsPrefixOf xs ys
 prefix_whole [] ys rest plain e = (ys, refl)
 prefix_whole (x ∷ xs) [] rest plain e = absurd (omega (arith, ap length e))
 prefix_whole (x ∷ xs) (y ∷ ys) rest plain e =
@@ -150,7 +149,7 @@ goes_on s t e first later is =
     record { later = later ++ w.0; spelled = subst (AreSpelled first_numbers 0 (requests t.posted)) (ap (λ z. z ++ w.0) is ∙ append_assoc first later w.0) w.1 }
 
 -- what was received is a prefix of the Sends posted
-pub received_prefix : (c : Connected) (t : Tale) (d : Connected) (u : Tale) (e : Emits c.stream t) (k : Track d.stream u) → IsHeard c t d u e.segments k → IsOf u.story.came t.sent → safe.IsPrefixOf u.received (words.sends t.posted)
+pub received_prefix : (c : Connected) (t : Tale) (d : Connected) (u : Tale) (e : Emits c.stream t) (k : Track d.stream u) → IsHeard c t d u e.segments k → IsOf u.story.came t.sent → IsPrefixOf u.received (words.sends t.posted)
 received_prefix c t d u e k heard of =
     let x = delivered c t d u e k heard of in
     let g = goes_on c.stream t e k.segments x.0 x.1 in

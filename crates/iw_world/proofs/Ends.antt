@@ -18,20 +18,16 @@ use Rattle.iw_events.specs.declared.act.StreamAct.{StreamAct}
 use Rattle.iw_events.specs.declared.act.StreamAct.TheVariants.{Recv, Post, Emit, Deliver, Raw, Mulpdu, Accept, Reject, Work}
 use Rattle.iw_events.specs.declared.act.Shown.TheVariants.{Frame, Nothing}
 use Rattle.iw_events.specs.declared.act.Seen.TheVariants as seen
-use Rattle.iw_world.specs.Words.{Octets, Opening, stream_acts, stream_acts_by, openings, openings_by, opening_in, domain_of, table_after, table_by}
-use Rattle.iw_world.specs.Rules.{opening_by, Connected, connected, unconnected, EndState, stream_numbers, has_stream, stream_at, open_refusal, Rule, stream_after, connected_after, streams_after, end_after}
+use Rattle.iw_world.specs.Words.{Octets, Opening, stream_acts, stream_acts_by, openings, openings_by, opening_in, was_opened, stream_numbers, domain_of, table_after, table_by}
+use Rattle.iw_world.specs.Rules.{opening_by, Connected, connected, unconnected, EndState, has_stream, stream_at, open_refusal, Rule, stream_after, connected_after, streams_after, end_after}
 use Rattle.iw_world.proofs.Tales.{table-push, stream_acts-push, openings-push}
 
-there : {A : Type 0} (xs : List (Option A)) (i : ℕ) → is_some (slice_index_or xs i None) ≡ true → i < length xs
+pub there : {A : Type 0} (xs : List (Option A)) (i : ℕ) → is_some (slice_index_or xs i None) ≡ true → i < length xs
 there [] i h = absurd (false≢true h)
 there (y ∷ ys) zero h = omega arith
 there (y ∷ ys) (suc i) h = let more : i < length ys = there ys i h in omega arith
 
 -- ---- openings
-
-abbrev pub was_opened : List Opening → Bool
-was_opened [] = false
-was_opened (o ∷ os) = true
 
 pub unopened : (os : List Opening) → was_opened os ≡ false → os ≡ []
 unopened [] h = refl

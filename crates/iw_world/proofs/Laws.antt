@@ -1,21 +1,48 @@
 -- The laws, of whatever follows the rules.
-use Rattle.std.proofs.Common.{◌≡◌, ◌⊎◌, ℕ, List, [], ◌∷◌, ◌++◌, length, map, Option, Some, None, Ok, Err, true, false, refl, sym, ap, ◌∙◌, subst, inl, inr, arith}
-use Rattle.std.proofs.lemmas.List.{append-nil}
-use Rattle.std.specs.Prelude.{option_map, is_some, not, nat_eq, Bool, ◌&&◌}
+use Rattle.std.proofs.Common.{◌≡◌, ◌⊎◌, ℕ, zero, suc, ◌+◌, ◌-◌, ◌%◌, ◌^◌, ◌<◌, ◌≤◌, List, [], ◌∷◌, ◌++◌, length, take, drop, length-take, length-drop, length-append, cond, map, Option, Some, None, Ok, Err, true, false, refl, sym, ap, ◌∙◌, subst, inl, inr, arith}
+use Rattle.std.proofs.lemmas.List.{append-nil, length-map}
+use Rattle.std.specs.Prelude.{option_map, is_some, not, nat_le, nat_lt, min, Bool, ◌&&◌, ◌||◌, Result, IfOk}
+use Rattle.std.specs.Result.{result_err}
 use Rattle.std.specs.Option.{option_map_or}
-use Rattle.std.proofs.lemmas.Bool.{false≢true}
+use Rattle.std.proofs.lemmas.Bool.{false≢true, true≢false}
 use Rattle.iw_octets.specs.Segment.{segment_octets}
-use Rattle.iw_memory.specs.declared.refusal.NoRegion.{NoRegion}
+use Rattle.iw_memory.specs.declared.refusal.RegisterRefusal.{RegisterRefusal}
+use Rattle.iw_memory.specs.declared.refusal.RegisterRefusal.TheVariants as register_refusals
 use Rattle.iw_memory.specs.Region.{Region}
-use Rattle.iw_memory.specs.Table.{Table, region_at}
-use Rattle.iw_memory.specs.Laws.{Allows}
+use Rattle.iw_memory.specs.Part.{free_slot}
+use Rattle.iw_memory.proofs.LawLemmas.{registered-changes}
+use Rattle.std.proofs.lemmas.Option.{none-some}
+use Rattle.iw_memory.specs.Table.{Table, part_of, slots_of, region_at, is_added, domain_refusal, register_refusal, store_refusal, next_stag}
 use Rattle.iw_octets.specs.declared.segment.Segment.{Segment}
 use Rattle.iw_fpdu.specs.Sequence.{sequence}
-use Rattle.iw_queues.specs.Joined.{Cell}
-use Rattle.iw_queues.specs.Segments.{AreSpelled}
+use Rattle.iw_queues.specs.Joined.{IsPrefixOf, Cell}
+use Rattle.iw_queues.specs.Segments.{Numbers, AreSpelled, segment_with, segment_of, control_of, write_opcode, send_opcode}
 use Rattle.iw_queues.proofs.Sending.{sends_in_order}
-use Rattle.iw_startup.specs.State.{StartupState, is_responder, frame_of, agreed_of}
-use Rattle.iw_stream.specs.Stream.{StreamState, part_due, own_frame, owes_frame}
+use Rattle.iw_startup.specs.State.{StartupState, awaits_answer, agreement}
+use Rattle.iw_stream.specs.Stream.{StreamState, part_due, own_frame, owes_frame, recv_refusal, recv_refusal_of, post_refusal, post_refusal_of, may_answer, accepted_agreed, delivery_of}
+use Rattle.iw_stream.specs.declared.answer.PostRefusal.TheVariants as post_refusals
+use Rattle.iw_stream.specs.declared.answer.RecvRefusal.TheVariants as recv_refusals
+use Rattle.iw_untagged.specs.declared.queue.BufferRefusal.TheVariants as buffer_refusals
+use Rattle.iw_queues.specs.declared.request.Refusal.TheVariants as queue_refusals
+use Rattle.iw_queues.specs.declared.request.Request.{Request}
+use Rattle.iw_queues.specs.declared.request.Request.TheVariants.{Message as Posted, Read}
+use Rattle.iw_queues.specs.declared.completions.Sent.{Sent as WasSent}
+use Rattle.iw_queues.specs.declared.send_queue.Part.{Part}
+use Rattle.iw_queues.specs.Request.{kind_of, payload, size_of, header_len}
+use Rattle.iw_queues.specs.Queue.{Queue, next_part, IsBegun, IsWithinLimits}
+use Rattle.iw_queues.specs.Laws.{IsFilled, kinds_in}
+use Rattle.iw_queues.proofs.Filled.{fills}
+use Rattle.iw_octets.specs.declared.message.Message.{Message}
+use Rattle.iw_octets.specs.declared.message.Message.TheVariants.{Write, Send}
+use Rattle.iw_octets.specs.declared.stag.Stag.{Stag}
+use Rattle.iw_octets.specs.Stag.{number_of}
+use Rattle.iw_octets.proofs.Segments.{length-segment_octets_tagged, length-segment_octets_untagged}
+use Rattle.iw_fpdu.specs.Frame.{frame_octets}
+use Rattle.iw_ranges.specs.declared.Delivery.TheVariants.{Dropped}
+use Rattle.iw_ranges.specs.Arrived.{advanced, delivery}
+use Rattle.iw_startup.specs.declared.config.Agreed.{Agreed}
+use Rattle.iw_startup.specs.declared.startup.NotAsked.{NotAsked}
+use Rattle.iw_events.specs.declared.act.OpenRefusal.TheVariants.{NumberTaken, BadNumber, NoDomain}
 use Rattle.iw_stream.specs.Stream as streams
 use Rattle.iw_events.specs.declared.call.End.{End}
 use Rattle.iw_events.specs.declared.call.Call.{Call}
@@ -27,22 +54,28 @@ use Rattle.iw_events.specs.declared.act.StreamAct.TheVariants.{Recv, Post, Emit,
 use Rattle.iw_events.specs.declared.act.Shown.TheVariants.{Frame, Nothing}
 use Rattle.iw_events.specs.declared.act.Seen.TheVariants as seen
 use Rattle.iw_events.specs.declared.act.Entry.{Entry}
-use Rattle.iw_world.specs.Words.{Octets, other, acts, stream_acts, Opening, opening_in, opening_of, openings, domain_of, posted, sends, received, ended, sent, placements, table_after}
-use Rattle.iw_world.specs.Safe.{IsPrefixOf, IsHonest, InOrder, requests, CoversWrites, Covered, AreFirstFrames, Emission, AreAllFrames, HasNothing, Over, Closed, AllSent, Fits, NothingDue, NothingAct, NothingOnlyAtRest, Within, WithinAct, WithinStream, ShowsMemory, ShowsRegion}
-use Rattle.iw_world.specs.Safe.{Silent as Muted}
-use Rattle.iw_world.specs.Turns.{story, story_of, start_frame, sending, is_open, is_silent, IsAtRest, standing, TurnsSeen, TurnsStream, TurnsAct, Turns, IdleStream, IdleAct, IdleOnlyAtRest}
-use Rattle.iw_world.specs.Rules.{Connected, EndState, State, end_of, has_stream, stream_at, start, Rule, StreamRule, state_after, Follows}
+use Rattle.iw_world.specs.Words.{Octets, other, acts, deed, buffers, finished_kinds, size_set, stream_numbers, stream_acts, Opening, opening_in, opening_of, openings, was_opened, domain_of, posted, sends, received, ended, sent, placements, table_after}
+use Rattle.iw_world.specs.Safe.{IsHonest, InOrder, requests, CoversWrites, Covered, Fits, Within, WithinStream}
+use Rattle.iw_world.specs.Sends.{AreFirstFrames, Emission, AreAllFrames, HasNothing, Over, Closed, AllSent, NothingShown, NothingStream, NothingOnlyAtRest, FrameSized, SizedStream, Sized, FrameAllowed, SpeaksStream, Speaks, CanFinish, FinishedStream, Finished}
+use Rattle.iw_world.specs.Sends.{Silent as Muted}
+use Rattle.iw_world.specs.Turns.{story, story_of, start_frame, sending, is_open, is_silent, standing, TurnsSeen, TurnsStream, Turns}
+use Rattle.iw_world.specs.Rest.{IsAtRest, IdleStream, IdleOnlyAtRest}
+use Rattle.iw_world.specs.Calls.{deregister_answer, invalidate_refusal, IsNew, open_refusal_by, EndAnswered, ShowsMemory, recv_refusal_by, post_refusal_by, is_asked, Accepted, Rejected, StreamAnswered, AnsweredStream, Answered, delivery_by, KeptStream, KeepsOctets, StandIn, CarriedStream, CarriesOctets}
+use Rattle.iw_world.specs.Each.{OnSome, OnStream, AtEach}
+use Rattle.iw_world.specs.Rules.{Connected, EndState, State, end_of, has_stream, stream_at, start, open_refusal, register_answer, accept_answer, answer_refusal, Rule, StreamRule, state_after, Follows}
 use Rattle.iw_world.specs.Bounds.{LacksStream, AsksTooMuch, AsksOver}
 use Rattle.iw_world.specs.Stops.{NamesNoStream, AsksNotSent, IsUnopened}
-use Rattle.iw_world.proofs.Told.{told}
-use Rattle.iw_world.proofs.Tracks.{Track}
-use Rattle.iw_world.proofs.Answers.{standing_of, answers, idles}
+use Rattle.iw_world.proofs.Told.{told, sees}
+use Rattle.iw_world.proofs.Tracks.{Track, point_is, may, accepting, refusing}
+use Rattle.iw_world.proofs.Answers.{standing_of, answers, idles, idle_unfinished}
 use Rattle.iw_world.proofs.Tales.{Tale, tale_of}
-use Rattle.iw_world.proofs.Sending.{Rests, Ended, Shut, Silent, Sent, rests, none_left}
-use Rattle.iw_world.proofs.Owns.{Own, within, WithinTale, IsFramed, Unspoken, Spoken, behind_start}
+use Rattle.iw_world.proofs.Sending.{FitsRequest, Rests, Ended, Shut, Silent, Sent, rests, none_left, shows, EmitsStart, EmitsPart, emits_frame}
+use Rattle.iw_world.proofs.Owns.{Own, Emits, within, WithinTale, IsFramed, Unspoken, Spoken, behind_start, part_fits, and_left, and_right}
+use Rattle.iw_world.proofs.Counts.{last_of}
+use Rattle.iw_world.proofs.Messages.{start_frame_is, open_is, silent_is, sequence_is, can_finish, cannot_finish}
 use Rattle.iw_world.proofs.Heard.{IsHeard, hears_all}
 use Rattle.iw_world.proofs.Delivered.{received_prefix, writes_covered}
-use Rattle.iw_world.proofs.Ends.{EndSeen, was_opened, unopened}
+use Rattle.iw_world.proofs.Ends.{there, EndSeen, unopened}
 use Rattle.iw_world.proofs.Whole.{tale, Seen, seen_at, follows_split}
 
 -- ---- honest streams
@@ -85,37 +118,18 @@ covered trace follows past future is x n honest cell = covers past (state_after 
 -- what changed lay where it was allowed
 within_stream : (done : List (Act Octets)) (n domain : ℕ) (table : Table) (act : StreamAct Octets) → domain ≡ domain_of n done → table ≡ table_after done
     → WithinTale table domain (tale n done) act → WithinStream done n act
-within_stream done n domain table (Work (seen.Placed right stag to octets)) d t h =
-    subst (λ z. Allows z (domain_of n done) stag to (length octets) right) t (subst (λ z. Allows table z stag to (length octets) right) d h)
-within_stream done n domain table (Work (seen.Buffered msn mo len)) d t h = h
-within_stream done n domain table (Work (seen.Done kind)) d t h = tt
-within_stream done n domain table (Work (seen.Asked private)) d t h = tt
-within_stream done n domain table (Work (seen.Opened agreed private)) d t h = tt
-within_stream done n domain table (Work (seen.Closed fault)) d t h = tt
-within_stream done n domain table (Accept private answer) d t h = tt
-within_stream done n domain table (Reject private refused) d t h = tt
-within_stream done n domain table (Work seen.Passed) d t h = tt
-within_stream done n domain table (Work (seen.Received octets solicited invalidate)) d t h = tt
-within_stream done n domain table (Work (seen.Fault fault)) d t h = tt
-within_stream done n domain table (Work seen.Idle) d t h = tt
-within_stream done n domain table (Post m refused) d t h = tt
-within_stream done n domain table (Recv len refused) d t h = tt
-within_stream done n domain table (Emit shown) d t h = tt
-within_stream done n domain table (Deliver from octets delivery) d t h = tt
-within_stream done n domain table (Raw from octets delivery) d t h = tt
-within_stream done n domain table (Mulpdu size refused) d t h = tt
+within_stream done n domain table act d t h = subst (λ z. WithinTale z (domain_of n done) (tale n done) act) t (subst (λ z. WithinTale table z (tale n done) act) d h)
 
-within_act : (done : List (Act Octets)) (s peer : EndState) (act : Act Octets) → EndSeen s done → ((n : ℕ) → Own (opening_of n done) (stream_at s n) (tale n done)) → Rule s peer act → WithinAct done act
-within_act done s peer (Stream n act) k p rule =
-    let c : Connected = stream_at s n in
-    within_stream done n c.stream.domain s.table act (k.domain n rule.0) k.table
-    (within (opening_of n done) s.table (stream_at peer n).wire c (tale n done) act (told s.table (stream_at peer n).wire c.stream act rule.2) (p n))
-within_act done s peer (Domain pd refused) k p rule = tt
-within_act done s peer (Register pd base rights octets answer) k p rule = tt
-within_act done s peer (Deregister stag answer) k p rule = tt
-within_act done s peer (Invalidate stag refused) k p rule = tt
-within_act done s peer (Store stag to octets refused) k p rule = tt
-within_act done s peer (Open n pd role options private refused) k p rule = tt
+-- what holds of the acts of a stream holds of those of an end
+on_stream : (P : List (Act Octets) → ℕ → StreamAct Octets → Type 0) (done : List (Act Octets)) (s peer : EndState) (act : Act Octets) → Rule s peer act
+    → ((n : ℕ) (a : StreamAct Octets) → has_stream s n ≡ true → StreamRule s.table (stream_at peer n).wire (stream_at s n).stream a → P done n a) → OnStream P done act
+on_stream P done s peer (Stream n act) rule h = h n act rule.0 rule.2
+on_stream P done s peer (Domain pd refused) rule h = tt
+on_stream P done s peer (Register pd base rights octets answer) rule h = tt
+on_stream P done s peer (Deregister stag answer) rule h = tt
+on_stream P done s peer (Invalidate stag refused) rule h = tt
+on_stream P done s peer (Store stag to octets refused) rule h = tt
+on_stream P done s peer (Open n pd role options private refused) rule h = tt
 
 -- an entry, in the state that those before it leave
 abbrev Moment : List (Entry Octets) → Entry Octets → Type 0
@@ -125,31 +139,23 @@ moment : (past : List (Entry Octets)) (e : Entry Octets) (future trace : List (E
 moment past e future trace follows is =
     (seen_at past (e ∷ future) trace follows is, (follows_split past (e ∷ future) start (subst (Follows start) is follows)).1.0)
 
-pub within_all : (trace : List (Entry Octets)) → Follows start trace → Within trace
-within_all trace follows past e future is =
+-- a law of each entry of a stream, by the state before it
+each_stream : (P : List (Act Octets) → ℕ → StreamAct Octets → Type 0) (trace : List (Entry Octets)) → Follows start trace
+    → ((done : List (Act Octets)) (s : EndState) (peer : List ℕ) (n : ℕ) (act : StreamAct Octets) → EndSeen s done → has_stream s n ≡ true → StreamRule s.table peer (stream_at s n).stream act
+    → Own (opening_of n done) (stream_at s n) (tale n done) → P done n act) → AtEach (OnStream P) trace
+each_stream P trace follows one past e future is =
     let m = moment past e future trace follows is in
     let w : State = state_after start past in
-    within_act (acts e.end past) (end_of e.end w) (end_of (other e.end) w) e.act (m.0.ends e.end) (λ n. (m.0.pairs e.end n).own) m.1
+    let s : EndState = end_of e.end w in
+    let peer : EndState = end_of (other e.end) w in
+    on_stream P (acts e.end past) s peer e.act m.1 (λ n act opened rule. one (acts e.end past) s (stream_at peer n).wire n act (m.0.ends e.end) opened rule (m.0.pairs e.end n).own)
+
+pub within_all : (trace : List (Entry Octets)) → Follows start trace → Within trace
+within_all trace follows = each_stream WithinStream trace follows (λ done s peer n act k opened rule own.
+    let c : Connected = stream_at s n in
+    within_stream done n c.stream.domain s.table act (k.domain n opened) k.table (within (opening_of n done) s.table peer c (tale n done) act (told s.table peer c.stream act rule) own))
 
 -- ---- what goes out
-
--- the story of a stream and its state begin alike
-not_not : (b : Bool) → not (not b) ≡ b
-not_not true = refl
-not_not false = refl
-
-module _ (s : StreamState) (t : Tale) (k : Track s t) where
-  start_frame_is : start_frame t.story ≡ own_frame s
-  start_frame_is = ap (λ o. option_map_or frame_of o []) k.begins.startup
-
-  open_is : is_open t.story ≡ streams.is_open s
-  open_is = ap (λ o. option_map_or (λ (u : StartupState). is_some (agreed_of u)) o true) k.begins.startup
-
-  silent_is : is_silent t.story ≡ streams.keeps_silent s
-  silent_is = λ i. option_map_or (λ (u : StartupState). is_responder u.side) (k.begins.startup i) false && (sym (not_not (nat_eq t.story.turns 0)) ∙ ap not (sym k.passed)) i
-
-  sequence_is : (us : List (Segment Octets)) → start_frame t.story ++ sequence (sending t.story) 0 (map segment_octets us) ≡ own_frame s ++ sequence s.sending 0 (map segment_octets us)
-  sequence_is us = λ i. start_frame_is i ++ sequence (sym k.begins.sends i) 0 (map segment_octets us)
 
 first_frames : (past : List (Entry Octets)) (w : State) → Seen past w → (x : End) (n : ℕ) → AreFirstFrames (story_of n (acts x past)) (sent (stream_acts n (acts x past))) (posted (stream_acts n (acts x past)))
 first_frames past w k x n =
@@ -185,7 +191,7 @@ all_frames o c t own owes none =
       framed = behind_start c.stream t e owes ∙ sym (sequence_is c.stream t own.track e.segments) ∙ ap (λ z. start_frame t.story ++ sequence (sending t.story) 0 (map segment_octets z)) (sym (append-nil e.segments));
     }
 
-nothing_stream : (o : Opening) (c : Connected) (done : List (StreamAct Octets)) (table : Table) (peer : List ℕ) (act : StreamAct Octets) → StreamRule table peer c.stream act → Own o c (tale_of o done) → NothingDue (story o done) done act
+nothing_stream : (o : Opening) (c : Connected) (done : List (StreamAct Octets)) (table : Table) (peer : List ℕ) (act : StreamAct Octets) → StreamRule table peer c.stream act → Own o c (tale_of o done) → OnSome (NothingShown (story o done) done) (deed act).shown
 nothing_stream o c done table peer (Emit Nothing) rule own =
     let r = rests c.stream rule in
     (frame_sent r.0, go r.0 r.1)
@@ -213,20 +219,108 @@ nothing_stream o c done table peer (Accept private answer) rule own = tt
 nothing_stream o c done table peer (Reject private refused) rule own = tt
 nothing_stream o c done table peer (Work step) rule own = tt
 
-nothing_act : (done : List (Act Octets)) (s peer : EndState) (act : Act Octets) → ((n : ℕ) → Own (opening_of n done) (stream_at s n) (tale n done)) → Rule s peer act → NothingAct done act
-nothing_act done s peer (Stream n act) owns rule = nothing_stream (opening_of n done) (stream_at s n) (stream_acts n done) s.table (stream_at peer n).wire act rule.2 (owns n)
-nothing_act done s peer (Domain pd refused) owns rule = tt
-nothing_act done s peer (Register pd base rights octets answer) owns rule = tt
-nothing_act done s peer (Deregister stag answer) owns rule = tt
-nothing_act done s peer (Invalidate stag refused) owns rule = tt
-nothing_act done s peer (Store stag to octets refused) owns rule = tt
-nothing_act done s peer (Open n pd role options private refused) owns rule = tt
-
 pub nothing_at_rest : (trace : List (Entry Octets)) → Follows start trace → NothingOnlyAtRest trace
-nothing_at_rest trace follows past e future is =
-    let m = moment past e future trace follows is in
-    let w : State = state_after start past in
-    nothing_act (acts e.end past) (end_of e.end w) (end_of (other e.end) w) e.act (λ n. (m.0.pairs e.end n).own) m.1
+nothing_at_rest trace follows = each_stream NothingStream trace follows (λ done s peer n act k opened rule own. nothing_stream (opening_of n done) (stream_at s n) (stream_acts n done) s.table peer act rule own)
+
+-- a frame stands behind what was sent, and is the start-up frame or that of a part, as large as was set
+part_size : (numbers : Numbers) (part : Part (Request Octets)) → FitsRequest part.message → part.offset + part.n ≤ length (payload part.message) → length (segment_octets (segment_of numbers part)) ≡ part.n + header_len part.message
+part_size numbers part fits within = sized numbers part.message part.offset part.n part.last fits within
+  where
+    sized : (numbers : Numbers) (m : Request Octets) (offset n : ℕ) (last : Bool) → FitsRequest m → offset + n ≤ length (payload m) → length (segment_octets (segment_with numbers m offset last (take n (drop offset (payload m))))) ≡ n + header_len m
+    sized numbers (Posted (Write stag to octets)) offset n last fits within =
+        omega (arith, within, length-segment_octets_tagged (record { last = last; ddp_version = 1; control = control_of write_opcode; stag = stag; to = (to + offset) % 2 ^ 64 }) (take n (drop offset octets)), length-take n (drop offset octets), length-drop offset octets)
+    sized numbers (Posted (Send octets solicited invalidate)) offset n last fits within =
+        omega (
+          arith,
+          within,
+          length-segment_octets_untagged (record { last = last; ddp_version = 1; control = control_of (send_opcode solicited (is_some invalidate)); tail = option_map_or number_of invalidate 0; queue = 0; msn = numbers.send; mo = offset }) (take n (drop offset octets)),
+          length-take n (drop offset octets),
+          length-drop offset octets,
+        )
+    sized numbers (Read request) offset n last fits within = absurd fits
+
+-- how far a part reaches
+part_within : (q : Queue) (max : ℕ) (part : Part (Request Octets)) → IsWithinLimits q → next_part q max ≡ Some part → part.offset + part.n ≤ length (payload part.message)
+part_within q max part limits e =
+    let w = shows q max part e in
+    let m : Request Octets = w.message in
+    let begun : IsBegun (m ∷ w.messages) q.offset = subst (λ ms. IsBegun ms q.offset) w.unsent limits.begun in
+    subst (λ (p : Part (Request Octets)). p.offset + p.n ≤ length (payload p.message)) (sym w.is) (reach q.offset (length (payload m)) (max - header_len m) begun)
+  where
+    reach : (offset len room : ℕ) → (0 < offset → offset < len) → offset + min (len - offset) room ≤ len
+    reach zero len room begun = omega arith
+    reach (suc k) len room begun = let more : suc k < len = begun (omega arith) in omega (arith, more)
+
+start_unsent : (s : StreamState) (t : Tale) → Emits s t → owes_frame s ≡ true → t.sent ≡ []
+start_unsent s t e owes = go e.framed
+  where
+    quiet : s.spoken ≡ false
+    quiet = and_left s.spoken (nat_lt 0 (length (own_frame s))) owes
+
+    go : IsFramed s t.sent e.segments → t.sent ≡ []
+    go (Unspoken a b c) = b
+    go (Spoken a b) = absurd (false≢true (sym (ap (λ z. nat_lt 0 (length z)) (a quiet)) ∙ and_right s.spoken (nat_lt 0 (length (own_frame s))) owes))
+
+frame_sized : (o : Opening) (c : Connected) (done : List (StreamAct Octets)) (from : ℕ) (octets : Octets) → Own o c (tale_of o done) → EmitsStart c.stream from octets ⊎ EmitsPart c.stream from octets
+    → FrameSized (story o done) (size_set done) (sent done) (Frame from octets)
+frame_sized o c done from octets own (inl p) =
+    let t : Tale = tale_of o done in
+    (p.from_is ∙ own.sent, inl (start_unsent c.stream t own.emits p.owes, p.octets_are ∙ sym (start_frame_is c.stream t own.track)))
+frame_sized o c done from octets own (inr p) =
+    let s : StreamState = c.stream in
+    let t : Tale = tale_of o done in
+    let e = own.emits in
+    let fits = part_fits s p.part p.due e.fit in
+    let filled : IsFilled s.mulpdu p.part = fills s.queue s.mulpdu p.part e.enough e.limits p.due in
+    let size : length (segment_octets (segment_of s.numbers p.part)) ≡ p.part.n + header_len p.part.message = part_size s.numbers p.part fits (part_within s.queue s.mulpdu p.part e.limits p.due) in (
+      p.from_is ∙ own.sent,
+      inr (record {
+        segment = segment_of s.numbers p.part;
+        is = p.octets_are ∙ (λ i. frame_octets (own.track.begins.sends i) (own.sent i - length (sym (start_frame_is s t own.track) i)) (segment_octets (segment_of s.numbers p.part)));
+        fits = omega (arith, size, filled.fits, e.size);
+        full = λ h. size ∙ filled.full (sym (last_of s.numbers p.part fits) ∙ h) ∙ e.size;
+      }),
+    )
+
+shown_sized : (o : Opening) (c : Connected) (done : List (StreamAct Octets)) (table : Table) (peer : List ℕ) (act : StreamAct Octets) → StreamRule table peer c.stream act → Own o c (tale_of o done)
+    → OnSome (FrameSized (story o done) (size_set done) (sent done)) (deed act).shown
+shown_sized o c done table peer (Emit (Frame from octets)) rule own = frame_sized o c done from octets own (emits_frame c.stream from octets rule)
+shown_sized o c done table peer (Emit Nothing) rule own = tt
+shown_sized o c done table peer (Post m refused) rule own = tt
+shown_sized o c done table peer (Recv len refused) rule own = tt
+shown_sized o c done table peer (Deliver from octets delivery) rule own = tt
+shown_sized o c done table peer (Raw from octets delivery) rule own = tt
+shown_sized o c done table peer (Mulpdu size refused) rule own = tt
+shown_sized o c done table peer (Accept private answer) rule own = tt
+shown_sized o c done table peer (Reject private refused) rule own = tt
+shown_sized o c done table peer (Work step) rule own = tt
+
+pub sized_all : (trace : List (Entry Octets)) → Follows start trace → Sized trace
+sized_all trace follows = each_stream SizedStream trace follows (λ done s peer n act k opened rule own. shown_sized (opening_of n done) (stream_at s n) (stream_acts n done) s.table peer act rule own)
+
+-- and goes out where one may
+shown_allowed : (o : Opening) (c : Connected) (done : List (StreamAct Octets)) (table : Table) (peer : List ℕ) (act : StreamAct Octets) → StreamRule table peer c.stream act → Own o c (tale_of o done)
+    → OnSome (FrameAllowed (ended done) (story o done) (sent done)) (deed act).shown
+shown_allowed o c done table peer (Emit (Frame from octets)) rule own = go (emits_frame c.stream from octets rule)
+  where
+    t : Tale
+    t = tale_of o done
+
+    go : EmitsStart c.stream from octets ⊎ EmitsPart c.stream from octets → FrameAllowed (ended done) (story o done) (sent done) (Frame from octets)
+    go (inl p) = inl (start_unsent c.stream t own.emits p.owes, p.octets_are ∙ sym (start_frame_is c.stream t own.track))
+    go (inr p) = inr (record { running = sym own.ended ∙ p.running; open_now = open_is c.stream t own.track ∙ p.started; loud = silent_is c.stream t own.track ∙ p.loud })
+shown_allowed o c done table peer (Emit Nothing) rule own = tt
+shown_allowed o c done table peer (Post m refused) rule own = tt
+shown_allowed o c done table peer (Recv len refused) rule own = tt
+shown_allowed o c done table peer (Deliver from octets delivery) rule own = tt
+shown_allowed o c done table peer (Raw from octets delivery) rule own = tt
+shown_allowed o c done table peer (Mulpdu size refused) rule own = tt
+shown_allowed o c done table peer (Accept private answer) rule own = tt
+shown_allowed o c done table peer (Reject private refused) rule own = tt
+shown_allowed o c done table peer (Work step) rule own = tt
+
+pub speaks_all : (trace : List (Entry Octets)) → Follows start trace → Speaks trace
+speaks_all trace follows = each_stream SpeaksStream trace follows (λ done s peer n act k opened rule own. shown_allowed (opening_of n done) (stream_at s n) (stream_acts n done) s.table peer act rule own)
 
 -- ---- the turns of frames
 
@@ -234,35 +328,60 @@ same_standing : (done : List (Act Octets)) (n : ℕ) (s : EndState) → EndSeen 
 same_standing done n s k there track = λ i. record { table = k.table i; domain = k.domain n there i; receiving = sym track.receiving i }
 
 turns_stream : (done : List (Act Octets)) (n : ℕ) (s : EndState) (peer : List ℕ) (act : StreamAct Octets) → EndSeen s done → has_stream s n ≡ true → StreamRule s.table peer (stream_at s n).stream act
-    → Track (stream_at s n).stream (tale n done) → TurnsStream done n act
-turns_stream done n s peer (Work step) k there rule track =
-    subst (λ z. TurnsSeen (story_of n done) z step) (same_standing done n s k there track) (answers s.table (stream_at s n).stream (tale n done) step rule track)
-turns_stream done n s peer (Post m refused) k there rule track = tt
-turns_stream done n s peer (Recv len refused) k there rule track = tt
-turns_stream done n s peer (Emit shown) k there rule track = tt
-turns_stream done n s peer (Deliver from octets delivery) k there rule track = tt
-turns_stream done n s peer (Raw from octets delivery) k there rule track = tt
-turns_stream done n s peer (Mulpdu size refused) k there rule track = tt
-turns_stream done n s peer (Accept private answer) k there rule track = tt
-turns_stream done n s peer (Reject private refused) k there rule track = tt
-
-turns_act : (done : List (Act Octets)) (s peer : EndState) (act : Act Octets) → EndSeen s done → ((n : ℕ) → Track (stream_at s n).stream (tale n done)) → Rule s peer act → TurnsAct done act
-turns_act done s peer (Stream n act) k tracks rule = turns_stream done n s (stream_at peer n).wire act k rule.0 rule.2 (tracks n)
-turns_act done s peer (Domain pd refused) k tracks rule = tt
-turns_act done s peer (Register pd base rights octets answer) k tracks rule = tt
-turns_act done s peer (Deregister stag answer) k tracks rule = tt
-turns_act done s peer (Invalidate stag refused) k tracks rule = tt
-turns_act done s peer (Store stag to octets refused) k tracks rule = tt
-turns_act done s peer (Open n pd role options private refused) k tracks rule = tt
+    → Own (opening_of n done) (stream_at s n) (tale n done) → TurnsStream done n act
+turns_stream done n s peer (Work step) k there rule own =
+    subst (λ z. TurnsSeen (ended (stream_acts n done)) (story_of n done) z step) (same_standing done n s k there own.track) (answers s.table (stream_at s n).stream (tale n done) step rule own.track own.ended)
+turns_stream done n s peer (Post m refused) k there rule own = tt
+turns_stream done n s peer (Recv len refused) k there rule own = tt
+turns_stream done n s peer (Emit shown) k there rule own = tt
+turns_stream done n s peer (Deliver from octets delivery) k there rule own = tt
+turns_stream done n s peer (Raw from octets delivery) k there rule own = tt
+turns_stream done n s peer (Mulpdu size refused) k there rule own = tt
+turns_stream done n s peer (Accept private answer) k there rule own = tt
+turns_stream done n s peer (Reject private refused) k there rule own = tt
 
 pub turns_all : (trace : List (Entry Octets)) → Follows start trace → Turns trace
-turns_all trace follows past e future is =
-    let m = moment past e future trace follows is in
-    let w : State = state_after start past in
-    turns_act (acts e.end past) (end_of e.end w) (end_of (other e.end) w) e.act (m.0.ends e.end) (λ n. (m.0.pairs e.end n).own.track) m.1
+turns_all trace follows = each_stream TurnsStream trace follows turns_at
+  where
+    turns_at : (done : List (Act Octets)) (s : EndState) (peer : List ℕ) (n : ℕ) (act : StreamAct Octets) → EndSeen s done → has_stream s n ≡ true → StreamRule s.table peer (stream_at s n).stream act
+        → Own (opening_of n done) (stream_at s n) (tale n done) → TurnsStream done n act
+    turns_at done s peer n act k there rule own = turns_stream done n s peer act k there rule own
+
+-- ---- finished messages
+
+finished_stream : (done : List (Act Octets)) (n : ℕ) (s : EndState) (peer : List ℕ) (act : StreamAct Octets) → StreamRule s.table peer (stream_at s n).stream act → Own (opening_of n done) (stream_at s n) (tale n done) → FinishedStream done n act
+finished_stream done n s peer (Work (seen.Done kind)) rule own =
+    let c : Connected = stream_at s n in
+    let d = sees s.table c.stream (seen.Done kind) rule in
+    subst (CanFinish (story_of n done) (stream_acts n done)) (sym d.2) (can_finish c.stream (tale n done) own.track own.emits d.0 d.1)
+finished_stream done n s peer (Work seen.Idle) rule own = tt
+finished_stream done n s peer (Work (seen.Asked private)) rule own = tt
+finished_stream done n s peer (Work (seen.Opened agreed private)) rule own = tt
+finished_stream done n s peer (Work (seen.Closed fault)) rule own = tt
+finished_stream done n s peer (Work (seen.Placed right stag to octets)) rule own = tt
+finished_stream done n s peer (Work (seen.Buffered msn mo len)) rule own = tt
+finished_stream done n s peer (Work seen.Passed) rule own = tt
+finished_stream done n s peer (Work (seen.Received octets solicited invalidate)) rule own = tt
+finished_stream done n s peer (Work (seen.Fault fault)) rule own = tt
+finished_stream done n s peer (Post m refused) rule own = tt
+finished_stream done n s peer (Recv len refused) rule own = tt
+finished_stream done n s peer (Emit shown) rule own = tt
+finished_stream done n s peer (Deliver from octets delivery) rule own = tt
+finished_stream done n s peer (Raw from octets delivery) rule own = tt
+finished_stream done n s peer (Mulpdu size refused) rule own = tt
+finished_stream done n s peer (Accept private answer) rule own = tt
+finished_stream done n s peer (Reject private refused) rule own = tt
+
+pub finished_all : (trace : List (Entry Octets)) → Follows start trace → Finished trace
+finished_all trace follows = each_stream FinishedStream trace follows (λ done s peer n act k opened rule own. finished_stream done n s peer act rule own)
+
+-- ---- rest
 
 idle_stream : (s : EndState) (peer : List ℕ) (c : Connected) (done : List (Act Octets)) (n : ℕ) (act : StreamAct Octets) → StreamRule s.table peer c.stream act → Own (opening_of n done) c (tale n done) → IdleStream done n act
-idle_stream s peer c done n (Work seen.Idle) rule o = subst (λ b. IsAtRest b (story_of n done)) o.ended (idles s.table c.stream (tale n done) rule o.track)
+idle_stream s peer c done n (Work seen.Idle) rule o = record {
+  reason = idles s.table c.stream (tale n done) rule o.track o.ended;
+  unfinished = cannot_finish c.stream (tale n done) o.track o.emits (idle_unfinished s.table c.stream rule);
+}
 idle_stream s peer c done n (Work (seen.Asked private)) rule o = tt
 idle_stream s peer c done n (Work (seen.Opened agreed private)) rule o = tt
 idle_stream s peer c done n (Work (seen.Closed fault)) rule o = tt
@@ -281,41 +400,169 @@ idle_stream s peer c done n (Deliver from octets delivery) rule o = tt
 idle_stream s peer c done n (Raw from octets delivery) rule o = tt
 idle_stream s peer c done n (Mulpdu size refused) rule o = tt
 
-idle_act : (done : List (Act Octets)) (s peer : EndState) (act : Act Octets) → ((n : ℕ) → Own (opening_of n done) (stream_at s n) (tale n done)) → Rule s peer act → IdleAct done act
-idle_act done s peer (Stream n act) owns rule = idle_stream s (stream_at peer n).wire (stream_at s n) done n act rule.2 (owns n)
-idle_act done s peer (Domain pd refused) owns rule = tt
-idle_act done s peer (Register pd base rights octets answer) owns rule = tt
-idle_act done s peer (Deregister stag answer) owns rule = tt
-idle_act done s peer (Invalidate stag refused) owns rule = tt
-idle_act done s peer (Store stag to octets refused) owns rule = tt
-idle_act done s peer (Open n pd role options private refused) owns rule = tt
-
 pub idle_at_rest : (trace : List (Entry Octets)) → Follows start trace → IdleOnlyAtRest trace
-idle_at_rest trace follows past e future is =
-    let m = moment past e future trace follows is in
-    let w : State = state_after start past in
-    idle_act (acts e.end past) (end_of e.end w) (end_of (other e.end) w) e.act (λ n. (m.0.pairs e.end n).own) m.1
+idle_at_rest trace follows = each_stream IdleStream trace follows (λ done s peer n act k opened rule own. idle_stream s peer (stream_at s n) done n act rule own)
 
--- what is shown of the regions is what the entries made of them
-shown_region : (o : Option Region) (octets : List ℕ) (missing : NoRegion) → Ok octets ≡ option_map_or (λ r. Ok r.octets) o (Err missing) → option_map (λ r. r.octets) o ≡ Some octets
-shown_region None octets missing e = cc
-shown_region (Some r) octets missing e = let same : octets ≡ r.octets = cc in ap (λ z. Some z) (sym same)
+-- ---- calls
 
-shows_region : (done : List (Act Octets)) (s peer : EndState) (act : Act Octets) → EndSeen s done → Rule s peer act → ShowsRegion done act
-shows_region done s peer (Deregister stag (Ok octets)) k rule = subst (λ t. option_map (λ r. r.octets) (region_at t stag) ≡ Some octets) k.table (shown_region (region_at s.table stag) octets (record {}) rule)
-shows_region done s peer (Deregister stag (Err refusal)) k rule = tt
-shows_region done s peer (Invalidate stag refused) k rule = tt
-shows_region done s peer (Store stag to octets refused) k rule = tt
-shows_region done s peer (Domain pd refused) k rule = tt
-shows_region done s peer (Register pd base rights octets answer) k rule = tt
-shows_region done s peer (Open n pd role options private refused) k rule = tt
-shows_region done s peer (Stream n act) k rule = tt
+-- an opening is refused by what was done
+open_refused : (s : EndState) (done : List (Act Octets)) (n pd : ℕ) → EndSeen s done → open_refusal s n pd ≡ open_refusal_by done n pd
+open_refused s done n pd k = λ i. cond (k.opened n i) (Some NumberTaken) (cond (nat_le stream_numbers n) (Some BadNumber) (cond (not (is_added (k.table i) pd)) (Some NoDomain) None))
+
+-- the STag of the next region names nothing
+next_free : (table : Table) (pd base len : ℕ) (region : Region) → register_refusal table pd base len ≡ None → region_at table (next_stag table pd) ≡ None
+next_free table pd base len region e = go (is_some (part_of table pd)) refl e
+  where
+    go : (b : Bool) → is_some (part_of table pd) ≡ b
+        → cond (not b) (Some register_refusals.NoDomain) (cond (nat_le 1024 (free_slot (slots_of table pd))) (Some register_refusals.DomainFull) (cond (nat_lt 16777216 len) (Some register_refusals.TooLong) (cond (nat_lt (2 ^ 64) (base + len)) (Some register_refusals.BaseWrap) None))) ≡ None
+        → region_at table (next_stag table pd) ≡ None
+    go true added h = (registered-changes table pd region (there table pd added)).was_free
+    go false added h = absurd (none-some _ (sym h))
+
+registers : (table : Table) (pd base len : ℕ) (region : Region) (answer : Result Stag RegisterRefusal) → answer ≡ register_answer table pd base len → (result_err answer ≡ register_refusal table pd base len) × IfOk answer (IsNew table pd)
+registers table pd base len region answer e = subst (λ z. (result_err z ≡ register_refusal table pd base len) × IfOk z (IsNew table pd)) (sym e) (go (register_refusal table pd base len) refl)
+  where
+    go : (o : Option RegisterRefusal) → register_refusal table pd base len ≡ o → (result_err (option_map_or Err o (Ok (next_stag table pd))) ≡ register_refusal table pd base len) × IfOk (option_map_or Err o (Ok (next_stag table pd))) (IsNew table pd)
+    go None is = (sym is, record { domain = refl; fresh = next_free table pd base len region is })
+    go (Some refusal) is = (sym is, tt)
+
+end_answered : (done : List (Act Octets)) (s peer : EndState) (act : Act Octets) → EndSeen s done → Rule s peer act → EndAnswered done act
+end_answered done s peer (Domain pd refused) k rule = subst (λ t. refused ≡ domain_refusal t pd) k.table rule
+end_answered done s peer (Register pd base rights octets answer) k rule =
+    subst (λ t. (result_err answer ≡ register_refusal t pd base (length octets)) × IfOk answer (IsNew t pd)) k.table (registers s.table pd base (length octets) (record { base = base; octets = octets; rights = rights; valid = true }) answer rule)
+end_answered done s peer (Deregister stag answer) k rule = subst (λ t. answer ≡ deregister_answer t stag) k.table rule
+end_answered done s peer (Invalidate stag refused) k rule = subst (λ t. refused ≡ invalidate_refusal t stag) k.table rule
+end_answered done s peer (Store stag to octets refused) k rule = subst (λ t. refused ≡ store_refusal t stag to (length octets)) k.table rule
+end_answered done s peer (Open n pd role options private refused) k rule = rule ∙ open_refused s done n pd k
+end_answered done s peer (Stream n act) k rule = tt
 
 pub shows_memory : (trace : List (Entry Octets)) → Follows start trace → ShowsMemory trace
 shows_memory trace follows past e future is =
     let m = moment past e future trace follows is in
     let w : State = state_after start past in
-    shows_region (acts e.end past) (end_of e.end w) (end_of (other e.end) w) e.act (m.0.ends e.end) m.1
+    end_answered (acts e.end past) (end_of e.end w) (end_of (other e.end) w) e.act (m.0.ends e.end) m.1
+
+-- the buffers and the messages that count for a refusal
+recv_refused : (o : Opening) (c : Connected) (done : List (StreamAct Octets)) → Own o c (tale_of o done) → recv_refusal c.stream ≡ recv_refusal_by done
+recv_refused o c done own = go c.stream.ended (nat_le 256 (length c.stream.receiving.buffers)) own.ended (ap (nat_le 256) (sym (length-map c.stream.receiving.buffers (length {A = ℕ})) ∙ ap length own.lengths))
+  where
+    go : (over full : Bool) → over ≡ ended done → full ≡ nat_le 256 (length (buffers done))
+        → cond over (Some recv_refusals.Ended) (option_map recv_refusal_of (cond full (Some buffer_refusals.Full) None)) ≡ cond (ended done) (Some recv_refusals.Ended) (cond (nat_le 256 (length (buffers done))) (Some recv_refusals.Full) None)
+    go true full a b = ap (λ z. cond z (Some recv_refusals.Ended) (cond (nat_le 256 (length (buffers done))) (Some recv_refusals.Full) None)) a
+    go false true a b = (λ i. cond (a i) (Some recv_refusals.Ended) (cond (b i) (Some recv_refusals.Full) None))
+    go false false a b = (λ i. cond (a i) (Some recv_refusals.Ended) (cond (b i) (Some recv_refusals.Full) None))
+
+post_refused : (o : Opening) (c : Connected) (done : List (StreamAct Octets)) (m : Message Octets) → Own o c (tale_of o done) → post_refusal c.stream m ≡ post_refusal_by (story o done) done m
+post_refused o c done m own =
+    (λ i. cond (own.ended i || not (sym (open_is c.stream (tale_of o done) own.track) i)) (Some post_refusals.NotOpen) (of_queue (nat_le 256 (held i)) (nat_lt 16777216 (size_of (Posted m))) i))
+  where
+    q : Queue
+    q = c.stream.queue
+
+    counted : length (finished_kinds done) + (length q.sent.messages + length q.unsent) ≡ length (posted done)
+    counted =
+        omega (
+          arith,
+          ap length own.emits.counts.order,
+          length-append (finished_kinds done) (kinds_in q),
+          length-append (map (λ (w : WasSent). w.kind) q.sent.messages) (map kind_of q.unsent),
+          length-map q.sent.messages (λ (w : WasSent). w.kind),
+          length-map q.unsent kind_of,
+          length-map (requests (posted done)) kind_of,
+          length-map (posted done) Posted,
+        )
+
+    held : length q.sent.messages + length q.unsent ≡ length (posted done) - length (finished_kinds done)
+    held = omega (arith, counted)
+
+    of_queue : (full long : Bool) → option_map post_refusal_of (cond full (Some queue_refusals.Full) (cond long (Some queue_refusals.TooLong) None)) ≡ cond full (Some post_refusals.Full) (cond long (Some post_refusals.TooLong) None)
+    of_queue true long = refl
+    of_queue false true = refl
+    of_queue false false = refl
+
+-- whether the user may answer
+asked_is : (o : Opening) (c : Connected) (done : List (StreamAct Octets)) → Own o c (tale_of o done) → may_answer c.stream ≡ is_asked (story o done) done
+asked_is o c done own = λ i. not (own.ended i) && option_map_or awaits_answer (sym own.track.begins.startup i) false
+
+accepts_asked : (o : Opening) (c : Connected) (done : List (StreamAct Octets)) (answer : Result Agreed NotAsked) → answer ≡ accept_answer c.stream → Own o c (tale_of o done) → Accepted (story o done) done answer
+accepts_asked o c done (Ok agreed) rule own =
+    let e = accepting c.stream agreed rule in
+    let m = may c.stream e in
+    let same : Ok agreed ≡ Ok (accepted_agreed c.stream) = rule ∙ ap (λ b. cond {A = Result Agreed NotAsked} b (Ok (accepted_agreed c.stream)) (Err (record {}))) e in
+    let is : agreed ≡ accepted_agreed c.stream = cc in (
+      sym (asked_is o c done own) ∙ e,
+      record { startup = m.startup; is = own.track.begins.startup ∙ m.is; agreed_is = is ∙ ap (λ u. option_map_or (λ (v : StartupState). agreement v.config v.octets) u (record { send_markers = false; expect_markers = false; crc = false })) m.is },
+    )
+accepts_asked o c done (Err refusal) rule own = sym (asked_is o c done own) ∙ go (may_answer c.stream) rule
+  where
+    go : (b : Bool) → Err refusal ≡ cond {A = Result Agreed NotAsked} b (Ok (accepted_agreed c.stream)) (Err (record {})) → b ≡ false
+    go true h = cc
+    go false h = refl
+
+rejects_asked : (o : Opening) (c : Connected) (done : List (StreamAct Octets)) (refused : Option NotAsked) → refused ≡ answer_refusal c.stream → Own o c (tale_of o done) → Rejected (story o done) done refused
+rejects_asked o c done None rule own = sym (asked_is o c done own) ∙ refusing c.stream rule
+rejects_asked o c done (Some refusal) rule own = sym (asked_is o c done own) ∙ go (may_answer c.stream) rule
+  where
+    go : (b : Bool) → Some refusal ≡ cond {A = Option NotAsked} b None (Some (record {})) → b ≡ false
+    go true h = cc
+    go false h = refl
+
+stream_answered : (o : Opening) (c : Connected) (done : List (StreamAct Octets)) (table : Table) (peer : List ℕ) (act : StreamAct Octets) → StreamRule table peer c.stream act → Own o c (tale_of o done) → StreamAnswered (story o done) done act
+stream_answered o c done table peer (Recv len refused) rule own = rule ∙ recv_refused o c done own
+stream_answered o c done table peer (Post m refused) rule own = rule.1 ∙ post_refused o c done m own
+stream_answered o c done table peer (Mulpdu size refused) rule own = rule
+stream_answered o c done table peer (Accept private answer) rule own = accepts_asked o c done answer rule own
+stream_answered o c done table peer (Reject private refused) rule own = rejects_asked o c done refused rule own
+stream_answered o c done table peer (Emit shown) rule own = tt
+stream_answered o c done table peer (Deliver from octets delivery) rule own = tt
+stream_answered o c done table peer (Raw from octets delivery) rule own = tt
+stream_answered o c done table peer (Work step) rule own = tt
+
+pub answered_all : (trace : List (Entry Octets)) → Follows start trace → Answered trace
+answered_all trace follows = each_stream AnsweredStream trace follows (λ done s peer n act k opened rule own. stream_answered (opening_of n done) (stream_at s n) (stream_acts n done) s.table peer act rule own)
+
+-- ---- octets that come
+
+delivery_is : (o : Opening) (c : Connected) (done : List (StreamAct Octets)) (from n : ℕ) → Own o c (tale_of o done) → delivery_of c.stream from n ≡ delivery_by (story o done) done from n
+delivery_is o c done from n own =
+    let k = own.track in
+    (λ i. cond (own.ended i) Dropped (delivery ((k.arrived ∙ ap (advanced (story o done).came) (sym (point_is c.stream (tale_of o done) k))) i) from n))
+
+octets_kept : (o : Opening) (c : Connected) (done : List (StreamAct Octets)) (table : Table) (peer : List ℕ) (act : StreamAct Octets) → StreamRule table peer c.stream act → Own o c (tale_of o done)
+    → OnSome (λ z. z.delivery ≡ delivery_by (story o done) done z.from (length z.octets)) (deed act).coming
+octets_kept o c done table peer (Deliver from octets delivery) rule own = rule.2 ∙ delivery_is o c done from (length octets) own
+octets_kept o c done table peer (Raw from octets delivery) rule own = rule ∙ delivery_is o c done from (length octets) own
+octets_kept o c done table peer (Recv len refused) rule own = tt
+octets_kept o c done table peer (Post m refused) rule own = tt
+octets_kept o c done table peer (Mulpdu size refused) rule own = tt
+octets_kept o c done table peer (Accept private answer) rule own = tt
+octets_kept o c done table peer (Reject private refused) rule own = tt
+octets_kept o c done table peer (Emit shown) rule own = tt
+octets_kept o c done table peer (Work step) rule own = tt
+
+pub keeps_octets : (trace : List (Entry Octets)) → Follows start trace → KeepsOctets trace
+keeps_octets trace follows = each_stream KeptStream trace follows (λ done s peer n act k opened rule own. octets_kept (opening_of n done) (stream_at s n) (stream_acts n done) s.table peer act rule own)
+
+-- octets that are delivered are the other end's
+octets_carried : (s : StreamState) (table : Table) (peer sent : List ℕ) (act : StreamAct Octets) → peer ≡ sent → StreamRule table peer s act → OnSome (λ z. z.raw ≡ false → StandIn sent z.from z.octets) (deed act).coming
+octets_carried s table peer sent (Deliver from octets delivery) same rule = λ raw. subst (λ z. StandIn z from octets) same (record { within = rule.0; are = rule.1 })
+octets_carried s table peer sent (Raw from octets delivery) same rule = λ raw. absurd (true≢false raw)
+octets_carried s table peer sent (Recv len refused) same rule = tt
+octets_carried s table peer sent (Post m refused) same rule = tt
+octets_carried s table peer sent (Mulpdu size refused) same rule = tt
+octets_carried s table peer sent (Accept private answer) same rule = tt
+octets_carried s table peer sent (Reject private refused) same rule = tt
+octets_carried s table peer sent (Emit shown) same rule = tt
+octets_carried s table peer sent (Work step) same rule = tt
+
+pub carries_octets : (trace : List (Entry Octets)) → Follows start trace → CarriesOctets trace
+carries_octets trace follows past e future is =
+    let m = moment past e future trace follows is in
+    let w : State = state_after start past in
+    let s : EndState = end_of e.end w in
+    let peer : EndState = end_of (other e.end) w in
+    on_stream CarriedStream (acts (other e.end) past) s peer e.act m.1
+    (λ n act opened rule. octets_carried (stream_at s n).stream s.table (stream_at peer n).wire (sent (stream_acts n (acts (other e.end) past))) act (m.0.pairs e.end n).own_peer.wire rule)
 
 -- ---- events that cannot happen
 

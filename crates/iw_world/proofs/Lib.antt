@@ -5,9 +5,13 @@ pub mod Checks
 pub mod Lists
 pub mod Joins
 pub mod Sending
+pub mod Located
+pub mod Counts
 pub mod Tracks
 pub mod Answers
 pub mod Owns
+pub mod Messages
+pub mod Refused
 pub mod Heard
 pub mod Delivered
 pub mod Ends

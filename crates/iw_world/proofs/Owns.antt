@@ -54,15 +54,17 @@ use Rattle.iw_events.specs.declared.act.StreamAct.{StreamAct}
 use Rattle.iw_events.specs.declared.act.StreamAct.TheVariants.{Recv, Post, Emit, Deliver, Raw, Mulpdu, Accept, Reject, Work}
 use Rattle.iw_events.specs.declared.act.Shown.TheVariants.{Frame, Nothing}
 use Rattle.iw_events.specs.declared.act.Seen.TheVariants as seen
-use Rattle.iw_world.specs.Words.{Octets, Opening, posted_by, received_by, ended_after, sent_by, buffers_after, Sent}
+use Rattle.iw_world.specs.Words.{Octets, deed, Opening, posted_by, finished_by, size_after, received_by, ended_after, sent_by, buffers_after, Sent}
 use Rattle.iw_world.specs.Rules.{Connected, connected_after, stream_after, shown_of, private_data}
 use Rattle.iw_world.specs.Turns.{Story, story_after}
 use Rattle.iw_world.specs.Safe.{InBuffer, requests}
+use Rattle.iw_world.specs.Each.{OnSome}
 use Rattle.iw_world.proofs.Told.{Told}
 use Rattle.iw_world.proofs.Tales.{Tale, tale_after}
 use Rattle.iw_world.proofs.Tracks.{Track, tracking, unread, MayAnswer, may, accepting, refusing, unanswered}
 use Rattle.iw_world.proofs.Lists.{Each, each-push, each-rest}
-use Rattle.iw_world.proofs.Sending.{FitsRequest, IsSendable, accepted, EmitsStart, EmitsPart, emits_frame, shown_good, behind_small}
+use Rattle.iw_world.proofs.Counts.{Counts, same_counts, posted_counts, part_counts, handed_counts}
+use Rattle.iw_world.proofs.Sending.{FitsRequest, IsSendable, accepted, EmitsStart, EmitsPart, emits_frame, shown_good, shows, behind_small}
 use Rattle.iw_world.proofs.Checks.{HasBuffer, checked_buffer, same_lengths, index_of, length_of, length-splice}
 
 -- what was sent is the start-up frame, if there is one, and the frames of these segments; or neither yet
@@ -82,8 +84,10 @@ pub record Emits (s : StreamState) (t : Tale) : Type 0 where
   pub limits : IsWithinLimits s.queue
   pub fit : Each FitsRequest s.queue.unsent
   pub number : s.numbers.send < 2 ^ 32
+  pub size : s.mulpdu ≡ t.size
   pub enough : 128 ≤ s.mulpdu
   pub few : s.mulpdu ≤ 64512
+  pub counts : Counts s.queue segments t.posted t.finished
 
 -- the private data of a Reply has room in its frame
 abbrev pub IsSmall : Side → Type 0
@@ -307,8 +311,8 @@ StillSilent s s' = keeps_silent s' ≡ true → keeps_silent s ≡ true
 
 -- nothing is posted or emitted
 quiet : (s s' : StreamState) (t : Tale) (act : StreamAct Octets) → s'.startup ≡ s.startup → s'.spoken ≡ s.spoken → s'.sending ≡ s.sending → s'.queue ≡ s.queue → s'.numbers ≡ s.numbers → s'.mulpdu ≡ s.mulpdu
-    → posted_by act ≡ [] → sent_by act ≡ [] → StillSilent s s' → Emits s t → Emits s' (tale_after t act)
-quiet s s' t act startup spoken sending queue numbers mulpdu posted sent silent e =
+    → posted_by act ≡ [] → finished_by act ≡ [] → size_after t.size act ≡ t.size → sent_by act ≡ [] → StillSilent s s' → Emits s t → Emits s' (tale_after t act)
+quiet s s' t act startup spoken sending queue numbers mulpdu posted finished size sent silent e =
     let same : t.posted ++ posted_by act ≡ t.posted = ap (λ z. t.posted ++ z) posted ∙ append-nil t.posted in
     record {
       segments = e.segments;
@@ -321,8 +325,10 @@ quiet s s' t act startup spoken sending queue numbers mulpdu posted sent silent 
       limits = subst IsWithinLimits (sym queue) e.limits;
       fit = subst (λ (q : Queue). Each FitsRequest q.unsent) (sym queue) e.fit;
       number = omega (arith, ap (λ (n : Numbers). n.send) numbers, e.number);
+      size = mulpdu ∙ e.size ∙ sym size;
       enough = omega (arith, mulpdu, e.enough);
       few = omega (arith, mulpdu, e.few);
+      counts = same_counts queue same (ap (λ z. t.finished ++ z) finished ∙ append-nil t.finished) e.counts;
     }
 
 bare : (xs : Octets) (l : Layout) (us : List (Segment Octets)) → us ≡ [] → xs ++ sequence l 0 (map segment_octets us) ≡ xs
@@ -331,8 +337,8 @@ bare xs l us none = ap (λ z. xs ++ sequence l 0 (map segment_octets z)) none �
 
 -- the start-up goes on, at a stream that was not open: this end's frame stays, or there was none
 restarts : (s s' : StreamState) (t : Tale) (act : StreamAct Octets) → is_open s ≡ false → s'.spoken ≡ s.spoken → s'.queue ≡ s.queue → s'.numbers ≡ s.numbers → s'.mulpdu ≡ s.mulpdu
-    → posted_by act ≡ [] → sent_by act ≡ [] → (own_frame s' ≡ own_frame s) ⊎ (own_frame s ≡ []) → Emits s t → Emits s' (tale_after t act)
-restarts s s' t act closed spoken queue numbers mulpdu posted sent own e =
+    → posted_by act ≡ [] → finished_by act ≡ [] → size_after t.size act ≡ t.size → sent_by act ≡ [] → (own_frame s' ≡ own_frame s) ⊎ (own_frame s ≡ []) → Emits s t → Emits s' (tale_after t act)
+restarts s s' t act closed spoken queue numbers mulpdu posted finished size sent own e =
     let none : e.segments ≡ [] = e.shut closed in
     let same : t.posted ++ posted_by act ≡ t.posted = ap (λ z. t.posted ++ z) posted ∙ append-nil t.posted in
     let unsent : t.sent ++ sent_by act ≡ t.sent = ap (λ z. t.sent ++ z) sent ∙ append-nil t.sent in
@@ -347,8 +353,10 @@ restarts s s' t act closed spoken queue numbers mulpdu posted sent own e =
       limits = subst IsWithinLimits (sym queue) e.limits;
       fit = subst (λ (q : Queue). Each FitsRequest q.unsent) (sym queue) e.fit;
       number = omega (arith, ap (λ (n : Numbers). n.send) numbers, e.number);
+      size = mulpdu ∙ e.size ∙ sym size;
       enough = omega (arith, mulpdu, e.enough);
       few = omega (arith, mulpdu, e.few);
+      counts = same_counts queue same (ap (λ z. t.finished ++ z) finished ∙ append-nil t.finished) e.counts;
     }
   where
     unspoken : own_frame s ≡ [] → (b : Bool) → s.spoken ≡ b → s.spoken ≡ false
@@ -379,8 +387,10 @@ posts table peer s t m rule e =
       limits = limits_posted s.queue (Posted m) ok.posted e.limits;
       fit = each-push FitsRequest s.queue.unsent (Posted m) e.fit rule.0;
       number = e.number;
+      size = e.size;
       enough = e.enough;
       few = e.few;
+      counts = posted_counts s.queue e.segments t.posted t.finished m e.counts;
     }
 
 -- what is left to be sent behind a part
@@ -424,6 +434,12 @@ unowed : (spoken some : Bool) → (not spoken && some) ≡ false → spoken ≡ 
 unowed true some h e = absurd (true≢false e)
 unowed false some h e = h
 
+-- the part that is due is of a message that fits
+pub part_fits : (s : StreamState) (part : Part (Request Octets)) → part_due s ≡ Some part → Each FitsRequest s.queue.unsent → FitsRequest part.message
+part_fits s part due fit =
+    let w = shows s.queue s.mulpdu part due in
+    subst FitsRequest (sym (ap (λ (p : Part (Request Octets)). p.message) w.is)) (first_fits s.queue fit w.message w.messages w.unsent)
+
 -- a part is sent
 sends_part : (s : StreamState) (t : Tale) (from : ℕ) (octets : Octets) → EmitsPart s from octets → s.sent ≡ length t.sent → Emits s t
     → Emits (record s { queue = part_sent s.queue (part_due s); numbers = option_map_or (numbers_behind s.numbers) (part_due s) s.numbers; sent = s.sent + length octets }) (tale_after t (Emit (Frame from octets)))
@@ -455,15 +471,17 @@ sends_part s t from octets p sent e =
       limits = subst IsWithinLimits (sym queue) (limits_sent s.queue s.mulpdu p.part p.due e.limits);
       fit = subst (λ (q : Queue). Each FitsRequest q.unsent) (sym queue) (subst (Each FitsRequest) (sym (rest_is s.queue p.part)) (rest_fits s.queue.unsent p.part.last e.fit));
       number = omega (arith, ap (λ (n : Numbers). n.send) numbers, behind_small s.numbers p.part e.number);
+      size = e.size;
       enough = e.enough;
       few = e.few;
+      counts = part_counts s.queue e.segments t.posted t.finished s.numbers s.mulpdu p.part p.due (part_fits s p.part p.due e.fit) e.counts;
     }
 
-and_left : (a b : Bool) → (not a && b) ≡ true → a ≡ false
+pub and_left : (a b : Bool) → (not a && b) ≡ true → a ≡ false
 and_left true b h = absurd (false≢true h)
 and_left false b h = refl
 
-and_right : (a b : Bool) → (not a && b) ≡ true → b ≡ true
+pub and_right : (a b : Bool) → (not a && b) ≡ true → b ≡ true
 and_right true b h = absurd (false≢true h)
 and_right false b h = h
 
@@ -485,8 +503,10 @@ sends_start s t from octets p e =
       limits = e.limits;
       fit = e.fit;
       number = e.number;
+      size = e.size;
       enough = e.enough;
       few = e.few;
+      counts = same_counts refl (append-nil t.posted) (append-nil t.finished) e.counts;
     }
   where
     go : s.spoken ≡ false → 0 < length (own_frame s) → IsFramed s t.sent e.segments → IsFramed (record s { spoken = true; sent = s.sent + length octets }) (t.sent ++ octets) e.segments
@@ -519,8 +539,8 @@ handed_unsent q = go (done_in q) q.sent.messages refl refl
     go (Some done) (m ∷ ms) d is = ap (λ z. (behind_oldest ((q.sent.first + 1) % 2 ^ 64) z q.unsent q.offset).unsent) is
 
 -- a finished message is handed out
-hands_out : (s : StreamState) (t : Tale) (kind : Kind) → Emits s t → Emits (stream_after s (Work (seen.Done kind))) (tale_after t (Work (seen.Done kind)))
-hands_out s t kind e = record {
+hands_out : (s : StreamState) (t : Tale) (kind : Kind) (d : Done) → done_in s.queue ≡ Some d → kind ≡ d.kind → Emits s t → Emits (stream_after s (Work (seen.Done kind))) (tale_after t (Work (seen.Done kind)))
+hands_out s t kind d finished kind_is e = record {
   segments = e.segments;
   has = subst (λ z. HasSent (requests z) e.segments s.numbers (handed_from s.queue (done_in s.queue))) (sym (append-nil t.posted)) (sends_in_order.next (requests t.posted) e.segments s.numbers s.queue e.has);
   good = e.good;
@@ -531,8 +551,10 @@ hands_out s t kind e = record {
   limits = limits_handed s.queue e.limits;
   fit = subst (Each FitsRequest) (sym (handed_unsent s.queue)) e.fit;
   number = e.number;
+  size = e.size;
   enough = e.enough;
   few = e.few;
+  counts = subst (λ z. Counts (handed_from s.queue (done_in s.queue)) e.segments (t.posted ++ []) (t.finished ++ z ∷ [])) (sym kind_is) (handed_counts s.queue e.segments t.posted t.finished d finished e.counts);
 }
 
 -- a size that is set is within its limits
@@ -562,8 +584,10 @@ sets_size s t size rule e =
       limits = e.limits;
       fit = e.fit;
       number = e.number;
+      size = refl;
       enough = z.enough;
       few = z.few;
+      counts = same_counts refl (append-nil t.posted) (append-nil t.finished) e.counts;
     }
 
 -- ---- start-up
@@ -577,26 +601,26 @@ own_is s u e = ap (λ o. option_map_or startups.frame_of o []) e
 
 -- the peer's start-up frame is read
 hears_frame : (s s' : StreamState) (t : Tale) (act : StreamAct Octets) (u : StartupState) → s.startup ≡ Some u → s.heard ≡ false → s'.startup ≡ Some (pushed u (inbox s)) → s'.spoken ≡ s.spoken → s'.queue ≡ s.queue → s'.numbers ≡ s.numbers → s'.mulpdu ≡ s.mulpdu
-    → posted_by act ≡ [] → sent_by act ≡ [] → Track s t → Emits s t → Emits s' (tale_after t act)
-hears_frame s s' t act u is heard now spoken queue numbers mulpdu posted sent k e =
-    restarts s s' t act (unheard_shut s t k u is heard) spoken queue numbers mulpdu posted sent (inl (own_is s' (pushed u (inbox s)) now ∙ frame_of-pushed u (inbox s) ∙ sym (own_is s u is))) e
+    → posted_by act ≡ [] → finished_by act ≡ [] → size_after t.size act ≡ t.size → sent_by act ≡ [] → Track s t → Emits s t → Emits s' (tale_after t act)
+hears_frame s s' t act u is heard now spoken queue numbers mulpdu posted finished size sent k e =
+    restarts s s' t act (unheard_shut s t k u is heard) spoken queue numbers mulpdu posted finished size sent (inl (own_is s' (pushed u (inbox s)) now ∙ frame_of-pushed u (inbox s) ∙ sym (own_is s u is))) e
 
 side_frame : (u : StartupState) → u.side ≡ sides.Responder None → startups.frame_of u ≡ []
 side_frame u e = ap (startups.own_frame u.config) e
 
 -- a responder's user answers: it had no frame before
 answers_frame : (s s' : StreamState) (t : Tale) (act : StreamAct Octets) → MayAnswer s → s'.spoken ≡ s.spoken → s'.queue ≡ s.queue → s'.numbers ≡ s.numbers → s'.mulpdu ≡ s.mulpdu
-    → posted_by act ≡ [] → sent_by act ≡ [] → Emits s t → Emits s' (tale_after t act)
-answers_frame s s' t act m spoken queue numbers mulpdu posted sent e =
+    → posted_by act ≡ [] → finished_by act ≡ [] → size_after t.size act ≡ t.size → sent_by act ≡ [] → Emits s t → Emits s' (tale_after t act)
+answers_frame s s' t act m spoken queue numbers mulpdu posted finished size sent e =
     let u : StartupState = m.startup in
     let side : u.side ≡ sides.Responder None = unanswered u m.asked in
     let closed : is_open s ≡ false = ap (λ o. option_map_or (λ (v : StartupState). is_some (agreed_of v)) o true) m.is ∙ ap is_some (unanswered_not_agreed u side) in
-    restarts s s' t act closed spoken queue numbers mulpdu posted sent (inr (own_is s u m.is ∙ side_frame u side)) e
+    restarts s s' t act closed spoken queue numbers mulpdu posted finished size sent (inr (own_is s u m.is ∙ side_frame u side)) e
 
 asks_frame : (s : StreamState) (t : Tale) (private : Octets) → Hears s progresses.Asked → Track s t → Emits s t → Emits (stream_after s (Work (seen.Asked private))) (tale_after t (Work (seen.Asked private)))
 asks_frame s t private h k e =
     subst (λ z. Emits z (tale_after t (Work (seen.Asked private)))) (ap (after_hearing s) (sym h.is))
-    (hears_frame s (streams.hears s h.startup) t (Work (seen.Asked private)) h.startup h.is h.unheard refl refl refl refl refl refl refl k e)
+    (hears_frame s (streams.hears s h.startup) t (Work (seen.Asked private)) h.startup h.is h.unheard refl refl refl refl refl refl refl refl refl k e)
 
 and_false : (b : Bool) → false ≡ (b && not true)
 and_false true = refl
@@ -606,34 +630,34 @@ emitting : (table : Table) (peer : List ℕ) (s : StreamState) (t : Tale) (act :
 emitting table peer s t (Post m None) rule sent k e = posts table peer s t m rule e
 emitting table peer s t (Emit (Frame from octets)) rule sent k e = sends_frame s t from octets rule sent e
 emitting table peer s t (Mulpdu size None) rule sent k e = sets_size s t size rule e
-emitting table peer s t (Work (seen.Done kind)) rule sent k e = hands_out s t kind e
-emitting table peer s t (Accept private (Ok agreed)) rule sent k e = answers_frame s (stream_after s (Accept private (Ok agreed))) t (Accept private (Ok agreed)) (may s (accepting s agreed rule)) refl refl refl refl refl refl e
-emitting table peer s t (Reject private None) rule sent k e = answers_frame s (stream_after s (Reject private None)) t (Reject private None) (may s (refusing s rule)) refl refl refl refl refl refl e
+emitting table peer s t (Work (seen.Done kind)) rule sent k e = hands_out s t kind rule.0 rule.1 rule.2 e
+emitting table peer s t (Accept private (Ok agreed)) rule sent k e = answers_frame s (stream_after s (Accept private (Ok agreed))) t (Accept private (Ok agreed)) (may s (accepting s agreed rule)) refl refl refl refl refl refl refl refl e
+emitting table peer s t (Reject private None) rule sent k e = answers_frame s (stream_after s (Reject private None)) t (Reject private None) (may s (refusing s rule)) refl refl refl refl refl refl refl refl e
 emitting table peer s t (Work (seen.Asked private)) rule sent k e = asks_frame s t private rule.0 k e
 emitting table peer s t (Work (seen.Opened agreed private)) rule sent k e =
     let h = rule.0.hears in
     subst (λ z. Emits z (tale_after t (Work (seen.Opened agreed private)))) (ap (λ o. with_agreed (after_hearing s o) agreed) (sym h.is))
-    (hears_frame s (with_agreed (streams.hears s h.startup) agreed) t (Work (seen.Opened agreed private)) h.startup h.is h.unheard refl refl refl refl refl refl refl k e)
+    (hears_frame s (with_agreed (streams.hears s h.startup) agreed) t (Work (seen.Opened agreed private)) h.startup h.is h.unheard refl refl refl refl refl refl refl refl refl k e)
 emitting table peer s t (Work (seen.Closed fault)) rule sent k e =
     subst (λ z. Emits z (tale_after t (Work (seen.Closed fault)))) (ap (λ o. record (after_hearing s o) { ended = true }) (sym rule.is))
-    (hears_frame s (record (streams.hears s rule.startup) { ended = true }) t (Work (seen.Closed fault)) rule.startup rule.is rule.unheard refl refl refl refl refl refl refl k e)
-emitting table peer s t (Post m (Some refusal)) rule sent k e = quiet s s t (Post m (Some refusal)) refl refl refl refl refl refl refl refl (λ h. h) e
-emitting table peer s t (Emit Nothing) rule sent k e = quiet s s t (Emit Nothing) refl refl refl refl refl refl refl refl (λ h. h) e
-emitting table peer s t (Recv len (Some refusal)) rule sent k e = quiet s s t (Recv len (Some refusal)) refl refl refl refl refl refl refl refl (λ h. h) e
-emitting table peer s t (Deliver from octets Dropped) rule sent k e = quiet s s t (Deliver from octets Dropped) refl refl refl refl refl refl refl refl (λ h. h) e
-emitting table peer s t (Raw from octets Dropped) rule sent k e = quiet s s t (Raw from octets Dropped) refl refl refl refl refl refl refl refl (λ h. h) e
-emitting table peer s t (Mulpdu size (Some refusal)) rule sent k e = quiet s s t (Mulpdu size (Some refusal)) refl refl refl refl refl refl refl refl (λ h. h) e
-emitting table peer s t (Accept private (Err refusal)) rule sent k e = quiet s s t (Accept private (Err refusal)) refl refl refl refl refl refl refl refl (λ h. h) e
-emitting table peer s t (Reject private (Some refusal)) rule sent k e = quiet s s t (Reject private (Some refusal)) refl refl refl refl refl refl refl refl (λ h. h) e
-emitting table peer s t (Work seen.Idle) rule sent k e = quiet s s t (Work seen.Idle) refl refl refl refl refl refl refl refl (λ h. h) e
-emitting table peer s t (Recv len None) rule sent k e = quiet s (stream_after s (Recv len None)) t (Recv len None) refl refl refl refl refl refl refl refl (λ h. h) e
-emitting table peer s t (Deliver from octets Kept) rule sent k e = quiet s (stream_after s (Deliver from octets Kept)) t (Deliver from octets Kept) refl refl refl refl refl refl refl refl (λ h. h) e
-emitting table peer s t (Raw from octets Kept) rule sent k e = quiet s (stream_after s (Raw from octets Kept)) t (Raw from octets Kept) refl refl refl refl refl refl refl refl (λ h. h) e
-emitting table peer s t (Work (seen.Placed right stag to octets)) rule sent k e = quiet s (stream_after s (Work (seen.Placed right stag to octets))) t (Work (seen.Placed right stag to octets)) refl refl refl refl refl refl refl refl (λ h. h) e
-emitting table peer s t (Work (seen.Buffered msn mo len)) rule sent k e = quiet s (stream_after s (Work (seen.Buffered msn mo len))) t (Work (seen.Buffered msn mo len)) refl refl refl refl refl refl refl refl (λ h. h) e
-emitting table peer s t (Work (seen.Fault fault)) rule sent k e = quiet s (stream_after s (Work (seen.Fault fault))) t (Work (seen.Fault fault)) refl refl refl refl refl refl refl refl (λ h. h) e
-emitting table peer s t (Work seen.Passed) rule sent k e = quiet s (stream_after s (Work seen.Passed)) t (Work seen.Passed) refl refl refl refl refl refl refl refl (λ h. absurd (false≢true (and_false (option_map_or (λ (u : StartupState). is_responder u.side) s.startup false) ∙ h))) e
-emitting table peer s t (Work (seen.Received octets solicited invalidate)) rule sent k e = quiet s (stream_after s (Work (seen.Received octets solicited invalidate))) t (Work (seen.Received octets solicited invalidate)) refl refl refl refl refl refl refl refl (λ h. absurd (false≢true (and_false (option_map_or (λ (u : StartupState). is_responder u.side) s.startup false) ∙ h))) e
+    (hears_frame s (record (streams.hears s rule.startup) { ended = true }) t (Work (seen.Closed fault)) rule.startup rule.is rule.unheard refl refl refl refl refl refl refl refl refl k e)
+emitting table peer s t (Post m (Some refusal)) rule sent k e = quiet s s t (Post m (Some refusal)) refl refl refl refl refl refl refl refl refl refl (λ h. h) e
+emitting table peer s t (Emit Nothing) rule sent k e = quiet s s t (Emit Nothing) refl refl refl refl refl refl refl refl refl refl (λ h. h) e
+emitting table peer s t (Recv len (Some refusal)) rule sent k e = quiet s s t (Recv len (Some refusal)) refl refl refl refl refl refl refl refl refl refl (λ h. h) e
+emitting table peer s t (Deliver from octets Dropped) rule sent k e = quiet s s t (Deliver from octets Dropped) refl refl refl refl refl refl refl refl refl refl (λ h. h) e
+emitting table peer s t (Raw from octets Dropped) rule sent k e = quiet s s t (Raw from octets Dropped) refl refl refl refl refl refl refl refl refl refl (λ h. h) e
+emitting table peer s t (Mulpdu size (Some refusal)) rule sent k e = quiet s s t (Mulpdu size (Some refusal)) refl refl refl refl refl refl refl refl refl refl (λ h. h) e
+emitting table peer s t (Accept private (Err refusal)) rule sent k e = quiet s s t (Accept private (Err refusal)) refl refl refl refl refl refl refl refl refl refl (λ h. h) e
+emitting table peer s t (Reject private (Some refusal)) rule sent k e = quiet s s t (Reject private (Some refusal)) refl refl refl refl refl refl refl refl refl refl (λ h. h) e
+emitting table peer s t (Work seen.Idle) rule sent k e = quiet s s t (Work seen.Idle) refl refl refl refl refl refl refl refl refl refl (λ h. h) e
+emitting table peer s t (Recv len None) rule sent k e = quiet s (stream_after s (Recv len None)) t (Recv len None) refl refl refl refl refl refl refl refl refl refl (λ h. h) e
+emitting table peer s t (Deliver from octets Kept) rule sent k e = quiet s (stream_after s (Deliver from octets Kept)) t (Deliver from octets Kept) refl refl refl refl refl refl refl refl refl refl (λ h. h) e
+emitting table peer s t (Raw from octets Kept) rule sent k e = quiet s (stream_after s (Raw from octets Kept)) t (Raw from octets Kept) refl refl refl refl refl refl refl refl refl refl (λ h. h) e
+emitting table peer s t (Work (seen.Placed right stag to octets)) rule sent k e = quiet s (stream_after s (Work (seen.Placed right stag to octets))) t (Work (seen.Placed right stag to octets)) refl refl refl refl refl refl refl refl refl refl (λ h. h) e
+emitting table peer s t (Work (seen.Buffered msn mo len)) rule sent k e = quiet s (stream_after s (Work (seen.Buffered msn mo len))) t (Work (seen.Buffered msn mo len)) refl refl refl refl refl refl refl refl refl refl (λ h. h) e
+emitting table peer s t (Work (seen.Fault fault)) rule sent k e = quiet s (stream_after s (Work (seen.Fault fault))) t (Work (seen.Fault fault)) refl refl refl refl refl refl refl refl refl refl (λ h. h) e
+emitting table peer s t (Work seen.Passed) rule sent k e = quiet s (stream_after s (Work seen.Passed)) t (Work seen.Passed) refl refl refl refl refl refl refl refl refl refl (λ h. absurd (false≢true (and_false (option_map_or (λ (u : StartupState). is_responder u.side) s.startup false) ∙ h))) e
+emitting table peer s t (Work (seen.Received octets solicited invalidate)) rule sent k e = quiet s (stream_after s (Work (seen.Received octets solicited invalidate))) t (Work (seen.Received octets solicited invalidate)) refl refl refl refl refl refl refl refl refl refl (λ h. absurd (false≢true (and_false (option_map_or (λ (u : StartupState). is_responder u.side) s.startup false) ∙ h))) e
 
 ended_is : (s : StreamState) (act : StreamAct Octets) → (stream_after s act).ended ≡ ended_after s.ended act
 ended_is s (Work (seen.Fault fault)) = refl
@@ -755,12 +779,12 @@ owning o table peer c t act rule own = record {
 
 -- what an act changes lay where it may
 abbrev pub WithinTale : Table → ℕ → Tale → StreamAct Octets → Type 0
-WithinTale table domain t (Work (seen.Placed right stag to octets)) = Allows table domain stag to (length octets) right
-WithinTale table domain t (Work (seen.Buffered msn mo len)) = InBuffer t.buffers ((1 + length t.received) % 2 ^ 32) msn mo len
-WithinTale table domain t _ = Unit {0}
+WithinTale table domain t act =
+    OnSome (λ p. Allows table domain p.stag p.to (length p.octets) p.right) (deed act).placing
+    × OnSome (λ b. InBuffer t.buffers ((1 + length t.received) % 2 ^ 32) b.msn b.mo b.len) (deed act).buffering
 
 pub within : (opening : Opening) (table : Table) (peer : List ℕ) (c : Connected) (t : Tale) (act : StreamAct Octets) → Told table peer c.stream act → Own opening c t → WithinTale table c.stream.domain t act
-within opening table peer c t (Work (seen.Placed right stag to octets)) rule o = allows table c.stream.domain stag to (length octets) right rule.admitted
+within opening table peer c t (Work (seen.Placed right stag to octets)) rule o = (allows table c.stream.domain stag to (length octets) right rule.admitted, tt)
 within opening table peer c t (Work (seen.Buffered msn mo len)) rule o =
     let number : msn ≡ rule.head.msn = let is = rule.is in cc in
     let place : mo ≡ rule.head.mo = let is = rule.is in cc in
@@ -768,23 +792,26 @@ within opening table peer c t (Work (seen.Buffered msn mo len)) rule o =
     let r : Receiving = c.stream.receiving in
     let b = checked_buffer r rule.head (length rule.payload) rule.checked in
     let i : ℕ = ahead_of r.due rule.head.msn in (
-      length b.buffer,
-      (λ k. slice_get (sym o.lengths k) (ahead_of (sym o.due k) (number k))) ∙ length_of r.buffers i b.buffer b.is,
-      omega (arith, b.room, place, size),
+      tt,
+      (
+        length b.buffer,
+        (λ k. slice_get (sym o.lengths k) (ahead_of (sym o.due k) (number k))) ∙ length_of r.buffers i b.buffer b.is,
+        omega (arith, b.room, place, size),
+      ),
     )
-within opening table peer c t (Work (seen.Done kind)) rule o = tt
-within opening table peer c t (Work seen.Passed) rule o = tt
-within opening table peer c t (Work (seen.Received octets solicited invalidate)) rule o = tt
-within opening table peer c t (Work (seen.Fault fault)) rule o = tt
-within opening table peer c t (Work seen.Idle) rule o = tt
-within opening table peer c t (Post m refused) rule o = tt
-within opening table peer c t (Recv len refused) rule o = tt
-within opening table peer c t (Emit shown) rule o = tt
-within opening table peer c t (Deliver from octets delivery) rule o = tt
-within opening table peer c t (Raw from octets delivery) rule o = tt
-within opening table peer c t (Mulpdu size refused) rule o = tt
-within opening table peer c t (Accept private answer) rule o = tt
-within opening table peer c t (Reject private refused) rule o = tt
-within opening table peer c t (Work (seen.Asked private)) rule o = tt
-within opening table peer c t (Work (seen.Opened agreed private)) rule o = tt
-within opening table peer c t (Work (seen.Closed fault)) rule o = tt
+within opening table peer c t (Work (seen.Done kind)) rule o = (tt, tt)
+within opening table peer c t (Work seen.Passed) rule o = (tt, tt)
+within opening table peer c t (Work (seen.Received octets solicited invalidate)) rule o = (tt, tt)
+within opening table peer c t (Work (seen.Fault fault)) rule o = (tt, tt)
+within opening table peer c t (Work seen.Idle) rule o = (tt, tt)
+within opening table peer c t (Post m refused) rule o = (tt, tt)
+within opening table peer c t (Recv len refused) rule o = (tt, tt)
+within opening table peer c t (Emit shown) rule o = (tt, tt)
+within opening table peer c t (Deliver from octets delivery) rule o = (tt, tt)
+within opening table peer c t (Raw from octets delivery) rule o = (tt, tt)
+within opening table peer c t (Mulpdu size refused) rule o = (tt, tt)
+within opening table peer c t (Accept private answer) rule o = (tt, tt)
+within opening table peer c t (Reject private refused) rule o = (tt, tt)
+within opening table peer c t (Work (seen.Asked private)) rule o = (tt, tt)
+within opening table peer c t (Work (seen.Opened agreed private)) rule o = (tt, tt)
+within opening table peer c t (Work (seen.Closed fault)) rule o = (tt, tt)

@@ -61,6 +61,7 @@ accepted s m e = go s.ended (is_open s) (queues.post_refusal s.queue (Posted m))
 -- the start-up frame is emitted
 pub record EmitsStart (s : StreamState) (from : ℕ) (octets : Octets) : Type 0 where
   pub owes : owes_frame s ≡ true
+  pub from_is : from ≡ s.sent
   pub octets_are : octets ≡ own_frame s
 
 -- a frame is emitted: that of the part that is due, on an open stream that has not ended and need not keep silent
@@ -69,6 +70,7 @@ pub record EmitsPart (s : StreamState) (from : ℕ) (octets : Octets) : Type 0 w
   pub running : s.ended ≡ false
   pub started : is_open s ≡ true
   pub loud : keeps_silent s ≡ false
+  pub from_is : from ≡ s.sent
   pub part : Part (Request Octets)
   pub due : part_due s ≡ Some part
   pub octets_are : octets ≡ frame_of_part s part
@@ -83,14 +85,15 @@ emits_frame s from octets e = go (owes_frame s) s.ended (is_open s) (keeps_silen
         (cond (ended || (not started || silent)) emissions.Nothing (option_map_or (λ part. emissions.Frame s.sent (length (frame_of_part s part))) o emissions.Nothing)))
         (cond owes (own_frame s) (cond (ended || (not started || silent)) [] (option_map_or (frame_of_part s) o [])))
         → EmitsStart s from octets ⊎ EmitsPart s from octets
-    go true ended started silent o a b c d is h = inl (record { owes = a; octets_are = let same : octets ≡ own_frame s = cc in same })
+    go true ended started silent o a b c d is h = inl (record { owes = a; from_is = let place : from ≡ s.sent = cc in place; octets_are = let same : octets ≡ own_frame s = cc in same })
     go false true started silent o a b c d is h = cc
     go false false false silent o a b c d is h = cc
     go false false true true o a b c d is h = cc
     go false false true false None a b c d is h = cc
     go false false true false (Some part) a b c d is h =
         let same : octets ≡ frame_of_part s part = cc in
-        inr (record { spoken = a; running = b; started = c; loud = d; part = part; due = is; octets_are = same })
+        let place : from ≡ s.sent = cc in
+        inr (record { spoken = a; running = b; started = c; loud = d; from_is = place; part = part; due = is; octets_are = same })
 
 -- where nothing is emitted, the start-up frame is not owed, and the stream has ended, is not open, keeps silent, or no part is due
 pub data Rests (s : StreamState) : Type 0 where

@@ -4,7 +4,8 @@ use Rattle.std.specs.Prelude.{slice_get, max, nat_eq, is_some, not, ◌&&◌, Re
 use Rattle.std.specs.Option.{option_map, option_map_or}
 use Rattle.std.proofs.lemmas.Bool.{true≢false, false≢true}
 use Rattle.std.proofs.lemmas.Bool.Decides.{nat_tests}
-use Rattle.std.proofs.lemmas.List.{append-nil, map-append, take-append-drop, drop_at, drop-drop}
+use Rattle.std.proofs.lemmas.List.{append-nil, map-append, length-map, take-append-drop, drop_at, drop-drop}
+use Rattle.std.proofs.Math.Seq.{take-append_seam}
 use Rattle.iw_octets.specs.declared.segment.Segment.{Segment}
 use Rattle.iw_octets.specs.declared.segment.Segment.TheVariants.{Tagged, Untagged}
 use Rattle.iw_octets.specs.declared.stag.Stag.{Stag}
@@ -38,7 +39,7 @@ use Rattle.iw_startup.proofs.Heard.{agreed_of-pushed, side-pushed, octets-pushed
 use Rattle.iw_startup.proofs.Openings.{nothing_agreed, unanswered_not_agreed, rejected_not_agreed, fault_not_agreed, asking_side, told_whole}
 use Rattle.iw_stream.specs.Stream as streams
 use Rattle.std.proofs.lemmas.Option.{none-some}
-use Rattle.iw_fpdu.proofs.Sequences.{Alone, first_alone, first_stays, first_takes, frames_first, frames_none}
+use Rattle.iw_fpdu.proofs.Sequences.{Alone, first_alone, first_stays, first_takes}
 use Rattle.iw_untagged.specs.Receiving.{Receiving, with_buffer, written, finished, oldest}
 use Rattle.iw_stream.specs.Stream.{StreamState, Front, owes_frame, part_due, may_answer, accepted_agreed, plain, layout_in, layout_out, is_open, awaits_frame, first_place_in, front, inbox, segment_in, segment_at, payload_of, turned_by, place_behind, behind_front, delivery_of}
 use Rattle.iw_events.specs.declared.act.StreamAct.{StreamAct}
@@ -47,8 +48,11 @@ use Rattle.iw_events.specs.declared.act.Shown.TheVariants.{Frame, Nothing}
 use Rattle.iw_events.specs.declared.act.Seen.TheVariants as seen
 use Rattle.iw_stream.specs.declared.answer.Step.TheVariants as steps
 use Rattle.iw_stream.proofs.Inverse.{Hears, HearsReply, Fronts, PlacesSend, IsPassing}
-use Rattle.iw_world.specs.Words.{Octets, placed_in}
-use Rattle.iw_world.specs.Turns.{Story, answers_with, expecting, sending, first_place, hears, next_frame, next_segment, segment_of}
+use Rattle.iw_world.specs.Words.{Octets, placed_by}
+use Rattle.iw_fpdu.specs.Places.{frame_start}
+use Rattle.iw_world.specs.Frames.{Located, located_of, behind_last}
+use Rattle.iw_world.specs.Turns.{Story, expecting, sending, first_place, hears, next_frame, next_segment, segment_of, in_order_point}
+use Rattle.iw_world.proofs.Located.{frames_at, located_are, located_first, located_none, behind_last-push}
 use Rattle.iw_world.specs.Rules.{stream_after, private_data, accept_answer, answer_refusal}
 use Rattle.iw_world.proofs.Told.{SeesWrite, SeesReceive, Told}
 use Rattle.iw_world.proofs.Tales.{Tale, tale_after}
@@ -90,7 +94,10 @@ pub record Track (s : StreamState) (t : Tale) : Type 0 where
   pub arrived : s.arrived ≡ advanced t.story.came (length intro + length before)
   pub point : s.arrived.floor ≡ length intro + length before
   pub between : IsBetween s.expecting.markers (length before)
-  pub split : (more : Octets) → frames_of s.expecting 0 (before ++ more) ≡ frames ++ frames_of s.expecting (length before) more
+  pub located : List Located  -- the same with their places
+  pub named : frames_at located ≡ frames
+  pub split : (more : Octets) → located_of s.expecting 0 (before ++ more) ≡ located ++ located_of s.expecting (length before) more
+  pub ends : behind_last 0 located ≡ length before
   pub turns : t.story.turns ≡ length frames
   pub passed : s.passed ≡ not (nat_eq t.story.turns 0)
   pub placed : t.story.placed ≡ s.placed
@@ -102,7 +109,7 @@ pub record Track (s : StreamState) (t : Tale) : Type 0 where
   pub carried : map segment_in frames ≡ map Some segments
   pub joins : Joins segments s.receiving s.placed s.ended (segment_at (front s)) t.received t.placements
 
-get_behind : (xs ys : List Carried) → slice_get (xs ++ ys) (length xs) ≡ slice_get ys 0
+get_behind : (xs ys : List Located) → slice_get (xs ++ ys) (length xs) ≡ slice_get ys 0
 get_behind [] ys = refl
 get_behind (x ∷ xs) ys = get_behind xs ys
 
@@ -116,19 +123,43 @@ behind_intro s t k =
     let place : first_place t.story ≡ length k.intro = ap (λ o. option_map_or (λ (u : StartupState). length u.octets) o 0) k.begins.startup ∙ sym k.begins.first in
     (λ i. drop (place i) (k.came i)) ∙ drop_at k.intro (k.before ++ inbox s) (length k.intro) refl
 
+-- as many had their turn as were located
+turns_located : (s : StreamState) (t : Tale) (k : Track s t) → t.story.turns ≡ length k.located
+turns_located s t k = omega (arith, k.turns, ap length k.named, length-map k.located (λ (f : Located). f.frame))
+
+-- those that came are those, and the others
+located_is : (s : StreamState) (t : Tale) (k : Track s t) → located_of (expecting t.story) 0 (drop (first_place t.story) (in_order t.story.came)) ≡ k.located ++ located_of s.expecting (length k.before) (inbox s)
+located_is s t k = (λ i. located_of (sym k.begins.expects i) 0 (behind_intro s t k i)) ∙ k.split (inbox s)
+
 -- the frame whose turn is next is the one at the in-order point
-next_is : (s : StreamState) (t : Tale) (k : Track s t) → next_frame t.story ≡ slice_get (frames_of s.expecting (length k.before) (inbox s)) 0
+next_is : (s : StreamState) (t : Tale) (k : Track s t) → next_frame t.story ≡ option_map (λ (f : Located). f.frame) (slice_get (located_of s.expecting (length k.before) (inbox s)) 0)
 next_is s t k =
-    (λ i. slice_get (frames_of (sym k.begins.expects i) 0 (behind_intro s t k i)) (k.turns i))
-    ∙ ap (λ z. slice_get z (length k.frames)) (k.split (inbox s))
-    ∙ get_behind k.frames (frames_of s.expecting (length k.before) (inbox s))
+    ap (option_map (λ (f : Located). f.frame))
+    ((λ i. slice_get (located_is s t k i) (turns_located s t k i)) ∙ get_behind k.located (located_of s.expecting (length k.before) (inbox s)))
 
 pub next_whole : (s : StreamState) (t : Tale) (frame : Carried) (rest : Octets) → Track s t → front s ≡ Some (frame, rest) → next_frame t.story ≡ Some frame
 next_whole s t frame rest k e =
-    next_is s t k ∙ ap (λ z. slice_get z 0) (frames_first s.expecting (length k.before) (inbox s) frame rest k.between (sym (front_is s t k) ∙ e))
+    next_is s t k ∙ ap (λ z. option_map (λ (f : Located). f.frame) (slice_get z 0)) (located_first s.expecting (length k.before) (inbox s) frame rest k.between (sym (front_is s t k) ∙ e))
 
 pub next_none : (s : StreamState) (t : Tale) → Track s t → front s ≡ None → next_frame t.story ≡ None
-next_none s t k e = next_is s t k ∙ ap (λ z. slice_get z 0) (frames_none s.expecting (length k.before) (inbox s) (sym (front_is s t k) ∙ e))
+next_none s t k e = next_is s t k ∙ ap (λ z. option_map (λ (f : Located). f.frame) (slice_get z 0)) (located_none s.expecting (length k.before) (inbox s) (sym (front_is s t k) ∙ e))
+
+-- the frames by themselves
+pub split_is : (s : StreamState) (t : Tale) (k : Track s t) (more : Octets) → frames_of s.expecting 0 (k.before ++ more) ≡ k.frames ++ frames_of s.expecting (length k.before) more
+split_is s t k more =
+    sym (located_are s.expecting 0 (k.before ++ more)) ∙ ap frames_at (k.split more) ∙ map-append (λ (f : Located). f.frame) k.located (located_of s.expecting (length k.before) more)
+    ∙ (λ i. k.named i ++ located_are s.expecting (length k.before) more i)
+
+take_behind : (xs ys : List Located) → take (length xs) (xs ++ ys) ≡ xs
+take_behind xs ys = take-append_seam xs ys
+
+-- the in-order point of the state is that of the acts
+pub point_is : (s : StreamState) (t : Tale) (k : Track s t) → in_order_point t.story ≡ length k.intro + length k.before
+point_is s t k =
+    let place : first_place t.story ≡ length k.intro = ap (λ o. option_map_or (λ (u : StartupState). length u.octets) o 0) k.begins.startup ∙ sym k.begins.first in
+    let behind : behind_last 0 (take t.story.turns (located_of (expecting t.story) 0 (drop (first_place t.story) (in_order t.story.came)))) ≡ length k.before =
+    ap (behind_last 0) ((λ i. take (turns_located s t k i) (located_is s t k i)) ∙ take_behind k.located (located_of s.expecting (length k.before) (inbox s))) ∙ k.ends in
+    (λ i. place i + behind i)
 
 -- the segment whose turn is next
 pub next_carries : (s : StreamState) (t : Tale) → Track s t → next_segment t.story ≡ segment_at (front s)
@@ -204,6 +235,7 @@ turned s s' t t' frame rest segment e carries started same arrived placed passed
     ∙ (λ i. drop (m + length before - k.from_start i) (grouped i))
     ∙ drop_at (k.intro ++ before) rest (m + length before - 0) (omega (arith, length-append k.intro before)) in
     let few : length (inbox s) ≤ 262144 = omega (arith, short s.arrived, k.window) in
+    let here : Located = record { start = frame_start layout.markers at; behind = length before; frame = frame } in
     record {
       intro = k.intro;
       begins = same_begins s s' t t' k.intro same k.begins;
@@ -215,14 +247,17 @@ turned s s' t t' frame rest segment e carries started same arrived placed passed
       arrived = moved ∙ ap (λ a. advanced a (m + length before)) (sym came);
       point = point;
       between = subst (λ (l : Layout). IsBetween l.markers (length before)) (sym same.expecting) (subst (IsBetween layout.markers) (omega (arith, size, all)) (first_takes layout at (inbox s) frame rest k.between first).next);
+      located = k.located ++ here ∷ [];
+      named = map-append (λ (f : Located). f.frame) k.located (here ∷ []) ∙ ap (λ z. z ++ frame ∷ []) k.named;
+      ends = behind_last-push 0 k.located here;
       split = λ more.
           let again : first_frame layout at (one.one ++ more) ≡ Some (frame, more) = one.again more in
-          subst (λ (l : Layout). frames_of l 0 (before ++ more) ≡ (k.frames ++ frame ∷ []) ++ frames_of l (length before) more) (sym same.expecting)
-          (ap (frames_of layout 0) (append_assoc k.before one.one more)
+          subst (λ (l : Layout). located_of l 0 (before ++ more) ≡ (k.located ++ here ∷ []) ++ located_of l (length before) more) (sym same.expecting)
+          (ap (located_of layout 0) (append_assoc k.before one.one more)
           ∙ k.split (one.one ++ more)
-          ∙ ap (λ z. k.frames ++ z) (frames_first layout at (one.one ++ more) frame more k.between again)
-          ∙ ap (λ n. k.frames ++ frame ∷ frames_of layout n more) (omega (arith, size, length-append one.one more))
-          ∙ sym (append_assoc k.frames (frame ∷ []) (frames_of layout (length before) more)));
+          ∙ ap (λ z. k.located ++ z) (located_first layout at (one.one ++ more) frame more k.between again)
+          ∙ ap (λ n. k.located ++ record { start = frame_start layout.markers at; behind = n; frame = frame } ∷ located_of layout n more) (omega (arith, size, length-append one.one more))
+          ∙ sym (append_assoc k.located (here ∷ []) (located_of layout (length before) more)));
       turns = turns ∙ ap (λ n. n + 1) k.turns ∙ omega (arith, length-append k.frames (frame ∷ []));
       passed = passed ∙ sym (not_zero t.story.turns) ∙ ap (λ n. not (nat_eq n 0)) (sym turns);
       placed = told ∙ sym placed;
@@ -249,7 +284,10 @@ same_track s s' t t' same arrived passed came turns placed receiving still k joi
   arrived = arrived ∙ k.arrived ∙ ap (λ a. advanced a (length k.intro + length k.before)) (sym came);
   point = ap (λ (a : Arrived). a.floor) arrived ∙ k.point;
   between = subst (λ (l : Layout). IsBetween l.markers (length k.before)) (sym same.expecting) k.between;
-  split = λ more. subst (λ (l : Layout). frames_of l 0 (k.before ++ more) ≡ k.frames ++ frames_of l (length k.before) more) (sym same.expecting) (k.split more);
+  located = k.located;
+  named = k.named;
+  ends = k.ends;
+  split = λ more. subst (λ (l : Layout). located_of l 0 (k.before ++ more) ≡ k.located ++ located_of l (length k.before) more) (sym same.expecting) (k.split more);
   turns = turns ∙ k.turns;
   passed = passed ∙ k.passed ∙ ap (λ n. not (nat_eq n 0)) (sym turns);
   placed = placed;
@@ -316,7 +354,10 @@ comes s s' t t' from octets kept same passed arrived placed ended receiving came
       arrived = arrived ∙ commutes ∙ ap (λ a. advanced a (m + at)) (sym came);
       point = point;
       between = subst (λ (l : Layout). IsBetween l.markers at) (sym same.expecting) k.between;
-      split = λ rest. subst (λ (l : Layout). frames_of l 0 (k.before ++ rest) ≡ k.frames ++ frames_of l at rest) (sym same.expecting) (k.split rest);
+      located = k.located;
+      named = k.named;
+      ends = k.ends;
+      split = λ rest. subst (λ (l : Layout). located_of l 0 (k.before ++ rest) ≡ k.located ++ located_of l at rest) (sym same.expecting) (k.split rest);
       turns = turns ∙ k.turns;
       passed = passed ∙ k.passed ∙ ap (λ n. not (nat_eq n 0)) (sym turns);
       placed = told ∙ k.placed ∙ sym placed;
@@ -340,10 +381,14 @@ no_octets (x ∷ xs) h = absurd (omega (arith, h))
 bare_between : (frames : List Carried) (before : Octets) (placed : Bool) (l : Layout) → IsBare frames before placed → IsBetween l.markers (length before)
 bare_between frames before placed l b = subst (λ (xs : Octets). IsBetween l.markers (length xs)) (sym b.before) (frames_follow.first l.markers)
 
-bare_split : (frames : List Carried) (before : Octets) (placed : Bool) (l : Layout) → IsBare frames before placed → (more : Octets) → frames_of l 0 (before ++ more) ≡ frames ++ frames_of l (length before) more
-bare_split frames before placed l b more =
-    subst (λ fs. frames_of l 0 (before ++ more) ≡ fs ++ frames_of l (length before) more) (sym b.frames)
-    (subst (λ (xs : Octets). frames_of l 0 (xs ++ more) ≡ [] ++ frames_of l (length xs) more) (sym b.before) refl)
+bare_located : (frames : List Carried) (before : Octets) (placed : Bool) (fs : List Located) → frames_at fs ≡ frames → IsBare frames before placed → fs ≡ []
+bare_located frames before placed [] named b = refl
+bare_located frames before placed (f ∷ fs) named b = absurd (omega (arith, ap length (named ∙ b.frames)))
+
+bare_split : (frames : List Carried) (before : Octets) (placed : Bool) (fs : List Located) → frames_at fs ≡ frames → (l : Layout) → IsBare frames before placed → (more : Octets) → located_of l 0 (before ++ more) ≡ fs ++ located_of l (length before) more
+bare_split frames before placed fs named l b more =
+    subst (λ gs. located_of l 0 (before ++ more) ≡ gs ++ located_of l (length before) more) (sym (bare_located frames before placed fs named b))
+    (subst (λ (xs : Octets). located_of l 0 (xs ++ more) ≡ [] ++ located_of l (length xs) more) (sym b.before) refl)
 
 -- a stream that has not read the peer's start-up frame has read nothing
 pub record IsUnread (s : StreamState) (t : Tale) (u : StartupState) (k : Track s t) : Type 0 where
@@ -423,7 +468,10 @@ reads s s' t t' u r k joins =
       arrived = moved ∙ ap (advanced t.story.came) (omega (arith, zero)) ∙ ap (λ a. advanced a (length part + length k.before)) (sym same_came);
       point = ap (λ (a : Arrived). a.floor) moved ∙ floor_moves t.story.came (length part) ∙ omega (arith, k.from_start, zero);
       between = bare_between k.frames k.before s'.placed s'.expecting bare;
-      split = bare_split k.frames k.before s'.placed s'.expecting bare;
+      located = k.located;
+      named = k.named;
+      ends = k.ends;
+      split = bare_split k.frames k.before s'.placed k.located k.named s'.expecting bare;
       turns = ap (λ (z : Story). z.turns) r.story ∙ k.turns;
       passed = r.passed ∙ k.passed ∙ ap (λ (z : Story). not (nat_eq z.turns 0)) (sym r.story);
       placed = ap (λ (z : Story). z.placed) r.story ∙ k.placed ∙ sym r.placed;
@@ -446,7 +494,7 @@ fronted s t k was segment f = reshape refl f.placed f.running (ap segment_at f.w
 
 -- a Write's segment is placed
 places : (table : Table) (s : StreamState) (t : Tale) (right : Right) (stag : Stag) (to : ℕ) (octets : Octets) → SeesWrite table s right stag to octets → (k : Track s t)
-    → Joins k.segments s.receiving true s.ended (segment_at (front s)) (t.received ++ []) (t.placements ++ placed_in (seen.Placed right stag to octets))
+    → Joins k.segments s.receiving true s.ended (segment_at (front s)) (t.received ++ []) (t.placements ++ placed_by (Work (seen.Placed right stag to octets)))
 places table s t right stag to octets rule k =
     let p = rule.places.1 in
     let len : ℕ = rule.places.0 in
@@ -455,7 +503,7 @@ places table s t right stag to octets rule k =
     let to_is : to ≡ p.head.to = let is = p.is in cc in
     let at : segment_at (front s) ≡ Some (Tagged p.head p.payload) = ap segment_at p.fronts.whole ∙ p.fronts.carries in
     let same : octets ≡ p.payload = rule.is ∙ ap payload_of at in
-    let shown : Write p.head.stag p.head.to p.payload ∷ [] ≡ placed_in (seen.Placed right stag to octets) = λ i. placed_in (seen.Placed (sym right_is i) (sym stag_is i) (sym to_is i) (sym same i)) in
+    let shown : Write p.head.stag p.head.to p.payload ∷ [] ≡ placed_by (Work (seen.Placed right stag to octets)) = λ i. placed_by (Work (seen.Placed (sym right_is i) (sym stag_is i) (sym to_is i) (sym same i))) in
     reshape refl refl (sym p.fronts.running) (sym at) (sym (append-nil t.received)) (ap (λ z. t.placements ++ z) shown)
     (joins_write k.segments s.receiving p.head p.payload t.received t.placements (checked_write table s.domain p.head (length p.payload) p.checked) (fronted s t k false (Tagged p.head p.payload) p.fronts))
 
@@ -499,6 +547,9 @@ same : (s s' : StreamState) (t t' : Tale) → s'.startup ≡ s.startup → s'.he
 same s s' t t' a b c d arrived passed placed receiving story k joins =
     same_track s s' t t' (kept_start s s' t t' a b c d (ap (λ (z : Story). z.startup) story) (ap (λ (z : Story). z.heard) story) (ap (λ (z : Story). z.layout) story)) arrived passed
     (ap (λ (z : Story). z.came) story) (ap (λ (z : Story). z.turns) story) (ap (λ (z : Story). z.placed) story ∙ k.placed ∙ sym placed) (ap (λ (z : Story). z.receiving) story ∙ k.receiving ∙ sym receiving) (λ h. placed) k joins
+
+abbrev answers_with : Story → Reply → Story
+answers_with t reply = record t { startup = option_map (λ u. answered u reply) t.startup }
 
 -- a responder's user answers: no frame was read before
 record Answers (s s' : StreamState) (t t' : Tale) (u : StartupState) (reply : Reply) : Type 0 where
@@ -550,7 +601,10 @@ answers s s' t t' u reply r k joins =
       arrived = r.arrived ∙ k.arrived ∙ ap (λ a. advanced a (length k.intro + length k.before)) (sym same_came);
       point = ap (λ (a : Arrived). a.floor) r.arrived ∙ k.point;
       between = bare_between k.frames k.before s'.placed s'.expecting still;
-      split = bare_split k.frames k.before s'.placed s'.expecting still;
+      located = k.located;
+      named = k.named;
+      ends = k.ends;
+      split = bare_split k.frames k.before s'.placed k.located k.named s'.expecting still;
       turns = ap (λ (z : Story). z.turns) r.story ∙ k.turns;
       passed = r.passed ∙ k.passed ∙ ap (λ (z : Story). not (nat_eq z.turns 0)) (sym r.story);
       placed = ap (λ (z : Story). z.placed) r.story ∙ k.placed ∙ sym r.placed;

@@ -40,7 +40,7 @@ use Rattle.iw_events.specs.declared.act.Shown.TheVariants.{Frame, Nothing}
 use Rattle.iw_events.specs.declared.act.Entry.{Entry}
 use Rattle.iw_events.specs.declared.act.Seen.TheVariants as seen
 use Rattle.iw_world.specs.Turns.{story}
-use Rattle.iw_world.specs.Words.{Octets, other, acts, stream_acts, stream_acts_by, Opening, no_opening, opening_in, opening_of, openings, openings_by, posted, received, ended, sent, sent_by, placements, table_after, buffers}
+use Rattle.iw_world.specs.Words.{Octets, other, acts, stream_acts, stream_acts_by, Opening, no_opening, opening_in, opening_of, openings, openings_by, posted, finished_kinds, size_set, received, ended, sent, sent_by, placements, table_after, buffers}
 use Rattle.iw_world.specs.Rules.{opening_by, Connected, connected, unconnected, EndState, State, end_of, with_end, has_stream, stream_at, no_streams, fresh, start, Rule, StreamRule, connected_after, streams_after, end_after, after_entry, state_after, Follows}
 use Rattle.iw_world.proofs.Told.{told}
 use Rattle.iw_world.proofs.Tales.{Tale, tale_of, tale_after, tale-push, stream_acts-push, openings-push, acts_mine, acts_other}
@@ -145,7 +145,7 @@ starts_at_first o = go o.role refl
 
 -- a stream to which nothing has happened
 no_emits : (o : Opening) → Emits (connected o).stream (tale_of o [])
-unfolding posted sent
+unfolding posted finished_kinds size_set sent
 no_emits o = record {
   segments = [];
   has = sends_in_order.start;
@@ -157,8 +157,10 @@ no_emits o = record {
   limits = limits_start;
   fit = tt;
   number = omega arith;
+  size = refl;
   enough = omega arith;
   few = omega arith;
+  counts = record { order = refl; lasts = refl; all = tt };
 }
 
 no_track : (o : Opening) → Track (connected o).stream (tale_of o [])
@@ -183,7 +185,10 @@ no_track o = record {
   arrived = nothing_moves;
   point = refl;
   between = frames_follow.first (layout_at_first o.role o.config).markers;
+  located = [];
+  named = refl;
   split = λ more. refl;
+  ends = refl;
   turns = refl;
   passed = refl;
   placed = refl;

@@ -1,7 +1,13 @@
 pub mod Words
 pub mod Fitting
 pub mod Rules
+pub mod Each
+pub mod Frames
 pub mod Turns
 pub mod Safe
+pub mod Sends
+pub mod Rest
+pub mod Calls
+pub mod WrongRuns
 pub mod Stops
 pub mod Bounds

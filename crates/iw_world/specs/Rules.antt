@@ -32,7 +32,8 @@ use Rattle.iw_events.specs.declared.act.Shown.TheVariants.{Frame, Nothing}
 use Rattle.iw_events.specs.declared.act.Seen.{Seen}
 use Rattle.iw_events.specs.declared.act.Seen.TheVariants as seen
 use Rattle.iw_events.specs.declared.act.Entry.{Entry}
-use Rattle.iw_world.specs.Words.{Octets, other, sent_by, table_by, Opening, no_opening, config_for}
+use Rattle.iw_world.specs.Words.{Octets, other, sent_by, table_by, Opening, no_opening, stream_numbers, config_for}
+use Rattle.iw_world.specs.Calls.{deregister_answer, invalidate_refusal}
 use Rattle.iw_world.specs.Fitting.{FitsMessage}
 
 -- ---- states
@@ -58,10 +59,6 @@ pub record EndState : Type 0 where
 pub record State : Type 0 where
   pub a : EndState
   pub b : EndState
-
--- how many stream numbers an end has, from 0 on
-abbrev pub stream_numbers : ℕ
-stream_numbers = 64
 
 -- no stream was opened
 unfoldable pub no_streams : List (Option Connected)
@@ -153,12 +150,6 @@ open_refusal s n pd =
 
 abbrev pub register_answer : Table → ℕ → ℕ → ℕ → Result Stag RegisterRefusal
 register_answer table pd base len = option_map_or Err (register_refusal table pd base len) (Ok (next_stag table pd))
-
-abbrev pub deregister_answer : Table → Stag → Result Octets NoRegion
-deregister_answer table stag = option_map_or (λ r. Ok r.octets) (region_at table stag) (Err (record {}))
-
-abbrev pub invalidate_refusal : Table → Stag → Option NoRegion
-invalidate_refusal table stag = option_map_or (λ r. None) (region_at table stag) (Some (record {}))
 
 -- the right answer at an end, the other end being peer
 abbrev pub Rule : EndState → EndState → Act Octets → Type 0

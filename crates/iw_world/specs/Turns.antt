@@ -1,5 +1,5 @@
 -- What became of each frame that came, in words of the trace alone.
-use Rattle.std.specs.Prelude.{◌≡◌, ℕ, ◌+◌, ◌==◌, ◌&&◌, List, [], ◌++◌, ◌∷◌, length, take, drop, replicate, is_some, Ok, Err, slice_get, fold, Bool, true, false, if◌then◌else◌, Option, Some, None}
+use Rattle.std.specs.Prelude.{◌≡◌, ◌⊎◌, ℕ, ◌+◌, ◌==◌, ◌&&◌, List, [], ◌++◌, ◌∷◌, length, take, drop, replicate, is_some, slice_get, fold, Bool, true, false, if◌then◌else◌, Option, Some, None}
 use Rattle.std.specs.Option.{option_map, option_map_or}
 use Rattle.iw_octets.specs.declared.fault.Fault.{Fault}
 use Rattle.iw_octets.specs.declared.fault.TheConstants.Fault as faults
@@ -9,25 +9,24 @@ use Rattle.iw_memory.specs.declared.rights.Right.TheVariants.{Write}
 use Rattle.iw_memory.specs.Table.{Table}
 use Rattle.iw_ranges.specs.Arrived.{Arrived, nothing, in_order}
 use Rattle.iw_fpdu.specs.declared.layout.Layout.{Layout}
-use Rattle.iw_fpdu.specs.Sequence.{Carried, frames_of}
+use Rattle.iw_fpdu.specs.Sequence.{Carried}
 use Rattle.iw_untagged.specs.Receiving.{Receiving, nothing_received, with_buffer, written, finished, oldest, turn_fault}
 use Rattle.iw_startup.specs.declared.config.Agreed.{Agreed}
 use Rattle.iw_startup.specs.declared.progress.Progress.{Progress}
 use Rattle.iw_startup.specs.declared.progress.Progress.TheVariants as progress
 use Rattle.iw_startup.specs.declared.side.Reply.{Reply}
-use Rattle.iw_startup.specs.declared.side.Reply.TheVariants as replies
 use Rattle.iw_startup.specs.Peer.{frame_part, progress_of}
 use Rattle.iw_startup.specs.State.{StartupState, is_responder, pushed, answered, frame_of, agreed_of, agreement, private_of}
 use Rattle.iw_stream.specs.Stream.{plain, layout_in, layout_out, layout_at_first, startup_at_first, segment_in, payload_of, turned_by}
 use Rattle.iw_stream.specs.Judging.{mismatch_fault, tagged_fault, untagged_fault}
 use Rattle.iw_events.specs.declared.act.Act.{Act}
-use Rattle.iw_events.specs.declared.act.Act.TheVariants.{Stream}
 use Rattle.iw_events.specs.declared.act.StreamAct.{StreamAct}
-use Rattle.iw_events.specs.declared.act.StreamAct.TheVariants.{Recv, Post, Emit, Deliver, Raw, Mulpdu, Accept, Reject, Work}
 use Rattle.iw_events.specs.declared.act.Seen.{Seen}
 use Rattle.iw_events.specs.declared.act.Seen.TheVariants as seen
 use Rattle.iw_events.specs.declared.act.Entry.{Entry}
-use Rattle.iw_world.specs.Words.{Octets, acts, stream_acts, Opening, opening_of, domain_of, ended, came_after, table_after}
+use Rattle.iw_world.specs.Words.{Octets, deed, stream_acts, Opening, opening_of, domain_of, ended, came_after, table_after}
+use Rattle.iw_world.specs.Frames.{Located, located_of, behind_last}
+use Rattle.iw_world.specs.Each.{OnSome, OnStream, AtEach}
 
 -- ---- what the acts of a stream say of the frames that came
 
@@ -64,12 +63,16 @@ abbrev pub is_silent : Story → Bool
 is_silent t = option_map_or (λ u. is_responder u.side) t.startup false && (t.turns == 0)
 
 -- the frames that lie whole in the octets that came without a gap behind the start-up frame, one behind the other
-abbrev pub frames_in : Story → List Carried
-frames_in t = frames_of (expecting t) 0 (drop (first_place t) (in_order t.came))
+abbrev pub frames_in : Story → List Located
+frames_in t = located_of (expecting t) 0 (drop (first_place t) (in_order t.came))
 
 -- the frame whose turn is next, where it is whole
 abbrev pub next_frame : Story → Option Carried
-next_frame t = slice_get (frames_in t) t.turns
+next_frame t = option_map (λ f. f.frame) (slice_get (frames_in t) t.turns)
+
+-- the in-order point: the place in the stream behind the start-up frame and the frames that had their turn
+abbrev pub in_order_point : Story → ℕ
+in_order_point t = first_place t + behind_last 0 (take t.turns (frames_in t))
 
 abbrev pub segment_of : Option Carried → Option (Segment Octets)
 segment_of None = None
@@ -83,9 +86,6 @@ next_segment t = segment_of (next_frame t)
 abbrev pub hears : Story → Story
 hears t = record t { startup = option_map (λ u. pushed u (in_order t.came)) t.startup; heard = true }
 
-abbrev pub answers_with : Story → Reply → Story
-answers_with t reply = record t { startup = option_map (λ u. answered u reply) t.startup }
-
 abbrev pub story_seen : Story → Seen Octets → Story
 story_seen t (seen.Asked private) = hears t
 story_seen t (seen.Opened agreed private) = hears t
@@ -98,19 +98,16 @@ story_seen t (seen.Done kind) = t
 story_seen t (seen.Fault fault) = t
 story_seen t seen.Idle = t
 
+-- the calls
+abbrev pub story_called : Story → StreamAct Octets → Story
+story_called t act = record t {
+  came = came_after t.came act;
+  startup = option_map_or (λ reply. option_map (λ u. answered u reply) t.startup) (deed act).reply t.startup;
+  receiving = option_map_or (λ len. with_buffer t.receiving (replicate len 0)) (deed act).buffer t.receiving;
+}
+
 abbrev pub story_after : Story → StreamAct Octets → Story
-story_after t (Work step) = story_seen t step
-story_after t (Deliver from octets delivery) = record t { came = came_after t.came (Deliver from octets delivery) }
-story_after t (Raw from octets delivery) = record t { came = came_after t.came (Raw from octets delivery) }
-story_after t (Accept private (Ok agreed)) = answers_with t (replies.Accept (record { items = take 512 private }))
-story_after t (Accept private (Err refusal)) = t
-story_after t (Reject private None) = answers_with t (replies.Reject (record { items = take 512 private }))
-story_after t (Reject private (Some refusal)) = t
-story_after t (Mulpdu size refused) = t
-story_after t (Recv len None) = record t { receiving = with_buffer t.receiving (replicate len 0) }
-story_after t (Recv len (Some refusal)) = t
-story_after t (Emit shown) = t
-story_after t (Post message refused) = t
+story_after t act = option_map_or (story_seen t) (deed act).step (story_called t act)
 
 -- of a stream that was opened so
 abbrev pub untold : Opening → Story
@@ -163,22 +160,36 @@ turn_by s (Some (Untagged head payload)) =
 abbrev pub turn_of : Standing → Carried → Seen Octets
 turn_of s frame = turn_by s (segment_in frame)
 
--- an answer is that of the frame whose turn is next, which is whole: a frame that was not placed is judged, and a placed one has its turn
-pub record AnswersNext (t : Story) (s : Standing) (step : Seen Octets) : Type 0 where
+-- the frame whose turn is next is whole and was not placed: it is judged
+pub record IsJudged (t : Story) (s : Standing) (step : Seen Octets) : Type 0 where
   pub frame : Carried
   pub is_next : next_frame t ≡ Some frame
-  pub answer : step ≡ (if t.placed then turn_of s frame else verdict s frame)
+  pub unplaced : t.placed ≡ false
+  pub answer : step ≡ verdict s frame
 
--- the peer's start-up frame was awaited, and comes to this by the octets that came
-pub record HearsFrame (t : Story) (outcome : Progress) : Type 0 where
+-- the frame whose turn is next is whole and was placed: it has its turn
+pub record HasTurn (t : Story) (s : Standing) (step : Seen Octets) : Type 0 where
+  pub frame : Carried
+  pub is_next : next_frame t ≡ Some frame
+  pub placed : t.placed ≡ true
+  pub answer : step ≡ turn_of s frame
+
+-- frames are read: the stream has not ended, and is open
+pub record ReadsFrames (over : Bool) (t : Story) : Type 0 where
+  pub running : over ≡ false
+  pub open_now : is_open t ≡ true
+
+-- the stream had not ended, the peer's start-up frame was awaited, and comes to this by the octets that came
+pub record HearsFrame (over : Bool) (t : Story) (outcome : Progress) : Type 0 where
+  pub running : over ≡ false
   pub startup : StartupState
   pub is : t.startup ≡ Some startup
   pub awaited : t.heard ≡ false
   pub comes : progress_of startup.side (in_order t.came) ≡ outcome
 
 -- so an initiator learns what was agreed
-pub record HearsReply (t : Story) (agreed : Agreed) : Type 0 where
-  pub hears : HearsFrame t progress.Agreed
+pub record HearsReply (over : Bool) (t : Story) (agreed : Agreed) : Type 0 where
+  pub hears : HearsFrame over t progress.Agreed
   pub agreed_is : agreed ≡ agreement hears.startup.config (frame_part hears.startup.side (in_order t.came))
 
 -- the private data of the peer's frame, once that is read
@@ -193,47 +204,24 @@ story_of n before = story (opening_of n before) (stream_acts n before)
 abbrev pub standing : ℕ → List (Act Octets) → Standing
 standing n before = record { table = table_after before; domain = domain_of n before; receiving = (story_of n before).receiving }
 
-abbrev pub TurnsSeen : Story → Standing → Seen Octets → Type 0
-TurnsSeen t s (seen.Done kind) = Unit {0}
-TurnsSeen t s seen.Idle = Unit {0}
-TurnsSeen t s (seen.Asked private) = HearsFrame t progress.Asked × (private ≡ private_heard t)
-TurnsSeen t s (seen.Opened agreed private) = HearsReply t agreed × (private ≡ private_heard t)
-TurnsSeen t s (seen.Closed fault) = HearsFrame t (progress.Faulted fault)
-TurnsSeen t s (seen.Placed right stag to octets) = AnswersNext t s (seen.Placed right stag to octets)
-TurnsSeen t s (seen.Buffered msn mo len) = AnswersNext t s (seen.Buffered msn mo len)
-TurnsSeen t s seen.Passed = AnswersNext t s seen.Passed
-TurnsSeen t s (seen.Received octets solicited invalidate) = AnswersNext t s (seen.Received octets solicited invalidate)
-TurnsSeen t s (seen.Fault fault) = AnswersNext t s (seen.Fault fault)
+abbrev pub TurnsSeen : Bool → Story → Standing → Seen Octets → Type 0
+TurnsSeen over t s (seen.Done kind) = Unit {0}
+TurnsSeen over t s seen.Idle = Unit {0}
+TurnsSeen over t s (seen.Asked private) = HearsFrame over t progress.Asked × (private ≡ private_heard t)
+TurnsSeen over t s (seen.Opened agreed private) = HearsReply over t agreed × (private ≡ private_heard t)
+TurnsSeen over t s (seen.Closed fault) = HearsFrame over t (progress.Faulted fault)
+TurnsSeen over t s (seen.Placed right stag to octets) = ReadsFrames over t × IsJudged t s (seen.Placed right stag to octets)
+TurnsSeen over t s (seen.Buffered msn mo len) = ReadsFrames over t × IsJudged t s (seen.Buffered msn mo len)
+TurnsSeen over t s seen.Passed = ReadsFrames over t × HasTurn t s seen.Passed
+TurnsSeen over t s (seen.Received octets solicited invalidate) =
+    ReadsFrames over t × HasTurn t s (seen.Received octets solicited invalidate)
+TurnsSeen over t s (seen.Fault fault) =
+    ReadsFrames over t × (IsJudged t s (seen.Fault fault) ⊎ HasTurn t s (seen.Fault fault))
 
 abbrev pub TurnsStream : List (Act Octets) → ℕ → StreamAct Octets → Type 0
-TurnsStream before n (Work step) = TurnsSeen (story_of n before) (standing n before) step
-TurnsStream before n _ = Unit {0}
-
-abbrev pub TurnsAct : List (Act Octets) → Act Octets → Type 0
-TurnsAct before (Stream n act) = TurnsStream before n act
-TurnsAct before _ = Unit {0}
+TurnsStream before n act =
+    OnSome (TurnsSeen (ended (stream_acts n before)) (story_of n before) (standing n before)) (deed act).step
 
 -- at every step of work, at the moment before it, whatever octets came: the j-th turn is for the j-th frame that came
 abbrev pub Turns : List (Entry Octets) → Type 0
-Turns trace = (past : List (Entry Octets)) (e : Entry Octets) (future : List (Entry Octets)) → trace ≡ past ++ e ∷ future → TurnsAct (acts e.end past) e.act
-
--- ---- rest
-
--- why there is nothing to do: the stream has ended; the peer's start-up frame is not whole; the user has not answered it; or every frame that came had its turn
-pub data IsAtRest (over : Bool) (t : Story) : Type 0 where
-  Over : over ≡ true → IsAtRest over t
-  AwaitsFrame : HearsFrame t progress.More → IsAtRest over t
-  AwaitsAnswer : is_open t ≡ false → t.heard ≡ true → IsAtRest over t
-  NoFrame : next_frame t ≡ None → IsAtRest over t
-
-abbrev pub IdleStream : List (Act Octets) → ℕ → StreamAct Octets → Type 0
-IdleStream before n (Work seen.Idle) = IsAtRest (ended (stream_acts n before)) (story_of n before)
-IdleStream before n _ = Unit {0}
-
-abbrev pub IdleAct : List (Act Octets) → Act Octets → Type 0
-IdleAct before (Stream n act) = IdleStream before n act
-IdleAct before _ = Unit {0}
-
--- at every entry, at the moment before it
-abbrev pub IdleOnlyAtRest : List (Entry Octets) → Type 0
-IdleOnlyAtRest trace = (past : List (Entry Octets)) (e : Entry Octets) (future : List (Entry Octets)) → trace ≡ past ++ e ∷ future → IdleAct (acts e.end past) e.act
+Turns = AtEach (OnStream TurnsStream)

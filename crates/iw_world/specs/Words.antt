@@ -1,23 +1,35 @@
 -- What a trace says has happened, by its entries alone.
-use Rattle.std.specs.Prelude.{ℕ, ◌+◌, ◌%◌, ◌^◌, ◌==◌, List, [], ◌∷◌, ◌++◌, length, take, drop, Bool, true, false, if◌then◌else◌, Option, Some, None, Ok, Err, fold}
+use Rattle.std.specs.Prelude.{ℕ, ◌+◌, ◌%◌, ◌^◌, ◌==◌, List, [], ◌∷◌, ◌++◌, length, take, drop, Bool, true, false, is_none, if◌then◌else◌, Option, Some, None, Result, Ok, Err, fold, unwrap_or, slice_set}
 use Rattle.std.specs.List.{flat_map}
+use Rattle.std.specs.Option.{option_map_or}
 use Rattle.iw_octets.specs.declared.stag.Stag.{Stag}
 use Rattle.iw_octets.specs.declared.message.Message.{Message}
 use Rattle.iw_octets.specs.declared.message.Message.TheVariants.{Write, Send}
+use Rattle.iw_memory.specs.declared.rights.Right.{Right}
 use Rattle.iw_memory.specs.declared.rights.Right.TheVariants as rights
-use Rattle.iw_memory.specs.Table.{Table, empty, put, added, registered, deregistered, invalidated}
+use Rattle.iw_memory.specs.Region.{Region}
+use Rattle.iw_memory.specs.Part.{with_room}
+use Rattle.iw_memory.specs.Table.{Table, empty, slots_of, with_part, put, added, deregistered, invalidated}
+use Rattle.iw_queues.specs.declared.request.Kind.{Kind}
+use Rattle.iw_ranges.specs.declared.Delivery.{Delivery}
 use Rattle.iw_ranges.specs.declared.Delivery.TheVariants.{Kept, Dropped}
 use Rattle.iw_ranges.specs.Arrived.{Arrived, taken_in}
 use Rattle.iw_events.specs.declared.call.End.{End}
 use Rattle.iw_events.specs.declared.call.End.TheVariants.{A, B}
 use Rattle.iw_events.specs.declared.call.Options.{Options}
+use Rattle.arrayvec.specs.ArrayVec.{ArrayVec}
 use Rattle.iw_startup.specs.declared.config.Config.{Config}
+use Rattle.iw_startup.specs.declared.config.Agreed.{Agreed}
+use Rattle.iw_startup.specs.declared.startup.NotAsked.{NotAsked}
+use Rattle.iw_startup.specs.declared.side.Reply.{Reply}
+use Rattle.iw_startup.specs.declared.side.Reply.TheVariants as replies
 use Rattle.iw_stream.specs.declared.answer.Role.{Role}
 use Rattle.iw_stream.specs.declared.answer.Role.TheVariants.{Preset}
 use Rattle.iw_events.specs.declared.act.Act.{Act}
 use Rattle.iw_events.specs.declared.act.Act.TheVariants.{Domain, Register, Deregister, Invalidate, Store, Open, Stream}
 use Rattle.iw_events.specs.declared.act.StreamAct.{StreamAct}
 use Rattle.iw_events.specs.declared.act.StreamAct.TheVariants.{Recv, Post, Emit, Deliver, Raw, Mulpdu, Accept, Reject, Work}
+use Rattle.iw_events.specs.declared.act.Shown.{Shown}
 use Rattle.iw_events.specs.declared.act.Shown.TheVariants.{Frame, Nothing}
 use Rattle.iw_events.specs.declared.act.Seen.{Seen}
 use Rattle.iw_events.specs.declared.act.Seen.TheVariants as seen
@@ -80,6 +92,14 @@ openings_by n (Store stag to octets refused) = []
 unfoldable pub openings : ℕ → List (Act Octets) → List Opening
 openings n done = flat_map (openings_by n) done
 
+abbrev pub was_opened : List Opening → Bool
+was_opened [] = false
+was_opened (opening ∷ others) = true
+
+-- how many stream numbers an end has, from 0 on
+abbrev pub stream_numbers : ℕ
+stream_numbers = 64
+
 -- what stands for an opening where there was none
 abbrev pub no_opening : Opening
 no_opening = record { domain = 0; role = Preset; config = record { markers = false; crc = false; private = record { items = [] } } }
@@ -95,23 +115,7 @@ opening_of n done = opening_in (openings n done)
 abbrev pub domain_of : ℕ → List (Act Octets) → ℕ
 domain_of n done = (opening_of n done).domain
 
--- ---- messages
-
-abbrev pub posted_by : StreamAct Octets → List (Message Octets)
-posted_by (Post message None) = message ∷ []
-posted_by (Post message (Some refusal)) = []
-posted_by (Recv len refused) = []
-posted_by (Emit shown) = []
-posted_by (Deliver from octets delivery) = []
-posted_by (Raw from octets delivery) = []
-posted_by (Mulpdu size refused) = []
-posted_by (Accept private answer) = []
-posted_by (Reject private refused) = []
-posted_by (Work step) = []
-
--- the messages accepted, in order
-unfoldable pub posted : List (StreamAct Octets) → List (Message Octets)
-posted done = flat_map posted_by done
+-- ---- what an act did
 
 -- a Send as it is posted, and as it is received
 pub record Sent : Type 0 where
@@ -119,33 +123,134 @@ pub record Sent : Type 0 where
   pub solicited : Bool
   pub invalidate : Option Stag
 
+-- octets that came from a place on, and what became of them; raw ones need not be those that the other end sent
+pub record Coming : Type 0 where
+  pub raw : Bool
+  pub from : ℕ
+  pub octets : Octets
+  pub delivery : Delivery
+
+-- octets that were placed in a region, and by which right
+pub record Placing : Type 0 where
+  pub right : Right
+  pub stag : Stag
+  pub to : ℕ
+  pub octets : Octets
+
+-- a Send's segment that was placed in the buffer of its message
+pub record Buffering : Type 0 where
+  pub msn : ℕ
+  pub mo : ℕ
+  pub len : ℕ
+
+-- what an act did at its stream; a call that was refused did nothing
+pub record Deed : Type 0 where
+  pub posted : Option (Message Octets)
+  pub buffer : Option ℕ  -- the length of a receive buffer that was posted
+  pub size : Option ℕ  -- the ULPDU size that was set
+  pub reply : Option Reply  -- how the peer's Request was answered
+  pub coming : Option Coming
+  pub shown : Option (Shown Octets)  -- what a call to emit gave
+  pub step : Option (Seen Octets)  -- what a step of work gave; and of it:
+  pub finished : Option Kind
+  pub placing : Option Placing
+  pub buffering : Option Buffering
+  pub received : Option Sent
+  pub ends : Bool  -- the stream ends by it
+
+abbrev pub no_deed : Deed
+no_deed = record {
+  posted = None;
+  buffer = None;
+  size = None;
+  reply = None;
+  coming = None;
+  shown = None;
+  step = None;
+  finished = None;
+  placing = None;
+  buffering = None;
+  received = None;
+  ends = false;
+}
+
+-- what was asked for, where it was not refused
+abbrev pub unless : {R A : Type 0} → Option R → A → Option A
+unless None x = Some x
+unless (Some refusal) x = None
+
+-- private data as a start-up frame has it
+abbrev pub reply_with : (ArrayVec ℕ → Reply) → Octets → Reply
+reply_with reply private = reply (record { items = take 512 private })
+
+abbrev pub acceptance : Octets → Result Agreed NotAsked → Option Reply
+acceptance private (Ok agreed) = Some (reply_with (λ d. replies.Accept d) private)
+acceptance private (Err refusal) = None
+
+abbrev pub deed_of_step : Seen Octets → Deed
+deed_of_step (seen.Done kind) = record no_deed { finished = Some kind }
+deed_of_step (seen.Asked private) = no_deed
+deed_of_step (seen.Opened agreed private) = no_deed
+deed_of_step (seen.Closed fault) = record no_deed { ends = true }
+deed_of_step (seen.Placed right stag to octets) =
+    record no_deed { placing = Some (record { right = right; stag = stag; to = to; octets = octets }) }
+deed_of_step (seen.Buffered msn mo len) = record no_deed { buffering = Some (record { msn = msn; mo = mo; len = len }) }
+deed_of_step seen.Passed = no_deed
+deed_of_step (seen.Received octets solicited invalidate) =
+    record no_deed { received = Some (record { octets = octets; solicited = solicited; invalidate = invalidate }) }
+deed_of_step (seen.Fault fault) = record no_deed { ends = true }
+deed_of_step seen.Idle = no_deed
+
+abbrev pub deed : StreamAct Octets → Deed
+deed (Recv len refused) = record no_deed { buffer = unless refused len }
+deed (Post message refused) = record no_deed { posted = unless refused message }
+deed (Emit shown) = record no_deed { shown = Some shown }
+deed (Deliver from octets delivery) =
+    record no_deed { coming = Some (record { raw = false; from = from; octets = octets; delivery = delivery }) }
+deed (Raw from octets delivery) =
+    record no_deed { coming = Some (record { raw = true; from = from; octets = octets; delivery = delivery }) }
+deed (Mulpdu size refused) = record no_deed { size = unless refused size }
+deed (Accept private answer) = record no_deed { reply = acceptance private answer }
+deed (Reject private refused) =
+    record no_deed { reply = unless refused (reply_with (λ d. replies.Reject d) private); ends = is_none refused }
+deed (Work step) =
+    let d : Deed = deed_of_step step in
+    record no_deed {
+      step = Some step;
+      finished = d.finished;
+      placing = d.placing;
+      buffering = d.buffering;
+      received = d.received;
+      ends = d.ends;
+    }
+
+abbrev pub listed : {A : Type 0} → Option A → List A
+listed None = []
+listed (Some x) = x ∷ []
+
+-- ---- messages
+
+abbrev pub posted_by : StreamAct Octets → List (Message Octets)
+posted_by act = listed (deed act).posted
+
+-- the messages accepted, in order
+unfoldable pub posted : List (StreamAct Octets) → List (Message Octets)
+posted done = flat_map posted_by done
+
+abbrev pub finished_by : StreamAct Octets → List Kind
+finished_by act = listed (deed act).finished
+
+-- the messages that were finished, in order, by their kinds
+unfoldable pub finished_kinds : List (StreamAct Octets) → List Kind
+finished_kinds done = flat_map finished_by done
+
 abbrev pub sends : List (Message Octets) → List Sent
 sends [] = []
 sends (Write stag to octets ∷ ms) = sends ms
 sends (Send octets solicited invalidate ∷ ms) = record { octets = octets; solicited = solicited; invalidate = invalidate } ∷ sends ms
 
-abbrev pub received_in : Seen Octets → List Sent
-received_in (seen.Received octets solicited invalidate) = record { octets = octets; solicited = solicited; invalidate = invalidate } ∷ []
-received_in (seen.Done kind) = []
-received_in (seen.Asked private) = []
-received_in (seen.Opened agreed private) = []
-received_in (seen.Closed fault) = []
-received_in (seen.Placed right stag to octets) = []
-received_in (seen.Buffered msn mo len) = []
-received_in seen.Passed = []
-received_in (seen.Fault fault) = []
-received_in seen.Idle = []
-
 abbrev pub received_by : StreamAct Octets → List Sent
-received_by (Work step) = received_in step
-received_by (Post message refused) = []
-received_by (Recv len refused) = []
-received_by (Emit shown) = []
-received_by (Deliver from octets delivery) = []
-received_by (Raw from octets delivery) = []
-received_by (Mulpdu size refused) = []
-received_by (Accept private answer) = []
-received_by (Reject private refused) = []
+received_by act = listed (deed act).received
 
 -- the Sends received, in order
 unfoldable pub received : List (StreamAct Octets) → List Sent
@@ -154,15 +259,7 @@ received done = flat_map received_by done
 -- ---- where octets come from
 
 abbrev pub raw_after : Bool → StreamAct Octets → Bool
-raw_after raw (Raw from octets delivery) = true
-raw_after raw (Mulpdu size refused) = raw
-raw_after raw (Accept private answer) = raw
-raw_after raw (Reject private refused) = raw
-raw_after raw (Deliver from octets delivery) = raw
-raw_after raw (Emit shown) = raw
-raw_after raw (Post message refused) = raw
-raw_after raw (Recv len refused) = raw
-raw_after raw (Work step) = raw
+raw_after raw act = option_map_or (λ c. if c.raw then true else raw) (deed act).coming raw
 
 -- whether octets came that need not be those that the other end sent
 unfoldable pub has_raw : List (StreamAct Octets) → Bool
@@ -170,29 +267,8 @@ has_raw done = fold raw_after false done
 
 -- ---- the end of a stream
 
-abbrev pub ended_seen : Bool → Seen Octets → Bool
-ended_seen ended (seen.Fault fault) = true
-ended_seen ended (seen.Done kind) = ended
-ended_seen ended (seen.Asked private) = ended
-ended_seen ended (seen.Opened agreed private) = ended
-ended_seen ended (seen.Closed fault) = true
-ended_seen ended (seen.Placed right stag to octets) = ended
-ended_seen ended (seen.Buffered msn mo len) = ended
-ended_seen ended seen.Passed = ended
-ended_seen ended (seen.Received octets solicited invalidate) = ended
-ended_seen ended seen.Idle = ended
-
 abbrev pub ended_after : Bool → StreamAct Octets → Bool
-ended_after ended (Work step) = ended_seen ended step
-ended_after ended (Deliver from octets delivery) = ended
-ended_after ended (Raw from octets delivery) = ended
-ended_after ended (Mulpdu size refused) = ended
-ended_after ended (Accept private answer) = ended
-ended_after ended (Reject private None) = true
-ended_after ended (Reject private (Some refusal)) = ended
-ended_after ended (Emit shown) = ended
-ended_after ended (Post message refused) = ended
-ended_after ended (Recv len refused) = ended
+ended_after ended act = if (deed act).ends then true else ended
 
 -- whether the stream has ended: by a fault, by the peer's start-up frame, or by this end's rejection
 unfoldable pub ended : List (StreamAct Octets) → Bool
@@ -200,65 +276,51 @@ ended done = fold ended_after false done
 
 -- ---- octets
 
-abbrev pub sent_by : StreamAct Octets → List ℕ
-sent_by (Emit (Frame from octets)) = octets
-sent_by (Emit Nothing) = []
-sent_by (Post message refused) = []
-sent_by (Recv len refused) = []
-sent_by (Deliver from octets delivery) = []
-sent_by (Raw from octets delivery) = []
-sent_by (Mulpdu size refused) = []
-sent_by (Accept private answer) = []
-sent_by (Reject private refused) = []
-sent_by (Work step) = []
+abbrev pub octets_shown : Shown Octets → Octets
+octets_shown (Frame from octets) = octets
+octets_shown Nothing = []
+
+abbrev pub sent_by : StreamAct Octets → Octets
+sent_by act = option_map_or octets_shown (deed act).shown []
 
 -- the octets emitted, in order
-unfoldable pub sent : List (StreamAct Octets) → List ℕ
+unfoldable pub sent : List (StreamAct Octets) → Octets
 sent done = flat_map sent_by done
+
+abbrev pub size_after : ℕ → StreamAct Octets → ℕ
+size_after size act = unwrap_or (deed act).size size
+
+-- the most octets that a ULPDU may have which is sent: 1,400, or what was set last
+unfoldable pub size_set : List (StreamAct Octets) → ℕ
+size_set done = fold size_after 1400 done
+
+abbrev pub taken : Arrived → ℕ → Octets → Delivery → Arrived
+taken came from octets Kept = taken_in came from octets
+taken came from octets Dropped = came
 
 -- the octets that came, each at its place in the stream: the first copy of each stays
 abbrev pub came_after : Arrived → StreamAct Octets → Arrived
-came_after came (Deliver from octets Kept) = taken_in came from octets
-came_after came (Raw from octets Kept) = taken_in came from octets
-came_after came (Deliver from octets Dropped) = came
-came_after came (Raw from octets Dropped) = came
-came_after came (Mulpdu size refused) = came
-came_after came (Accept private answer) = came
-came_after came (Reject private refused) = came
-came_after came (Emit shown) = came
-came_after came (Post message refused) = came
-came_after came (Recv len refused) = came
-came_after came (Work step) = came
+came_after came act = option_map_or (λ c. taken came c.from c.octets c.delivery) (deed act).coming came
 
 -- ---- memory
 
 abbrev pub table_seen : Table → Seen Octets → Table
-table_seen table (seen.Placed right stag to octets) = put table stag to octets
-table_seen table (seen.Received octets solicited invalidate) = table
-table_seen table (seen.Done kind) = table
-table_seen table (seen.Asked private) = table
-table_seen table (seen.Opened agreed private) = table
-table_seen table (seen.Closed fault) = table
-table_seen table (seen.Buffered msn mo len) = table
-table_seen table seen.Passed = table
-table_seen table (seen.Fault fault) = table
-table_seen table seen.Idle = table
+table_seen table step = option_map_or (λ p. put table p.stag p.to p.octets) (deed_of_step step).placing table
 
 abbrev pub table_by_stream : Table → StreamAct Octets → Table
-table_by_stream table (Work step) = table_seen table step
-table_by_stream table (Deliver from octets delivery) = table
-table_by_stream table (Raw from octets delivery) = table
-table_by_stream table (Mulpdu size refused) = table
-table_by_stream table (Accept private answer) = table
-table_by_stream table (Reject private refused) = table
-table_by_stream table (Emit shown) = table
-table_by_stream table (Post message refused) = table
-table_by_stream table (Recv len refused) = table
+table_by_stream table act = option_map_or (λ p. put table p.stag p.to p.octets) (deed act).placing table
+
+-- the table with a new region under this STag
+abbrev pub registered_under : Table → Stag → Region → Table
+registered_under table stag region =
+    with_part table stag.domain
+    (Some (slice_set (with_room (slots_of table stag.domain)) stag.slot (record { key = stag.key; region = Some region })))
 
 abbrev pub table_by : Table → Act Octets → Table
 table_by table (Domain pd None) = added table pd
 table_by table (Domain pd (Some refusal)) = table
-table_by table (Register pd base rights octets (Ok stag)) = registered table pd (record { base = base; octets = octets; rights = rights; valid = true })
+table_by table (Register pd base rights octets (Ok stag)) =
+    registered_under table stag (record { base = base; octets = octets; rights = rights; valid = true })
 table_by table (Register pd base rights octets (Err refusal)) = table
 table_by table (Deregister stag (Ok octets)) = deregistered table stag
 table_by table (Deregister stag (Err refusal)) = table
@@ -269,36 +331,21 @@ table_by table (Store stag to octets (Some refusal)) = table
 table_by table (Open number pd role options private refused) = table
 table_by table (Stream number act) = table_by_stream table act
 
--- the regions of an end: what was registered, less what was deregistered, with what was stored and placed, and what was invalidated not valid
+-- the regions of an end: what was registered, less what was deregistered, with what was stored and placed, and what was
+-- invalidated not valid
 unfoldable pub table_after : List (Act Octets) → Table
 table_after done = fold table_by empty done
 
 -- ---- placements
 
-abbrev pub placed_in : Seen Octets → List (Message Octets)
-placed_in (seen.Placed rights.Write stag to octets) = Write stag to octets ∷ []
-placed_in (seen.Placed rights.Read stag to octets) = []
-placed_in (seen.Placed rights.Sink stag to octets) = []
-placed_in (seen.Received octets solicited invalidate) = []
-placed_in (seen.Done kind) = []
-placed_in (seen.Asked private) = []
-placed_in (seen.Opened agreed private) = []
-placed_in (seen.Closed fault) = []
-placed_in (seen.Buffered msn mo len) = []
-placed_in seen.Passed = []
-placed_in (seen.Fault fault) = []
-placed_in seen.Idle = []
+-- octets that were placed for a Write, as a Write of those octets
+abbrev pub written_by : Right → Message Octets → List (Message Octets)
+written_by rights.Write message = message ∷ []
+written_by rights.Read message = []
+written_by rights.Sink message = []
 
 abbrev pub placed_by : StreamAct Octets → List (Message Octets)
-placed_by (Work step) = placed_in step
-placed_by (Deliver from octets delivery) = []
-placed_by (Raw from octets delivery) = []
-placed_by (Mulpdu size refused) = []
-placed_by (Accept private answer) = []
-placed_by (Reject private refused) = []
-placed_by (Emit shown) = []
-placed_by (Post message refused) = []
-placed_by (Recv len refused) = []
+placed_by act = option_map_or (λ p. written_by p.right (Write p.stag p.to p.octets)) (deed act).placing []
 
 -- what was placed for Writes, each as a Write of those octets
 unfoldable pub placements : List (StreamAct Octets) → List (Message Octets)
@@ -306,29 +353,9 @@ placements done = flat_map placed_by done
 
 -- ---- receive buffers
 
-abbrev pub buffers_seen : List ℕ → Seen Octets → List ℕ
-buffers_seen lens (seen.Received octets solicited invalidate) = drop 1 lens
-buffers_seen lens (seen.Placed right stag to octets) = lens
-buffers_seen lens (seen.Done kind) = lens
-buffers_seen lens (seen.Asked private) = lens
-buffers_seen lens (seen.Opened agreed private) = lens
-buffers_seen lens (seen.Closed fault) = lens
-buffers_seen lens (seen.Buffered msn mo len) = lens
-buffers_seen lens seen.Passed = lens
-buffers_seen lens (seen.Fault fault) = lens
-buffers_seen lens seen.Idle = lens
-
 abbrev pub buffers_after : List ℕ → StreamAct Octets → List ℕ
-buffers_after lens (Recv len None) = lens ++ len ∷ []
-buffers_after lens (Recv len (Some refusal)) = lens
-buffers_after lens (Work step) = buffers_seen lens step
-buffers_after lens (Deliver from octets delivery) = lens
-buffers_after lens (Raw from octets delivery) = lens
-buffers_after lens (Mulpdu size refused) = lens
-buffers_after lens (Accept private answer) = lens
-buffers_after lens (Reject private refused) = lens
-buffers_after lens (Emit shown) = lens
-buffers_after lens (Post message refused) = lens
+buffers_after lens act =
+    option_map_or (λ len. lens ++ len ∷ []) (deed act).buffer (option_map_or (λ message. drop 1 lens) (deed act).received lens)
 
 -- the lengths of the receive buffers posted and not handed back, oldest first
 unfoldable pub buffers : List (StreamAct Octets) → List ℕ

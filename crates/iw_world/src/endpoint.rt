@@ -33,7 +33,8 @@ impl<A: Allocator> Model for Endpoint<A> {
 }
 
 impl<A: Allocator + Copy> Endpoint<A> {
-    ghost use Rattle.iw_world.specs.Rules.{fresh, end_after, Rule, has_stream, stream_at, register_answer, deregister_answer, open_refusal, opened_end};
+    ghost use Rattle.iw_world.specs.Rules.{fresh, end_after, Rule, has_stream, stream_at, register_answer, open_refusal, opened_end};
+    ghost use Rattle.iw_world.specs.Calls.{deregister_answer};
     ghost use Rattle.iw_world.specs.Bounds.{IsShortEnd, LacksStream, AsksTooMuch};
 
     pub(crate) fn new(alloc: A) -> Result<Endpoint<A>, AllocError>

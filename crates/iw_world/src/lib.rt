@@ -6,6 +6,7 @@ mod copies;
 mod endpoint;
 mod fault;
 mod world;
+pub mod wrong_runs;
 
 pub use fault::WorldFault;
 pub use world::World;

@@ -4,8 +4,11 @@ ghost use Rattle.std.specs.Prelude.{◌≡◌, ℕ, ◌+◌, ◌<◌, ◌≤◌,
 ghost use Rattle.iw_events.specs.Events.{event_of};
 ghost use Rattle.iw_world.specs.Words.{other};
 ghost use Rattle.iw_world.specs.Rules.{start, after_entry, end_of, Rule, Follows};
-ghost use Rattle.iw_world.specs.Safe.{InOrder, Covered, Emission, NothingOnlyAtRest, Within, ShowsMemory};
-ghost use Rattle.iw_world.specs.Turns.{Turns, IdleOnlyAtRest};
+ghost use Rattle.iw_world.specs.Safe.{InOrder, Covered, Within};
+ghost use Rattle.iw_world.specs.Sends.{Emission, Sized, Speaks, NothingOnlyAtRest, Finished};
+ghost use Rattle.iw_world.specs.Turns.{Turns};
+ghost use Rattle.iw_world.specs.Rest.{IdleOnlyAtRest};
+ghost use Rattle.iw_world.specs.Calls.{ShowsMemory, Answered, KeepsOctets, CarriesOctets};
 ghost use Rattle.iw_world.specs.Bounds.{IsShortState, LacksStream, AsksTooMuch};
 ghost use Rattle.iw_world.specs.Stops.{StopsAt};
 
@@ -78,16 +81,28 @@ impl<A: Allocator + Copy> World<A> {
         ensures covered { IfOk result (λ trace. Covered trace.items) }
         // What was sent is the frames of what was posted.
         ensures emission { IfOk result (λ trace. Emission trace.items) }
+        // Each frame stands behind what was sent before, and has the size that was set last.
+        ensures sized { IfOk result (λ trace. Sized trace.items) }
+        // But for the start-up frame, a frame is sent only where the stream is open, has not ended and need not keep silent.
+        ensures speaks { IfOk result (λ trace. Speaks trace.items) }
         // Nothing is emitted only where all that was posted was sent.
         ensures nothing { IfOk result (λ trace. NothingOnlyAtRest trace.items) }
-        // Each frame that came is judged, and has its turn, in order.
+        // The k-th message that is finished is the k-th that was posted, and was sent to its last segment.
+        ensures finished { IfOk result (λ trace. Finished trace.items) }
+        // Octets that are delivered are those that the other end sent.
+        ensures carried { IfOk result (λ trace. CarriesOctets trace.items) }
+        // Octets that come are kept, but behind the end of the stream and where there is no room for them.
+        ensures kept { IfOk result (λ trace. KeepsOctets trace.items) }
+        // Each frame that came is judged, and has its turn, in order, while the stream is open and has not ended.
         ensures turns { IfOk result (λ trace. Turns trace.items) }
-        // There is nothing to do only where every frame that came had its turn.
+        // There is nothing to do only where every frame that came had its turn, and no message can be finished.
         ensures idle { IfOk result (λ trace. IdleOnlyAtRest trace.items) }
         // What changed lay where it was allowed.
         ensures within { IfOk result (λ trace. Within trace.items) }
-        // What is shown of the regions is what the entries made of them.
+        // Each call of an end is answered by what the entries made of its regions and streams.
         ensures memory { IfOk result (λ trace. ShowsMemory trace.items) }
+        // Each call of a stream is refused exactly where it must be.
+        ensures answered { IfOk result (λ trace. Answered trace.items) }
         // Which event has no entry, and why.
         ensures refused { IfErr result (λ fault. StopsAt events.now fault) }
     {

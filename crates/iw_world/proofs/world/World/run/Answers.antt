@@ -7,7 +7,7 @@ use Rattle.iw_world.specs.Words.{Octets, other, acts}
 use Rattle.iw_world.specs.Rules.{State, start, state_after, after_entry, end_of, Rule, Follows}
 use Rattle.iw_world.specs.Bounds.{IsShortState, LacksStream, AsksTooMuch}
 use Rattle.iw_world.proofs.Whole.{follows_push, state_after-push, seen_after}
-use Rattle.iw_world.proofs.Laws.{in_order, covered, emission, nothing_at_rest, turns_all, idle_at_rest, within_all, shows_memory, names_no_stream, names_streams, asks_not_sent}
+use Rattle.iw_world.proofs.Laws.{in_order, covered, emission, sized_all, speaks_all, nothing_at_rest, finished_all, turns_all, idle_at_rest, within_all, shows_memory, answered_all, keeps_octets, carries_octets, names_no_stream, names_streams, asks_not_sent}
 use Rattle.iw_world.proofs.Shorts.{short_state}
 use Rattle.iw_world.proofs.world.World.run.Goals as goal
 
@@ -39,6 +39,24 @@ returns-clause-covered g c = covered c.loop-event.trace.items c.loop-event.invar
 
 pub returns-clause-emission : goal.returns-clause-emission
 returns-clause-emission g c = emission c.loop-event.trace.items c.loop-event.invariant.follows
+
+pub returns-clause-sized : goal.returns-clause-sized
+returns-clause-sized g c = sized_all c.loop-event.trace.items c.loop-event.invariant.follows
+
+pub returns-clause-speaks : goal.returns-clause-speaks
+returns-clause-speaks g c = speaks_all c.loop-event.trace.items c.loop-event.invariant.follows
+
+pub returns-clause-finished : goal.returns-clause-finished
+returns-clause-finished g c = finished_all c.loop-event.trace.items c.loop-event.invariant.follows
+
+pub returns-clause-answered : goal.returns-clause-answered
+returns-clause-answered g c = answered_all c.loop-event.trace.items c.loop-event.invariant.follows
+
+pub returns-clause-kept : goal.returns-clause-kept
+returns-clause-kept g c = keeps_octets c.loop-event.trace.items c.loop-event.invariant.follows
+
+pub returns-clause-carried : goal.returns-clause-carried
+returns-clause-carried g c = carries_octets c.loop-event.trace.items c.loop-event.invariant.follows
 
 pub returns-clause-turns : goal.returns-clause-turns
 returns-clause-turns g c = turns_all c.loop-event.trace.items c.loop-event.invariant.follows

@@ -1,0 +1,163 @@
+-- Each wrong run breaks its law.
+use Rattle.std.proofs.Common.{◌≡◌, ℕ, zero, suc, ◌+◌, ◌-◌, ◌≤◌, List, [], ◌∷◌, ◌++◌, length, take, replicate, Option, Some, None, Ok, Bool, true, false, refl, sym, ap, ◌∙◌, arith, inl, inr, get_or}
+use Rattle.std.specs.Prelude.{slice_get}
+use Rattle.std.specs.Option.{option_map_or}
+use Rattle.std.proofs.lemmas.Bool.{false≢true, true≢false}
+use Rattle.std.proofs.lemmas.Option.{none-some}
+use Rattle.iw_octets.specs.declared.message.Message.{Message}
+use Rattle.iw_octets.specs.declared.message.Message.TheVariants as messages
+use Rattle.iw_octets.specs.declared.segment.Segment.{Segment}
+use Rattle.iw_octets.specs.declared.segment.Segment.TheVariants.{Untagged}
+use Rattle.iw_octets.specs.Head.{untagged_octets}
+use Rattle.iw_octets.specs.Segment.{segment_octets}
+use Rattle.iw_memory.specs.Table.{empty}
+use Rattle.iw_memory.specs.declared.refusal.DomainRefusal.TheVariants.{DomainTaken}
+use Rattle.iw_ranges.specs.declared.Delivery.{Delivery}
+use Rattle.iw_ranges.specs.declared.Delivery.TheVariants.{Kept, Dropped}
+use Rattle.iw_ranges.specs.Arrived.{in_order, taken_in, held}
+use Rattle.iw_fpdu.specs.declared.layout.Layout.{Layout}
+use Rattle.iw_fpdu.specs.Places.{data_place, data_index, in_marker, place_after, frame_start, span_start}
+use Rattle.iw_fpdu.specs.Frame.{frame_octets, frame_size, field_place, bare_data, crc_field, laid, octet_at, marker_value}
+use Rattle.iw_fpdu.specs.Sequence.{sequence}
+use Rattle.iw_fpdu.proofs.Written.{frame_is}
+use Rattle.iw_fpdu.proofs.Sequences.{length_written}
+use Rattle.iw_queues.specs.declared.request.Kind.{Kind}
+use Rattle.iw_queues.specs.declared.request.Kind.TheVariants as kinds
+use Rattle.iw_queues.specs.declared.request.Request.TheVariants.{Message as Posted}
+use Rattle.iw_queues.specs.Request.{kind_of}
+use Rattle.iw_queues.specs.Segments.{send_segment}
+use Rattle.iw_startup.specs.declared.progress.Progress.{Progress}
+use Rattle.iw_startup.specs.declared.progress.Progress.TheVariants as progress
+use Rattle.iw_startup.specs.Frame.{start_frame as startup_octets}
+use Rattle.iw_startup.specs.Peer.{progress_of, frame_end as startup_end, frame_part, fixed_fault}
+use Rattle.iw_startup.specs.State.{StartupState, agreed_of, pushed}
+use Rattle.iw_stream.specs.Stream.{plain}
+use Rattle.iw_stream.specs.declared.answer.Role.TheVariants.{Preset, Initiator, Responder}
+use Rattle.iw_events.specs.declared.call.End.TheVariants.{A, B}
+use Rattle.iw_events.specs.declared.act.Act.TheVariants.{Domain}
+use Rattle.iw_events.specs.declared.act.Seen.TheVariants as seen
+use Rattle.iw_events.specs.declared.act.StreamAct.TheVariants.{Emit, Deliver, Accept}
+use Rattle.iw_events.specs.declared.act.Shown.TheVariants.{Frame}
+use Rattle.iw_world.specs.Words.{Octets, acts, stream_acts, openings, ended, sent, size_set, posted, finished_kinds, buffers, table_after}
+use Rattle.iw_world.specs.Turns.{Story, story, story_of, is_open}
+use Rattle.iw_world.specs.Rest.{HasRest, Over, AwaitsFrame, AwaitsAnswer, NoFrame}
+use Rattle.iw_world.specs.Sends.{IsFrameOf, IsSentMessage}
+use Rattle.iw_world.specs.WrongRuns
+use Rattle.iw_world.specs.WrongRuns.{Run, a, b, on, raw, works, places, registers, emits, sends_one, send_frame, reads_behind_fault, reads_unopened, rests_with_reply, never_finished, finished_unsent, finished_as_write, sends_too_large, sends_elsewhere, sends_behind_end, delivers_others, keeps_behind_end, accepts_unasked, answers_stag_again}
+use Rattle.iw_world.specs.WrongRuns.{RefusesFramesBehindFault, RefusesFramesUnopened, RefusesRestWithReply, RefusesNeverFinished, RefusesFinishedUnsent, RefusesFinishedAsWrite, RefusesTooLarge, RefusesElsewhere, RefusesBehindEnd, RefusesOtherOctets, RefusesKeptBehindEnd, RefusesUnaskedAccept, RefusesWrongRefusal, RefusesSameStag}
+use Rattle.iw_world.proofs.Messages.{nothing_sent}
+
+pub refuses_frames_behind_fault : RefusesFramesBehindFault
+unfolding acts stream_acts ended
+refuses_frames_behind_fault h = true≢false (h (take 5 reads_behind_fault) (b (works places)) [] refl).0.running
+
+pub refuses_frames_unopened : RefusesFramesUnopened
+unfolding acts stream_acts openings story agreed_of pushed
+refuses_frames_unopened h = false≢true (h (take 5 reads_unopened) (b (works places)) [] refl).0.open_now
+
+pub refuses_rest_with_reply : RefusesRestWithReply
+unfolding acts stream_acts openings ended story agreed_of progress_of startup_end fixed_fault taken_in held
+refuses_rest_with_reply h = elim (h (take 4 rests_with_reply) (a (works seen.Idle)) [] refl).reason [
+  | Over e ↦ false≢true e
+  | AwaitsFrame f ↦ let none : progress.Agreed ≡ progress.More = ap (λ o. option_map_or (λ (u : StartupState). progress_of u.side (in_order (story_of 0 (acts A (take 4 rests_with_reply))).came)) o progress.More) f.is ∙ f.comes in cc
+  | AwaitsAnswer o e ↦ false≢true e
+  | NoFrame e o ↦ false≢true e
+]
+
+-- the frame of the Send of one octet
+send_one : Segment Octets
+send_one = send_segment 1 false None 0 true (0x68 ∷ [])
+
+send_header : Octets
+send_header = (0x41 ∷ 0x43 ∷ []) ++ replicate 11 0 ++ (1 ∷ 0 ∷ 0 ∷ 0 ∷ 0 ∷ 0x68 ∷ [])
+
+send_octets : segment_octets send_one ≡ send_header
+unfolding send_one send_header segment_octets untagged_octets
+send_octets = refl
+
+framed : sequence plain 0 (segment_octets send_one ∷ []) ≡ send_frame
+unfolding send_header sequence data_place data_index in_marker place_after marker_value span_start octet_at laid
+framed =
+    ap (λ u. frame_octets plain 0 u ++ []) send_octets
+    ∙ ap (λ z. z ++ []) (frame_is plain 0 send_header refl)
+
+sent_one : IsSentMessage (story_of 0 (acts A (take 4 never_finished))) (sent (stream_acts 0 (acts A (take 4 never_finished)))) (posted (stream_acts 0 (acts A (take 4 never_finished)))) (length (finished_kinds (stream_acts 0 (acts A (take 4 never_finished))))) kinds.Send
+unfolding send_one acts stream_acts openings story posted finished_kinds sent
+sent_one = record {
+  message = messages.Send (0x68 ∷ []) false None;
+  is = refl;
+  kind_is = refl;
+  sent = (send_frame, record { segments = send_one ∷ []; carry = (send_one ∷ [], [], refl, (omega arith, refl), refl); framed = sym framed }, ([], refl));
+}
+
+pub refuses_never_finished : RefusesNeverFinished
+refuses_never_finished h = (h (take 4 never_finished) (a (works seen.Idle)) [] refl).unfinished kinds.Send sent_one
+
+pub refuses_finished_unsent : RefusesFinishedUnsent
+unfolding acts stream_acts posted finished_kinds sent
+refuses_finished_unsent h = nothing_sent _ _ _ _ (h (take 3 finished_unsent) (a (works (seen.Done kinds.Send))) [] refl)
+
+pub refuses_finished_as_write : RefusesFinishedAsWrite
+unfolding acts stream_acts posted finished_kinds
+refuses_finished_as_write h =
+    let r = h (take 4 finished_as_write) (a (works (seen.Done kinds.Write))) [] refl in
+    let same : kinds.Write ≡ kinds.Send = r.kind_is ∙ ap (λ o. option_map_or (λ (m : Message Octets). kind_of (Posted m)) o kinds.Write) (sym r.is) in
+    cc
+
+-- without markers a frame has no octets but its own
+plain_after : (n : ℕ) → place_after false 0 n ≤ n
+unfolding place_after data_place data_index
+plain_after zero = omega arith
+plain_after (suc n) = omega arith
+
+large_octets : Octets
+large_octets = (0 ∷ 222 ∷ 0x41 ∷ 0x43 ∷ []) ++ replicate 11 0 ++ (1 ∷ 0 ∷ 0 ∷ 0 ∷ 0 ∷ []) ++ replicate 204 0x22 ++ replicate 4 0
+
+large_size : length large_octets ≡ 228
+unfolding large_octets
+large_size = refl
+
+not_large : (u : Octets) → large_octets ≡ frame_octets plain 0 u → length u ≤ 128 → ⊥
+not_large u e few = omega (arith, few, large_size, ap length e, length_written plain 0 u, plain_after (frame_size (length u)))
+
+pub refuses_too_large : RefusesTooLarge
+unfolding acts stream_acts openings story sent size_set large_octets
+refuses_too_large h = elim (h (take 4 sends_too_large) (a (emits large_octets)) [] refl).1 [
+  | inl s ↦ absurd (omega (arith, large_size, ap length s.1))
+  | inr f ↦ not_large (segment_octets f.segment) f.is f.fits
+]
+
+pub refuses_elsewhere : RefusesElsewhere
+unfolding acts stream_acts sent
+refuses_elsewhere h = let r = (h (take 3 sends_elsewhere) (a (on (Emit (Frame 7 send_frame)))) [] refl).0 in omega (arith, r)
+
+pub refuses_behind_end : RefusesBehindEnd
+unfolding acts stream_acts openings story sent ended
+refuses_behind_end h = elim (h (take 5 sends_behind_end) (a (emits send_frame)) [] refl) [
+  | inl s ↦ absurd (omega (arith, ap length s.1))
+  | inr m ↦ true≢false m.running
+]
+
+pub refuses_other_octets : RefusesOtherOctets
+unfolding acts stream_acts sent
+refuses_other_octets h =
+    let r = h (take 6 delivers_others) (b (on (Deliver 0 (9 ∷ []) Kept))) [] refl refl in
+    let other : 9 ≡ 0 = ap (λ (xs : Octets). get_or xs 0 0) r.are in
+    omega (arith, other)
+
+pub refuses_kept_behind_end : RefusesKeptBehindEnd
+unfolding acts stream_acts ended
+refuses_kept_behind_end h = let r = h (take 4 keeps_behind_end) (b (raw 8 (0 ∷ []))) [] refl in let other : Kept ≡ Dropped = r in cc
+
+pub refuses_unasked_accept : RefusesUnaskedAccept
+unfolding acts stream_acts openings story ended progress_of startup_end
+refuses_unasked_accept h =
+    false≢true (h (take 2 accepts_unasked) (b (on (Accept [] (Ok (record { send_markers = false; expect_markers = false; crc = false }))))) [] refl).0
+
+pub refuses_wrong_refusal : RefusesWrongRefusal
+unfolding acts table_after empty
+refuses_wrong_refusal h = none-some _ (sym (h [] (b (Domain 1 (Some DomainTaken))) [] refl))
+
+pub refuses_same_stag : RefusesSameStag
+unfolding acts table_after empty
+refuses_same_stag h = none-some _ (sym (h (take 2 answers_stag_again) (b registers) [] refl).1.fresh)

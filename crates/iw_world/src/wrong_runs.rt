@@ -1,0 +1,73 @@
+//! Runs that no two ends make, each refused by one law of a trace alone, beside that every answer follows the rules.
+
+ghost use Rattle.iw_world.specs.WrongRuns.{RefusesFramesBehindFault, RefusesFramesUnopened, RefusesRestWithReply, RefusesNeverFinished, RefusesFinishedUnsent, RefusesFinishedAsWrite, RefusesTooLarge, RefusesElsewhere, RefusesBehindEnd, RefusesOtherOctets, RefusesKeptBehindEnd, RefusesUnaskedAccept, RefusesWrongRefusal, RefusesSameStag};
+
+/// A frame is not placed behind a fault, though its region was registered since.
+pub fn refuses_frames_behind_fault()
+    ensures { RefusesFramesBehindFault }
+{}
+
+/// A responder whose user has not answered the Request places no frame.
+pub fn refuses_frames_unopened()
+    ensures { RefusesFramesUnopened }
+{}
+
+/// An initiator that has the whole Reply has something to do.
+pub fn refuses_rest_with_reply()
+    ensures { RefusesRestWithReply }
+{}
+
+/// A Send whose last segment was sent does not stay unfinished.
+pub fn refuses_never_finished()
+    ensures { RefusesNeverFinished }
+{}
+
+/// A Send is not finished before its last segment was sent.
+pub fn refuses_finished_unsent()
+    ensures { RefusesFinishedUnsent }
+{}
+
+/// A Send is not finished as a Write.
+pub fn refuses_finished_as_write()
+    ensures { RefusesFinishedAsWrite }
+{}
+
+/// No ULPDU is larger than the size that was set.
+pub fn refuses_too_large()
+    ensures { RefusesTooLarge }
+{}
+
+/// A frame stands nowhere but behind what was sent before.
+pub fn refuses_elsewhere()
+    ensures { RefusesElsewhere }
+{}
+
+/// A stream that has ended sends no frame.
+pub fn refuses_behind_end()
+    ensures { RefusesBehindEnd }
+{}
+
+/// No other octets are delivered than the other end has sent.
+pub fn refuses_other_octets()
+    ensures { RefusesOtherOctets }
+{}
+
+/// A stream that has ended keeps no octets.
+pub fn refuses_kept_behind_end()
+    ensures { RefusesKeptBehindEnd }
+{}
+
+/// Where no Request was read there is none to accept.
+pub fn refuses_unasked_accept()
+    ensures { RefusesUnaskedAccept }
+{}
+
+/// The first domain is not refused as taken.
+pub fn refuses_wrong_refusal()
+    ensures { RefusesWrongRefusal }
+{}
+
+/// A registration is not answered by an STag that names a region.
+pub fn refuses_same_stag()
+    ensures { RefusesSameStag }
+{}
