@@ -153,7 +153,7 @@ number_after s peer done (Open m pd role options private None) n k rule = go (eq
     go : (b : Bool) → eqb m n ≡ b → KeepsNumber s done (Open m pd role options private None) n
     go false e = keeps_number s done (Open m pd role options private None) n k (at_other s m n (Some (connected (opening_by pd role options private))) e) (opening_none (eqb m n) (opening_by pd role options private) e) refl
     go true e =
-        let o = opens s m pd rule in
+        let o = opens s m pd rule.0 in
         let same : m ≡ n = eqb-true m n e in
         let room : m < length s.streams = omega (arith, o.number, k.numbers) in
         let here : slice_index_or (slice_set s.streams m (Some (connected (opening_by pd role options private)))) n None ≡ Some (connected (opening_by pd role options private)) =
@@ -174,8 +174,8 @@ number_after s peer done (Stream m act) n k rule = go (eqb m n) refl
         let same : m ≡ n = eqb-true m n e in
         let c : Connected = connected_after (stream_at s m) act in
         let here : slice_index_or (slice_set s.streams m (Some c)) n None ≡ Some c =
-        subst (λ j. slice_index_or (slice_set s.streams m (Some c)) j None ≡ Some c) same (at_same s m c (number_there s m rule.0)) in
-        let has : has_stream s n ≡ true = subst (λ j. has_stream s j ≡ true) same rule.0 in
+        subst (λ j. slice_index_or (slice_set s.streams m (Some c)) j None ≡ Some c) same (at_same s m c (number_there s m rule.0.0)) in
+        let has : has_stream s n ≡ true = subst (λ j. has_stream s j ≡ true) same rule.0.0 in
         let opened_same : openings n (done ++ Stream m act ∷ []) ≡ openings n done = opens_same n done (Stream m act) refl in
         record {
           has = ap is_some here ∙ sym has ∙ k.opened n ∙ ap was_opened (sym opened_same);

@@ -62,7 +62,7 @@ use Rattle.iw_world.specs.Turns.{story, story_of, start_frame, sending, is_open,
 use Rattle.iw_world.specs.Rest.{IsAtRest, IdleStream, IdleOnlyAtRest}
 use Rattle.iw_world.specs.Calls.{deregister_answer, invalidate_refusal, IsNew, open_refusal_by, EndAnswered, ShowsMemory, recv_refusal_by, post_refusal_by, is_asked, Accepted, Rejected, StreamAnswered, AnsweredStream, Answered, delivery_by, KeptStream, KeepsOctets, StandIn, CarriedStream, CarriesOctets}
 use Rattle.iw_world.specs.Each.{OnSome, OnStream, AtEach}
-use Rattle.iw_world.specs.Rules.{Connected, EndState, State, end_of, has_stream, stream_at, start, open_refusal, register_answer, accept_answer, answer_refusal, Rule, StreamRule, state_after, Follows}
+use Rattle.iw_world.specs.Rules.{Connected, EndState, State, end_of, has_stream, stream_at, start, open_refusal, register_answer, accept_answer, answer_refusal, Rule, EndRule, PeerRule, WireRule, StreamRule, state_after, Follows}
 use Rattle.iw_world.specs.Bounds.{LacksStream, AsksTooMuch, AsksOver}
 use Rattle.iw_world.specs.Stops.{NamesNoStream, AsksNotSent, IsUnopened}
 use Rattle.iw_world.proofs.Told.{told, sees}
@@ -121,15 +121,15 @@ within_stream : (done : List (Act Octets)) (n domain : ℕ) (table : Table) (act
 within_stream done n domain table act d t h = subst (λ z. WithinTale z (domain_of n done) (tale n done) act) t (subst (λ z. WithinTale table z (tale n done) act) d h)
 
 -- what holds of the acts of a stream holds of those of an end
-on_stream : (P : List (Act Octets) → ℕ → StreamAct Octets → Type 0) (done : List (Act Octets)) (s peer : EndState) (act : Act Octets) → Rule s peer act
-    → ((n : ℕ) (a : StreamAct Octets) → has_stream s n ≡ true → StreamRule s.table (stream_at peer n).wire (stream_at s n).stream a → P done n a) → OnStream P done act
-on_stream P done s peer (Stream n act) rule h = h n act rule.0 rule.2
-on_stream P done s peer (Domain pd refused) rule h = tt
-on_stream P done s peer (Register pd base rights octets answer) rule h = tt
-on_stream P done s peer (Deregister stag answer) rule h = tt
-on_stream P done s peer (Invalidate stag refused) rule h = tt
-on_stream P done s peer (Store stag to octets refused) rule h = tt
-on_stream P done s peer (Open n pd role options private refused) rule h = tt
+on_stream : (P : List (Act Octets) → ℕ → StreamAct Octets → Type 0) (done : List (Act Octets)) (s : EndState) (act : Act Octets) → EndRule s act
+    → ((n : ℕ) (a : StreamAct Octets) → has_stream s n ≡ true → StreamRule s.table (stream_at s n).stream a → P done n a) → OnStream P done act
+on_stream P done s (Stream n act) rule h = h n act rule.0 rule.1
+on_stream P done s (Domain pd refused) rule h = tt
+on_stream P done s (Register pd base rights octets answer) rule h = tt
+on_stream P done s (Deregister stag answer) rule h = tt
+on_stream P done s (Invalidate stag refused) rule h = tt
+on_stream P done s (Store stag to octets refused) rule h = tt
+on_stream P done s (Open n pd role options private refused) rule h = tt
 
 -- an entry, in the state that those before it leave
 abbrev Moment : List (Entry Octets) → Entry Octets → Type 0
@@ -141,19 +141,18 @@ moment past e future trace follows is =
 
 -- a law of each entry of a stream, by the state before it
 each_stream : (P : List (Act Octets) → ℕ → StreamAct Octets → Type 0) (trace : List (Entry Octets)) → Follows start trace
-    → ((done : List (Act Octets)) (s : EndState) (peer : List ℕ) (n : ℕ) (act : StreamAct Octets) → EndSeen s done → has_stream s n ≡ true → StreamRule s.table peer (stream_at s n).stream act
+    → ((done : List (Act Octets)) (s : EndState) (n : ℕ) (act : StreamAct Octets) → EndSeen s done → has_stream s n ≡ true → StreamRule s.table (stream_at s n).stream act
     → Own (opening_of n done) (stream_at s n) (tale n done) → P done n act) → AtEach (OnStream P) trace
 each_stream P trace follows one past e future is =
     let m = moment past e future trace follows is in
     let w : State = state_after start past in
     let s : EndState = end_of e.end w in
-    let peer : EndState = end_of (other e.end) w in
-    on_stream P (acts e.end past) s peer e.act m.1 (λ n act opened rule. one (acts e.end past) s (stream_at peer n).wire n act (m.0.ends e.end) opened rule (m.0.pairs e.end n).own)
+    on_stream P (acts e.end past) s e.act m.1.0 (λ n act opened rule. one (acts e.end past) s n act (m.0.ends e.end) opened rule (m.0.pairs e.end n).own)
 
 pub within_all : (trace : List (Entry Octets)) → Follows start trace → Within trace
-within_all trace follows = each_stream WithinStream trace follows (λ done s peer n act k opened rule own.
+within_all trace follows = each_stream WithinStream trace follows (λ done s n act k opened rule own.
     let c : Connected = stream_at s n in
-    within_stream done n c.stream.domain s.table act (k.domain n opened) k.table (within (opening_of n done) s.table peer c (tale n done) act (told s.table peer c.stream act rule) own))
+    within_stream done n c.stream.domain s.table act (k.domain n opened) k.table (within (opening_of n done) s.table c (tale n done) act (told s.table c.stream act rule) own))
 
 -- ---- what goes out
 
@@ -191,8 +190,8 @@ all_frames o c t own owes none =
       framed = behind_start c.stream t e owes ∙ sym (sequence_is c.stream t own.track e.segments) ∙ ap (λ z. start_frame t.story ++ sequence (sending t.story) 0 (map segment_octets z)) (sym (append-nil e.segments));
     }
 
-nothing_stream : (o : Opening) (c : Connected) (done : List (StreamAct Octets)) (table : Table) (peer : List ℕ) (act : StreamAct Octets) → StreamRule table peer c.stream act → Own o c (tale_of o done) → OnSome (NothingShown (story o done) done) (deed act).shown
-nothing_stream o c done table peer (Emit Nothing) rule own =
+nothing_stream : (o : Opening) (c : Connected) (done : List (StreamAct Octets)) (table : Table) (act : StreamAct Octets) → StreamRule table c.stream act → Own o c (tale_of o done) → OnSome (NothingShown (story o done) done) (deed act).shown
+nothing_stream o c done table (Emit Nothing) rule own =
     let r = rests c.stream rule in
     (frame_sent r.0, go r.0 r.1)
   where
@@ -209,18 +208,18 @@ nothing_stream o c done table peer (Emit Nothing) rule own =
     go owes (Shut closed) = Closed (open_is c.stream t own.track ∙ closed)
     go owes (Silent silent) = Muted (silent_is c.stream t own.track ∙ silent)
     go owes (Sent none) = AllSent (all_frames o c t own owes none)
-nothing_stream o c done table peer (Emit (Frame from octets)) rule own = tt
-nothing_stream o c done table peer (Post m refused) rule own = tt
-nothing_stream o c done table peer (Recv len refused) rule own = tt
-nothing_stream o c done table peer (Deliver from octets delivery) rule own = tt
-nothing_stream o c done table peer (Raw from octets delivery) rule own = tt
-nothing_stream o c done table peer (Mulpdu size refused) rule own = tt
-nothing_stream o c done table peer (Accept private answer) rule own = tt
-nothing_stream o c done table peer (Reject private refused) rule own = tt
-nothing_stream o c done table peer (Work step) rule own = tt
+nothing_stream o c done table (Emit (Frame from octets)) rule own = tt
+nothing_stream o c done table (Post m refused) rule own = tt
+nothing_stream o c done table (Recv len refused) rule own = tt
+nothing_stream o c done table (Deliver from octets delivery) rule own = tt
+nothing_stream o c done table (Raw from octets delivery) rule own = tt
+nothing_stream o c done table (Mulpdu size refused) rule own = tt
+nothing_stream o c done table (Accept private answer) rule own = tt
+nothing_stream o c done table (Reject private refused) rule own = tt
+nothing_stream o c done table (Work step) rule own = tt
 
 pub nothing_at_rest : (trace : List (Entry Octets)) → Follows start trace → NothingOnlyAtRest trace
-nothing_at_rest trace follows = each_stream NothingStream trace follows (λ done s peer n act k opened rule own. nothing_stream (opening_of n done) (stream_at s n) (stream_acts n done) s.table peer act rule own)
+nothing_at_rest trace follows = each_stream NothingStream trace follows (λ done s n act k opened rule own. nothing_stream (opening_of n done) (stream_at s n) (stream_acts n done) s.table act rule own)
 
 -- a frame stands behind what was sent, and is the start-up frame or that of a part, as large as was set
 part_size : (numbers : Numbers) (part : Part (Request Octets)) → FitsRequest part.message → part.offset + part.n ≤ length (payload part.message) → length (segment_octets (segment_of numbers part)) ≡ part.n + header_len part.message
@@ -282,26 +281,26 @@ frame_sized o c done from octets own (inr p) =
       }),
     )
 
-shown_sized : (o : Opening) (c : Connected) (done : List (StreamAct Octets)) (table : Table) (peer : List ℕ) (act : StreamAct Octets) → StreamRule table peer c.stream act → Own o c (tale_of o done)
+shown_sized : (o : Opening) (c : Connected) (done : List (StreamAct Octets)) (table : Table) (act : StreamAct Octets) → StreamRule table c.stream act → Own o c (tale_of o done)
     → OnSome (FrameSized (story o done) (size_set done) (sent done)) (deed act).shown
-shown_sized o c done table peer (Emit (Frame from octets)) rule own = frame_sized o c done from octets own (emits_frame c.stream from octets rule)
-shown_sized o c done table peer (Emit Nothing) rule own = tt
-shown_sized o c done table peer (Post m refused) rule own = tt
-shown_sized o c done table peer (Recv len refused) rule own = tt
-shown_sized o c done table peer (Deliver from octets delivery) rule own = tt
-shown_sized o c done table peer (Raw from octets delivery) rule own = tt
-shown_sized o c done table peer (Mulpdu size refused) rule own = tt
-shown_sized o c done table peer (Accept private answer) rule own = tt
-shown_sized o c done table peer (Reject private refused) rule own = tt
-shown_sized o c done table peer (Work step) rule own = tt
+shown_sized o c done table (Emit (Frame from octets)) rule own = frame_sized o c done from octets own (emits_frame c.stream from octets rule)
+shown_sized o c done table (Emit Nothing) rule own = tt
+shown_sized o c done table (Post m refused) rule own = tt
+shown_sized o c done table (Recv len refused) rule own = tt
+shown_sized o c done table (Deliver from octets delivery) rule own = tt
+shown_sized o c done table (Raw from octets delivery) rule own = tt
+shown_sized o c done table (Mulpdu size refused) rule own = tt
+shown_sized o c done table (Accept private answer) rule own = tt
+shown_sized o c done table (Reject private refused) rule own = tt
+shown_sized o c done table (Work step) rule own = tt
 
 pub sized_all : (trace : List (Entry Octets)) → Follows start trace → Sized trace
-sized_all trace follows = each_stream SizedStream trace follows (λ done s peer n act k opened rule own. shown_sized (opening_of n done) (stream_at s n) (stream_acts n done) s.table peer act rule own)
+sized_all trace follows = each_stream SizedStream trace follows (λ done s n act k opened rule own. shown_sized (opening_of n done) (stream_at s n) (stream_acts n done) s.table act rule own)
 
 -- and goes out where one may
-shown_allowed : (o : Opening) (c : Connected) (done : List (StreamAct Octets)) (table : Table) (peer : List ℕ) (act : StreamAct Octets) → StreamRule table peer c.stream act → Own o c (tale_of o done)
+shown_allowed : (o : Opening) (c : Connected) (done : List (StreamAct Octets)) (table : Table) (act : StreamAct Octets) → StreamRule table c.stream act → Own o c (tale_of o done)
     → OnSome (FrameAllowed (ended done) (story o done) (sent done)) (deed act).shown
-shown_allowed o c done table peer (Emit (Frame from octets)) rule own = go (emits_frame c.stream from octets rule)
+shown_allowed o c done table (Emit (Frame from octets)) rule own = go (emits_frame c.stream from octets rule)
   where
     t : Tale
     t = tale_of o done
@@ -309,99 +308,99 @@ shown_allowed o c done table peer (Emit (Frame from octets)) rule own = go (emit
     go : EmitsStart c.stream from octets ⊎ EmitsPart c.stream from octets → FrameAllowed (ended done) (story o done) (sent done) (Frame from octets)
     go (inl p) = inl (start_unsent c.stream t own.emits p.owes, p.octets_are ∙ sym (start_frame_is c.stream t own.track))
     go (inr p) = inr (record { running = sym own.ended ∙ p.running; open_now = open_is c.stream t own.track ∙ p.started; loud = silent_is c.stream t own.track ∙ p.loud })
-shown_allowed o c done table peer (Emit Nothing) rule own = tt
-shown_allowed o c done table peer (Post m refused) rule own = tt
-shown_allowed o c done table peer (Recv len refused) rule own = tt
-shown_allowed o c done table peer (Deliver from octets delivery) rule own = tt
-shown_allowed o c done table peer (Raw from octets delivery) rule own = tt
-shown_allowed o c done table peer (Mulpdu size refused) rule own = tt
-shown_allowed o c done table peer (Accept private answer) rule own = tt
-shown_allowed o c done table peer (Reject private refused) rule own = tt
-shown_allowed o c done table peer (Work step) rule own = tt
+shown_allowed o c done table (Emit Nothing) rule own = tt
+shown_allowed o c done table (Post m refused) rule own = tt
+shown_allowed o c done table (Recv len refused) rule own = tt
+shown_allowed o c done table (Deliver from octets delivery) rule own = tt
+shown_allowed o c done table (Raw from octets delivery) rule own = tt
+shown_allowed o c done table (Mulpdu size refused) rule own = tt
+shown_allowed o c done table (Accept private answer) rule own = tt
+shown_allowed o c done table (Reject private refused) rule own = tt
+shown_allowed o c done table (Work step) rule own = tt
 
 pub speaks_all : (trace : List (Entry Octets)) → Follows start trace → Speaks trace
-speaks_all trace follows = each_stream SpeaksStream trace follows (λ done s peer n act k opened rule own. shown_allowed (opening_of n done) (stream_at s n) (stream_acts n done) s.table peer act rule own)
+speaks_all trace follows = each_stream SpeaksStream trace follows (λ done s n act k opened rule own. shown_allowed (opening_of n done) (stream_at s n) (stream_acts n done) s.table act rule own)
 
 -- ---- the turns of frames
 
 same_standing : (done : List (Act Octets)) (n : ℕ) (s : EndState) → EndSeen s done → has_stream s n ≡ true → Track (stream_at s n).stream (tale n done) → standing_of s.table (stream_at s n).stream ≡ standing n done
 same_standing done n s k there track = λ i. record { table = k.table i; domain = k.domain n there i; receiving = sym track.receiving i }
 
-turns_stream : (done : List (Act Octets)) (n : ℕ) (s : EndState) (peer : List ℕ) (act : StreamAct Octets) → EndSeen s done → has_stream s n ≡ true → StreamRule s.table peer (stream_at s n).stream act
+turns_stream : (done : List (Act Octets)) (n : ℕ) (s : EndState) (act : StreamAct Octets) → EndSeen s done → has_stream s n ≡ true → StreamRule s.table (stream_at s n).stream act
     → Own (opening_of n done) (stream_at s n) (tale n done) → TurnsStream done n act
-turns_stream done n s peer (Work step) k there rule own =
+turns_stream done n s (Work step) k there rule own =
     subst (λ z. TurnsSeen (ended (stream_acts n done)) (story_of n done) z step) (same_standing done n s k there own.track) (answers s.table (stream_at s n).stream (tale n done) step rule own.track own.ended)
-turns_stream done n s peer (Post m refused) k there rule own = tt
-turns_stream done n s peer (Recv len refused) k there rule own = tt
-turns_stream done n s peer (Emit shown) k there rule own = tt
-turns_stream done n s peer (Deliver from octets delivery) k there rule own = tt
-turns_stream done n s peer (Raw from octets delivery) k there rule own = tt
-turns_stream done n s peer (Mulpdu size refused) k there rule own = tt
-turns_stream done n s peer (Accept private answer) k there rule own = tt
-turns_stream done n s peer (Reject private refused) k there rule own = tt
+turns_stream done n s (Post m refused) k there rule own = tt
+turns_stream done n s (Recv len refused) k there rule own = tt
+turns_stream done n s (Emit shown) k there rule own = tt
+turns_stream done n s (Deliver from octets delivery) k there rule own = tt
+turns_stream done n s (Raw from octets delivery) k there rule own = tt
+turns_stream done n s (Mulpdu size refused) k there rule own = tt
+turns_stream done n s (Accept private answer) k there rule own = tt
+turns_stream done n s (Reject private refused) k there rule own = tt
 
 pub turns_all : (trace : List (Entry Octets)) → Follows start trace → Turns trace
 turns_all trace follows = each_stream TurnsStream trace follows turns_at
   where
-    turns_at : (done : List (Act Octets)) (s : EndState) (peer : List ℕ) (n : ℕ) (act : StreamAct Octets) → EndSeen s done → has_stream s n ≡ true → StreamRule s.table peer (stream_at s n).stream act
+    turns_at : (done : List (Act Octets)) (s : EndState) (n : ℕ) (act : StreamAct Octets) → EndSeen s done → has_stream s n ≡ true → StreamRule s.table (stream_at s n).stream act
         → Own (opening_of n done) (stream_at s n) (tale n done) → TurnsStream done n act
-    turns_at done s peer n act k there rule own = turns_stream done n s peer act k there rule own
+    turns_at done s n act k there rule own = turns_stream done n s act k there rule own
 
 -- ---- finished messages
 
-finished_stream : (done : List (Act Octets)) (n : ℕ) (s : EndState) (peer : List ℕ) (act : StreamAct Octets) → StreamRule s.table peer (stream_at s n).stream act → Own (opening_of n done) (stream_at s n) (tale n done) → FinishedStream done n act
-finished_stream done n s peer (Work (seen.Done kind)) rule own =
+finished_stream : (done : List (Act Octets)) (n : ℕ) (s : EndState) (act : StreamAct Octets) → StreamRule s.table (stream_at s n).stream act → Own (opening_of n done) (stream_at s n) (tale n done) → FinishedStream done n act
+finished_stream done n s (Work (seen.Done kind)) rule own =
     let c : Connected = stream_at s n in
     let d = sees s.table c.stream (seen.Done kind) rule in
     subst (CanFinish (story_of n done) (stream_acts n done)) (sym d.2) (can_finish c.stream (tale n done) own.track own.emits d.0 d.1)
-finished_stream done n s peer (Work seen.Idle) rule own = tt
-finished_stream done n s peer (Work (seen.Asked private)) rule own = tt
-finished_stream done n s peer (Work (seen.Opened agreed private)) rule own = tt
-finished_stream done n s peer (Work (seen.Closed fault)) rule own = tt
-finished_stream done n s peer (Work (seen.Placed right stag to octets)) rule own = tt
-finished_stream done n s peer (Work (seen.Buffered msn mo len)) rule own = tt
-finished_stream done n s peer (Work seen.Passed) rule own = tt
-finished_stream done n s peer (Work (seen.Received octets solicited invalidate)) rule own = tt
-finished_stream done n s peer (Work (seen.Fault fault)) rule own = tt
-finished_stream done n s peer (Post m refused) rule own = tt
-finished_stream done n s peer (Recv len refused) rule own = tt
-finished_stream done n s peer (Emit shown) rule own = tt
-finished_stream done n s peer (Deliver from octets delivery) rule own = tt
-finished_stream done n s peer (Raw from octets delivery) rule own = tt
-finished_stream done n s peer (Mulpdu size refused) rule own = tt
-finished_stream done n s peer (Accept private answer) rule own = tt
-finished_stream done n s peer (Reject private refused) rule own = tt
+finished_stream done n s (Work seen.Idle) rule own = tt
+finished_stream done n s (Work (seen.Asked private)) rule own = tt
+finished_stream done n s (Work (seen.Opened agreed private)) rule own = tt
+finished_stream done n s (Work (seen.Closed fault)) rule own = tt
+finished_stream done n s (Work (seen.Placed right stag to octets)) rule own = tt
+finished_stream done n s (Work (seen.Buffered msn mo len)) rule own = tt
+finished_stream done n s (Work seen.Passed) rule own = tt
+finished_stream done n s (Work (seen.Received octets solicited invalidate)) rule own = tt
+finished_stream done n s (Work (seen.Fault fault)) rule own = tt
+finished_stream done n s (Post m refused) rule own = tt
+finished_stream done n s (Recv len refused) rule own = tt
+finished_stream done n s (Emit shown) rule own = tt
+finished_stream done n s (Deliver from octets delivery) rule own = tt
+finished_stream done n s (Raw from octets delivery) rule own = tt
+finished_stream done n s (Mulpdu size refused) rule own = tt
+finished_stream done n s (Accept private answer) rule own = tt
+finished_stream done n s (Reject private refused) rule own = tt
 
 pub finished_all : (trace : List (Entry Octets)) → Follows start trace → Finished trace
-finished_all trace follows = each_stream FinishedStream trace follows (λ done s peer n act k opened rule own. finished_stream done n s peer act rule own)
+finished_all trace follows = each_stream FinishedStream trace follows (λ done s n act k opened rule own. finished_stream done n s act rule own)
 
 -- ---- rest
 
-idle_stream : (s : EndState) (peer : List ℕ) (c : Connected) (done : List (Act Octets)) (n : ℕ) (act : StreamAct Octets) → StreamRule s.table peer c.stream act → Own (opening_of n done) c (tale n done) → IdleStream done n act
-idle_stream s peer c done n (Work seen.Idle) rule o = record {
+idle_stream : (s : EndState) (c : Connected) (done : List (Act Octets)) (n : ℕ) (act : StreamAct Octets) → StreamRule s.table c.stream act → Own (opening_of n done) c (tale n done) → IdleStream done n act
+idle_stream s c done n (Work seen.Idle) rule o = record {
   reason = idles s.table c.stream (tale n done) rule o.track o.ended;
   unfinished = cannot_finish c.stream (tale n done) o.track o.emits (idle_unfinished s.table c.stream rule);
 }
-idle_stream s peer c done n (Work (seen.Asked private)) rule o = tt
-idle_stream s peer c done n (Work (seen.Opened agreed private)) rule o = tt
-idle_stream s peer c done n (Work (seen.Closed fault)) rule o = tt
-idle_stream s peer c done n (Accept private answer) rule o = tt
-idle_stream s peer c done n (Reject private refused) rule o = tt
-idle_stream s peer c done n (Work (seen.Done kind)) rule own = tt
-idle_stream s peer c done n (Work (seen.Placed right stag to octets)) rule o = tt
-idle_stream s peer c done n (Work (seen.Buffered msn mo len)) rule o = tt
-idle_stream s peer c done n (Work seen.Passed) rule o = tt
-idle_stream s peer c done n (Work (seen.Received octets solicited invalidate)) rule o = tt
-idle_stream s peer c done n (Work (seen.Fault fault)) rule o = tt
-idle_stream s peer c done n (Post m refused) rule o = tt
-idle_stream s peer c done n (Recv len refused) rule o = tt
-idle_stream s peer c done n (Emit shown) rule o = tt
-idle_stream s peer c done n (Deliver from octets delivery) rule o = tt
-idle_stream s peer c done n (Raw from octets delivery) rule o = tt
-idle_stream s peer c done n (Mulpdu size refused) rule o = tt
+idle_stream s c done n (Work (seen.Asked private)) rule o = tt
+idle_stream s c done n (Work (seen.Opened agreed private)) rule o = tt
+idle_stream s c done n (Work (seen.Closed fault)) rule o = tt
+idle_stream s c done n (Accept private answer) rule o = tt
+idle_stream s c done n (Reject private refused) rule o = tt
+idle_stream s c done n (Work (seen.Done kind)) rule own = tt
+idle_stream s c done n (Work (seen.Placed right stag to octets)) rule o = tt
+idle_stream s c done n (Work (seen.Buffered msn mo len)) rule o = tt
+idle_stream s c done n (Work seen.Passed) rule o = tt
+idle_stream s c done n (Work (seen.Received octets solicited invalidate)) rule o = tt
+idle_stream s c done n (Work (seen.Fault fault)) rule o = tt
+idle_stream s c done n (Post m refused) rule o = tt
+idle_stream s c done n (Recv len refused) rule o = tt
+idle_stream s c done n (Emit shown) rule o = tt
+idle_stream s c done n (Deliver from octets delivery) rule o = tt
+idle_stream s c done n (Raw from octets delivery) rule o = tt
+idle_stream s c done n (Mulpdu size refused) rule o = tt
 
 pub idle_at_rest : (trace : List (Entry Octets)) → Follows start trace → IdleOnlyAtRest trace
-idle_at_rest trace follows = each_stream IdleStream trace follows (λ done s peer n act k opened rule own. idle_stream s peer (stream_at s n) done n act rule own)
+idle_at_rest trace follows = each_stream IdleStream trace follows (λ done s n act k opened rule own. idle_stream s (stream_at s n) done n act rule own)
 
 -- ---- calls
 
@@ -426,21 +425,21 @@ registers table pd base len region answer e = subst (λ z. (result_err z ≡ reg
     go None is = (sym is, record { domain = refl; fresh = next_free table pd base len region is })
     go (Some refusal) is = (sym is, tt)
 
-end_answered : (done : List (Act Octets)) (s peer : EndState) (act : Act Octets) → EndSeen s done → Rule s peer act → EndAnswered done act
-end_answered done s peer (Domain pd refused) k rule = subst (λ t. refused ≡ domain_refusal t pd) k.table rule
-end_answered done s peer (Register pd base rights octets answer) k rule =
+end_answered : (done : List (Act Octets)) (s : EndState) (act : Act Octets) → EndSeen s done → EndRule s act → EndAnswered done act
+end_answered done s (Domain pd refused) k rule = subst (λ t. refused ≡ domain_refusal t pd) k.table rule
+end_answered done s (Register pd base rights octets answer) k rule =
     subst (λ t. (result_err answer ≡ register_refusal t pd base (length octets)) × IfOk answer (IsNew t pd)) k.table (registers s.table pd base (length octets) (record { base = base; octets = octets; rights = rights; valid = true }) answer rule)
-end_answered done s peer (Deregister stag answer) k rule = subst (λ t. answer ≡ deregister_answer t stag) k.table rule
-end_answered done s peer (Invalidate stag refused) k rule = subst (λ t. refused ≡ invalidate_refusal t stag) k.table rule
-end_answered done s peer (Store stag to octets refused) k rule = subst (λ t. refused ≡ store_refusal t stag to (length octets)) k.table rule
-end_answered done s peer (Open n pd role options private refused) k rule = rule ∙ open_refused s done n pd k
-end_answered done s peer (Stream n act) k rule = tt
+end_answered done s (Deregister stag answer) k rule = subst (λ t. answer ≡ deregister_answer t stag) k.table rule
+end_answered done s (Invalidate stag refused) k rule = subst (λ t. refused ≡ invalidate_refusal t stag) k.table rule
+end_answered done s (Store stag to octets refused) k rule = subst (λ t. refused ≡ store_refusal t stag to (length octets)) k.table rule
+end_answered done s (Open n pd role options private refused) k rule = rule ∙ open_refused s done n pd k
+end_answered done s (Stream n act) k rule = tt
 
 pub shows_memory : (trace : List (Entry Octets)) → Follows start trace → ShowsMemory trace
 shows_memory trace follows past e future is =
     let m = moment past e future trace follows is in
     let w : State = state_after start past in
-    end_answered (acts e.end past) (end_of e.end w) (end_of (other e.end) w) e.act (m.0.ends e.end) m.1
+    end_answered (acts e.end past) (end_of e.end w) e.act (m.0.ends e.end) m.1.0
 
 -- the buffers and the messages that count for a refusal
 recv_refused : (o : Opening) (c : Connected) (done : List (StreamAct Octets)) → Own o c (tale_of o done) → recv_refusal c.stream ≡ recv_refusal_by done
@@ -507,19 +506,19 @@ rejects_asked o c done (Some refusal) rule own = sym (asked_is o c done own) ∙
     go true h = cc
     go false h = refl
 
-stream_answered : (o : Opening) (c : Connected) (done : List (StreamAct Octets)) (table : Table) (peer : List ℕ) (act : StreamAct Octets) → StreamRule table peer c.stream act → Own o c (tale_of o done) → StreamAnswered (story o done) done act
-stream_answered o c done table peer (Recv len refused) rule own = rule ∙ recv_refused o c done own
-stream_answered o c done table peer (Post m refused) rule own = rule.1 ∙ post_refused o c done m own
-stream_answered o c done table peer (Mulpdu size refused) rule own = rule
-stream_answered o c done table peer (Accept private answer) rule own = accepts_asked o c done answer rule own
-stream_answered o c done table peer (Reject private refused) rule own = rejects_asked o c done refused rule own
-stream_answered o c done table peer (Emit shown) rule own = tt
-stream_answered o c done table peer (Deliver from octets delivery) rule own = tt
-stream_answered o c done table peer (Raw from octets delivery) rule own = tt
-stream_answered o c done table peer (Work step) rule own = tt
+stream_answered : (o : Opening) (c : Connected) (done : List (StreamAct Octets)) (table : Table) (act : StreamAct Octets) → StreamRule table c.stream act → Own o c (tale_of o done) → StreamAnswered (story o done) done act
+stream_answered o c done table (Recv len refused) rule own = rule ∙ recv_refused o c done own
+stream_answered o c done table (Post m refused) rule own = rule.1 ∙ post_refused o c done m own
+stream_answered o c done table (Mulpdu size refused) rule own = rule
+stream_answered o c done table (Accept private answer) rule own = accepts_asked o c done answer rule own
+stream_answered o c done table (Reject private refused) rule own = rejects_asked o c done refused rule own
+stream_answered o c done table (Emit shown) rule own = tt
+stream_answered o c done table (Deliver from octets delivery) rule own = tt
+stream_answered o c done table (Raw from octets delivery) rule own = tt
+stream_answered o c done table (Work step) rule own = tt
 
 pub answered_all : (trace : List (Entry Octets)) → Follows start trace → Answered trace
-answered_all trace follows = each_stream AnsweredStream trace follows (λ done s peer n act k opened rule own. stream_answered (opening_of n done) (stream_at s n) (stream_acts n done) s.table peer act rule own)
+answered_all trace follows = each_stream AnsweredStream trace follows (λ done s n act k opened rule own. stream_answered (opening_of n done) (stream_at s n) (stream_acts n done) s.table act rule own)
 
 -- ---- octets that come
 
@@ -528,41 +527,36 @@ delivery_is o c done from n own =
     let k = own.track in
     (λ i. cond (own.ended i) Dropped (delivery ((k.arrived ∙ ap (advanced (story o done).came) (sym (point_is c.stream (tale_of o done) k))) i) from n))
 
-octets_kept : (o : Opening) (c : Connected) (done : List (StreamAct Octets)) (table : Table) (peer : List ℕ) (act : StreamAct Octets) → StreamRule table peer c.stream act → Own o c (tale_of o done)
+octets_kept : (o : Opening) (c : Connected) (done : List (StreamAct Octets)) (table : Table) (act : StreamAct Octets) → StreamRule table c.stream act → Own o c (tale_of o done)
     → OnSome (λ z. z.delivery ≡ delivery_by (story o done) done z.from (length z.octets)) (deed act).coming
-octets_kept o c done table peer (Deliver from octets delivery) rule own = rule.2 ∙ delivery_is o c done from (length octets) own
-octets_kept o c done table peer (Raw from octets delivery) rule own = rule ∙ delivery_is o c done from (length octets) own
-octets_kept o c done table peer (Recv len refused) rule own = tt
-octets_kept o c done table peer (Post m refused) rule own = tt
-octets_kept o c done table peer (Mulpdu size refused) rule own = tt
-octets_kept o c done table peer (Accept private answer) rule own = tt
-octets_kept o c done table peer (Reject private refused) rule own = tt
-octets_kept o c done table peer (Emit shown) rule own = tt
-octets_kept o c done table peer (Work step) rule own = tt
+octets_kept o c done table (Deliver from octets delivery) rule own = rule ∙ delivery_is o c done from (length octets) own
+octets_kept o c done table (Raw from octets delivery) rule own = rule ∙ delivery_is o c done from (length octets) own
+octets_kept o c done table (Recv len refused) rule own = tt
+octets_kept o c done table (Post m refused) rule own = tt
+octets_kept o c done table (Mulpdu size refused) rule own = tt
+octets_kept o c done table (Accept private answer) rule own = tt
+octets_kept o c done table (Reject private refused) rule own = tt
+octets_kept o c done table (Emit shown) rule own = tt
+octets_kept o c done table (Work step) rule own = tt
 
 pub keeps_octets : (trace : List (Entry Octets)) → Follows start trace → KeepsOctets trace
-keeps_octets trace follows = each_stream KeptStream trace follows (λ done s peer n act k opened rule own. octets_kept (opening_of n done) (stream_at s n) (stream_acts n done) s.table peer act rule own)
+keeps_octets trace follows = each_stream KeptStream trace follows (λ done s n act k opened rule own. octets_kept (opening_of n done) (stream_at s n) (stream_acts n done) s.table act rule own)
 
 -- octets that are delivered are the other end's
-octets_carried : (s : StreamState) (table : Table) (peer sent : List ℕ) (act : StreamAct Octets) → peer ≡ sent → StreamRule table peer s act → OnSome (λ z. z.raw ≡ false → StandIn sent z.from z.octets) (deed act).coming
-octets_carried s table peer sent (Deliver from octets delivery) same rule = λ raw. subst (λ z. StandIn z from octets) same (record { within = rule.0; are = rule.1 })
-octets_carried s table peer sent (Raw from octets delivery) same rule = λ raw. absurd (true≢false raw)
-octets_carried s table peer sent (Recv len refused) same rule = tt
-octets_carried s table peer sent (Post m refused) same rule = tt
-octets_carried s table peer sent (Mulpdu size refused) same rule = tt
-octets_carried s table peer sent (Accept private answer) same rule = tt
-octets_carried s table peer sent (Reject private refused) same rule = tt
-octets_carried s table peer sent (Emit shown) same rule = tt
-octets_carried s table peer sent (Work step) same rule = tt
+octets_carried : (peer : EndState) (others : List (Act Octets)) (act : Act Octets) → ((n : ℕ) → (stream_at peer n).wire ≡ sent (stream_acts n others)) → PeerRule peer act → OnStream CarriedStream others act
+octets_carried peer others (Stream n act) wires rule = subst (λ z. WireRule z act) (wires n) rule.1
+octets_carried peer others (Domain pd refused) wires rule = tt
+octets_carried peer others (Register pd base rights octets answer) wires rule = tt
+octets_carried peer others (Deregister stag answer) wires rule = tt
+octets_carried peer others (Invalidate stag refused) wires rule = tt
+octets_carried peer others (Store stag to octets refused) wires rule = tt
+octets_carried peer others (Open n pd role options private refused) wires rule = tt
 
 pub carries_octets : (trace : List (Entry Octets)) → Follows start trace → CarriesOctets trace
 carries_octets trace follows past e future is =
     let m = moment past e future trace follows is in
     let w : State = state_after start past in
-    let s : EndState = end_of e.end w in
-    let peer : EndState = end_of (other e.end) w in
-    on_stream CarriedStream (acts (other e.end) past) s peer e.act m.1
-    (λ n act opened rule. octets_carried (stream_at s n).stream s.table (stream_at peer n).wire (sent (stream_acts n (acts (other e.end) past))) act (m.0.pairs e.end n).own_peer.wire rule)
+    octets_carried (end_of (other e.end) w) (acts (other e.end) past) e.act (λ n. (m.0.pairs e.end n).own_peer.wire) m.1.1
 
 -- ---- events that cannot happen
 

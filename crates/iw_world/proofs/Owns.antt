@@ -203,33 +203,33 @@ turned_due r None = refl
 turned_due r (Some (Tagged head payload)) = refl
 turned_due r (Some (Untagged head payload)) = refl
 
-lengths_are : (table : Table) (peer : List ℕ) (s : StreamState) (act : StreamAct Octets) → Told table peer s act → map length (stream_after s act).receiving.buffers ≡ buffers_after (map length s.receiving.buffers) act
-lengths_are table peer s (Recv len None) rule = map-append length s.receiving.buffers (replicate len 0 ∷ []) ∙ ap (λ n. map length s.receiving.buffers ++ n ∷ []) (length-replicate len 0)
-lengths_are table peer s (Recv len (Some refusal)) rule = refl
-lengths_are table peer s (Post m None) rule = refl
-lengths_are table peer s (Post m (Some refusal)) rule = refl
-lengths_are table peer s (Emit (Frame from octets)) rule = ap (λ (r : Receiving). map length r.buffers) (framed_receiving s (length octets))
-lengths_are table peer s (Emit Nothing) rule = refl
-lengths_are table peer s (Deliver from octets Kept) rule = refl
-lengths_are table peer s (Raw from octets Kept) rule = refl
-lengths_are table peer s (Deliver from octets Dropped) rule = refl
-lengths_are table peer s (Raw from octets Dropped) rule = refl
-lengths_are table peer s (Mulpdu size None) rule = refl
-lengths_are table peer s (Mulpdu size (Some refusal)) rule = refl
-lengths_are table peer s (Accept private (Ok agreed)) rule = refl
-lengths_are table peer s (Accept private (Err refusal)) rule = refl
-lengths_are table peer s (Reject private None) rule = refl
-lengths_are table peer s (Reject private (Some refusal)) rule = refl
-lengths_are table peer s (Work (seen.Asked private)) rule = ap (λ (r : Receiving). map length r.buffers) (heard_receiving s s.startup)
-lengths_are table peer s (Work (seen.Opened agreed private)) rule = ap (λ (r : Receiving). map length r.buffers) (heard_receiving s s.startup)
-lengths_are table peer s (Work (seen.Closed fault)) rule = ap (λ (r : Receiving). map length r.buffers) (heard_receiving s s.startup)
-lengths_are table peer s (Work (seen.Done kind)) rule = refl
-lengths_are table peer s (Work (seen.Placed right stag to octets)) rule = refl
-lengths_are table peer s (Work (seen.Buffered msn mo len)) rule = kept_lengths s.receiving msn mo len s refl rule
-lengths_are table peer s (Work seen.Passed) rule = ap (map length) (turned_lengths s.receiving (segment_at (front s)))
-lengths_are table peer s (Work (seen.Received octets solicited invalidate)) rule = one_less s.receiving.buffers
-lengths_are table peer s (Work (seen.Fault fault)) rule = refl
-lengths_are table peer s (Work seen.Idle) rule = refl
+lengths_are : (table : Table) (s : StreamState) (act : StreamAct Octets) → Told table s act → map length (stream_after s act).receiving.buffers ≡ buffers_after (map length s.receiving.buffers) act
+lengths_are table s (Recv len None) rule = map-append length s.receiving.buffers (replicate len 0 ∷ []) ∙ ap (λ n. map length s.receiving.buffers ++ n ∷ []) (length-replicate len 0)
+lengths_are table s (Recv len (Some refusal)) rule = refl
+lengths_are table s (Post m None) rule = refl
+lengths_are table s (Post m (Some refusal)) rule = refl
+lengths_are table s (Emit (Frame from octets)) rule = ap (λ (r : Receiving). map length r.buffers) (framed_receiving s (length octets))
+lengths_are table s (Emit Nothing) rule = refl
+lengths_are table s (Deliver from octets Kept) rule = refl
+lengths_are table s (Raw from octets Kept) rule = refl
+lengths_are table s (Deliver from octets Dropped) rule = refl
+lengths_are table s (Raw from octets Dropped) rule = refl
+lengths_are table s (Mulpdu size None) rule = refl
+lengths_are table s (Mulpdu size (Some refusal)) rule = refl
+lengths_are table s (Accept private (Ok agreed)) rule = refl
+lengths_are table s (Accept private (Err refusal)) rule = refl
+lengths_are table s (Reject private None) rule = refl
+lengths_are table s (Reject private (Some refusal)) rule = refl
+lengths_are table s (Work (seen.Asked private)) rule = ap (λ (r : Receiving). map length r.buffers) (heard_receiving s s.startup)
+lengths_are table s (Work (seen.Opened agreed private)) rule = ap (λ (r : Receiving). map length r.buffers) (heard_receiving s s.startup)
+lengths_are table s (Work (seen.Closed fault)) rule = ap (λ (r : Receiving). map length r.buffers) (heard_receiving s s.startup)
+lengths_are table s (Work (seen.Done kind)) rule = refl
+lengths_are table s (Work (seen.Placed right stag to octets)) rule = refl
+lengths_are table s (Work (seen.Buffered msn mo len)) rule = kept_lengths s.receiving msn mo len s refl rule
+lengths_are table s (Work seen.Passed) rule = ap (map length) (turned_lengths s.receiving (segment_at (front s)))
+lengths_are table s (Work (seen.Received octets solicited invalidate)) rule = one_less s.receiving.buffers
+lengths_are table s (Work (seen.Fault fault)) rule = refl
+lengths_are table s (Work seen.Idle) rule = refl
 
 same_due : (d : ℕ) (done : List Sent) → d ≡ (1 + length done) % 2 ^ 32 → d ≡ (1 + length (done ++ [])) % 2 ^ 32
 same_due d done e = e ∙ ap (λ z. (1 + length z) % 2 ^ 32) (sym (append-nil done))
@@ -373,8 +373,8 @@ restarts s s' t act closed spoken queue numbers mulpdu posted finished size sent
     go none unsent (Spoken a b) (inr nil) = Unspoken (spoken ∙ unspoken nil s.spoken refl) (unsent ∙ b ∙ bare (own_frame s) s.sending e.segments none ∙ nil) none
 
 -- a message is posted
-posts : (table : Table) (peer : List ℕ) (s : StreamState) (t : Tale) (m : Message Octets) → Told table peer s (Post m None) → Emits s t → Emits (stream_after s (Post m None)) (tale_after t (Post m None))
-posts table peer s t m rule e =
+posts : (table : Table) (s : StreamState) (t : Tale) (m : Message Octets) → Told table s (Post m None) → Emits s t → Emits (stream_after s (Post m None)) (tale_after t (Post m None))
+posts table s t m rule e =
     let ok = accepted s m rule.1 in
     record {
       segments = e.segments;
@@ -626,38 +626,38 @@ and_false : (b : Bool) → false ≡ (b && not true)
 and_false true = refl
 and_false false = refl
 
-emitting : (table : Table) (peer : List ℕ) (s : StreamState) (t : Tale) (act : StreamAct Octets) → Told table peer s act → s.sent ≡ length t.sent → Track s t → Emits s t → Emits (stream_after s act) (tale_after t act)
-emitting table peer s t (Post m None) rule sent k e = posts table peer s t m rule e
-emitting table peer s t (Emit (Frame from octets)) rule sent k e = sends_frame s t from octets rule sent e
-emitting table peer s t (Mulpdu size None) rule sent k e = sets_size s t size rule e
-emitting table peer s t (Work (seen.Done kind)) rule sent k e = hands_out s t kind rule.0 rule.1 rule.2 e
-emitting table peer s t (Accept private (Ok agreed)) rule sent k e = answers_frame s (stream_after s (Accept private (Ok agreed))) t (Accept private (Ok agreed)) (may s (accepting s agreed rule)) refl refl refl refl refl refl refl refl e
-emitting table peer s t (Reject private None) rule sent k e = answers_frame s (stream_after s (Reject private None)) t (Reject private None) (may s (refusing s rule)) refl refl refl refl refl refl refl refl e
-emitting table peer s t (Work (seen.Asked private)) rule sent k e = asks_frame s t private rule.0 k e
-emitting table peer s t (Work (seen.Opened agreed private)) rule sent k e =
+emitting : (table : Table) (s : StreamState) (t : Tale) (act : StreamAct Octets) → Told table s act → s.sent ≡ length t.sent → Track s t → Emits s t → Emits (stream_after s act) (tale_after t act)
+emitting table s t (Post m None) rule sent k e = posts table s t m rule e
+emitting table s t (Emit (Frame from octets)) rule sent k e = sends_frame s t from octets rule sent e
+emitting table s t (Mulpdu size None) rule sent k e = sets_size s t size rule e
+emitting table s t (Work (seen.Done kind)) rule sent k e = hands_out s t kind rule.0 rule.1 rule.2 e
+emitting table s t (Accept private (Ok agreed)) rule sent k e = answers_frame s (stream_after s (Accept private (Ok agreed))) t (Accept private (Ok agreed)) (may s (accepting s agreed rule)) refl refl refl refl refl refl refl refl e
+emitting table s t (Reject private None) rule sent k e = answers_frame s (stream_after s (Reject private None)) t (Reject private None) (may s (refusing s rule)) refl refl refl refl refl refl refl refl e
+emitting table s t (Work (seen.Asked private)) rule sent k e = asks_frame s t private rule.0 k e
+emitting table s t (Work (seen.Opened agreed private)) rule sent k e =
     let h = rule.0.hears in
     subst (λ z. Emits z (tale_after t (Work (seen.Opened agreed private)))) (ap (λ o. with_agreed (after_hearing s o) agreed) (sym h.is))
     (hears_frame s (with_agreed (streams.hears s h.startup) agreed) t (Work (seen.Opened agreed private)) h.startup h.is h.unheard refl refl refl refl refl refl refl refl refl k e)
-emitting table peer s t (Work (seen.Closed fault)) rule sent k e =
+emitting table s t (Work (seen.Closed fault)) rule sent k e =
     subst (λ z. Emits z (tale_after t (Work (seen.Closed fault)))) (ap (λ o. record (after_hearing s o) { ended = true }) (sym rule.is))
     (hears_frame s (record (streams.hears s rule.startup) { ended = true }) t (Work (seen.Closed fault)) rule.startup rule.is rule.unheard refl refl refl refl refl refl refl refl refl k e)
-emitting table peer s t (Post m (Some refusal)) rule sent k e = quiet s s t (Post m (Some refusal)) refl refl refl refl refl refl refl refl refl refl (λ h. h) e
-emitting table peer s t (Emit Nothing) rule sent k e = quiet s s t (Emit Nothing) refl refl refl refl refl refl refl refl refl refl (λ h. h) e
-emitting table peer s t (Recv len (Some refusal)) rule sent k e = quiet s s t (Recv len (Some refusal)) refl refl refl refl refl refl refl refl refl refl (λ h. h) e
-emitting table peer s t (Deliver from octets Dropped) rule sent k e = quiet s s t (Deliver from octets Dropped) refl refl refl refl refl refl refl refl refl refl (λ h. h) e
-emitting table peer s t (Raw from octets Dropped) rule sent k e = quiet s s t (Raw from octets Dropped) refl refl refl refl refl refl refl refl refl refl (λ h. h) e
-emitting table peer s t (Mulpdu size (Some refusal)) rule sent k e = quiet s s t (Mulpdu size (Some refusal)) refl refl refl refl refl refl refl refl refl refl (λ h. h) e
-emitting table peer s t (Accept private (Err refusal)) rule sent k e = quiet s s t (Accept private (Err refusal)) refl refl refl refl refl refl refl refl refl refl (λ h. h) e
-emitting table peer s t (Reject private (Some refusal)) rule sent k e = quiet s s t (Reject private (Some refusal)) refl refl refl refl refl refl refl refl refl refl (λ h. h) e
-emitting table peer s t (Work seen.Idle) rule sent k e = quiet s s t (Work seen.Idle) refl refl refl refl refl refl refl refl refl refl (λ h. h) e
-emitting table peer s t (Recv len None) rule sent k e = quiet s (stream_after s (Recv len None)) t (Recv len None) refl refl refl refl refl refl refl refl refl refl (λ h. h) e
-emitting table peer s t (Deliver from octets Kept) rule sent k e = quiet s (stream_after s (Deliver from octets Kept)) t (Deliver from octets Kept) refl refl refl refl refl refl refl refl refl refl (λ h. h) e
-emitting table peer s t (Raw from octets Kept) rule sent k e = quiet s (stream_after s (Raw from octets Kept)) t (Raw from octets Kept) refl refl refl refl refl refl refl refl refl refl (λ h. h) e
-emitting table peer s t (Work (seen.Placed right stag to octets)) rule sent k e = quiet s (stream_after s (Work (seen.Placed right stag to octets))) t (Work (seen.Placed right stag to octets)) refl refl refl refl refl refl refl refl refl refl (λ h. h) e
-emitting table peer s t (Work (seen.Buffered msn mo len)) rule sent k e = quiet s (stream_after s (Work (seen.Buffered msn mo len))) t (Work (seen.Buffered msn mo len)) refl refl refl refl refl refl refl refl refl refl (λ h. h) e
-emitting table peer s t (Work (seen.Fault fault)) rule sent k e = quiet s (stream_after s (Work (seen.Fault fault))) t (Work (seen.Fault fault)) refl refl refl refl refl refl refl refl refl refl (λ h. h) e
-emitting table peer s t (Work seen.Passed) rule sent k e = quiet s (stream_after s (Work seen.Passed)) t (Work seen.Passed) refl refl refl refl refl refl refl refl refl refl (λ h. absurd (false≢true (and_false (option_map_or (λ (u : StartupState). is_responder u.side) s.startup false) ∙ h))) e
-emitting table peer s t (Work (seen.Received octets solicited invalidate)) rule sent k e = quiet s (stream_after s (Work (seen.Received octets solicited invalidate))) t (Work (seen.Received octets solicited invalidate)) refl refl refl refl refl refl refl refl refl refl (λ h. absurd (false≢true (and_false (option_map_or (λ (u : StartupState). is_responder u.side) s.startup false) ∙ h))) e
+emitting table s t (Post m (Some refusal)) rule sent k e = quiet s s t (Post m (Some refusal)) refl refl refl refl refl refl refl refl refl refl (λ h. h) e
+emitting table s t (Emit Nothing) rule sent k e = quiet s s t (Emit Nothing) refl refl refl refl refl refl refl refl refl refl (λ h. h) e
+emitting table s t (Recv len (Some refusal)) rule sent k e = quiet s s t (Recv len (Some refusal)) refl refl refl refl refl refl refl refl refl refl (λ h. h) e
+emitting table s t (Deliver from octets Dropped) rule sent k e = quiet s s t (Deliver from octets Dropped) refl refl refl refl refl refl refl refl refl refl (λ h. h) e
+emitting table s t (Raw from octets Dropped) rule sent k e = quiet s s t (Raw from octets Dropped) refl refl refl refl refl refl refl refl refl refl (λ h. h) e
+emitting table s t (Mulpdu size (Some refusal)) rule sent k e = quiet s s t (Mulpdu size (Some refusal)) refl refl refl refl refl refl refl refl refl refl (λ h. h) e
+emitting table s t (Accept private (Err refusal)) rule sent k e = quiet s s t (Accept private (Err refusal)) refl refl refl refl refl refl refl refl refl refl (λ h. h) e
+emitting table s t (Reject private (Some refusal)) rule sent k e = quiet s s t (Reject private (Some refusal)) refl refl refl refl refl refl refl refl refl refl (λ h. h) e
+emitting table s t (Work seen.Idle) rule sent k e = quiet s s t (Work seen.Idle) refl refl refl refl refl refl refl refl refl refl (λ h. h) e
+emitting table s t (Recv len None) rule sent k e = quiet s (stream_after s (Recv len None)) t (Recv len None) refl refl refl refl refl refl refl refl refl refl (λ h. h) e
+emitting table s t (Deliver from octets Kept) rule sent k e = quiet s (stream_after s (Deliver from octets Kept)) t (Deliver from octets Kept) refl refl refl refl refl refl refl refl refl refl (λ h. h) e
+emitting table s t (Raw from octets Kept) rule sent k e = quiet s (stream_after s (Raw from octets Kept)) t (Raw from octets Kept) refl refl refl refl refl refl refl refl refl refl (λ h. h) e
+emitting table s t (Work (seen.Placed right stag to octets)) rule sent k e = quiet s (stream_after s (Work (seen.Placed right stag to octets))) t (Work (seen.Placed right stag to octets)) refl refl refl refl refl refl refl refl refl refl (λ h. h) e
+emitting table s t (Work (seen.Buffered msn mo len)) rule sent k e = quiet s (stream_after s (Work (seen.Buffered msn mo len))) t (Work (seen.Buffered msn mo len)) refl refl refl refl refl refl refl refl refl refl (λ h. h) e
+emitting table s t (Work (seen.Fault fault)) rule sent k e = quiet s (stream_after s (Work (seen.Fault fault))) t (Work (seen.Fault fault)) refl refl refl refl refl refl refl refl refl refl (λ h. h) e
+emitting table s t (Work seen.Passed) rule sent k e = quiet s (stream_after s (Work seen.Passed)) t (Work seen.Passed) refl refl refl refl refl refl refl refl refl refl (λ h. absurd (false≢true (and_false (option_map_or (λ (u : StartupState). is_responder u.side) s.startup false) ∙ h))) e
+emitting table s t (Work (seen.Received octets solicited invalidate)) rule sent k e = quiet s (stream_after s (Work (seen.Received octets solicited invalidate))) t (Work (seen.Received octets solicited invalidate)) refl refl refl refl refl refl refl refl refl refl (λ h. absurd (false≢true (and_false (option_map_or (λ (u : StartupState). is_responder u.side) s.startup false) ∙ h))) e
 
 ended_is : (s : StreamState) (act : StreamAct Octets) → (stream_after s act).ended ≡ ended_after s.ended act
 ended_is s (Work (seen.Fault fault)) = refl
@@ -704,35 +704,35 @@ answered_starts o u reply small v is asked h =
     let now : StartsAs o (answered v reply) = record { config = was.config; role = responds; small = small } in
     subst (IsStartOf o) (ap (option_map (λ z. answered z reply)) (sym is)) now
 
-starting : (o : Opening) (table : Table) (peer : List ℕ) (s : StreamState) (act : StreamAct Octets) → Told table peer s act → IsStartOf o s.startup → IsStartOf o (stream_after s act).startup
-starting o table peer s (Emit (Frame from octets)) rule h = subst (IsStartOf o) (sym (framed_startup s (length octets))) h
-starting o table peer s (Accept private (Ok agreed)) rule h =
+starting : (o : Opening) (table : Table) (s : StreamState) (act : StreamAct Octets) → Told table s act → IsStartOf o s.startup → IsStartOf o (stream_after s act).startup
+starting o table s (Emit (Frame from octets)) rule h = subst (IsStartOf o) (sym (framed_startup s (length octets))) h
+starting o table s (Accept private (Ok agreed)) rule h =
     let m = may s (accepting s agreed rule) in answered_starts o s.startup (replies.Accept (private_data private)) (omega (arith, length-take 512 private)) m.startup m.is m.asked h
-starting o table peer s (Reject private None) rule h =
+starting o table s (Reject private None) rule h =
     let m = may s (refusing s rule) in answered_starts o s.startup (replies.Reject (private_data private)) (omega (arith, length-take 512 private)) m.startup m.is m.asked h
-starting o table peer s (Work (seen.Asked private)) rule h = heard_starts o s s.startup h refl
-starting o table peer s (Work (seen.Opened agreed private)) rule h = heard_starts o s s.startup h refl
-starting o table peer s (Work (seen.Closed fault)) rule h = heard_starts o s s.startup h refl
-starting o table peer s (Post m None) rule h = h
-starting o table peer s (Post m (Some refusal)) rule h = h
-starting o table peer s (Emit Nothing) rule h = h
-starting o table peer s (Recv len None) rule h = h
-starting o table peer s (Recv len (Some refusal)) rule h = h
-starting o table peer s (Deliver from octets Kept) rule h = h
-starting o table peer s (Deliver from octets Dropped) rule h = h
-starting o table peer s (Raw from octets Kept) rule h = h
-starting o table peer s (Raw from octets Dropped) rule h = h
-starting o table peer s (Mulpdu size None) rule h = h
-starting o table peer s (Mulpdu size (Some refusal)) rule h = h
-starting o table peer s (Accept private (Err refusal)) rule h = h
-starting o table peer s (Reject private (Some refusal)) rule h = h
-starting o table peer s (Work (seen.Done kind)) rule h = h
-starting o table peer s (Work (seen.Placed right stag to octets)) rule h = h
-starting o table peer s (Work (seen.Buffered msn mo len)) rule h = h
-starting o table peer s (Work seen.Passed) rule h = h
-starting o table peer s (Work (seen.Received octets solicited invalidate)) rule h = h
-starting o table peer s (Work (seen.Fault fault)) rule h = h
-starting o table peer s (Work seen.Idle) rule h = h
+starting o table s (Work (seen.Asked private)) rule h = heard_starts o s s.startup h refl
+starting o table s (Work (seen.Opened agreed private)) rule h = heard_starts o s s.startup h refl
+starting o table s (Work (seen.Closed fault)) rule h = heard_starts o s s.startup h refl
+starting o table s (Post m None) rule h = h
+starting o table s (Post m (Some refusal)) rule h = h
+starting o table s (Emit Nothing) rule h = h
+starting o table s (Recv len None) rule h = h
+starting o table s (Recv len (Some refusal)) rule h = h
+starting o table s (Deliver from octets Kept) rule h = h
+starting o table s (Deliver from octets Dropped) rule h = h
+starting o table s (Raw from octets Kept) rule h = h
+starting o table s (Raw from octets Dropped) rule h = h
+starting o table s (Mulpdu size None) rule h = h
+starting o table s (Mulpdu size (Some refusal)) rule h = h
+starting o table s (Accept private (Err refusal)) rule h = h
+starting o table s (Reject private (Some refusal)) rule h = h
+starting o table s (Work (seen.Done kind)) rule h = h
+starting o table s (Work (seen.Placed right stag to octets)) rule h = h
+starting o table s (Work (seen.Buffered msn mo len)) rule h = h
+starting o table s (Work seen.Passed) rule h = h
+starting o table s (Work (seen.Received octets solicited invalidate)) rule h = h
+starting o table s (Work (seen.Fault fault)) rule h = h
+starting o table s (Work seen.Idle) rule h = h
 
 -- the layout of a stream without start-up stays
 same_layout : (t : Story) (act : StreamAct Octets) → (story_after t act).layout ≡ t.layout
@@ -763,17 +763,17 @@ same_layout t (Work (seen.Received octets solicited invalidate)) = refl
 same_layout t (Work (seen.Fault fault)) = refl
 same_layout t (Work seen.Idle) = refl
 
-pub owning : (o : Opening) (table : Table) (peer : List ℕ) (c : Connected) (t : Tale) (act : StreamAct Octets) → Told table peer c.stream act → Own o c t → Own o (connected_after c act) (tale_after t act)
-owning o table peer c t act rule own = record {
+pub owning : (o : Opening) (table : Table) (c : Connected) (t : Tale) (act : StreamAct Octets) → Told table c.stream act → Own o c t → Own o (connected_after c act) (tale_after t act)
+owning o table c t act rule own = record {
   wire = ap (λ z. z ++ sent_by act) own.wire;
   sent = sent_is c.stream act t.sent own.sent;
-  lengths = lengths_are table peer c.stream act rule ∙ ap (λ z. buffers_after z act) own.lengths;
+  lengths = lengths_are table c.stream act rule ∙ ap (λ z. buffers_after z act) own.lengths;
   due = due_is c.stream act t.received own.due;
-  starts = starting o table peer c.stream act rule own.starts;
+  starts = starting o table c.stream act rule own.starts;
   small = own.small;
   laid = same_layout t.story act ∙ own.laid;
-  emits = emitting table peer c.stream t act rule own.sent own.track own.emits;
-  track = tracking table peer c.stream t act rule own.track;
+  emits = emitting table c.stream t act rule own.sent own.track own.emits;
+  track = tracking table c.stream t act rule own.track;
   ended = ended_is c.stream act ∙ ap (λ b. ended_after b act) own.ended;
 }
 
@@ -783,9 +783,9 @@ WithinTale table domain t act =
     OnSome (λ p. Allows table domain p.stag p.to (length p.octets) p.right) (deed act).placing
     × OnSome (λ b. InBuffer t.buffers ((1 + length t.received) % 2 ^ 32) b.msn b.mo b.len) (deed act).buffering
 
-pub within : (opening : Opening) (table : Table) (peer : List ℕ) (c : Connected) (t : Tale) (act : StreamAct Octets) → Told table peer c.stream act → Own opening c t → WithinTale table c.stream.domain t act
-within opening table peer c t (Work (seen.Placed right stag to octets)) rule o = (allows table c.stream.domain stag to (length octets) right rule.admitted, tt)
-within opening table peer c t (Work (seen.Buffered msn mo len)) rule o =
+pub within : (opening : Opening) (table : Table) (c : Connected) (t : Tale) (act : StreamAct Octets) → Told table c.stream act → Own opening c t → WithinTale table c.stream.domain t act
+within opening table c t (Work (seen.Placed right stag to octets)) rule o = (allows table c.stream.domain stag to (length octets) right rule.admitted, tt)
+within opening table c t (Work (seen.Buffered msn mo len)) rule o =
     let number : msn ≡ rule.head.msn = let is = rule.is in cc in
     let place : mo ≡ rule.head.mo = let is = rule.is in cc in
     let size : len ≡ length rule.payload = let is = rule.is in cc in
@@ -799,19 +799,19 @@ within opening table peer c t (Work (seen.Buffered msn mo len)) rule o =
         omega (arith, b.room, place, size),
       ),
     )
-within opening table peer c t (Work (seen.Done kind)) rule o = (tt, tt)
-within opening table peer c t (Work seen.Passed) rule o = (tt, tt)
-within opening table peer c t (Work (seen.Received octets solicited invalidate)) rule o = (tt, tt)
-within opening table peer c t (Work (seen.Fault fault)) rule o = (tt, tt)
-within opening table peer c t (Work seen.Idle) rule o = (tt, tt)
-within opening table peer c t (Post m refused) rule o = (tt, tt)
-within opening table peer c t (Recv len refused) rule o = (tt, tt)
-within opening table peer c t (Emit shown) rule o = (tt, tt)
-within opening table peer c t (Deliver from octets delivery) rule o = (tt, tt)
-within opening table peer c t (Raw from octets delivery) rule o = (tt, tt)
-within opening table peer c t (Mulpdu size refused) rule o = (tt, tt)
-within opening table peer c t (Accept private answer) rule o = (tt, tt)
-within opening table peer c t (Reject private refused) rule o = (tt, tt)
-within opening table peer c t (Work (seen.Asked private)) rule o = (tt, tt)
-within opening table peer c t (Work (seen.Opened agreed private)) rule o = (tt, tt)
-within opening table peer c t (Work (seen.Closed fault)) rule o = (tt, tt)
+within opening table c t (Work (seen.Done kind)) rule o = (tt, tt)
+within opening table c t (Work seen.Passed) rule o = (tt, tt)
+within opening table c t (Work (seen.Received octets solicited invalidate)) rule o = (tt, tt)
+within opening table c t (Work (seen.Fault fault)) rule o = (tt, tt)
+within opening table c t (Work seen.Idle) rule o = (tt, tt)
+within opening table c t (Post m refused) rule o = (tt, tt)
+within opening table c t (Recv len refused) rule o = (tt, tt)
+within opening table c t (Emit shown) rule o = (tt, tt)
+within opening table c t (Deliver from octets delivery) rule o = (tt, tt)
+within opening table c t (Raw from octets delivery) rule o = (tt, tt)
+within opening table c t (Mulpdu size refused) rule o = (tt, tt)
+within opening table c t (Accept private answer) rule o = (tt, tt)
+within opening table c t (Reject private refused) rule o = (tt, tt)
+within opening table c t (Work (seen.Asked private)) rule o = (tt, tt)
+within opening table c t (Work (seen.Opened agreed private)) rule o = (tt, tt)
+within opening table c t (Work (seen.Closed fault)) rule o = (tt, tt)

@@ -1,5 +1,5 @@
 -- What is seen of a step tells what the step did.
-use Rattle.std.proofs.Common.{◌≡◌, ℕ, List, length, Option, Some, None, refl, sym, ap, ◌∙◌}
+use Rattle.std.proofs.Common.{◌≡◌, ℕ, List, length, Option, Some, None, false, refl, sym, ap, ◌∙◌}
 use Rattle.std.specs.Option.{option_map}
 use Rattle.std.specs.Result.{result_err}
 use Rattle.std.proofs.lemmas.Option.{none-some}
@@ -16,8 +16,12 @@ use Rattle.iw_rdmap.specs.FirstPath.{plain_tagged}
 use Rattle.iw_tagged.specs.Placing.{denial_fault}
 use Rattle.iw_stream.specs.Judging.{or_else, work_step, table_worked}
 use Rattle.iw_stream.proofs.Inverse.{working, PlacesWrite}
-use Rattle.iw_world.specs.Words.{table_seen}
-use Rattle.iw_world.specs.Rules.{seen_of, step_of}
+use Rattle.std.proofs.lemmas.Bool.{true≢false}
+use Rattle.iw_events.specs.declared.act.StreamAct.{StreamAct}
+use Rattle.iw_events.specs.declared.act.StreamAct.TheVariants.{Recv, Post, Emit, Deliver, Raw, Mulpdu, Accept, Reject, Work}
+use Rattle.iw_events.specs.Events.{stream_call_of}
+use Rattle.iw_world.specs.Words.{Octets, table_seen}
+use Rattle.iw_world.specs.Rules.{seen_of, step_of, needs_peer, WireRule}
 use Rattle.iw_memory.proofs.Callers.{octets_at-put}
 
 -- a Write that passed its checks is not denied
@@ -83,3 +87,15 @@ worked_seen table private s steps.Passed = refl
 worked_seen table private s (steps.Received buffer len solicited invalidate) = refl
 worked_seen table private s (steps.Fault fault) = refl
 worked_seen table private s steps.Idle = refl
+
+-- octets that are not delivered need not be the other end's
+pub own_octets : (wire : Octets) (act : StreamAct Octets) → needs_peer (stream_call_of act) ≡ false → WireRule wire act
+own_octets wire (Deliver from octets delivery) e = absurd (true≢false e)
+own_octets wire (Raw from octets delivery) e = λ raw. absurd (true≢false raw)
+own_octets wire (Recv len refused) e = tt
+own_octets wire (Post message refused) e = tt
+own_octets wire (Emit shown) e = tt
+own_octets wire (Mulpdu size refused) e = tt
+own_octets wire (Accept private answer) e = tt
+own_octets wire (Reject private refused) e = tt
+own_octets wire (Work step) e = tt

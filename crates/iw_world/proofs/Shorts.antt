@@ -47,7 +47,7 @@ one_frame s peer done (Stream m act) n p rule = go (eqb m n) refl
     go : (b : Bool) → eqb m n ≡ b → sent_on n (done ++ Stream m act ∷ []) ≤ sent_on n done + 2 ^ 17
     go false e = same_sent n done (Stream m act) (acts_none m n act e)
     go true e =
-        let few : length (sent_by act) ≤ 2 ^ 17 = emits_few (opening_of m done) s.table (stream_at peer m).wire (stream_at s m) (tale m done) act rule.2 (p m) in
+        let few : length (sent_by act) ≤ 2 ^ 17 = emits_few (opening_of m done) s.table (stream_at s m) (tale m done) act rule.0.1 (p m) in
         let more : sent_on n (done ++ Stream m act ∷ []) ≡ length (sent (stream_acts n done) ++ sent_by act) =
         ap (λ (t : Tale). length t.sent) (tale_next n done m act e) in
         omega (arith, more, length-append (sent (stream_acts n done)) (sent_by act), few)

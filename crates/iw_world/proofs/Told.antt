@@ -83,24 +83,24 @@ pub sees : (table : Table) (s : StreamState) (step : Seen Octets) → step ≡ s
 sees table s step e = subst (Sees table s) (sym e) (sees_step table s (work_step table s) refl (working table s (work_step table s) refl))
 
 -- the rule at a stream, with steps told apart
-abbrev pub Told : Table → List ℕ → StreamState → StreamAct Octets → Type 0
-Told table peer s (Work step) = Sees table s step
-Told table peer s (Recv len refused) = StreamRule table peer s (Recv len refused)
-Told table peer s (Post message refused) = StreamRule table peer s (Post message refused)
-Told table peer s (Emit shown) = StreamRule table peer s (Emit shown)
-Told table peer s (Deliver from octets delivery) = StreamRule table peer s (Deliver from octets delivery)
-Told table peer s (Raw from octets delivery) = StreamRule table peer s (Raw from octets delivery)
-Told table peer s (Accept private answer) = StreamRule table peer s (Accept private answer)
-Told table peer s (Reject private refused) = StreamRule table peer s (Reject private refused)
-Told table peer s (Mulpdu size refused) = StreamRule table peer s (Mulpdu size refused)
+abbrev pub Told : Table → StreamState → StreamAct Octets → Type 0
+Told table s (Work step) = Sees table s step
+Told table s (Recv len refused) = StreamRule table s (Recv len refused)
+Told table s (Post message refused) = StreamRule table s (Post message refused)
+Told table s (Emit shown) = StreamRule table s (Emit shown)
+Told table s (Deliver from octets delivery) = StreamRule table s (Deliver from octets delivery)
+Told table s (Raw from octets delivery) = StreamRule table s (Raw from octets delivery)
+Told table s (Accept private answer) = StreamRule table s (Accept private answer)
+Told table s (Reject private refused) = StreamRule table s (Reject private refused)
+Told table s (Mulpdu size refused) = StreamRule table s (Mulpdu size refused)
 
-pub told : (table : Table) (peer : List ℕ) (s : StreamState) (act : StreamAct Octets) → StreamRule table peer s act → Told table peer s act
-told table peer s (Work step) rule = sees table s step rule
-told table peer s (Recv len refused) rule = rule
-told table peer s (Post message refused) rule = rule
-told table peer s (Emit shown) rule = rule
-told table peer s (Deliver from octets delivery) rule = rule
-told table peer s (Raw from octets delivery) rule = rule
-told table peer s (Accept private answer) rule = rule
-told table peer s (Reject private refused) rule = rule
-told table peer s (Mulpdu size refused) rule = rule
+pub told : (table : Table) (s : StreamState) (act : StreamAct Octets) → StreamRule table s act → Told table s act
+told table s (Work step) rule = sees table s step rule
+told table s (Recv len refused) rule = rule
+told table s (Post message refused) rule = rule
+told table s (Emit shown) rule = rule
+told table s (Deliver from octets delivery) rule = rule
+told table s (Raw from octets delivery) rule = rule
+told table s (Accept private answer) rule = rule
+told table s (Reject private refused) rule = rule
+told table s (Mulpdu size refused) rule = rule

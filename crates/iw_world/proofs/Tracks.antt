@@ -787,45 +787,45 @@ emits_any s t from octets k = go (owes_frame s)
     go true = same s one t t' refl refl refl refl refl refl refl refl refl k (quiet s t k)
     go false = same s two t t' refl refl refl refl refl refl refl refl refl k (quiet s t k)
 
-pub tracking : (table : Table) (peer : Octets) (s : StreamState) (t : Tale) (act : StreamAct Octets) → Told table peer s act → Track s t → Track (stream_after s act) (tale_after t act)
-tracking table peer s t (Deliver from octets Kept) rule k =
-    comes s (stream_after s (Deliver from octets Kept)) t (tale_after t (Deliver from octets Kept)) from octets rule.2 (kept_start s (stream_after s (Deliver from octets Kept)) t (tale_after t (Deliver from octets Kept)) refl refl refl refl refl refl refl) refl refl refl refl refl refl refl refl refl (append-nil t.received) (append-nil t.placements) k
-tracking table peer s t (Raw from octets Kept) rule k =
+pub tracking : (table : Table) (s : StreamState) (t : Tale) (act : StreamAct Octets) → Told table s act → Track s t → Track (stream_after s act) (tale_after t act)
+tracking table s t (Deliver from octets Kept) rule k =
+    comes s (stream_after s (Deliver from octets Kept)) t (tale_after t (Deliver from octets Kept)) from octets rule (kept_start s (stream_after s (Deliver from octets Kept)) t (tale_after t (Deliver from octets Kept)) refl refl refl refl refl refl refl) refl refl refl refl refl refl refl refl refl (append-nil t.received) (append-nil t.placements) k
+tracking table s t (Raw from octets Kept) rule k =
     comes s (stream_after s (Raw from octets Kept)) t (tale_after t (Raw from octets Kept)) from octets rule (kept_start s (stream_after s (Raw from octets Kept)) t (tale_after t (Raw from octets Kept)) refl refl refl refl refl refl refl) refl refl refl refl refl refl refl refl refl (append-nil t.received) (append-nil t.placements) k
-tracking table peer s t (Deliver from octets Dropped) rule k = same s s t (tale_after t (Deliver from octets Dropped)) refl refl refl refl refl refl refl refl refl k (quiet s t k)
-tracking table peer s t (Raw from octets Dropped) rule k = same s s t (tale_after t (Raw from octets Dropped)) refl refl refl refl refl refl refl refl refl k (quiet s t k)
-tracking table peer s t (Mulpdu size (Some refusal)) rule k = same s s t (tale_after t (Mulpdu size (Some refusal))) refl refl refl refl refl refl refl refl refl k (quiet s t k)
-tracking table peer s t (Accept private (Err refusal)) rule k = same s s t (tale_after t (Accept private (Err refusal))) refl refl refl refl refl refl refl refl refl k (quiet s t k)
-tracking table peer s t (Reject private (Some refusal)) rule k = same s s t (tale_after t (Reject private (Some refusal))) refl refl refl refl refl refl refl refl refl k (quiet s t k)
-tracking table peer s t (Recv len (Some refusal)) rule k = same s s t (tale_after t (Recv len (Some refusal))) refl refl refl refl refl refl refl refl refl k (quiet s t k)
-tracking table peer s t (Post m (Some refusal)) rule k = same s s t (tale_after t (Post m (Some refusal))) refl refl refl refl refl refl refl refl refl k (quiet s t k)
-tracking table peer s t (Emit Nothing) rule k = same s s t (tale_after t (Emit Nothing)) refl refl refl refl refl refl refl refl refl k (quiet s t k)
-tracking table peer s t (Work seen.Idle) rule k = same s s t (tale_after t (Work seen.Idle)) refl refl refl refl refl refl refl refl refl k (quiet s t k)
-tracking table peer s t (Mulpdu size None) rule k = same s (stream_after s (Mulpdu size None)) t (tale_after t (Mulpdu size None)) refl refl refl refl refl refl refl refl refl k (quiet s t k)
-tracking table peer s t (Post m None) rule k = same s (stream_after s (Post m None)) t (tale_after t (Post m None)) refl refl refl refl refl refl refl refl refl k (quiet s t k)
-tracking table peer s t (Work (seen.Done kind)) rule k = same s (stream_after s (Work (seen.Done kind))) t (tale_after t (Work (seen.Done kind))) refl refl refl refl refl refl refl refl refl k (quiet s t k)
-tracking table peer s t (Emit (Frame from octets)) rule k = emits_any s t from octets k
-tracking table peer s t (Accept private (Ok agreed)) rule k = accepts s t private agreed (accepting s agreed rule) k
-tracking table peer s t (Reject private None) rule k = rejects s t private (refusing s rule) k
-tracking table peer s t (Work (seen.Asked private)) rule k = asks s t private rule.0 k
-tracking table peer s t (Work (seen.Opened agreed private)) rule k = opens s t agreed private rule.0 k
-tracking table peer s t (Work (seen.Closed fault)) rule k = closes s t fault rule k
-tracking table peer s t (Recv len None) rule k =
+tracking table s t (Deliver from octets Dropped) rule k = same s s t (tale_after t (Deliver from octets Dropped)) refl refl refl refl refl refl refl refl refl k (quiet s t k)
+tracking table s t (Raw from octets Dropped) rule k = same s s t (tale_after t (Raw from octets Dropped)) refl refl refl refl refl refl refl refl refl k (quiet s t k)
+tracking table s t (Mulpdu size (Some refusal)) rule k = same s s t (tale_after t (Mulpdu size (Some refusal))) refl refl refl refl refl refl refl refl refl k (quiet s t k)
+tracking table s t (Accept private (Err refusal)) rule k = same s s t (tale_after t (Accept private (Err refusal))) refl refl refl refl refl refl refl refl refl k (quiet s t k)
+tracking table s t (Reject private (Some refusal)) rule k = same s s t (tale_after t (Reject private (Some refusal))) refl refl refl refl refl refl refl refl refl k (quiet s t k)
+tracking table s t (Recv len (Some refusal)) rule k = same s s t (tale_after t (Recv len (Some refusal))) refl refl refl refl refl refl refl refl refl k (quiet s t k)
+tracking table s t (Post m (Some refusal)) rule k = same s s t (tale_after t (Post m (Some refusal))) refl refl refl refl refl refl refl refl refl k (quiet s t k)
+tracking table s t (Emit Nothing) rule k = same s s t (tale_after t (Emit Nothing)) refl refl refl refl refl refl refl refl refl k (quiet s t k)
+tracking table s t (Work seen.Idle) rule k = same s s t (tale_after t (Work seen.Idle)) refl refl refl refl refl refl refl refl refl k (quiet s t k)
+tracking table s t (Mulpdu size None) rule k = same s (stream_after s (Mulpdu size None)) t (tale_after t (Mulpdu size None)) refl refl refl refl refl refl refl refl refl k (quiet s t k)
+tracking table s t (Post m None) rule k = same s (stream_after s (Post m None)) t (tale_after t (Post m None)) refl refl refl refl refl refl refl refl refl k (quiet s t k)
+tracking table s t (Work (seen.Done kind)) rule k = same s (stream_after s (Work (seen.Done kind))) t (tale_after t (Work (seen.Done kind))) refl refl refl refl refl refl refl refl refl k (quiet s t k)
+tracking table s t (Emit (Frame from octets)) rule k = emits_any s t from octets k
+tracking table s t (Accept private (Ok agreed)) rule k = accepts s t private agreed (accepting s agreed rule) k
+tracking table s t (Reject private None) rule k = rejects s t private (refusing s rule) k
+tracking table s t (Work (seen.Asked private)) rule k = asks s t private rule.0 k
+tracking table s t (Work (seen.Opened agreed private)) rule k = opens s t agreed private rule.0 k
+tracking table s t (Work (seen.Closed fault)) rule k = closes s t fault rule k
+tracking table s t (Recv len None) rule k =
     same_track s (stream_after s (Recv len None)) t (tale_after t (Recv len None)) (kept_start s (stream_after s (Recv len None)) t (tale_after t (Recv len None)) refl refl refl refl refl refl refl) refl refl refl refl k.placed (ap (λ (r : Receiving). with_buffer r (replicate len 0)) k.receiving) (λ h. refl) k
     (joins_buffer k.segments s.receiving s.placed s.ended (segment_at (front s)) (t.received ++ []) (t.placements ++ []) (replicate len 0) (quiet s t k))
-tracking table peer s t (Work (seen.Placed right stag to octets)) rule k =
+tracking table s t (Work (seen.Placed right stag to octets)) rule k =
     same_track s (stream_after s (Work (seen.Placed right stag to octets))) t (tale_after t (Work (seen.Placed right stag to octets))) (kept_start s (stream_after s (Work (seen.Placed right stag to octets))) t (tale_after t (Work (seen.Placed right stag to octets))) refl refl refl refl refl refl refl) refl refl refl refl refl k.receiving (λ h. absurd (false≢true (sym h ∙ rule.places.1.fronts.started))) k (places table s t right stag to octets rule k)
-tracking table peer s t (Work (seen.Buffered msn mo len)) rule k =
+tracking table s t (Work (seen.Buffered msn mo len)) rule k =
     same_track s (stream_after s (Work (seen.Buffered msn mo len))) t (tale_after t (Work (seen.Buffered msn mo len))) (kept_start s (stream_after s (Work (seen.Buffered msn mo len))) t (tale_after t (Work (seen.Buffered msn mo len))) refl refl refl refl refl refl refl) refl refl refl refl refl (λ i. written (k.receiving i) msn mo (payload_of (next_carries s t k i))) (λ h. absurd (false≢true (sym h ∙ rule.fronts.started))) k
     (buffers s t msn mo len rule k)
-tracking table peer s t (Work seen.Passed) rule k =
+tracking table s t (Work seen.Passed) rule k =
     turned s (stream_after s (Work seen.Passed)) t (tale_after t (Work seen.Passed)) rule.fronts.frame rule.fronts.rest rule.segment rule.fronts.whole rule.fronts.carries rule.fronts.started (kept_start s (stream_after s (Work seen.Passed)) t (tale_after t (Work seen.Passed)) refl refl refl refl refl refl refl) refl refl refl refl refl refl
     (λ i. turned_by (k.receiving i) (next_carries s t k i)) k (passes s t rule.segment (segment_at (front (stream_after s (Work seen.Passed)))) rule.fronts rule.passing k)
-tracking table peer s t (Work (seen.Received octets solicited invalidate)) rule k =
+tracking table s t (Work (seen.Received octets solicited invalidate)) rule k =
     let c = rule.0.completes in
     let s' : StreamState = stream_after s (Work (seen.Received octets solicited invalidate)) in
     turned s s' t (tale_after t (Work (seen.Received octets solicited invalidate))) c.fronts.frame c.fronts.rest (Untagged c.head c.payload) c.fronts.whole c.fronts.carries c.fronts.started (kept_start s (stream_after s (Work (seen.Received octets solicited invalidate))) t (tale_after t (Work (seen.Received octets solicited invalidate))) refl refl refl refl refl refl refl) refl refl refl refl refl refl
     (ap finished k.receiving) k (receives s t octets solicited invalidate (segment_at (front s')) rule.0 rule.1 rule.2 k)
-tracking table peer s t (Work (seen.Fault fault)) rule k =
+tracking table s t (Work (seen.Fault fault)) rule k =
     same s (stream_after s (Work (seen.Fault fault))) t (tale_after t (Work (seen.Fault fault))) refl refl refl refl refl refl refl refl refl k
     (joins_end k.segments s.receiving s.placed s.ended (segment_at (front s)) (t.received ++ []) (t.placements ++ []) (quiet s t k))

@@ -41,7 +41,7 @@ use Rattle.iw_events.specs.declared.act.Entry.{Entry}
 use Rattle.iw_events.specs.declared.act.Seen.TheVariants as seen
 use Rattle.iw_world.specs.Turns.{story}
 use Rattle.iw_world.specs.Words.{Octets, other, acts, stream_acts, stream_acts_by, Opening, no_opening, opening_in, opening_of, openings, openings_by, posted, finished_kinds, size_set, received, ended, sent, sent_by, placements, table_after, buffers}
-use Rattle.iw_world.specs.Rules.{opening_by, Connected, connected, unconnected, EndState, State, end_of, with_end, has_stream, stream_at, no_streams, fresh, start, Rule, StreamRule, connected_after, streams_after, end_after, after_entry, state_after, Follows}
+use Rattle.iw_world.specs.Rules.{opening_by, Connected, connected, unconnected, EndState, State, end_of, with_end, has_stream, stream_at, no_streams, fresh, start, Rule, WireRule, StreamRule, connected_after, streams_after, end_after, after_entry, state_after, Follows}
 use Rattle.iw_world.proofs.Told.{told}
 use Rattle.iw_world.proofs.Tales.{Tale, tale_of, tale_after, tale-push, stream_acts-push, openings-push, acts_mine, acts_other}
 use Rattle.iw_world.proofs.Sending.{shown_good, EmitsStart, EmitsPart, emits_frame}
@@ -67,40 +67,40 @@ moved : {l l' : Opening} {c c' : Connected} {t t' : Tale} (m : Opening) (d : Con
 moved {l = l} {l' = l'} {c = c} {c' = c'} {t = t} {t' = t'} m d u e a b p = subst (λ z. Pair l' c' z m d u) b (subst (λ z. Pair l' z t m d u) a (subst (λ z. Pair z c t m d u) e p))
 
 -- what came stays what the other end sent
-still_of : (table : Table) (peer : List ℕ) (c : Connected) (t : Tale) (u : Tale) (act : StreamAct Octets) → StreamRule table peer c.stream act → peer ≡ u.sent → (t.raw ≡ false → IsOf t.story.came u.sent)
+still_of : (t : Tale) (u : Tale) (act : StreamAct Octets) → WireRule u.sent act → (t.raw ≡ false → IsOf t.story.came u.sent)
     → (tale_after t act).raw ≡ false → IsOf (tale_after t act).story.came u.sent
-still_of table peer c t u (Deliver from octets Kept) rule same h raw =
-    subst (λ z. IsOf (taken_in t.story.came from z) u.sent) (sym (rule.1 ∙ ap (λ z. take (length octets) (drop from z)) same)) (of_takes t.story.came from (length octets) u.sent (h raw))
-still_of table peer c t u (Deliver from octets Dropped) rule same h raw = h raw
-still_of table peer c t u (Raw from octets delivery) rule same h raw = absurd (true≢false raw)
-still_of table peer c t u (Mulpdu size refused) rule same h raw = h raw
-still_of table peer c t u (Accept private (Ok agreed)) rule same h raw = h raw
-still_of table peer c t u (Accept private (Err refusal)) rule same h raw = h raw
-still_of table peer c t u (Reject private None) rule same h raw = h raw
-still_of table peer c t u (Reject private (Some refusal)) rule same h raw = h raw
-still_of table peer c t u (Work (seen.Asked private)) rule same h raw = h raw
-still_of table peer c t u (Work (seen.Opened agreed private)) rule same h raw = h raw
-still_of table peer c t u (Work (seen.Closed fault)) rule same h raw = h raw
-still_of table peer c t u (Emit shown) rule same h raw = h raw
-still_of table peer c t u (Post m refused) rule same h raw = h raw
-still_of table peer c t u (Recv len None) rule same h raw = h raw
-still_of table peer c t u (Recv len (Some refusal)) rule same h raw = h raw
-still_of table peer c t u (Work (seen.Done kind)) rule same h raw = h raw
-still_of table peer c t u (Work (seen.Placed right stag to octets)) rule same h raw = h raw
-still_of table peer c t u (Work (seen.Buffered msn mo len)) rule same h raw = h raw
-still_of table peer c t u (Work seen.Passed) rule same h raw = h raw
-still_of table peer c t u (Work (seen.Received octets solicited invalidate)) rule same h raw = h raw
-still_of table peer c t u (Work (seen.Fault fault)) rule same h raw = h raw
-still_of table peer c t u (Work seen.Idle) rule same h raw = h raw
+still_of t u (Deliver from octets Kept) rule h raw =
+    subst (λ z. IsOf (taken_in t.story.came from z) u.sent) (sym (rule refl).are) (of_takes t.story.came from (length octets) u.sent (h raw))
+still_of t u (Deliver from octets Dropped) rule h raw = h raw
+still_of t u (Raw from octets delivery) rule h raw = absurd (true≢false raw)
+still_of t u (Mulpdu size refused) rule h raw = h raw
+still_of t u (Accept private (Ok agreed)) rule h raw = h raw
+still_of t u (Accept private (Err refusal)) rule h raw = h raw
+still_of t u (Reject private None) rule h raw = h raw
+still_of t u (Reject private (Some refusal)) rule h raw = h raw
+still_of t u (Work (seen.Asked private)) rule h raw = h raw
+still_of t u (Work (seen.Opened agreed private)) rule h raw = h raw
+still_of t u (Work (seen.Closed fault)) rule h raw = h raw
+still_of t u (Emit shown) rule h raw = h raw
+still_of t u (Post m refused) rule h raw = h raw
+still_of t u (Recv len None) rule h raw = h raw
+still_of t u (Recv len (Some refusal)) rule h raw = h raw
+still_of t u (Work (seen.Done kind)) rule h raw = h raw
+still_of t u (Work (seen.Placed right stag to octets)) rule h raw = h raw
+still_of t u (Work (seen.Buffered msn mo len)) rule h raw = h raw
+still_of t u (Work seen.Passed) rule h raw = h raw
+still_of t u (Work (seen.Received octets solicited invalidate)) rule h raw = h raw
+still_of t u (Work (seen.Fault fault)) rule h raw = h raw
+still_of t u (Work seen.Idle) rule h raw = h raw
 
 -- an act of the stream
-streamed : (table : Table) (l : Opening) (c : Connected) (t : Tale) (m : Opening) (d : Connected) (u : Tale) (act : StreamAct Octets) → StreamRule table d.wire c.stream act → Pair l c t m d u
+streamed : (table : Table) (l : Opening) (c : Connected) (t : Tale) (m : Opening) (d : Connected) (u : Tale) (act : StreamAct Octets) → StreamRule table c.stream act → WireRule d.wire act → Pair l c t m d u
     → Pair l (connected_after c act) (tale_after t act) m d u
-streamed table l c t m d u act rule p = record {
-  own = owning l table d.wire c t act (told table d.wire c.stream act rule) p.own;
+streamed table l c t m d u act rule wire p = record {
+  own = owning l table c t act (told table c.stream act rule) p.own;
   own_peer = p.own_peer;
   out = λ raw. of_more u.story.came t.sent (sent_by act) (p.out raw);
-  back = still_of table d.wire c t u act rule p.own_peer.wire p.back;
+  back = still_of t u act (subst (λ z. WireRule z act) p.own_peer.wire wire) p.back;
 }
 
 -- ---- at the start, and at an opening
@@ -274,7 +274,7 @@ acted s peer done (Open m pd role options private None) n l u k rule p = go (eqb
     go : (b : Bool) → eqb m n ≡ b → Pair (opening_of n (done ++ act ∷ [])) (stream_at (end_after s act) n) (tale n (done ++ act ∷ [])) l (stream_at peer n) u
     go false e = same_stream s act n done l (stream_at peer n) u (at_other s m n (Some (connected (opening_by pd role options private))) e) (opening_none (eqb m n) (opening_by pd role options private) e) refl p
     go true e =
-        let o = opens s m pd rule in
+        let o = opens s m pd rule.0 in
         let same : m ≡ n = eqb-true m n e in
         let c : Connected = connected (opening_by pd role options private) in
         let room : m < length s.streams = omega (arith, o.number, k.numbers) in
@@ -294,13 +294,13 @@ acted s peer done (Stream m act) n l u k rule p = go (eqb m n) refl
         let same : m ≡ n = eqb-true m n e in
         let c : Connected = connected_after (stream_at s m) act in
         let here : slice_index_or (streams_after s.streams (Stream m act)) n None ≡ Some c =
-        subst (λ j. slice_index_or (streams_after s.streams (Stream m act)) j None ≡ Some c) same (at_same s m c (number_there s m rule.0)) in
+        subst (λ j. slice_index_or (streams_after s.streams (Stream m act)) j None ≡ Some c) same (at_same s m c (number_there s m rule.0.0)) in
         let is : connected_after (stream_at s n) act ≡ stream_at (end_after s (Stream m act)) n =
         ap (λ j. connected_after (stream_at s j) act) (sym same) ∙ ap (λ z. unwrap_or z unconnected) (sym here) in
-        let own_rule : StreamRule s.table (stream_at peer n).wire (stream_at s n).stream act =
-        subst (λ j. StreamRule s.table (stream_at peer j).wire (stream_at s j).stream act) same rule.2 in
+        let own_rule : StreamRule s.table (stream_at s n).stream act =
+        subst (λ j. StreamRule s.table (stream_at s j).stream act) same rule.0.1 in
         moved l (stream_at peer n) u (ap opening_in (sym (opens_same n done (Stream m act) refl))) is (sym (tale_next n done m act e))
-        (streamed s.table (opening_of n done) (stream_at s n) (tale n done) l (stream_at peer n) u act own_rule p)
+        (streamed s.table (opening_of n done) (stream_at s n) (tale n done) l (stream_at peer n) u act own_rule (subst (λ j. WireRule (stream_at peer j).wire act) same rule.1.1) p)
 
 -- ---- what an act may emit
 
@@ -315,8 +315,8 @@ few_start : (o : Opening) (u : Option StartupState) → length o.config.private.
 few_start o None few h = omega arith
 few_start o (Some u) few h = few_side u.config u.side (subst (λ (z : Config). length z.private.items ≤ 512) (sym h.config) few) h.small
 
-pub emits_few : (opening : Opening) (table : Table) (peer : List ℕ) (c : Connected) (t : Tale) (act : StreamAct Octets) → StreamRule table peer c.stream act → Own opening c t → length (sent_by act) ≤ 2 ^ 17
-emits_few opening table peer c t (Emit (Frame from octets)) rule o = go (emits_frame c.stream from octets rule)
+pub emits_few : (opening : Opening) (table : Table) (c : Connected) (t : Tale) (act : StreamAct Octets) → StreamRule table c.stream act → Own opening c t → length (sent_by act) ≤ 2 ^ 17
+emits_few opening table c t (Emit (Frame from octets)) rule o = go (emits_frame c.stream from octets rule)
   where
     part : EmitsPart c.stream from octets → length octets ≤ 2 ^ 17
     part p =
@@ -333,15 +333,15 @@ emits_few opening table peer c t (Emit (Frame from octets)) rule o = go (emits_f
     go : EmitsStart c.stream from octets ⊎ EmitsPart c.stream from octets → length octets ≤ 2 ^ 17
     go (inl p) = omega (arith, ap length p.octets_are, few_start opening c.stream.startup o.small o.starts)
     go (inr p) = part p
-emits_few opening table peer c t (Emit Nothing) rule o = omega arith
-emits_few opening table peer c t (Recv len refused) rule o = omega arith
-emits_few opening table peer c t (Post m refused) rule o = omega arith
-emits_few opening table peer c t (Deliver from octets delivery) rule o = omega arith
-emits_few opening table peer c t (Raw from octets delivery) rule o = omega arith
-emits_few opening table peer c t (Mulpdu size refused) rule o = omega arith
-emits_few opening table peer c t (Accept private answer) rule o = omega arith
-emits_few opening table peer c t (Reject private refused) rule o = omega arith
-emits_few opening table peer c t (Work step) rule o = omega arith
+emits_few opening table c t (Emit Nothing) rule o = omega arith
+emits_few opening table c t (Recv len refused) rule o = omega arith
+emits_few opening table c t (Post m refused) rule o = omega arith
+emits_few opening table c t (Deliver from octets delivery) rule o = omega arith
+emits_few opening table c t (Raw from octets delivery) rule o = omega arith
+emits_few opening table c t (Mulpdu size refused) rule o = omega arith
+emits_few opening table c t (Accept private answer) rule o = omega arith
+emits_few opening table c t (Reject private refused) rule o = omega arith
+emits_few opening table c t (Work step) rule o = omega arith
 
 -- ---- both ends
 

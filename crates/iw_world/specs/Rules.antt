@@ -32,8 +32,9 @@ use Rattle.iw_events.specs.declared.act.Shown.TheVariants.{Frame, Nothing}
 use Rattle.iw_events.specs.declared.act.Seen.{Seen}
 use Rattle.iw_events.specs.declared.act.Seen.TheVariants as seen
 use Rattle.iw_events.specs.declared.act.Entry.{Entry}
-use Rattle.iw_world.specs.Words.{Octets, other, sent_by, table_by, Opening, no_opening, stream_numbers, config_for}
-use Rattle.iw_world.specs.Calls.{deregister_answer, invalidate_refusal}
+use Rattle.iw_world.specs.Words.{Octets, other, deed, sent_by, table_by, Opening, no_opening, stream_numbers, config_for}
+use Rattle.iw_world.specs.Calls.{deregister_answer, invalidate_refusal, StandIn}
+use Rattle.iw_world.specs.Each.{OnSome}
 use Rattle.iw_world.specs.Fitting.{FitsMessage}
 
 -- ---- states
@@ -116,18 +117,22 @@ accept_answer s = if may_answer s then Ok (accepted_agreed s) else Err (record {
 abbrev pub private_data : Octets → ArrayVec ℕ
 private_data private = record { items = take 512 private }
 
--- the right answer at a stream; peer is what the other end has emitted on it
-abbrev pub StreamRule : Table → List ℕ → StreamState → StreamAct Octets → Type 0
-StreamRule table peer s (Recv len refused) = refused ≡ recv_refusal s
-StreamRule table peer s (Post message refused) = FitsMessage message × (refused ≡ post_refusal s message)
-StreamRule table peer s (Emit shown) = shown ≡ shown_of (emission_of s) (emitted s)
-StreamRule table peer s (Deliver from octets delivery) =
-    (from + length octets ≤ length peer) × (octets ≡ take (length octets) (drop from peer)) × (delivery ≡ delivery_of s from (length octets))
-StreamRule table peer s (Raw from octets delivery) = delivery ≡ delivery_of s from (length octets)
-StreamRule table peer s (Mulpdu size refused) = refused ≡ size_refusal size
-StreamRule table peer s (Accept private answer) = answer ≡ accept_answer s
-StreamRule table peer s (Reject private refused) = refused ≡ answer_refusal s
-StreamRule table peer s (Work step) = step ≡ seen_of (table_worked table s (work_step table s)) (private_of (worked s (work_step table s))) (work_step table s)
+-- the right answer at a stream, whoever sent the octets that come
+abbrev pub StreamRule : Table → StreamState → StreamAct Octets → Type 0
+StreamRule table s (Recv len refused) = refused ≡ recv_refusal s
+StreamRule table s (Post message refused) = FitsMessage message × (refused ≡ post_refusal s message)
+StreamRule table s (Emit shown) = shown ≡ shown_of (emission_of s) (emitted s)
+StreamRule table s (Deliver from octets delivery) = delivery ≡ delivery_of s from (length octets)
+StreamRule table s (Raw from octets delivery) = delivery ≡ delivery_of s from (length octets)
+StreamRule table s (Mulpdu size refused) = refused ≡ size_refusal size
+StreamRule table s (Accept private answer) = answer ≡ accept_answer s
+StreamRule table s (Reject private refused) = refused ≡ answer_refusal s
+StreamRule table s (Work step) =
+    step ≡ seen_of (table_worked table s (work_step table s)) (private_of (worked s (work_step table s))) (work_step table s)
+
+-- octets that are delivered are those that the other end sent on the stream
+abbrev pub WireRule : Octets → StreamAct Octets → Type 0
+WireRule wire act = OnSome (λ c. c.raw ≡ false → StandIn wire c.from c.octets) (deed act).coming
 
 -- a delivery needs the stream at the other end too
 abbrev pub needs_peer : StreamCall Octets → Bool
@@ -151,16 +156,30 @@ open_refusal s n pd =
 abbrev pub register_answer : Table → ℕ → ℕ → ℕ → Result Stag RegisterRefusal
 register_answer table pd base len = option_map_or Err (register_refusal table pd base len) (Ok (next_stag table pd))
 
--- the right answer at an end, the other end being peer
+-- the right answer at an end, whatever is done at the other
+abbrev pub EndRule : EndState → Act Octets → Type 0
+EndRule s (Domain pd refused) = refused ≡ domain_refusal s.table pd
+EndRule s (Register pd base rights octets answer) = answer ≡ register_answer s.table pd base (length octets)
+EndRule s (Deregister stag answer) = answer ≡ deregister_answer s.table stag
+EndRule s (Invalidate stag refused) = refused ≡ invalidate_refusal s.table stag
+EndRule s (Store stag to octets refused) = refused ≡ store_refusal s.table stag to (length octets)
+EndRule s (Open n pd role options private refused) = refused ≡ open_refusal s n pd
+EndRule s (Stream n act) = (has_stream s n ≡ true) × StreamRule s.table (stream_at s n).stream act
+
+-- what the other end has to do with it
+abbrev pub PeerRule : EndState → Act Octets → Type 0
+PeerRule peer (Stream n act) =
+    (needs_peer (stream_call_of act) ≡ true → has_stream peer n ≡ true) × WireRule (stream_at peer n).wire act
+PeerRule peer (Domain pd refused) = Unit {0}
+PeerRule peer (Register pd base rights octets answer) = Unit {0}
+PeerRule peer (Deregister stag answer) = Unit {0}
+PeerRule peer (Invalidate stag refused) = Unit {0}
+PeerRule peer (Store stag to octets refused) = Unit {0}
+PeerRule peer (Open n pd role options private refused) = Unit {0}
+
+-- the right answer at an end of two
 abbrev pub Rule : EndState → EndState → Act Octets → Type 0
-Rule s peer (Domain pd refused) = refused ≡ domain_refusal s.table pd
-Rule s peer (Register pd base rights octets answer) = answer ≡ register_answer s.table pd base (length octets)
-Rule s peer (Deregister stag answer) = answer ≡ deregister_answer s.table stag
-Rule s peer (Invalidate stag refused) = refused ≡ invalidate_refusal s.table stag
-Rule s peer (Store stag to octets refused) = refused ≡ store_refusal s.table stag to (length octets)
-Rule s peer (Open n pd role options private refused) = refused ≡ open_refusal s n pd
-Rule s peer (Stream n act) =
-    (has_stream s n ≡ true) × (needs_peer (stream_call_of act) ≡ true → has_stream peer n ≡ true) × StreamRule s.table (stream_at peer n).wire (stream_at s n).stream act
+Rule s peer act = EndRule s act × PeerRule peer act
 
 -- ---- what an entry leaves
 

@@ -30,7 +30,7 @@ impl<A: Allocator> Model for Connection<A> {
 impl<A: Allocator + Copy> Connection<A> {
     ghost use Rattle.iw_world.specs.Words.{table_by_stream};
     ghost use Rattle.iw_stream.specs.Stream.{post_refusal, private_of};
-    ghost use Rattle.iw_world.specs.Rules.{connected, connected_after, StreamRule, seen_of, accept_answer, answer_refusal};
+    ghost use Rattle.iw_world.specs.Rules.{connected, connected_after, StreamRule, WireRule, seen_of, accept_answer, answer_refusal};
     ghost use Rattle.iw_world.specs.Bounds.{IsShort, AsksOver};
 
     pub(crate) fn new(
@@ -55,6 +55,7 @@ impl<A: Allocator + Copy> Connection<A> {
     }
 
     /// Makes a call; peer is what the other end has emitted.
+    #[tactic(auto, using(crate::proofs::Seeing::own_octets))]
     pub(crate) fn act(
         &mut self,
         alloc: A,
@@ -64,7 +65,8 @@ impl<A: Allocator + Copy> Connection<A> {
     ) -> Result<StreamAct<Bytes<A>>, Failure>
         requires short { IsShort self.old.stream }
         requires peer { length peer.now ≤ 2 ^ 62 }
-        ensures rule { IfOk result (λ act. StreamRule memory.old peer.now self.old.stream act) }
+        ensures rule { IfOk result (λ act. StreamRule memory.old self.old.stream act) }
+        ensures wire { IfOk result (λ act. WireRule peer.now act) }
         ensures call { IfOk result (λ act. stream_call_of act ≡ call.now) }
         ensures state { IfOk result (λ act. self.new ≡ connected_after self.old act) }
         ensures memory { IfOk result (λ act. memory.new ≡ table_by_stream memory.old act) }
@@ -85,7 +87,7 @@ impl<A: Allocator + Copy> Connection<A> {
     }
 
     fn recv(&mut self, alloc: A, len: u32) -> Result<StreamAct<Bytes<A>>, Failure>
-        ensures rule { IfOk result (λ act. (table : Table) (peer : List ℕ) → StreamRule table peer self.old.stream act) }
+        ensures rule { IfOk result (λ act. (table : Table) → StreamRule table self.old.stream act) }
         ensures call { IfOk result (λ act. stream_call_of act ≡ StreamCall.Recv len) }
         ensures state { IfOk result (λ act. self.new ≡ connected_after self.old act) }
         ensures memory { IfOk result (λ act. (table : Table) → table_by_stream table act ≡ table) }
@@ -103,7 +105,7 @@ impl<A: Allocator + Copy> Connection<A> {
     }
 
     fn post(&mut self, message: &Message<Bytes<A>>) -> Result<StreamAct<Bytes<A>>, Failure>
-        ensures rule { IfOk result (λ act. (table : Table) (peer : List ℕ) → StreamRule table peer self.old.stream act) }
+        ensures rule { IfOk result (λ act. (table : Table) → StreamRule table self.old.stream act) }
         ensures call { IfOk result (λ act. stream_call_of act ≡ StreamCall.Post message.now) }
         ensures state { IfOk result (λ act. self.new ≡ connected_after self.old act) }
         ensures memory { IfOk result (λ act. (table : Table) → table_by_stream table act ≡ table) }
@@ -132,7 +134,7 @@ impl<A: Allocator + Copy> Connection<A> {
 
     fn emit(&mut self, alloc: A) -> Result<StreamAct<Bytes<A>>, Failure>
         requires { IsShort self.old.stream }
-        ensures rule { IfOk result (λ act. (table : Table) (peer : List ℕ) → StreamRule table peer self.old.stream act) }
+        ensures rule { IfOk result (λ act. (table : Table) → StreamRule table self.old.stream act) }
         ensures call { IfOk result (λ act. stream_call_of act ≡ StreamCall.Emit) }
         ensures state { IfOk result (λ act. self.new ≡ connected_after self.old act) }
         ensures memory { IfOk result (λ act. (table : Table) → table_by_stream table act ≡ table) }
@@ -157,7 +159,8 @@ impl<A: Allocator + Copy> Connection<A> {
     ) -> Result<StreamAct<Bytes<A>>, Failure>
         requires short { IsShort self.old.stream }
         requires peer { length peer.now ≤ 2 ^ 62 }
-        ensures rule { IfOk result (λ act. (table : Table) → StreamRule table peer.now self.old.stream act) }
+        ensures rule { IfOk result (λ act. (table : Table) → StreamRule table self.old.stream act) }
+        ensures wire { IfOk result (λ act. WireRule peer.now act) }
         ensures call { IfOk result (λ act. stream_call_of act ≡ StreamCall.Deliver from len) }
         ensures state { IfOk result (λ act. self.new ≡ connected_after self.old act) }
         ensures memory { IfOk result (λ act. (table : Table) → table_by_stream table act ≡ table) }
@@ -181,7 +184,7 @@ impl<A: Allocator + Copy> Connection<A> {
 
     fn raw(&mut self, from: u64, octets: &Bytes<A>) -> Result<StreamAct<Bytes<A>>, Failure>
         requires { IsShort self.old.stream }
-        ensures rule { IfOk result (λ act. (table : Table) (peer : List ℕ) → StreamRule table peer self.old.stream act) }
+        ensures rule { IfOk result (λ act. (table : Table) → StreamRule table self.old.stream act) }
         ensures call { IfOk result (λ act. stream_call_of act ≡ StreamCall.Raw from octets.now) }
         ensures state { IfOk result (λ act. self.new ≡ connected_after self.old act) }
         ensures memory { IfOk result (λ act. (table : Table) → table_by_stream table act ≡ table) }
@@ -197,7 +200,7 @@ impl<A: Allocator + Copy> Connection<A> {
     }
 
     fn mulpdu(&mut self, size: u32) -> StreamAct<Bytes<A>>
-        ensures rule { (table : Table) (peer : List ℕ) → StreamRule table peer self.old.stream result }
+        ensures rule { (table : Table) → StreamRule table self.old.stream result }
         ensures call { stream_call_of result ≡ StreamCall.Mulpdu size }
         ensures state { self.new ≡ connected_after self.old result }
         ensures memory { (table : Table) → table_by_stream table result ≡ table }
@@ -207,7 +210,7 @@ impl<A: Allocator + Copy> Connection<A> {
     }
 
     fn accept(&mut self, private: &Bytes<A>) -> Result<StreamAct<Bytes<A>>, Failure>
-        ensures rule { IfOk result (λ act. (table : Table) (peer : List ℕ) → StreamRule table peer self.old.stream act) }
+        ensures rule { IfOk result (λ act. (table : Table) → StreamRule table self.old.stream act) }
         ensures call { IfOk result (λ act. stream_call_of act ≡ StreamCall.Accept private.now) }
         ensures state { IfOk result (λ act. self.new ≡ connected_after self.old act) }
         ensures memory { IfOk result (λ act. (table : Table) → table_by_stream table act ≡ table) }
@@ -230,7 +233,7 @@ impl<A: Allocator + Copy> Connection<A> {
     }
 
     fn reject(&mut self, private: &Bytes<A>) -> Result<StreamAct<Bytes<A>>, Failure>
-        ensures rule { IfOk result (λ act. (table : Table) (peer : List ℕ) → StreamRule table peer self.old.stream act) }
+        ensures rule { IfOk result (λ act. (table : Table) → StreamRule table self.old.stream act) }
         ensures call { IfOk result (λ act. stream_call_of act ≡ StreamCall.Reject private.now) }
         ensures state { IfOk result (λ act. self.new ≡ connected_after self.old act) }
         ensures memory { IfOk result (λ act. (table : Table) → table_by_stream table act ≡ table) }
@@ -255,7 +258,7 @@ impl<A: Allocator + Copy> Connection<A> {
     #[tactic(auto, using(crate::proofs::Seeing::table_of_seen, crate::proofs::Seeing::worked_seen))]
     fn work(&mut self, alloc: A, memory: &mut Memory<A>) -> Result<StreamAct<Bytes<A>>, Failure>
         requires { IsShort self.old.stream }
-        ensures rule { IfOk result (λ act. (peer : List ℕ) → StreamRule memory.old peer self.old.stream act) }
+        ensures rule { IfOk result (λ act. StreamRule memory.old self.old.stream act) }
         ensures call { IfOk result (λ act. stream_call_of act ≡ StreamCall.Work) }
         ensures state { IfOk result (λ act. self.new ≡ connected_after self.old act) }
         ensures memory { IfOk result (λ act. memory.new ≡ table_by_stream memory.old act) }

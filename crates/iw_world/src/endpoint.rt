@@ -1,6 +1,6 @@
 ghost use Rattle.std.specs.Prelude.{◌≡◌, ◌≤◌, ◌^◌, true, false, length, is_some, unwrap_or, IfOk, IfErr, OnErr, Some, None, slice_index_or};
 ghost use Rattle.iw_world.specs.Words.{table_by_stream, config_for};
-ghost use Rattle.iw_world.specs.Rules.{unconnected, connected_after, StreamRule, needs_peer};
+ghost use Rattle.iw_world.specs.Rules.{unconnected, connected_after, StreamRule, WireRule, needs_peer};
 ghost use Rattle.iw_world.specs.Bounds.{IsShort, AsksOver};
 ghost use Rattle.std.specs.Option.{option_copied};
 ghost use Rattle.iw_events.specs.Events.{call_of, stream_call_of};
@@ -33,7 +33,7 @@ impl<A: Allocator> Model for Endpoint<A> {
 }
 
 impl<A: Allocator + Copy> Endpoint<A> {
-    ghost use Rattle.iw_world.specs.Rules.{fresh, end_after, Rule, has_stream, stream_at, register_answer, open_refusal, opened_end};
+    ghost use Rattle.iw_world.specs.Rules.{fresh, end_after, EndRule, PeerRule, has_stream, stream_at, register_answer, open_refusal, opened_end};
     ghost use Rattle.iw_world.specs.Calls.{deregister_answer};
     ghost use Rattle.iw_world.specs.Bounds.{IsShortEnd, LacksStream, AsksTooMuch};
 
@@ -83,7 +83,8 @@ impl<A: Allocator + Copy> Endpoint<A> {
     ) -> Result<Act<Bytes<A>>, Failure>
         requires short { IsShortEnd self.old }
         requires peer { IsShortEnd peer.now }
-        ensures rule { IfOk result (λ act. Rule self.old peer.now act) }
+        ensures rule { IfOk result (λ act. EndRule self.old act) }
+        ensures peer { IfOk result (λ act. PeerRule peer.now act) }
         ensures call { IfOk result (λ act. call_of act ≡ call.now) }
         ensures state { IfOk result (λ act. self.new ≡ end_after self.old act) }
         ensures no_stream { result ≡ Err Failure.NoSuchStream → LacksStream self.old peer.now call.now }
@@ -118,7 +119,7 @@ impl<A: Allocator + Copy> Endpoint<A> {
     }
 
     fn add_domain(&mut self, pd: u8) -> Act<Bytes<A>>
-        ensures rule { Rule self.old self.old result }
+        ensures rule { EndRule self.old result }
         ensures call { call_of result ≡ Call.Domain pd }
         ensures state { self.new ≡ end_after self.old result }
     {
@@ -134,7 +135,7 @@ impl<A: Allocator + Copy> Endpoint<A> {
         rights: Rights,
         octets: &Bytes<A>,
     ) -> Result<Act<Bytes<A>>, Failure>
-        ensures rule { IfOk result (λ act. Rule self.old self.old act) }
+        ensures rule { IfOk result (λ act. EndRule self.old act) }
         ensures call { IfOk result (λ act. call_of act ≡ Call.Register pd base rights octets.now) }
         ensures state { IfOk result (λ act. self.new ≡ end_after self.old act) }
         ensures failure { IfErr result (λ failure. failure ≡ Failure.NoMemory) }
@@ -170,7 +171,7 @@ impl<A: Allocator + Copy> Endpoint<A> {
     }
 
     fn deregister(&mut self, stag: Stag) -> Result<Act<Bytes<A>>, Failure>
-        ensures rule { IfOk result (λ act. Rule self.old self.old act) }
+        ensures rule { IfOk result (λ act. EndRule self.old act) }
         ensures call { IfOk result (λ act. call_of act ≡ Call.Deregister stag) }
         ensures state { IfOk result (λ act. self.new ≡ end_after self.old act) }
         ensures failure { IfErr result (λ failure. failure ≡ Failure.NoMemory) }
@@ -191,7 +192,7 @@ impl<A: Allocator + Copy> Endpoint<A> {
     }
 
     fn invalidate(&mut self, stag: Stag) -> Act<Bytes<A>>
-        ensures rule { Rule self.old self.old result }
+        ensures rule { EndRule self.old result }
         ensures call { call_of result ≡ Call.Invalidate stag }
         ensures state { self.new ≡ end_after self.old result }
     {
@@ -200,7 +201,7 @@ impl<A: Allocator + Copy> Endpoint<A> {
     }
 
     fn store(&mut self, stag: Stag, to: u64, octets: &Bytes<A>) -> Result<Act<Bytes<A>>, Failure>
-        ensures rule { IfOk result (λ act. Rule self.old self.old act) }
+        ensures rule { IfOk result (λ act. EndRule self.old act) }
         ensures call { IfOk result (λ act. call_of act ≡ Call.Store stag to octets.now) }
         ensures state { IfOk result (λ act. self.new ≡ end_after self.old act) }
         ensures failure { IfErr result (λ failure. failure ≡ Failure.NoMemory) }
@@ -224,7 +225,7 @@ impl<A: Allocator + Copy> Endpoint<A> {
         options: Options,
         private: &Bytes<A>,
     ) -> Result<Act<Bytes<A>>, Failure>
-        ensures rule { IfOk result (λ act. Rule self.old self.old act) }
+        ensures rule { IfOk result (λ act. EndRule self.old act) }
         ensures call { IfOk result (λ act. call_of act ≡ Call.Open number pd role options private.now) }
         ensures state { IfOk result (λ act. self.new ≡ end_after self.old act) }
         ensures failure { IfErr result (λ failure. failure ≡ Failure.NoMemory) }
@@ -281,7 +282,8 @@ impl<A: Allocator + Copy> Endpoint<A> {
     ) -> Result<StreamAct<Bytes<A>>, Failure>
         requires short { IsShortEnd self.old }
         requires peer { IsShortEnd peer.now }
-        ensures rule { IfOk result (λ act. Rule self.old peer.now (Act.Stream number act)) }
+        ensures rule { IfOk result (λ act. EndRule self.old (Act.Stream number act)) }
+        ensures peer { IfOk result (λ act. PeerRule peer.now (Act.Stream number act)) }
         ensures call { IfOk result (λ act. stream_call_of act ≡ call.now) }
         ensures state { IfOk result (λ act. self.new ≡ end_after self.old (Act.Stream number act)) }
         ensures no_stream { result ≡ Err Failure.NoSuchStream → LacksStream self.old peer.now (Call.Stream number call.now) }
@@ -337,7 +339,8 @@ fn act_at<A: Allocator + Copy>(
     requires short { IsShort (unwrap_or place.old unconnected).stream }
     requires wire { length wire.now ≤ 2 ^ 62 }
     ensures there { IfOk result (λ act. is_some place.old ≡ true) }
-    ensures rule { IfOk result (λ act. StreamRule memory.old wire.now (unwrap_or place.old unconnected).stream act) }
+    ensures rule { IfOk result (λ act. StreamRule memory.old (unwrap_or place.old unconnected).stream act) }
+    ensures wire { IfOk result (λ act. WireRule wire.now act) }
     ensures call { IfOk result (λ act. stream_call_of act ≡ call.now) }
     ensures state { IfOk result (λ act. place.new ≡ Some (connected_after (unwrap_or place.old unconnected) act)) }
     ensures memory { IfOk result (λ act. memory.new ≡ table_by_stream memory.old act) }
