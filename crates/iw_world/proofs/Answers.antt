@@ -29,7 +29,7 @@ use Rattle.iw_stream.proofs.Inverse.{PlacesWrite, Hears, HearsReply, unheard}
 use Rattle.iw_events.specs.declared.act.Seen.{Seen}
 use Rattle.iw_events.specs.declared.act.Seen.TheVariants as seen
 use Rattle.iw_world.specs.Words.{Octets}
-use Rattle.iw_world.specs.Turns.{Standing, placement, verdict, turn_by, turn_of, fault_or, completed, next_frame, ReadsFrames, IsJudged, HasTurn, TurnsSeen, HearsFrame, private_heard}
+use Rattle.iw_world.specs.Turns.{Standing, placement, verdict, turn_by, turn_of, fault_or, completed, ReadsFrames, IsJudged, HasTurn, TurnsSeen, HearsFrame, private_heard}
 use Rattle.iw_world.specs.Turns.{is_open as words_open}
 use Rattle.iw_world.specs.Rest.{HasRest, Over, AwaitsFrame, AwaitsAnswer, NoFrame}
 use Rattle.iw_world.specs.Rules.{seen_of}

@@ -1,9 +1,9 @@
 -- How many messages segments carry to their ends.
-use Rattle.std.proofs.Common.{◌≡◌, ℕ, zero, suc, ◌+◌, ◌-◌, ◌/◌, ◌%◌, ◌^◌, ◌<◌, ◌≤◌, List, [], ◌∷◌, ◌++◌, length, take, drop, map, Option, Some, None, Bool, true, false, cond, refl, sym, ap, ◌∙◌, subst, arith, append_assoc, length-append, add-one, get_or, ◌==◌}
+use Rattle.std.proofs.Common.{◌≡◌, ℕ, zero, suc, ◌+◌, ◌/◌, ◌%◌, ◌^◌, ◌<◌, ◌≤◌, List, [], ◌∷◌, ◌++◌, length, take, drop, map, Some, None, Bool, true, false, cond, refl, sym, ap, ◌∙◌, subst, arith, append_assoc, get_or, ◌==◌}
 use Rattle.std.specs.Prelude.{slice_get, is_some}
 use Rattle.std.specs.Option.{option_map_or}
 use Rattle.std.proofs.lemmas.List.{append-nil, map-append, length_push}
-use Rattle.std.proofs.lemmas.Option.{none-some, same_Some, some_pair_parts}
+use Rattle.std.proofs.lemmas.Option.{none-some, some_pair_parts}
 use Rattle.std.proofs.lemmas.Bool.Decides.{nat_tests}
 use Rattle.iw_octets.specs.declared.message.Message.{Message}
 use Rattle.iw_octets.specs.declared.message.Message.TheVariants.{Write, Send}
@@ -17,7 +17,7 @@ use Rattle.iw_fpdu.specs.declared.layout.Layout.{Layout}
 use Rattle.iw_fpdu.specs.Frame.{frame_octets, frame_end, max_sent}
 use Rattle.iw_fpdu.specs.Sequence.{Carried, intact, sequence, first_frame}
 use Rattle.iw_fpdu.specs.Laws.{IsBetween}
-use Rattle.iw_fpdu.proofs.Sequences.{written_is_first, next_between, first_takes}
+use Rattle.iw_fpdu.proofs.Sequences.{written_is_first, next_between}
 use Rattle.iw_queues.specs.declared.request.Kind.{Kind}
 use Rattle.iw_queues.specs.declared.request.Request.{Request}
 use Rattle.iw_queues.specs.declared.request.Request.TheVariants.{Message as Posted, Read}
@@ -25,7 +25,7 @@ use Rattle.iw_queues.specs.declared.completions.Done.{Done}
 use Rattle.iw_queues.specs.declared.completions.Sent.{Sent as WasSent}
 use Rattle.iw_queues.specs.declared.send_queue.Part.{Part}
 use Rattle.iw_queues.specs.Request.{kind_of, payload}
-use Rattle.iw_queues.specs.Completions.{Outstanding, added, done_from, is_finished_when_sent}
+use Rattle.iw_queues.specs.Completions.{added, done_from, is_finished_when_sent}
 use Rattle.iw_queues.specs.Queue.{Queue, next_part, part_sent, posted, done_in, handed_from, behind_oldest}
 use Rattle.iw_queues.specs.Segments.{Numbers, IsCut, AreSegments, AreSpelled, write_segment, send_segment, request_segment, segment_with, segment_of, numbers_after, control_of, write_opcode, send_opcode}
 use Rattle.iw_queues.specs.Laws.{kinds_in}
@@ -33,7 +33,7 @@ use Rattle.iw_queues.proofs.Order.{keeps_order}
 use Rattle.iw_world.specs.Words.{Octets}
 use Rattle.iw_world.specs.Safe.{requests}
 use Rattle.iw_world.specs.Sends.{is_last}
-use Rattle.iw_world.proofs.Lists.{Each, each-push, each-rest}
+use Rattle.iw_world.proofs.Lists.{Each, each-push}
 use Rattle.iw_world.proofs.Sending.{FitsRequest, IsSendable}
 use Rattle.iw_world.proofs.Located.{none_first}
 

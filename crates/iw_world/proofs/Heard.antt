@@ -1,14 +1,12 @@
 -- Ends that understand each other: behind the start-up frame that an end has read stand the frames that the other has sent, laid out as it expects them.
-use Rattle.std.proofs.Common.{◌≡◌, ℕ, ◌+◌, ◌≤◌, List, [], ◌∷◌, ◌++◌, length, map, Option, Some, None, Bool, true, false, refl, sym, ap, ◌∙◌, subst, arith, append_assoc, length-append, inl, inr, ◌⊎◌}
+use Rattle.std.proofs.Common.{◌≡◌, ℕ, ◌≤◌, List, [], ◌++◌, length, map, Option, Some, None, Bool, true, false, refl, sym, ap, ◌∙◌, subst, arith, append_assoc, length-append, inl, inr, ◌⊎◌}
 use Rattle.std.specs.Prelude.{is_some, IsTrue}
 use Rattle.std.specs.Option.{option_map_or}
-use Rattle.std.proofs.lemmas.List.{append-nil}
-use Rattle.std.proofs.lemmas.Bool.{true≢false, false≢true}
+use Rattle.std.proofs.lemmas.Bool.{false≢true}
 use Rattle.arrayvec.specs.ArrayVec.{ArrayVec}
 use Rattle.iw_octets.specs.declared.segment.Segment.{Segment}
 use Rattle.iw_octets.specs.Segment.{segment_octets}
 use Rattle.iw_ranges.specs.InOrder.{IsOf}
-use Rattle.iw_ranges.specs.Arrived.{in_order}
 use Rattle.iw_ranges.proofs.InOrder.{of_prefix}
 use Rattle.iw_fpdu.specs.declared.layout.Layout.{Layout}
 use Rattle.iw_fpdu.specs.Sequence.{sequence}
@@ -19,15 +17,12 @@ use Rattle.iw_startup.specs.declared.side.Side.TheVariants as sides
 use Rattle.iw_startup.specs.declared.side.Reply.{Reply}
 use Rattle.iw_startup.specs.declared.side.Reply.TheVariants as replies
 use Rattle.iw_startup.specs.State.{StartupState, IsReached, own_frame, reply_frame, agreed_of, private_in, frame_of, is_answered}
-use Rattle.iw_startup.specs.Laws.{agreed_between, from_other_end}
 use Rattle.iw_startup.proofs.Ends.{least_end}
 use Rattle.iw_startup.proofs.Openings.{unanswered_not_agreed}
 use Rattle.iw_startup.proofs.Agreement.{IsAgreed, Asking, Accepting, is_agreed, HasRead, has_read, request_read, reply_read, rejection_read, Agree, both_agree}
-use Rattle.iw_stream.specs.declared.answer.Role.{Role}
 use Rattle.iw_stream.specs.declared.answer.Role.TheVariants.{Preset, Initiator, Responder}
 use Rattle.iw_stream.specs.Stream.{StreamState, inbox, plain, layout_in, layout_out, layout_at_first, is_open}
 use Rattle.iw_world.specs.Words.{Octets, Opening}
-use Rattle.iw_world.specs.Turns.{Story}
 use Rattle.iw_world.specs.Rules.{Connected}
 use Rattle.iw_world.specs.Safe.{Fits}
 use Rattle.iw_world.proofs.Tales.{Tale}

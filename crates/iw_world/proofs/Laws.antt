@@ -4,7 +4,7 @@ use Rattle.std.proofs.lemmas.List.{append-nil, length-map}
 use Rattle.std.specs.Prelude.{option_map, is_some, not, nat_le, nat_lt, min, Bool, ◌&&◌, ◌||◌, Result, IfOk}
 use Rattle.std.specs.Result.{result_err}
 use Rattle.std.specs.Option.{option_map_or}
-use Rattle.std.proofs.lemmas.Bool.{false≢true, true≢false}
+use Rattle.std.proofs.lemmas.Bool.{false≢true}
 use Rattle.iw_octets.specs.Segment.{segment_octets}
 use Rattle.iw_memory.specs.declared.refusal.RegisterRefusal.{RegisterRefusal}
 use Rattle.iw_memory.specs.declared.refusal.RegisterRefusal.TheVariants as register_refusals
@@ -43,7 +43,6 @@ use Rattle.iw_ranges.specs.Arrived.{advanced, delivery}
 use Rattle.iw_startup.specs.declared.config.Agreed.{Agreed}
 use Rattle.iw_startup.specs.declared.startup.NotAsked.{NotAsked}
 use Rattle.iw_events.specs.declared.act.OpenRefusal.TheVariants.{NumberTaken, BadNumber, NoDomain}
-use Rattle.iw_stream.specs.Stream as streams
 use Rattle.iw_events.specs.declared.call.End.{End}
 use Rattle.iw_events.specs.declared.call.Call.{Call}
 use Rattle.iw_events.specs.declared.call.Call.TheVariants as calls
@@ -58,9 +57,9 @@ use Rattle.iw_world.specs.Words.{Octets, other, acts, deed, buffers, finished_ki
 use Rattle.iw_world.specs.Safe.{IsHonest, InOrder, requests, CoversWrites, Covered, Fits, Within, WithinStream}
 use Rattle.iw_world.specs.Sends.{AreFirstFrames, Emission, AreAllFrames, HasNothing, Over, Closed, AllSent, NothingShown, NothingStream, NothingOnlyAtRest, FrameSized, SizedStream, Sized, FrameAllowed, SpeaksStream, Speaks, CanFinish, FinishedStream, Finished}
 use Rattle.iw_world.specs.Sends.{Silent as Muted}
-use Rattle.iw_world.specs.Turns.{story, story_of, start_frame, sending, is_open, is_silent, standing, TurnsSeen, TurnsStream, Turns}
-use Rattle.iw_world.specs.Rest.{IsAtRest, IdleStream, IdleOnlyAtRest}
-use Rattle.iw_world.specs.Calls.{deregister_answer, invalidate_refusal, IsNew, open_refusal_by, EndAnswered, ShowsMemory, recv_refusal_by, post_refusal_by, is_asked, Accepted, Rejected, StreamAnswered, AnsweredStream, Answered, delivery_by, KeptStream, KeepsOctets, StandIn, CarriedStream, CarriesOctets}
+use Rattle.iw_world.specs.Turns.{story, story_of, start_frame, sending, standing, TurnsSeen, TurnsStream, Turns}
+use Rattle.iw_world.specs.Rest.{IdleStream, IdleOnlyAtRest}
+use Rattle.iw_world.specs.Calls.{deregister_answer, invalidate_refusal, IsNew, open_refusal_by, EndAnswered, ShowsMemory, recv_refusal_by, post_refusal_by, is_asked, Accepted, Rejected, StreamAnswered, AnsweredStream, Answered, delivery_by, KeptStream, KeepsOctets, CarriedStream, CarriesOctets}
 use Rattle.iw_world.specs.Each.{OnSome, OnStream, AtEach}
 use Rattle.iw_world.specs.Rules.{Connected, EndState, State, end_of, has_stream, stream_at, start, open_refusal, register_answer, accept_answer, answer_refusal, Rule, EndRule, PeerRule, WireRule, StreamRule, state_after, Follows}
 use Rattle.iw_world.specs.Bounds.{LacksStream, AsksTooMuch, AsksOver}

@@ -1,5 +1,5 @@
 -- What was sent of the messages that were posted, and which of them can be finished.
-use Rattle.std.proofs.Common.{◌≡◌, ◌⊎◌, ℕ, ◌+◌, ◌-◌, ◌<◌, ◌≤◌, List, [], ◌∷◌, ◌++◌, length, take, map, Option, Some, None, true, false, refl, sym, ap, ◌∙◌, subst, arith, append_assoc, length-append, inl, inr}
+use Rattle.std.proofs.Common.{◌≡◌, ℕ, ◌+◌, ◌<◌, ◌≤◌, List, [], ◌∷◌, ◌++◌, length, take, map, Some, None, true, false, refl, sym, ap, ◌∙◌, subst, arith, append_assoc, length-append}
 use Rattle.std.specs.Prelude.{is_some, not, nat_eq, Bool, ◌&&◌}
 use Rattle.std.specs.Option.{option_map_or}
 use Rattle.std.proofs.lemmas.List.{append-nil, map-append, length-map, length-take-le, take-map, append_cancel_left}
@@ -13,8 +13,8 @@ use Rattle.iw_fpdu.proofs.Follows.{frames_follow}
 use Rattle.iw_queues.specs.declared.request.Kind.{Kind}
 use Rattle.iw_queues.specs.declared.request.Request.TheVariants.{Message as Posted}
 use Rattle.iw_queues.specs.declared.completions.Done.{Done}
-use Rattle.iw_queues.specs.Queue.{Queue, done_in, handed_from}
-use Rattle.iw_queues.specs.Segments.{first_numbers, AreSpelled, segment_of}
+use Rattle.iw_queues.specs.Queue.{done_in, handed_from}
+use Rattle.iw_queues.specs.Segments.{first_numbers, AreSpelled}
 use Rattle.iw_queues.specs.Laws.{kinds_in}
 use Rattle.iw_queues.proofs.Order.{keeps_order}
 use Rattle.iw_queues.proofs.Sending.{sends_in_order}

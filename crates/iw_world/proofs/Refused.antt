@@ -1,49 +1,40 @@
 -- Each wrong run breaks its law.
-use Rattle.std.proofs.Common.{◌≡◌, ℕ, zero, suc, ◌+◌, ◌-◌, ◌≤◌, List, [], ◌∷◌, ◌++◌, length, take, replicate, Option, Some, None, Ok, Bool, true, false, refl, sym, ap, ◌∙◌, arith, inl, inr, get_or}
-use Rattle.std.specs.Prelude.{slice_get}
+use Rattle.std.proofs.Common.{◌≡◌, ℕ, zero, suc, ◌≤◌, [], ◌∷◌, ◌++◌, length, take, replicate, Some, None, Ok, true, false, refl, sym, ap, ◌∙◌, arith, inl, inr, get_or}
 use Rattle.std.specs.Option.{option_map_or}
 use Rattle.std.proofs.lemmas.Bool.{false≢true, true≢false}
 use Rattle.std.proofs.lemmas.Option.{none-some}
 use Rattle.iw_octets.specs.declared.message.Message.{Message}
 use Rattle.iw_octets.specs.declared.message.Message.TheVariants as messages
 use Rattle.iw_octets.specs.declared.segment.Segment.{Segment}
-use Rattle.iw_octets.specs.declared.segment.Segment.TheVariants.{Untagged}
 use Rattle.iw_octets.specs.Head.{untagged_octets}
 use Rattle.iw_octets.specs.Segment.{segment_octets}
 use Rattle.iw_memory.specs.Table.{empty}
 use Rattle.iw_memory.specs.declared.refusal.DomainRefusal.TheVariants.{DomainTaken}
-use Rattle.iw_ranges.specs.declared.Delivery.{Delivery}
 use Rattle.iw_ranges.specs.declared.Delivery.TheVariants.{Kept, Dropped}
 use Rattle.iw_ranges.specs.Arrived.{in_order, taken_in, held}
-use Rattle.iw_fpdu.specs.declared.layout.Layout.{Layout}
-use Rattle.iw_fpdu.specs.Places.{data_place, data_index, in_marker, place_after, frame_start, span_start}
-use Rattle.iw_fpdu.specs.Frame.{frame_octets, frame_size, field_place, bare_data, crc_field, laid, octet_at, marker_value}
+use Rattle.iw_fpdu.specs.Places.{data_place, data_index, in_marker, place_after, span_start}
+use Rattle.iw_fpdu.specs.Frame.{frame_octets, frame_size, laid, octet_at, marker_value}
 use Rattle.iw_fpdu.specs.Sequence.{sequence}
 use Rattle.iw_fpdu.proofs.Written.{frame_is}
 use Rattle.iw_fpdu.proofs.Sequences.{length_written}
-use Rattle.iw_queues.specs.declared.request.Kind.{Kind}
 use Rattle.iw_queues.specs.declared.request.Kind.TheVariants as kinds
 use Rattle.iw_queues.specs.declared.request.Request.TheVariants.{Message as Posted}
 use Rattle.iw_queues.specs.Request.{kind_of}
 use Rattle.iw_queues.specs.Segments.{send_segment}
-use Rattle.iw_startup.specs.declared.progress.Progress.{Progress}
 use Rattle.iw_startup.specs.declared.progress.Progress.TheVariants as progress
-use Rattle.iw_startup.specs.Frame.{start_frame as startup_octets}
-use Rattle.iw_startup.specs.Peer.{progress_of, frame_end as startup_end, frame_part, fixed_fault}
+use Rattle.iw_startup.specs.Peer.{progress_of, frame_end as startup_end, fixed_fault}
 use Rattle.iw_startup.specs.State.{StartupState, agreed_of, pushed}
 use Rattle.iw_stream.specs.Stream.{plain}
-use Rattle.iw_stream.specs.declared.answer.Role.TheVariants.{Preset, Initiator, Responder}
-use Rattle.iw_events.specs.declared.call.End.TheVariants.{A, B}
+use Rattle.iw_events.specs.declared.call.End.TheVariants.{A}
 use Rattle.iw_events.specs.declared.act.Act.TheVariants.{Domain}
 use Rattle.iw_events.specs.declared.act.Seen.TheVariants as seen
 use Rattle.iw_events.specs.declared.act.StreamAct.TheVariants.{Emit, Deliver, Accept}
 use Rattle.iw_events.specs.declared.act.Shown.TheVariants.{Frame}
-use Rattle.iw_world.specs.Words.{Octets, acts, stream_acts, openings, ended, sent, size_set, posted, finished_kinds, buffers, table_after}
-use Rattle.iw_world.specs.Turns.{Story, story, story_of, is_open}
-use Rattle.iw_world.specs.Rest.{HasRest, Over, AwaitsFrame, AwaitsAnswer, NoFrame}
-use Rattle.iw_world.specs.Sends.{IsFrameOf, IsSentMessage}
-use Rattle.iw_world.specs.WrongRuns
-use Rattle.iw_world.specs.WrongRuns.{Run, a, b, on, raw, works, places, registers, emits, sends_one, send_frame, reads_behind_fault, reads_unopened, rests_with_reply, never_finished, finished_unsent, finished_as_write, sends_too_large, sends_elsewhere, sends_behind_end, delivers_others, keeps_behind_end, accepts_unasked, answers_stag_again}
+use Rattle.iw_world.specs.Words.{Octets, acts, stream_acts, openings, ended, sent, size_set, posted, finished_kinds, table_after}
+use Rattle.iw_world.specs.Turns.{story, story_of}
+use Rattle.iw_world.specs.Rest.{Over, AwaitsFrame, AwaitsAnswer, NoFrame}
+use Rattle.iw_world.specs.Sends.{IsSentMessage}
+use Rattle.iw_world.specs.WrongRuns.{a, b, on, raw, works, places, registers, emits, send_frame, reads_behind_fault, reads_unopened, rests_with_reply, never_finished, finished_unsent, finished_as_write, sends_too_large, sends_elsewhere, sends_behind_end, delivers_others, keeps_behind_end, accepts_unasked, answers_stag_again}
 use Rattle.iw_world.specs.WrongRuns.{RefusesFramesBehindFault, RefusesFramesUnopened, RefusesRestWithReply, RefusesNeverFinished, RefusesFinishedUnsent, RefusesFinishedAsWrite, RefusesTooLarge, RefusesElsewhere, RefusesBehindEnd, RefusesOtherOctets, RefusesKeptBehindEnd, RefusesUnaskedAccept, RefusesWrongRefusal, RefusesSameStag}
 use Rattle.iw_world.proofs.Messages.{nothing_sent}
 

@@ -1,10 +1,9 @@
 -- The state of both ends, which answer is right in a state, and what each entry leaves of it.
-use Rattle.std.specs.Prelude.{◌≡◌, ℕ, ◌+◌, ◌≤◌, List, [], ◌∷◌, ◌++◌, length, take, drop, replicate, slice_index_or, slice_set, Bool, true, false, not, nat_le, is_some, unwrap_or, if◌then◌else◌, Option, Some, None, Ok, Err, Result}
+use Rattle.std.specs.Prelude.{◌≡◌, ℕ, List, [], ◌∷◌, ◌++◌, length, take, replicate, slice_index_or, slice_set, Bool, true, false, not, nat_le, is_some, unwrap_or, if◌then◌else◌, Option, Some, None, Ok, Err, Result}
 use Rattle.std.specs.Option.{option_map_or}
 use Rattle.iw_octets.specs.declared.stag.Stag.{Stag}
-use Rattle.iw_memory.specs.declared.refusal.NoRegion.{NoRegion}
 use Rattle.iw_memory.specs.declared.refusal.RegisterRefusal.{RegisterRefusal}
-use Rattle.iw_memory.specs.Table.{Table, empty, is_added, domain_refusal, register_refusal, store_refusal, next_stag, region_at, octets_at}
+use Rattle.iw_memory.specs.Table.{Table, empty, is_added, domain_refusal, register_refusal, store_refusal, next_stag, octets_at}
 use Rattle.arrayvec.specs.ArrayVec.{ArrayVec}
 use Rattle.iw_startup.specs.declared.config.Agreed.{Agreed}
 use Rattle.iw_startup.specs.declared.startup.NotAsked.{NotAsked}

@@ -1,5 +1,5 @@
 -- What became of each frame that came, in words of the trace alone.
-use Rattle.std.specs.Prelude.{◌≡◌, ◌⊎◌, ℕ, ◌+◌, ◌==◌, ◌&&◌, List, [], ◌++◌, ◌∷◌, length, take, drop, replicate, is_some, slice_get, fold, Bool, true, false, if◌then◌else◌, Option, Some, None}
+use Rattle.std.specs.Prelude.{◌≡◌, ◌⊎◌, ℕ, ◌+◌, ◌==◌, ◌&&◌, List, [], length, take, drop, replicate, is_some, slice_get, fold, Bool, true, false, if◌then◌else◌, Option, Some, None}
 use Rattle.std.specs.Option.{option_map, option_map_or}
 use Rattle.iw_octets.specs.declared.fault.Fault.{Fault}
 use Rattle.iw_octets.specs.declared.fault.TheConstants.Fault as faults
@@ -14,7 +14,6 @@ use Rattle.iw_untagged.specs.Receiving.{Receiving, nothing_received, with_buffer
 use Rattle.iw_startup.specs.declared.config.Agreed.{Agreed}
 use Rattle.iw_startup.specs.declared.progress.Progress.{Progress}
 use Rattle.iw_startup.specs.declared.progress.Progress.TheVariants as progress
-use Rattle.iw_startup.specs.declared.side.Reply.{Reply}
 use Rattle.iw_startup.specs.Peer.{frame_part, progress_of}
 use Rattle.iw_startup.specs.State.{StartupState, is_responder, pushed, answered, frame_of, agreed_of, agreement, private_of}
 use Rattle.iw_stream.specs.Stream.{plain, layout_in, layout_out, layout_at_first, startup_at_first, segment_in, payload_of, turned_by}

@@ -1,10 +1,8 @@
 -- Runs that no two ends make, each of which breaks one law. A law that is false of its run is enough to refuse it.
-use Rattle.std.specs.Prelude.{ℕ, Bool, true, false, List, [], ◌∷◌, ◌++◌, replicate, Some, None, Ok}
+use Rattle.std.specs.Prelude.{ℕ, true, false, List, [], ◌∷◌, ◌++◌, replicate, Some, None, Ok}
 use Rattle.iw_octets.specs.declared.fault.TheConstants.Fault as faults
-use Rattle.iw_octets.specs.declared.message.Message.{Message}
 use Rattle.iw_octets.specs.declared.message.Message.TheVariants as messages
 use Rattle.iw_octets.specs.declared.stag.Stag.{Stag}
-use Rattle.iw_memory.specs.declared.rights.Rights.{Rights}
 use Rattle.iw_memory.specs.declared.rights.Right.TheVariants as rights
 use Rattle.iw_memory.specs.declared.refusal.DomainRefusal.TheVariants.{DomainTaken}
 use Rattle.iw_ranges.specs.declared.Delivery.TheVariants.{Kept}
