@@ -1,9 +1,11 @@
 -- Reading undoes writing, whatever stands behind, and writing undoes reading; what is read is read off the octets at the front.
-use Rattle.std.specs.Prelude.{ℕ, ◌≡◌, ◌<◌, ◌+◌, ◌*◌, ◌/◌, ◌%◌, true, false, List, [], ◌∷◌, ◌++◌, slice_index, Some, codes, replicate}
+use Rattle.std.specs.Prelude.{ℕ, ◌≡◌, ◌<◌, ◌+◌, ◌*◌, ◌/◌, ◌%◌, true, false, List, [], ◌∷◌, ◌++◌, slice_index, Some, None, codes, replicate}
 use Rattle.iw_octets.specs.declared.fault.Fault.{Fault}
 use Rattle.iw_octets.specs.declared.fault.TheConstants.Fault as faults
 use Rattle.iw_octets.specs.declared.head.TaggedHead.{TaggedHead}
 use Rattle.iw_octets.specs.declared.head.UntaggedHead.{UntaggedHead}
+use Rattle.iw_octets.specs.declared.operation.TaggedOperation.{TaggedOperation}
+use Rattle.iw_octets.specs.declared.operation.UntaggedOperation.{UntaggedOperation}
 use Rattle.iw_octets.specs.declared.payload.ReadRequest.{ReadRequest}
 use Rattle.iw_octets.specs.declared.payload.TerminateWord.{TerminateWord}
 use Rattle.iw_octets.specs.declared.segment.Segment.{Segment}
@@ -11,6 +13,7 @@ use Rattle.iw_octets.specs.declared.stag.Stag.{Stag}
 use Rattle.iw_octets.specs.Stag.{number_of, FitsStag}
 use Rattle.iw_octets.specs.Crc.{after_octets, crc32c}
 use Rattle.iw_octets.specs.Head.{is_tagged, tagged_octets, untagged_octets, read_tagged, read_untagged, FitsTagged, FitsUntagged}
+use Rattle.iw_octets.specs.Operation.{rdmap_version, opcode_of, control_of, tagged_opcode, untagged_opcode, tagged_operation, untagged_operation}
 use Rattle.iw_octets.specs.Payload.{request_octets, read_request, word_octets, read_word, FitsRequest, FitsWord}
 use Rattle.iw_octets.specs.Segment.{segment_octets, read_segment, FitsSegment, with_behind}
 
@@ -72,6 +75,14 @@ pub record KnownFaults : Type 0 where
   pub untagged_version : faults.UNTAGGED_VERSION ≡ numbered 1 2 6
   pub crc_mismatch : faults.CRC_MISMATCH ≡ numbered 2 0 2
   pub marker_mismatch : faults.MARKER_MISMATCH ≡ numbered 2 0 3
+
+-- each operation is told by its octet, which has RDMAP's version, and no octet names a tagged operation and an untagged one
+pub record OperationsAreTold : Type 0 where
+  pub tagged : (operation : TaggedOperation) → tagged_operation (opcode_of (control_of (tagged_opcode operation))) ≡ Some operation
+  pub untagged : (operation : UntaggedOperation) → untagged_operation (opcode_of (control_of (untagged_opcode operation))) ≡ Some operation
+  pub tagged_version : (operation : TaggedOperation) → rdmap_version (control_of (tagged_opcode operation)) ≡ 1
+  pub untagged_version : (operation : UntaggedOperation) → rdmap_version (control_of (untagged_opcode operation)) ≡ 1
+  pub apart : (opcode : ℕ) (operation : TaggedOperation) → tagged_operation opcode ≡ Some operation → untagged_operation opcode ≡ None
 
 -- two STags of one number are one
 pub record NumbersTell : Type 0 where

@@ -5,6 +5,7 @@ pub mod Payload
 pub mod Segment
 pub mod Shown
 pub mod ShownSegment
+pub mod Operation
 pub mod Laws
 pub mod Pieces
 pub mod Crc

@@ -1,4 +1,4 @@
-//! The shared vocabulary of the endpoint: octets, STags, messages, headers, faults and the CRC.
+//! The shared vocabulary of the endpoint: octets, STags, messages, headers, operations, faults and the CRC.
 #![tactic(auto)]
 
 mod crc;
@@ -8,6 +8,7 @@ mod head;
 mod laws;
 mod message;
 mod octets;
+mod operation;
 mod payload;
 mod pieces;
 mod segment;
@@ -18,10 +19,12 @@ pub use crc::{Crc, crc32c};
 pub use fault::Fault;
 pub use head::{Short, TaggedHead, UntaggedHead, is_tagged};
 pub use laws::{
-    adds_in_pieces, known_faults, known_values, numbers_tell, reads_again, writes_again,
+    adds_in_pieces, known_faults, known_values, numbers_tell, operations_are_told, reads_again,
+    writes_again,
 };
 pub use message::Message;
 pub use octets::Octets;
+pub use operation::{RDMAP_VERSION, TaggedOperation, UntaggedOperation, rdmap_version};
 pub use payload::{ReadRequest, TerminateWord};
 pub use pieces::{InPieces, gather};
 pub use segment::Segment;

@@ -1,20 +1,21 @@
 -- What a receiver makes of segments in order: Sends that are complete, and octets placed for Writes.
-use Rattle.std.specs.Prelude.{ℕ, ◌≡◌, ◌+◌, ◌%◌, ◌^◌, ◌==◌, ◌&&◌, ◌||◌, Bool, true, false, zero, suc, List, [], ◌∷◌, ◌++◌, if◌then◌else◌, Option, Some, None}
+use Rattle.std.specs.Prelude.{ℕ, ◌≡◌, ◌+◌, ◌%◌, ◌^◌, ◌==◌, ◌&&◌, Bool, true, false, zero, suc, List, [], ◌∷◌, ◌++◌, if◌then◌else◌, Option, Some, None}
 use Rattle.std.specs.Option.{option_map}
 use Rattle.iw_octets.specs.declared.head.UntaggedHead.{UntaggedHead}
 use Rattle.iw_octets.specs.declared.message.Message.TheVariants.{Write, Send}
+use Rattle.iw_octets.specs.declared.operation.TaggedOperation.TheVariants as tagged
+use Rattle.iw_octets.specs.declared.operation.UntaggedOperation.{UntaggedOperation}
+use Rattle.iw_octets.specs.declared.operation.UntaggedOperation.TheVariants as untagged
 use Rattle.iw_octets.specs.declared.segment.Segment.{Segment}
 use Rattle.iw_octets.specs.declared.segment.Segment.TheVariants.{Tagged, Untagged}
 use Rattle.iw_octets.specs.declared.stag.Stag.{Stag}
+use Rattle.iw_octets.specs.Operation.{opcode_of, tagged_opcode, untagged_operation}
 use Rattle.iw_octets.specs.Stag.{number_of}
 use Rattle.iw_queues.specs.declared.request.Request.{Request}
 use Rattle.iw_queues.specs.declared.request.Request.TheVariants.{Message, Read}
 
 abbrev pub IsPrefixOf : {A : Type 0} → List A → List A → Type 0
 IsPrefixOf {A} xs ys = (rest : List A) × (xs ++ rest ≡ ys)
-
-abbrev pub opcode_of : ℕ → ℕ
-opcode_of control = control % 16
 
 -- the octets behind the headers
 abbrev pub payloads : List (Segment (List ℕ)) → List ℕ
@@ -37,12 +38,25 @@ sends (Message (Send octets solicited invalidate) ∷ ms) =
     record { octets = octets; solicited = solicited; invalidate = option_map number_of invalidate } ∷ sends ms
 sends (Read request ∷ ms) = sends ms
 
--- the Send that a last segment completes, by its opcode and its tail (RFC 5040 4.1)
+-- whether a Send is solicited, and whether it has an STag to invalidate; nothing else has either
+abbrev pub is_solicited : Option UntaggedOperation → Bool
+is_solicited (Some (untagged.Send solicited invalidates)) = solicited
+is_solicited (Some untagged.ReadRequest) = false
+is_solicited (Some untagged.Terminate) = false
+is_solicited None = false
+
+abbrev pub is_invalidating : Option UntaggedOperation → Bool
+is_invalidating (Some (untagged.Send solicited invalidates)) = invalidates
+is_invalidating (Some untagged.ReadRequest) = false
+is_invalidating (Some untagged.Terminate) = false
+is_invalidating None = false
+
+-- the Send that a last segment completes, by its operation and its tail (RFC 5040 4.1)
 abbrev pub completed : UntaggedHead → List ℕ → Whole
 completed head octets = record {
   octets = octets;
-  solicited = (opcode_of head.control == 5) || (opcode_of head.control == 6);
-  invalidate = if (opcode_of head.control == 4) || (opcode_of head.control == 6) then Some head.tail else None;
+  solicited = is_solicited (untagged_operation (opcode_of head.control));
+  invalidate = if is_invalidating (untagged_operation (opcode_of head.control)) then Some head.tail else None;
 }
 
 -- the Sends that segments complete, `sofar` being the octets that came before of the one that was begun
@@ -90,5 +104,5 @@ count_before c (suc k) (Message (Send octets solicited invalidate) ∷ ms) = cou
 -- how often it is among the octets of the Writes' segments
 abbrev pub count_segments : Cell → List (Segment (List ℕ)) → ℕ
 count_segments c [] = 0
-count_segments c (Tagged head octets ∷ ss) = (if opcode_of head.control == 0 then count_in c head.stag head.to octets else 0) + count_segments c ss
+count_segments c (Tagged head octets ∷ ss) = (if opcode_of head.control == tagged_opcode tagged.Write then count_in c head.stag head.to octets else 0) + count_segments c ss
 count_segments c (Untagged head octets ∷ ss) = count_segments c ss

@@ -2,10 +2,13 @@
 use Rattle.std.specs.Prelude.{ℕ, ◌≡◌, ◌+◌, ◌%◌, ◌^◌, ◌<◌, ◌≤◌, Bool, true, false, List, [], ◌∷◌, ◌++◌, length, take, drop, if◌then◌else◌, Option, is_some, ◌-◌}
 use Rattle.std.specs.Option.{option_map_or}
 use Rattle.iw_octets.specs.declared.message.Message.TheVariants.{Write, Send}
+use Rattle.iw_octets.specs.declared.operation.TaggedOperation.TheVariants as tagged
+use Rattle.iw_octets.specs.declared.operation.UntaggedOperation.TheVariants as untagged
 use Rattle.iw_octets.specs.declared.payload.ReadRequest.{ReadRequest}
 use Rattle.iw_octets.specs.declared.segment.Segment.{Segment}
 use Rattle.iw_octets.specs.declared.segment.Segment.TheVariants.{Tagged, Untagged}
 use Rattle.iw_octets.specs.declared.stag.Stag.{Stag}
+use Rattle.iw_octets.specs.Operation.{control_of, tagged_opcode, untagged_opcode, queue_of}
 use Rattle.iw_octets.specs.Payload.{request_octets}
 use Rattle.iw_octets.specs.Stag.{number_of}
 use Rattle.iw_queues.specs.declared.request.Request.{Request}
@@ -14,23 +17,6 @@ use Rattle.iw_queues.specs.declared.send_queue.Part.{Part}
 use Rattle.iw_queues.specs.Request.{payload}
 
 -- ---- headers
--- RDMAP's octet of a header: its version, 1, in the two high bits and the opcode in the four low ones (RFC 5040 4.1)
-abbrev pub control_of : ℕ → ℕ
-control_of opcode = 0x40 + opcode
-
-abbrev pub write_opcode : ℕ
-write_opcode = 0
-
-abbrev pub read_opcode : ℕ
-read_opcode = 1
-
--- of a Send: solicited or not, with an STag to invalidate or without
-abbrev pub send_opcode : Bool → Bool → ℕ
-send_opcode false false = 3
-send_opcode false true = 4
-send_opcode true false = 5
-send_opcode true true = 6
-
 -- the message sequence numbers of the next Send and of the next Read: each queue counts its own (RFC 5041 4.3)
 pub record Numbers : Type 0 where
   pub send : ℕ
@@ -51,7 +37,7 @@ numbers_after_all numbers (m ∷ ms) = numbers_after_all (numbers_after numbers 
 -- the segment with these octets of a Write, which stand from `offset` on in its payload (RFC 5041 4.2)
 abbrev pub write_segment : Stag → ℕ → ℕ → Bool → List ℕ → Segment (List ℕ)
 write_segment stag to offset last octets =
-    Tagged (record { last = last; ddp_version = 1; control = control_of write_opcode; stag = stag; to = (to + offset) % 2 ^ 64 }) octets
+    Tagged (record { last = last; ddp_version = 1; control = control_of (tagged_opcode tagged.Write); stag = stag; to = (to + offset) % 2 ^ 64 }) octets
 
 -- the same of a Send, each segment of which has the opcode and the STag to invalidate (RFC 5040 4.1, RFC 5041 4.3)
 abbrev pub send_segment : ℕ → Bool → Option Stag → ℕ → Bool → List ℕ → Segment (List ℕ)
@@ -59,17 +45,17 @@ send_segment msn solicited invalidate offset last octets =
     Untagged (record {
       last = last;
       ddp_version = 1;
-      control = control_of (send_opcode solicited (is_some invalidate));
+      control = control_of (untagged_opcode (untagged.Send solicited (is_some invalidate)));
       tail = option_map_or number_of invalidate 0;
-      queue = 0;
+      queue = queue_of (untagged.Send solicited (is_some invalidate));
       msn = msn;
       mo = offset;
     }) octets
 
--- the one segment of a Read: its request, on queue number 1 (RFC 5040 5.2.1)
+-- the one segment of a Read: its request, on a queue of its own (RFC 5040 5.2.1)
 abbrev pub request_segment : ℕ → ReadRequest → Segment (List ℕ)
 request_segment msn request =
-    Untagged (record { last = true; ddp_version = 1; control = control_of read_opcode; tail = 0; queue = 1; msn = msn; mo = 0 }) (request_octets request)
+    Untagged (record { last = true; ddp_version = 1; control = control_of (untagged_opcode untagged.ReadRequest); tail = 0; queue = queue_of untagged.ReadRequest; msn = msn; mo = 0 }) (request_octets request)
 
 -- the segment with these octets of a message, which stand from `offset` on in its payload; a Read has the octets of its request
 abbrev pub segment_with : Numbers → Request (List ℕ) → ℕ → Bool → List ℕ → Segment (List ℕ)

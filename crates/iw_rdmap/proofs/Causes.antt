@@ -7,18 +7,18 @@ use Rattle.iw_octets.specs.declared.fault.Fault.{Fault}
 use Rattle.iw_octets.specs.declared.fault.TheConstants.Fault as faults
 use Rattle.iw_octets.specs.declared.head.TaggedHead.{TaggedHead}
 use Rattle.iw_octets.specs.declared.head.UntaggedHead.{UntaggedHead}
+use Rattle.iw_octets.specs.declared.operation.TaggedOperation.{TaggedOperation}
+use Rattle.iw_octets.specs.declared.operation.TaggedOperation.TheVariants.{Write, ReadResponse}
+use Rattle.iw_octets.specs.declared.operation.UntaggedOperation.{UntaggedOperation}
+use Rattle.iw_octets.specs.declared.operation.UntaggedOperation.TheVariants.{Send, ReadRequest, Terminate}
 use Rattle.iw_octets.specs.Head.{is_tagged, tagged_fields, untagged_fields}
+use Rattle.iw_octets.specs.Operation.{rdmap_version, opcode_of, tagged_operation, untagged_operation}
 use Rattle.iw_octets.specs.Payload.{request_fields, word_fields}
 use Rattle.iw_octets.proofs.Front.{read_segment-long_tagged, read_segment-long_untagged, read_segment-short_tagged, read_segment-short_untagged}
 use Rattle.iw_rdmap.specs.declared.head.Head.{Head}
 use Rattle.iw_rdmap.specs.declared.head.Head.TheVariants as heads
-use Rattle.iw_rdmap.specs.declared.operation.TaggedOperation.{TaggedOperation}
-use Rattle.iw_rdmap.specs.declared.operation.TaggedOperation.TheVariants.{Write, ReadResponse}
-use Rattle.iw_rdmap.specs.declared.operation.UntaggedOperation.{UntaggedOperation}
-use Rattle.iw_rdmap.specs.declared.operation.UntaggedOperation.TheVariants.{Send, ReadRequest, Terminate}
 use Rattle.iw_rdmap.specs.Head.{header_octets, headers_octets, is_request}
 use Rattle.iw_rdmap.specs.Judging.{IsFront, judged, judged_segment, judged_tagged, judged_untagged, tagged_checked, untagged_checked, expected, on_queue, fault_or}
-use Rattle.iw_rdmap.specs.Operation.{rdmap_version, opcode_of, tagged_operation, untagged_operation}
 use Rattle.iw_rdmap.specs.Terminate.{FitsFault, HasCause, HasHeaders, has_request, header_len}
 
 -- what an answer promises, of a ULPDU of `len` octets that begins with `first`

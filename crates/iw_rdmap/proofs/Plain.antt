@@ -7,17 +7,17 @@ use Rattle.iw_octets.specs.declared.fault.Fault.{Fault}
 use Rattle.iw_octets.specs.declared.fault.TheConstants.Fault as faults
 use Rattle.iw_octets.specs.declared.head.TaggedHead.{TaggedHead}
 use Rattle.iw_octets.specs.declared.head.UntaggedHead.{UntaggedHead}
+use Rattle.iw_octets.specs.declared.operation.TaggedOperation.{TaggedOperation}
+use Rattle.iw_octets.specs.declared.operation.TaggedOperation.TheVariants.{Write, ReadResponse}
+use Rattle.iw_octets.specs.declared.operation.UntaggedOperation.{UntaggedOperation}
+use Rattle.iw_octets.specs.declared.operation.UntaggedOperation.TheVariants.{Send, ReadRequest, Terminate}
 use Rattle.iw_octets.specs.declared.segment.Segment.{Segment}
 use Rattle.iw_octets.specs.declared.segment.Segment.TheVariants.{Tagged, Untagged}
+use Rattle.iw_octets.specs.Operation.{rdmap_version, opcode_of, untagged_operation}
 use Rattle.iw_rdmap.specs.declared.head.Head.{Head}
 use Rattle.iw_rdmap.specs.declared.head.Head.TheVariants as heads
-use Rattle.iw_rdmap.specs.declared.operation.TaggedOperation.{TaggedOperation}
-use Rattle.iw_rdmap.specs.declared.operation.TaggedOperation.TheVariants.{Write, ReadResponse}
-use Rattle.iw_rdmap.specs.declared.operation.UntaggedOperation.{UntaggedOperation}
-use Rattle.iw_rdmap.specs.declared.operation.UntaggedOperation.TheVariants.{Send, ReadRequest, Terminate}
 use Rattle.iw_rdmap.specs.FirstPath.{is_later, is_later_tagged, is_later_untagged, plain_tagged, plain_untagged}
 use Rattle.iw_rdmap.specs.Judging.{expected, on_queue, judged_segment, judged_tagged, judged_untagged, tagged_checked, untagged_checked}
-use Rattle.iw_rdmap.specs.Operation.{rdmap_version, opcode_of, untagged_operation}
 
 -- what the first path says of a segment that was read
 abbrev pub said : Option (Segment (List ℕ)) → ℕ → Result Head Fault

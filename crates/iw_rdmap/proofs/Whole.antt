@@ -7,6 +7,8 @@ use Rattle.std.proofs.lemmas.List.{append-nil}
 use Rattle.iw_octets.specs.declared.fault.Fault.{Fault}
 use Rattle.iw_octets.specs.declared.fault.TheConstants.Fault as faults
 use Rattle.iw_octets.specs.declared.head.UntaggedHead.{UntaggedHead}
+use Rattle.iw_octets.specs.declared.operation.UntaggedOperation.{UntaggedOperation}
+use Rattle.iw_octets.specs.declared.operation.UntaggedOperation.TheVariants.{Send, ReadRequest, Terminate}
 use Rattle.iw_octets.specs.declared.payload.TerminateWord.{TerminateWord}
 use Rattle.iw_octets.specs.Head.{is_tagged, untagged_fields}
 use Rattle.iw_octets.specs.Payload.{request_fields, word_fields}
@@ -14,8 +16,6 @@ use Rattle.iw_octets.specs.Segment.{read_segment}
 use Rattle.iw_octets.proofs.Front.{read_segment-long_tagged, read_segment-long_untagged, read_segment-append}
 use Rattle.iw_rdmap.specs.declared.head.Head.{Head}
 use Rattle.iw_rdmap.specs.declared.head.Head.TheVariants as heads
-use Rattle.iw_rdmap.specs.declared.operation.UntaggedOperation.{UntaggedOperation}
-use Rattle.iw_rdmap.specs.declared.operation.UntaggedOperation.TheVariants.{Send, ReadRequest, Terminate}
 use Rattle.iw_rdmap.specs.FirstPath.{is_later, judged_first_path}
 use Rattle.iw_rdmap.specs.Judging.{IsFront, judged, judged_segment, judged_untagged, untagged_checked, terminate_fault, fault_or}
 

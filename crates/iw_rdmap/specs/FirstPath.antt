@@ -4,17 +4,17 @@ use Rattle.iw_octets.specs.declared.fault.Fault.{Fault}
 use Rattle.iw_octets.specs.declared.fault.TheConstants.Fault as faults
 use Rattle.iw_octets.specs.declared.head.TaggedHead.{TaggedHead}
 use Rattle.iw_octets.specs.declared.head.UntaggedHead.{UntaggedHead}
+use Rattle.iw_octets.specs.declared.operation.TaggedOperation.{TaggedOperation}
+use Rattle.iw_octets.specs.declared.operation.TaggedOperation.TheVariants.{Write, ReadResponse}
+use Rattle.iw_octets.specs.declared.operation.UntaggedOperation.{UntaggedOperation}
+use Rattle.iw_octets.specs.declared.operation.UntaggedOperation.TheVariants.{Send, ReadRequest, Terminate}
 use Rattle.iw_octets.specs.declared.segment.Segment.{Segment}
 use Rattle.iw_octets.specs.declared.segment.Segment.TheVariants.{Tagged, Untagged}
+use Rattle.iw_octets.specs.Operation.{rdmap_version, opcode_of, tagged_opcode, untagged_opcode}
 use Rattle.iw_octets.specs.Segment.{read_segment}
 use Rattle.iw_rdmap.specs.declared.head.Head.{Head}
 use Rattle.iw_rdmap.specs.declared.head.Head.TheVariants as heads
-use Rattle.iw_rdmap.specs.declared.operation.TaggedOperation.{TaggedOperation}
-use Rattle.iw_rdmap.specs.declared.operation.TaggedOperation.TheVariants.{Write, ReadResponse}
-use Rattle.iw_rdmap.specs.declared.operation.UntaggedOperation.{UntaggedOperation}
-use Rattle.iw_rdmap.specs.declared.operation.UntaggedOperation.TheVariants.{Send, ReadRequest, Terminate}
 use Rattle.iw_rdmap.specs.Judging.{tagged_checked, untagged_checked, judged}
-use Rattle.iw_rdmap.specs.Operation.{rdmap_version, opcode_of, tagged_opcode, untagged_opcode}
 
 -- what the checks of a header up to that of its opcode gave is an operation that the stream does not have yet: any but a Write, and a Send
 -- that is not solicited and has no STag to invalidate

@@ -1,18 +1,16 @@
 -- What the checks and the payload come to.
-use Rattle.std.specs.Prelude.{◌≡◌, ℕ, ◌<◌, Bool, true, false, List, ◌++◌, length, Some, None, Ok}
+use Rattle.std.specs.Prelude.{◌≡◌, ℕ, ◌<◌, Bool, true, false, List, ◌++◌, length, Some, Ok}
 use Rattle.iw_octets.specs.declared.fault.Fault.{Fault}
 use Rattle.iw_octets.specs.declared.head.TaggedHead.{TaggedHead}
 use Rattle.iw_octets.specs.declared.head.UntaggedHead.{UntaggedHead}
+use Rattle.iw_octets.specs.declared.operation.UntaggedOperation.TheVariants.{Terminate}
 use Rattle.iw_octets.specs.declared.segment.Segment.TheVariants.{Tagged, Untagged}
 use Rattle.iw_octets.specs.Head.{untagged_octets}
+use Rattle.iw_octets.specs.Operation.{control_of, untagged_opcode, queue_of}
 use Rattle.iw_octets.specs.Segment.{read_segment}
 use Rattle.iw_rdmap.specs.declared.head.Head.TheVariants as heads
-use Rattle.iw_rdmap.specs.declared.operation.TaggedOperation.{TaggedOperation}
-use Rattle.iw_rdmap.specs.declared.operation.UntaggedOperation.{UntaggedOperation}
-use Rattle.iw_rdmap.specs.declared.operation.UntaggedOperation.TheVariants.{Terminate}
 use Rattle.iw_rdmap.specs.FirstPath.{is_later, judged_first_path, plain_tagged, plain_untagged}
 use Rattle.iw_rdmap.specs.Judging.{IsFront, judged}
-use Rattle.iw_rdmap.specs.Operation.{rdmap_version, opcode_of, control_of, tagged_opcode, untagged_opcode, tagged_operation, untagged_operation, queue_of}
 use Rattle.iw_rdmap.specs.Terminate.{FitsFault, word_for, terminate_octets}
 
 -- a ULPDU's first octets, 46 of them or all, are judged as the whole ULPDU is
@@ -20,14 +18,6 @@ abbrev pub FrontWillDo : Type 0
 FrontWillDo = (first behind : List ℕ) (next unanswered : ℕ) →
     let ulpdu = first ++ behind in
     IsFront 46 first (length ulpdu) → judged first (length ulpdu) next unanswered ≡ judged ulpdu (length ulpdu) next unanswered
-
--- each operation is told by its octet, which has RDMAP's version, and no octet names a tagged operation and an untagged one
-pub record OperationsAreTold : Type 0 where
-  pub tagged : (operation : TaggedOperation) → tagged_operation (opcode_of (control_of (tagged_opcode operation))) ≡ Some operation
-  pub untagged : (operation : UntaggedOperation) → untagged_operation (opcode_of (control_of (untagged_opcode operation))) ≡ Some operation
-  pub tagged_version : (operation : TaggedOperation) → rdmap_version (control_of (tagged_opcode operation)) ≡ 1
-  pub untagged_version : (operation : UntaggedOperation) → rdmap_version (control_of (untagged_opcode operation)) ≡ 1
-  pub apart : (opcode : ℕ) (operation : TaggedOperation) → tagged_operation opcode ≡ Some operation → untagged_operation opcode ≡ None
 
 -- what the stream has is judged on the first path as ever, whichever Read Request is due and however many are unanswered; and its checks
 -- are those of one list for a tagged header, and of one for an untagged header; a ULPDU's first octets, 46 of them or all, are judged as the

@@ -2,5 +2,4 @@ pub mod FirstPath
 pub mod Head
 pub mod Judging
 pub mod Laws
-pub mod Operation
 pub mod Terminate

@@ -7,9 +7,8 @@ ghost use Rattle.iw_rdmap.specs.Terminate.{FitsFault};
 
 use crate::head::Head;
 use crate::judging::{judge, tagged_operation, untagged_operation};
-use crate::operation::{TaggedOperation, UntaggedOperation};
 use crate::sizes::FIRST_OCTETS;
-use iw_octets::{Fault, Segment, TaggedHead, UntaggedHead};
+use iw_octets::{Fault, Segment, TaggedHead, TaggedOperation, UntaggedHead, UntaggedOperation};
 
 // The header passes its checks up to that of its opcode, and the stream does not have the operation yet.
 fn is_later_tagged(head: &TaggedHead) -> bool

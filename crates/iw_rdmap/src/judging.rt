@@ -4,9 +4,11 @@ ghost use Rattle.iw_rdmap.specs.Judging.{IsFront, judged, tagged_checked, untagg
 ghost use Rattle.iw_rdmap.specs.Terminate.{FitsFault, HasCause, HasHeaders};
 
 use crate::head::Head;
-use crate::operation::{RDMAP_VERSION, TaggedOperation, UntaggedOperation, rdmap_version};
 use crate::sizes::{FIRST_OCTETS, MAX_TERMINATE, READ_REQUEST, UNTAGGED_HEADER};
-use iw_octets::{Fault, ReadRequest, Segment, Short, TaggedHead, TerminateWord, UntaggedHead};
+use iw_octets::{
+    Fault, RDMAP_VERSION, ReadRequest, Segment, Short, TaggedHead, TaggedOperation, TerminateWord,
+    UntaggedHead, UntaggedOperation, rdmap_version,
+};
 
 const DDP_VERSION: u8 = 1;
 

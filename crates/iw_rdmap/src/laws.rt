@@ -1,13 +1,8 @@
-ghost use Rattle.iw_rdmap.specs.Laws.{FirstPathIsJudge, FrontWillDo, OperationsAreTold, TerminatesAreTold};
+ghost use Rattle.iw_rdmap.specs.Laws.{FirstPathIsJudge, FrontWillDo, TerminatesAreTold};
 
 /// A ULPDU's first 46 octets, or all of fewer, are judged as the whole ULPDU is.
 pub fn front_will_do()
     ensures { FrontWillDo }
-{}
-
-/// Each operation is told by its octet of a header, and no octet names two.
-pub fn operations_are_told()
-    ensures { OperationsAreTold }
 {}
 
 /// A Terminate that one end spells is judged by the other as a Terminate that carries its fault.

@@ -7,14 +7,13 @@ mod first_path;
 mod head;
 mod judging;
 mod laws;
-mod operation;
 mod sizes;
 mod terminating;
 
 pub use first_path::judge_first_path;
 pub use head::{Head, early};
+pub use iw_octets::{TaggedOperation, UntaggedOperation};
 pub use judging::judge;
-pub use laws::{first_path_is_judge, front_will_do, operations_are_told, terminates_are_told};
-pub use operation::{TaggedOperation, UntaggedOperation};
+pub use laws::{first_path_is_judge, front_will_do, terminates_are_told};
 pub use sizes::{FIRST_OCTETS, MAX_TERMINATE};
 pub use terminating::terminate;

@@ -1,9 +1,9 @@
 //! RDMAP's operations: their opcodes, and which segments carry them (RFC 5040 4.1, figure 4).
 ghost use Rattle.std.specs.Prelude.{◌≡◌, ◌<◌};
-ghost use Rattle.iw_rdmap.specs.Operation.{rdmap_version, opcode_of, control_of, tagged_opcode, untagged_opcode, tagged_operation, untagged_operation, queue_of};
+ghost use Rattle.iw_octets.specs.Operation.{rdmap_version, opcode_of, control_of, tagged_opcode, untagged_opcode, tagged_operation, untagged_operation, queue_of};
 
-/// RDMAP's version.
-pub(crate) const RDMAP_VERSION: u8 = 1;
+/// RDMAP's version (RFC 5040 4.1).
+pub const RDMAP_VERSION: u8 = 1;
 
 /// What a tagged segment is part of.
 #[derive(Clone, Copy, Debug, PartialEq, Eq)]
@@ -22,7 +22,7 @@ pub enum UntaggedOperation {
 }
 
 /// RDMAP's version in its octet of a header.
-pub(crate) fn rdmap_version(control: u8) -> u8
+pub fn rdmap_version(control: u8) -> u8
     ensures { result ≡ rdmap_version control }
 {
     control >> 6

@@ -1,9 +1,9 @@
 -- RDMAP's operations, by what carries them (RFC 5040 4.1, figure 4).
 use Rattle.std.specs.Prelude.{ℕ, ◌+◌, ◌/◌, ◌%◌, ◌==◌, true, false, Option, Some, None, if◌then◌else◌}
-use Rattle.iw_rdmap.specs.declared.operation.TaggedOperation.{TaggedOperation}
-use Rattle.iw_rdmap.specs.declared.operation.TaggedOperation.TheVariants.{Write, ReadResponse}
-use Rattle.iw_rdmap.specs.declared.operation.UntaggedOperation.{UntaggedOperation}
-use Rattle.iw_rdmap.specs.declared.operation.UntaggedOperation.TheVariants.{Send, ReadRequest, Terminate}
+use Rattle.iw_octets.specs.declared.operation.TaggedOperation.{TaggedOperation}
+use Rattle.iw_octets.specs.declared.operation.TaggedOperation.TheVariants.{Write, ReadResponse}
+use Rattle.iw_octets.specs.declared.operation.UntaggedOperation.{UntaggedOperation}
+use Rattle.iw_octets.specs.declared.operation.UntaggedOperation.TheVariants.{Send, ReadRequest, Terminate}
 
 -- RDMAP's octet of a header: the version, 1, in the two high bits, two reserved bits, the opcode in the four low ones (RFC 5040 4.1, figure 3)
 abbrev pub rdmap_version : ℕ → ℕ
