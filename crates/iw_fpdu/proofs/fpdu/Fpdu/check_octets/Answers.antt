@@ -8,7 +8,7 @@ use Rattle.iw_fpdu.specs.Reading.{mismatch_at}
 use Rattle.iw_ranges.specs.Arrived.{cells_between}
 use Rattle.iw_fpdu.proofs.Came.{here_in, length_part, part_agrees}
 use Rattle.iw_fpdu.proofs.Octets.{same_mismatch, agree, span_low, length_within}
-use Rattle.iw_fpdu.proofs.fpdu.Fpdu.check.Goals as goal
+use Rattle.iw_fpdu.proofs.fpdu.Fpdu.check_octets.Goals as goal
 
 pub overflow_add-self-inside : goal.overflow_add-self-inside
 overflow_add-self-inside g c =
