@@ -3,6 +3,7 @@ pub mod Laid
 pub mod Rooms
 pub mod Written
 pub mod Octets
+pub mod Left
 pub mod Came
 pub mod Again
 pub mod Follows

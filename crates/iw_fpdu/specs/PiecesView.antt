@@ -1,16 +1,17 @@
 -- What is left of a ULPDU that is given piece by piece.
-use Rattle.std.specs.Prelude.{ℕ, ◌+◌, ◌^◌, ◌<◌, ◌≤◌, List, length}
-use Rattle.iw_fpdu.specs.Places.{data_place}
-use Rattle.iw_fpdu.specs.PiecesOctet.{octet_from}
-use Rattle.iw_fpdu.specs.Reading.{data_at}
+use Rattle.std.specs.Prelude.{ℕ, ◌+◌, ◌-◌, ◌*◌, ◌/◌, ◌<◌, nat_lt, if◌then◌else◌, List, map, length, slice_index}
+use Rattle.std.specs.List.{range_with_len}
 use Rattle.iw_fpdu.specs.declared.pieces.Pieces.TheInside.{Inside}
+
+-- where octet k of what is left stands among the octets at hand: the first `run` before the next marker, and then 508 behind each
+unfoldable pub rest_place : ℕ → ℕ → ℕ
+rest_place run k = if nat_lt k run then k else k + 4 * ((k - run) / 508 + 1)
 
 -- the octets that are still to be given
 abbrev pub octets_left : Inside → List ℕ
-octets_left a = data_at (octet_from a.from a.octets.now) a.markers a.index a.left
+octets_left a = map (λ k. slice_index a.rest.now (rest_place a.run k)) (range_with_len 0 a.left)
 
--- the octets at hand reach over all that is left
+-- the octets at hand reach over all that is left, and the first of them is no marker's
 pub record CanGive (a : Inside) : Type 0 where
-  pub begins : a.from ≤ data_place a.markers a.index
-  pub reaches : (k : ℕ) → k < a.left → data_place a.markers (a.index + k) < a.from + length a.octets.now
-  pub low : a.index + a.left < 2 ^ 63 + 2 ^ 20
+  pub begins : 0 < a.left → 0 < a.run
+  pub reaches : (k : ℕ) → k < a.left → rest_place a.run k < length a.rest.now

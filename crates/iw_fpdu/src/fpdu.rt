@@ -126,7 +126,7 @@ impl<'a, A: Allocator> Fpdu<'a, A> {
         let index = index_of(markers, self.start) + 2 + k as u64;
         let from = place_of(markers, index);
         let octets = self.islands.part(self.base + from, self.base + self.end);
-        Pieces::new(octets, from, markers, index, usize::from(self.len) - k)
+        Pieces::new(octets, from, markers, usize::from(self.len) - k)
     }
 
     /// Copies the octets of the ULPDU from its octet `k` on.

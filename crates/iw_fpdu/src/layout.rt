@@ -1,4 +1,4 @@
-ghost use Rattle.std.specs.Prelude.{◌≡◌, ◌<◌, ◌≤◌, ◌+◌, ◌*◌, ◌/◌, ◌^◌, false};
+ghost use Rattle.std.specs.Prelude.{◌≡◌, ◌<◌, ◌≤◌, ◌+◌, ◌*◌, ◌/◌, ◌%◌, ◌^◌, true, false};
 ghost use Rattle.iw_fpdu.specs.Frame.{pad_len, frame_end};
 ghost use Rattle.iw_fpdu.specs.Laying.{IsRun};
 ghost use Rattle.iw_fpdu.specs.Places.{data_place, data_index, frame_start, in_marker, span_start};
@@ -106,6 +106,7 @@ pub(crate) fn run_at(markers: bool, at: u64, len: usize) -> usize
     ensures within { result ≤ len }
     ensures some { 0 < len → 0 < result }
     ensures run { IsRun markers at result }
+    ensures all { result < len → (markers ≡ true) × (result + at % 512 ≡ 512) }
 {
     if markers {
         len.min((SPACING - at % SPACING) as usize)

@@ -1,23 +1,21 @@
-ghost use Rattle.std.specs.Prelude.{◌≡◌, ◌<◌, ◌≤◌, ◌+◌, ◌^◌, ℕ, length};
+ghost use Rattle.std.specs.Prelude.{◌≡◌, ◌<◌, ◌+◌, ℕ, length, false};
 ghost use Rattle.std.specs.Iterator.{at_most};
 ghost use Rattle.iw_octets.specs.Pieces.{GivesOctets};
-ghost use Rattle.iw_fpdu.specs.Places.{data_place};
+ghost use Rattle.iw_fpdu.specs.Places.{data_place, data_index, in_marker};
 ghost use Rattle.iw_fpdu.specs.Reading.{data_at};
 ghost use Rattle.iw_fpdu.specs.PiecesOctet.{octet_from};
 
-use crate::layout::{place_of, run_at};
+use crate::layout::{MARKER, SPACING, run_at};
 use std::marker::Model;
 
 /// The octets of a ULPDU, lent piece by piece: no piece has octets of a marker.
 #[derive(Drop)]
 pub struct Pieces<'a> {
-    /// Octets of the frame, markers included.
-    octets: &'a [u8],
-    /// The place of the first of them.
-    from: u64,
-    markers: bool,
-    /// The data octet that comes next.
-    index: u64,
+    /// Octets of the frame, markers included, from the octet on that comes next.
+    rest: &'a [u8],
+    /// How many of them come before the next marker; where none comes, as many as are left.
+    run: usize,
+    /// How many octets of the ULPDU are left.
     left: usize,
 }
 
@@ -34,24 +32,15 @@ impl<'a> Model for Pieces<'a> {
 }
 
 impl<'a> Pieces<'a> {
-    /// The `left` data octets from `index` on, among octets that stand from place `from` on.
-    pub(crate) fn new(
-        octets: &'a [u8],
-        from: u64,
-        markers: bool,
-        index: u64,
-        left: usize,
-    ) -> Pieces<'a>
-        requires begins { from ≤ data_place markers index }
-        requires reaches { (k : ℕ) → k < left → data_place markers (index + k) < from + length octets.now }
-        requires low { index + left < 2 ^ 63 + 2 ^ 20 }
-        ensures { result ≡ data_at (octet_from from octets.now) markers index left }
+    /// `left` data octets, the first of them at place `from`, with which `octets` begins.
+    pub(crate) fn new(octets: &'a [u8], from: u64, markers: bool, left: usize) -> Pieces<'a>
+        requires begins { in_marker markers from ≡ false }
+        requires reaches { (k : ℕ) → k < left → data_place markers (data_index markers from + k) < from + length octets.now }
+        ensures { result ≡ data_at (octet_from from octets.now) markers (data_index markers from) left }
     {
         Pieces {
-            octets,
-            from,
-            markers,
-            index,
+            rest: octets,
+            run: run_at(markers, from, left),
             left,
         }
     }
@@ -68,12 +57,16 @@ impl<'a> Iterator for Pieces<'a> {
         if self.left == 0 {
             return None;
         }
-        let at = place_of(self.markers, self.index);
-        let run = run_at(self.markers, at, self.left);
-        let (_, rest) = self.octets.split_at((at - self.from) as usize);
-        let (piece, _) = rest.split_at(run);
-        self.index += run as u64;
-        self.left -= run;
+        if self.left <= self.run {
+            let (piece, _) = self.rest.split_at(self.left);
+            self.left = 0;
+            return Some(piece);
+        }
+        let (piece, marker) = self.rest.split_at(self.run);
+        let (_, rest) = marker.split_at(MARKER as usize);
+        self.rest = rest;
+        self.left -= self.run;
+        self.run = (SPACING - MARKER) as usize;
         Some(piece)
     }
 }
