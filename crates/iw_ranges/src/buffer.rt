@@ -161,7 +161,8 @@ fn copy_to_front(octets: &mut [u8], n: usize)
 }
 
 /// Lets the first `n` octets go, at least half of them.
-pub(crate) fn drop_front<A: Allocator>(octets: &mut Vec<u8, A>, n: usize)
+#[inline(never)]
+fn drop_front<A: Allocator>(octets: &mut Vec<u8, A>, n: usize)
     requires within { n ≤ vec_len octets.old }
     requires half { vec_len octets.old ≤ 2 * n }
     ensures items { octets.new.items ≡ drop n octets.old.items }
@@ -170,4 +171,25 @@ pub(crate) fn drop_front<A: Allocator>(octets: &mut Vec<u8, A>, n: usize)
     let kept = octets.len() - n;
     copy_to_front(octets, n);
     octets.truncate(kept);
+}
+
+/// Lets octets before place `to` go: where none stands behind them, or where they are more than half of the buffer, which
+/// begins at place `base`.
+#[inline]
+pub(crate) fn let_go<A: Allocator>(octets: &mut Vec<u8, A>, base: &mut u64, to: u64)
+    requires low { base.old ≤ to }
+    requires high { to ≤ base.old + vec_len octets.old }
+    ensures octets { octets.new.items ≡ drop (base.new - base.old) octets.old.items }
+    ensures low { base.old ≤ base.new }
+    ensures high { base.new ≤ to }
+    ensures half { 2 * (to - base.new) ≤ vec_len octets.new }
+{
+    let dead = (to - *base) as usize;
+    if dead == octets.len() {
+        octets.clear();
+        *base = to;
+    } else if dead > octets.len() / 2 {
+        drop_front(octets, dead);
+        *base = to;
+    }
 }

@@ -13,7 +13,7 @@ mod buffer;
 pub mod laws;
 mod spans;
 
-use buffer::{drop_front, fits_behind, put, put_behind};
+use buffer::{fits_behind, let_go, put, put_behind};
 use spans::{Span, end_of_first, first_reaching, forget, holds_all, is_one_too_many, join};
 use std::alloc::{AllocError, Allocator, Global};
 use std::collections::VecDeque;
@@ -222,6 +222,7 @@ impl<A: Allocator> Islands<A> {
 
     /// Moves the in-order point on to `to`, before which all came, and gives up what lies before it. An in-order point that
     /// lies further on stays.
+    #[inline]
     pub fn advance(&mut self, to: u64)
         requires come { (p : ℕ) → p < to → has_come self.old.arrived p ≡ true }
         requires place { to ≤ 2 ^ 63 }
@@ -233,11 +234,7 @@ impl<A: Allocator> Islands<A> {
         }
         self.floor = to;
         forget(&mut self.gone, to);
-        let dead = (to - self.base) as usize;
-        if dead > self.octets.len() / 2 {
-            drop_front(&mut self.octets, dead);
-            self.base = to;
-        }
+        let_go(&mut self.octets, &mut self.base, to);
     }
 }
 

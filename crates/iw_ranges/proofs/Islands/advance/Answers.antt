@@ -2,14 +2,14 @@ use Rattle.std.proofs.Common.{ap, ◌∙◌, sym, arith, refl}
 use Rattle.iw_ranges.specs.Arrived.{Held, advanced}
 use Rattle.iw_ranges.specs.Fields.{Fields, fields_of}
 use Rattle.iw_ranges.proofs.Cells.{top_reaches}
-use Rattle.iw_ranges.proofs.Moves.{reaches, sound_moved, advanced_to, advanced_back, drop_none}
+use Rattle.iw_ranges.proofs.Moves.{reaches, sound_moved, advanced_to, advanced_back}
 use Rattle.iw_ranges.proofs.Islands.advance.Goals as goal
 
 pub returns-then-to-self-clause-arrived : goal.returns-then-to-self-clause-arrived
 returns-then-to-self-clause-arrived g c = sym (advanced_back c.args.self.now.arrived c.args.to (omega (arith, c.if-to-self.true, ap (λ (h : Held). h.arrived.floor) c.self.view_is)))
 
-pub drop_front-requires-clause-within : goal.drop_front-requires-clause-within
-drop_front-requires-clause-within g c =
+pub let_go-requires-clause-high : goal.let_go-requires-clause-high
+let_go-requires-clause-high g c =
     let f : Fields = fields_of c.self.inside in
     let high = reaches f c.self.invariant c.args.self.now.arrived (ap (λ (h : Held). h.arrived) c.self.view_is) c.args.to c.requires.come in
     omega (arith, high, top_reaches f c.self.invariant, c.self.inside.octets.ok.0)
@@ -23,29 +23,14 @@ invariant_of-self g c =
       missing = refl;
       spans = refl;
       gone = c.forget.ensures.items;
-      octets = c.drop_front.ensures.items;
-      low = omega (arith, c.if-to-self.false, c.self.invariant.base);
-      high = omega arith;
-      half = omega arith;
+      octets = c.let_go.ensures.octets;
+      low = c.let_go.ensures.low;
+      high = c.let_go.ensures.high;
+      half = omega (arith, c.let_go.ensures.half, c.let_go.new.octets.ok.0);
     })
 
-pub invariant_of-self-else-dead-len : goal.invariant_of-self-else-dead-len
-invariant_of-self-else-dead-len g c =
-    let f : Fields = fields_of c.self.inside in
-    let high = reaches f c.self.invariant c.args.self.now.arrived (ap (λ (h : Held). h.arrived) c.self.view_is) c.args.to c.requires.come in
-    sound_moved f _ c.self.invariant c.args.to (omega (arith, c.if-to-self.false)) high c.requires.place (record {
-      floor = refl;
-      missing = refl;
-      spans = refl;
-      gone = c.forget.ensures.items;
-      octets = sym (drop_none f.base f.octets);
-      low = omega arith;
-      high = omega (arith, c.if-to-self.false, c.self.invariant.base);
-      half = omega (arith, c.if-dead-len.false, c.len.ensures, c.self.inside.octets.ok.0);
-    })
-
-pub returns-then-dead-len-clause-arrived : goal.returns-then-dead-len-clause-arrived
-returns-then-dead-len-clause-arrived g c =
+pub returns-clause-arrived : goal.returns-clause-arrived
+returns-clause-arrived g c =
     let f : Fields = fields_of c.self.inside in
     let high = reaches f c.self.invariant c.args.self.now.arrived (ap (λ (h : Held). h.arrived) c.self.view_is) c.args.to c.requires.come in
     advanced_to f _ c.self.invariant c.args.to (omega (arith, c.if-to-self.false)) high (record {
@@ -53,25 +38,9 @@ returns-then-dead-len-clause-arrived g c =
       missing = refl;
       spans = refl;
       gone = c.forget.ensures.items;
-      octets = c.drop_front.ensures.items;
-      low = omega (arith, c.if-to-self.false, c.self.invariant.base);
-      high = omega arith;
-      half = omega arith;
-    })
-    ∙ ap (λ (h : Held). advanced h.arrived c.args.to) c.self.view_is
-
-pub returns-else-dead-len-clause-arrived : goal.returns-else-dead-len-clause-arrived
-returns-else-dead-len-clause-arrived g c =
-    let f : Fields = fields_of c.self.inside in
-    let high = reaches f c.self.invariant c.args.self.now.arrived (ap (λ (h : Held). h.arrived) c.self.view_is) c.args.to c.requires.come in
-    advanced_to f _ c.self.invariant c.args.to (omega (arith, c.if-to-self.false)) high (record {
-      floor = refl;
-      missing = refl;
-      spans = refl;
-      gone = c.forget.ensures.items;
-      octets = sym (drop_none f.base f.octets);
-      low = omega arith;
-      high = omega (arith, c.if-to-self.false, c.self.invariant.base);
-      half = omega (arith, c.if-dead-len.false, c.len.ensures, c.self.inside.octets.ok.0);
+      octets = c.let_go.ensures.octets;
+      low = c.let_go.ensures.low;
+      high = c.let_go.ensures.high;
+      half = omega (arith, c.let_go.ensures.half, c.let_go.new.octets.ok.0);
     })
     ∙ ap (λ (h : Held). advanced h.arrived c.args.to) c.self.view_is
