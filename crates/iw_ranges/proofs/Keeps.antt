@@ -178,3 +178,8 @@ put_delivers f after ok a e place from octets part high some is cut near few put
     taken_put f after ok place from octets part high some is cut puts
     ∙ delivered_kept (arrived_in f) place octets (kept_put f ok place (length octets) from is high near some few)
     ∙ ap (λ x. delivered x place octets) e
+
+-- a segment is kept that is in the window and does not make one island too many
+pub kept_after : (f : Fields) → IsSound f → (a : Arrived) → arrived_in f ≡ a → (place n from : ℕ) → from ≡ place + (first_end f.spans - place) → first_end f.spans < place + n
+    → place + n ≤ f.floor + window → 0 < n → length (add_span from (place + n) f.spans) ≤ 1025 → is_dropped a place n ≡ false
+kept_after f ok a e place n from is high near some few = subst (λ x. is_dropped x place n ≡ false) e (kept_put f ok place n from is high near some few)

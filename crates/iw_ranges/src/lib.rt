@@ -7,7 +7,7 @@
 ghost use Rattle.std.specs.Prelude.{◌≡◌, ◌<◌, ◌≤◌, ◌+◌, ◌^◌, ℕ, length, map, All, IfOk, OnOk, OnErr, MatchBool, true, false};
 ghost use Rattle.std.specs.List.{concat};
 ghost use Rattle.std.specs.Iterator.{YieldsFirstBy, item_count};
-ghost use Rattle.iw_ranges.specs.Arrived.{nothing, cell_at, has_come, cells_between, delivery, delivered, advanced, released, BringsOctets, IsHere, Here, Missing, IsWithinLimits};
+ghost use Rattle.iw_ranges.specs.Arrived.{nothing, cell_at, has_come, cells_between, delivery, delivered, advanced, released, BringsOctets, IsHere, Here, Missing, IsWithinLimits, window};
 
 mod buffer;
 pub mod laws;
@@ -92,6 +92,7 @@ impl<A: Allocator> Islands<A> {
     /// without octets is kept at any place.
     ///
     /// `NoMemory` leaves all as it was. It comes only where the segment would be kept and one of its octets is new.
+    #[inline]
     pub fn add(&mut self, place: u64, octets: &[u8]) -> Result<Delivery, NoMemory>
         ensures answer { IfOk result (λ answer. answer ≡ delivery self.old.arrived place (length octets.now)) }
         ensures ok { OnOk result (self.new.arrived ≡ delivered self.old.arrived place octets.now) }
@@ -105,18 +106,32 @@ impl<A: Allocator> Islands<A> {
         if is_beyond(self.floor, place, octets.len()) {
             return Ok(Delivery::Dropped);
         }
+        if place == self.missing && fits_behind(&self.octets, self.base, place, octets) {
+            put_behind(&mut self.octets, self.base, &mut self.spans, place, octets);
+            self.missing = end_of_first(&self.spans);
+            return Ok(Delivery::Kept);
+        }
+        self.add_apart(place, octets)
+    }
+
+    /// The same, for octets in the window that may stand anywhere.
+    #[inline(never)]
+    fn add_apart(&mut self, place: u64, octets: &[u8]) -> Result<Delivery, NoMemory>
+        requires some { 0 < length octets.now }
+        requires near { place + length octets.now ≤ self.old.arrived.floor + window }
+        ensures answer { IfOk result (λ answer. answer ≡ delivery self.old.arrived place (length octets.now)) }
+        ensures ok { OnOk result (self.new.arrived ≡ delivered self.old.arrived place octets.now) }
+        ensures err { OnErr result (self.new.arrived ≡ self.old.arrived) }
+        ensures memory { OnErr result (BringsOctets self.old.arrived place (length octets.now)) }
+        ensures room { self.new.room ≡ self.old.room }
+    {
+        let before = self.missing.saturating_sub(place);
         let to = place + octets.len() as u64;
         if to <= self.missing {
             return Ok(Delivery::Kept);
         }
-        let before = self.missing.saturating_sub(place);
         let (_, fresh) = octets.split_at(before as usize);
         let from = place + before;
-        if from == self.missing && fits_behind(&self.octets, self.base, from, fresh) {
-            put_behind(&mut self.octets, self.base, &mut self.spans, from, fresh);
-            self.missing = end_of_first(&self.spans);
-            return Ok(Delivery::Kept);
-        }
         let low = first_reaching(&self.spans, from);
         if holds_all(&self.spans, low, from, to) {
             return Ok(Delivery::Kept);

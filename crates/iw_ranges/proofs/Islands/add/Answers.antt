@@ -1,13 +1,11 @@
-use Rattle.std.proofs.Common.{◌≡◌, ◌≤◌, ◌<◌, ◌+◌, ◌-◌, List, ℕ, length, drop, true, false, sym, ap, subst, ◌∙◌, refl, arith, rules}
+use Rattle.std.proofs.Common.{◌≡◌, ◌<◌, ◌+◌, ◌-◌, length, drop, true, sym, ap, subst, ◌∙◌, refl, arith}
 use Rattle.std.proofs.lemmas.Bool.Decides.{nat_tests}
-use Rattle.iw_ranges.specs.Arrived.{Arrived, Held, is_dropped, window, delivery, delivered, BringsOctets}
-use Rattle.iw_ranges.specs.declared.Delivery.TheVariants.{Kept}
-use Rattle.iw_ranges.specs.Spans.{add_span, first_end, IsFromStart}
+use Rattle.iw_ranges.specs.Arrived.{Held, is_dropped, window}
+use Rattle.iw_ranges.specs.Spans.{first_end, IsFromStart}
 use Rattle.iw_ranges.proofs.Adds.{add_from_start}
-use Rattle.iw_ranges.specs.Fields.{Fields, fields_of, arrived_in, IsSound}
-use Rattle.iw_ranges.proofs.Cells.{come_via}
-use Rattle.iw_ranges.proofs.Counts.{AllCame, all_low, all_from, dropped_none, dropped_far, dropped_came, dropped_put, kept_put}
-use Rattle.iw_ranges.proofs.Keeps.{taken_none, taken_came, sound_put, put_delivers, PutsIn, kept_is, dropped_is, delivered_kept, delivered_dropped}
+use Rattle.iw_ranges.specs.Fields.{Fields, fields_of}
+use Rattle.iw_ranges.proofs.Counts.{dropped_none, dropped_far}
+use Rattle.iw_ranges.proofs.Keeps.{taken_none, sound_put, put_delivers, PutsIn, kept_is, dropped_is, delivered_kept, delivered_dropped, kept_after}
 use Rattle.iw_ranges.proofs.Islands.add.Given as given
 use Rattle.iw_ranges.proofs.Islands.add.Goals as goal
 
@@ -37,207 +35,61 @@ returns-then-is_beyond-clause-answer g c = dropped_is c.args.self.now.arrived c.
 pub returns-then-is_beyond-clause-ok : goal.returns-then-is_beyond-clause-ok
 returns-then-is_beyond-clause-ok g c = delivered_dropped c.args.self.now.arrived c.args.place c.args.octets.now (far g c)
 
--- all came before
-came_kept : (f : Fields) → IsSound f → (a : Arrived) → arrived_in f ≡ a → (place n : ℕ) → place + n ≤ f.floor + window → AllCame f place (place + n) → Kept ≡ delivery a place n
-came_kept f ok a e place n near all = kept_is a place n (subst (λ x. is_dropped x place n ≡ false) e (dropped_came f ok place n near all))
-
-came_same : (f : Fields) → IsSound f → (a : Arrived) → arrived_in f ≡ a → (place : ℕ) (octets : List ℕ) → 0 < length octets → place + length octets ≤ f.floor + window
-    → AllCame f place (place + length octets) → a ≡ delivered a place octets
-came_same f ok a e place octets some near all =
-    subst (λ x. x ≡ delivered x place octets) e
-    (sym (taken_came f ok place octets some all) ∙ delivered_kept (arrived_in f) place octets (dropped_came f ok place (length octets) near all))
-
-pub returns-then-to-self-clause-answer : goal.returns-then-to-self-clause-answer
-returns-then-to-self-clause-answer g c =
-    let f : Fields = fields_of c.self.inside in
-    came_kept f c.self.invariant c.args.self.now.arrived (ap (λ (h : Held). h.arrived) c.self.view_is) c.args.place (length c.args.octets.now) (omega (arith, c.if-is_beyond.ensures))
-    (all_low f c.self.invariant c.args.place (c.args.place + length c.args.octets.now) (omega (arith, c.if-to-self.true, c.self.invariant.missing)))
-
-pub returns-then-to-self-clause-ok : goal.returns-then-to-self-clause-ok
-returns-then-to-self-clause-ok g c =
-    let f : Fields = fields_of c.self.inside in
-    came_same f c.self.invariant c.args.self.now.arrived (ap (λ (h : Held). h.arrived) c.self.view_is) c.args.place c.args.octets.now
-    (grind (arith, nat_tests, c.is_empty.ensures, c.if-is_empty.false)) (omega (arith, c.if-is_beyond.ensures))
-    (all_low f c.self.invariant c.args.place (c.args.place + length c.args.octets.now) (omega (arith, c.if-to-self.true, c.self.invariant.missing)))
-
-pub returns-then-holds_all-clause-answer : goal.returns-then-holds_all-clause-answer
-returns-then-holds_all-clause-answer g c =
-    let f : Fields = fields_of c.self.inside in
-    came_kept f c.self.invariant c.args.self.now.arrived (ap (λ (h : Held). h.arrived) c.self.view_is) c.args.place (length c.args.octets.now) (omega (arith, c.if-is_beyond.ensures))
-    (all_from f c.self.invariant c.args.place (c.args.place + c.saturating_sub-before.result) (c.args.place + length c.args.octets.now)
-    (omega (arith, c.saturating_sub-before.ensures, c.self.invariant.missing)) c.if-holds_all.ensures)
-
-pub returns-then-holds_all-clause-ok : goal.returns-then-holds_all-clause-ok
-returns-then-holds_all-clause-ok g c =
-    let f : Fields = fields_of c.self.inside in
-    came_same f c.self.invariant c.args.self.now.arrived (ap (λ (h : Held). h.arrived) c.self.view_is) c.args.place c.args.octets.now
-    (grind (arith, nat_tests, c.is_empty.ensures, c.if-is_empty.false)) (omega (arith, c.if-is_beyond.ensures))
-    (all_from f c.self.invariant c.args.place (c.args.place + c.saturating_sub-before.result) (c.args.place + length c.args.octets.now)
-    (omega (arith, c.saturating_sub-before.ensures, c.self.invariant.missing)) c.if-holds_all.ensures)
-
--- one island too many
-many : (g : given.Over) (c : goal.Then-is_one_too_many g) → is_dropped c.args.self.now.arrived c.args.place (length c.args.octets.now) ≡ true
-many g c =
-    let f : Fields = fields_of c.self.inside in
-    let n = length c.args.octets.now in
-    let some : 0 < n = grind (arith, nat_tests, c.is_empty.ensures, c.if-is_empty.false) in
-    subst (λ (h : Held). is_dropped h.arrived c.args.place n ≡ true) c.self.view_is
-    (dropped_put f c.self.invariant c.args.place n (c.args.place + c.saturating_sub-before.result)
-    (omega (arith, c.saturating_sub-before.ensures, c.self.invariant.missing)) (omega (arith, c.if-to-self.false, c.self.invariant.missing))
-    (omega (arith, c.if-is_beyond.ensures)) some c.if-is_one_too_many.ensures)
-
-pub returns-then-is_one_too_many-clause-answer : goal.returns-then-is_one_too_many-clause-answer
-returns-then-is_one_too_many-clause-answer g c = dropped_is c.args.self.now.arrived c.args.place (length c.args.octets.now) (many g c)
-
-pub returns-then-is_one_too_many-clause-ok : goal.returns-then-is_one_too_many-clause-ok
-returns-then-is_one_too_many-clause-ok g c = delivered_dropped c.args.self.now.arrived c.args.place c.args.octets.now (many g c)
-
--- taken in, or out of memory
-kept_after : (f : Fields) → IsSound f → (a : Arrived) → arrived_in f ≡ a → (place n from : ℕ) → from ≡ place + (first_end f.spans - place) → first_end f.spans < place + n
-    → place + n ≤ f.floor + window → 0 < n → length (add_span from (place + n) f.spans) ≤ 1025 → is_dropped a place n ≡ false
-kept_after f ok a e place n from is high near some few = subst (λ x. is_dropped x place n ≡ false) e (kept_put f ok place n from is high near some few)
-
-pub returns-in_err-put-clause-memory : goal.returns-in_err-put-clause-memory
-returns-in_err-put-clause-memory g c =
-    let f : Fields = fields_of c.self.inside in
-    let e = ap (λ (h : Held). h.arrived) c.self.view_is in
-    let a = c.args.self.now.arrived in
-    let n = length c.args.octets.now in
-    let from = c.args.place + c.saturating_sub-before.result in
-    let lacking = c.if-holds_all.ensures in
-    let brings : BringsOctets a c.args.place n = (
-      sym (kept_is a c.args.place n (kept_after f c.self.invariant a e c.args.place n from
-          (omega (arith, c.saturating_sub-before.ensures, c.self.invariant.missing)) (omega (arith, c.if-to-self.false, c.self.invariant.missing))
-          (omega (arith, c.if-is_beyond.ensures)) (grind (arith, nat_tests, c.is_empty.ensures, c.if-is_empty.false)) c.if-is_one_too_many.ensures)),
-      (lacking.0, omega (arith, lacking.1), lacking.2, come_via f c.self.invariant a e lacking.0 ∙ lacking.3),
-    ) in
-    search (rules, brings)
-
 -- right behind the buffer
 pub invariant_of-self : goal.invariant_of-self
 invariant_of-self g c =
     let f : Fields = fields_of c.self.inside in
     let n = length c.args.octets.now in
-    let from = c.args.place + c.saturating_sub-before.result in
+    let from = c.args.place in
     let some : 0 < n = grind (arith, nat_tests, c.is_empty.ensures, c.if-is_empty.false) in
-    let end : from + length c.split_at.result.1.now ≡ c.args.place + n = omega (arith, c.split_at.ensures.back_len) in
-    let spans : c.put_behind.new.spans.items ≡ add_span from (c.args.place + n) f.spans = c.put_behind.ensures.spans ∙ ap (λ t. add_span from t f.spans) end in
     let after : Fields = record { base = f.base; floor = f.floor; missing = c.end_of_first-self-inside.result; octets = c.put_behind.new.buffer.items; spans = c.put_behind.new.spans.items; gone = f.gone } in
-    let puts : PutsIn f after from (c.args.place + n) c.split_at.result.1.now = record {
+    let puts : PutsIn f after from (c.args.place + n) c.args.octets.now = record {
       base = refl;
       floor = refl;
       missing = c.end_of_first-self-inside.ensures;
       gone = refl;
-      spans = spans;
-      end = sym end;
-      len = omega (arith, c.put_behind.ensures.len, c.if-fits_behind.ensures.0, end, c.put_behind.new.buffer.ok.0, c.self.inside.octets.ok.0);
+      spans = c.put_behind.ensures.spans;
+      end = refl;
+      len = omega (arith, c.put_behind.ensures.len, c.if-fits_behind.ensures.0, c.put_behind.new.buffer.ok.0, c.self.inside.octets.ok.0);
       written = c.put_behind.ensures.octets;
     } in
-    sound_put f after c.self.invariant from (c.args.place + n) c.split_at.result.1.now (omega (arith, some, c.saturating_sub-before.ensures, c.if-to-self.false)) (omega (arith, c.if-is_beyond.ensures)) puts (omega (arith, c.put_behind.ensures.few, ap length spans, c.self.invariant.few))
+    sound_put f after c.self.invariant from (c.args.place + n) c.args.octets.now (omega (arith, some)) (omega (arith, c.if-is_beyond.ensures)) puts (omega (arith, c.put_behind.ensures.few, ap length c.put_behind.ensures.spans, c.self.invariant.few))
 
 pub returns-then-fits_behind-clause-answer : goal.returns-then-fits_behind-clause-answer
 returns-then-fits_behind-clause-answer g c =
     let f : Fields = fields_of c.self.inside in
     let n = length c.args.octets.now in
-    let from = c.args.place + c.saturating_sub-before.result in
+    let from = c.args.place in
     let some : 0 < n = grind (arith, nat_tests, c.is_empty.ensures, c.if-is_empty.false) in
-    let end : from + length c.split_at.result.1.now ≡ c.args.place + n = omega (arith, c.split_at.ensures.back_len) in
-    let spans : c.put_behind.new.spans.items ≡ add_span from (c.args.place + n) f.spans = c.put_behind.ensures.spans ∙ ap (λ t. add_span from t f.spans) end in
     kept_is c.args.self.now.arrived c.args.place n
-    (kept_after f c.self.invariant c.args.self.now.arrived (ap (λ (h : Held). h.arrived) c.self.view_is) c.args.place n from (omega (arith, c.saturating_sub-before.ensures, c.self.invariant.missing)) (omega (arith, c.if-to-self.false, c.self.invariant.missing)) (omega (arith, c.if-is_beyond.ensures)) some (omega (arith, c.put_behind.ensures.few, ap length spans, c.self.invariant.few)))
+    (kept_after f c.self.invariant c.args.self.now.arrived (ap (λ (h : Held). h.arrived) c.self.view_is) c.args.place n from (omega (arith, c.if-place-self.true, c.self.invariant.missing)) (omega (arith, c.if-place-self.true, some, c.self.invariant.missing)) (omega (arith, c.if-is_beyond.ensures)) some (omega (arith, c.put_behind.ensures.few, ap length c.put_behind.ensures.spans, c.self.invariant.few)))
 
 pub returns-then-fits_behind-clause-ok : goal.returns-then-fits_behind-clause-ok
 returns-then-fits_behind-clause-ok g c =
     let f : Fields = fields_of c.self.inside in
     let n = length c.args.octets.now in
-    let from = c.args.place + c.saturating_sub-before.result in
+    let from = c.args.place in
     let some : 0 < n = grind (arith, nat_tests, c.is_empty.ensures, c.if-is_empty.false) in
-    let end : from + length c.split_at.result.1.now ≡ c.args.place + n = omega (arith, c.split_at.ensures.back_len) in
-    let spans : c.put_behind.new.spans.items ≡ add_span from (c.args.place + n) f.spans = c.put_behind.ensures.spans ∙ ap (λ t. add_span from t f.spans) end in
+    let none : 0 ≡ first_end f.spans - from = omega (arith, c.if-place-self.true, c.self.invariant.missing) in
     let after : Fields = record { base = f.base; floor = f.floor; missing = c.end_of_first-self-inside.result; octets = c.put_behind.new.buffer.items; spans = c.put_behind.new.spans.items; gone = f.gone } in
-    let puts : PutsIn f after from (c.args.place + n) c.split_at.result.1.now = record {
+    let puts : PutsIn f after from (c.args.place + n) c.args.octets.now = record {
       base = refl;
       floor = refl;
       missing = c.end_of_first-self-inside.ensures;
       gone = refl;
-      spans = spans;
-      end = sym end;
-      len = omega (arith, c.put_behind.ensures.len, c.if-fits_behind.ensures.0, end, c.put_behind.new.buffer.ok.0, c.self.inside.octets.ok.0);
+      spans = c.put_behind.ensures.spans;
+      end = refl;
+      len = omega (arith, c.put_behind.ensures.len, c.if-fits_behind.ensures.0, c.put_behind.new.buffer.ok.0, c.self.inside.octets.ok.0);
       written = c.put_behind.ensures.octets;
     } in
-    put_delivers f after c.self.invariant c.args.self.now.arrived (ap (λ (h : Held). h.arrived) c.self.view_is) c.args.place from c.args.octets.now c.split_at.result.1.now
-    (omega (arith, c.if-to-self.false, c.self.invariant.missing)) some (omega (arith, c.saturating_sub-before.ensures, c.self.invariant.missing)) (c.split_at.ensures.back ∙ ap (λ k. drop k c.args.octets.now) (omega (arith, c.saturating_sub-before.ensures, c.self.invariant.missing))) (omega (arith, c.if-is_beyond.ensures)) (omega (arith, c.put_behind.ensures.few, ap length spans, c.self.invariant.few)) puts
-
--- where they belong
-pub invariant_of-self-2 : goal.invariant_of-self-2
-invariant_of-self-2 g c =
-    let f : Fields = fields_of c.self.inside in
-    let n = length c.args.octets.now in
-    let from = c.args.place + c.saturating_sub-before.result in
-    let some : 0 < n = grind (arith, nat_tests, c.is_empty.ensures, c.if-is_empty.false) in
-    let end : from + length c.split_at.result.1.now ≡ c.args.place + n = omega (arith, c.split_at.ensures.back_len) in
-    let spans : c.put.new.spans.items ≡ add_span from (c.args.place + n) f.spans = c.in_ok-put.ensures.spans ∙ ap (λ t. add_span from t f.spans) end in
-    let after : Fields = record { base = f.base; floor = f.floor; missing = c.end_of_first-self-inside-2.result; octets = c.put.new.buffer.items; spans = c.put.new.spans.items; gone = f.gone } in
-    let puts : PutsIn f after from (c.args.place + n) c.split_at.result.1.now = record {
-      base = refl;
-      floor = refl;
-      missing = c.end_of_first-self-inside-2.ensures;
-      gone = refl;
-      spans = spans;
-      end = sym end;
-      len = omega (arith, c.in_ok-put.ensures.len, end, c.put.new.buffer.ok.0, c.self.inside.octets.ok.0);
-      written = c.in_ok-put.ensures.octets;
-    } in
-    sound_put f after c.self.invariant from (c.args.place + n) c.split_at.result.1.now (omega (arith, some, c.saturating_sub-before.ensures, c.if-to-self.false)) (omega (arith, c.if-is_beyond.ensures)) puts c.if-is_one_too_many.ensures
-
-pub returns-clause-answer : goal.returns-clause-answer
-returns-clause-answer g c =
-    let f : Fields = fields_of c.self.inside in
-    let n = length c.args.octets.now in
-    let from = c.args.place + c.saturating_sub-before.result in
-    let some : 0 < n = grind (arith, nat_tests, c.is_empty.ensures, c.if-is_empty.false) in
-    let end : from + length c.split_at.result.1.now ≡ c.args.place + n = omega (arith, c.split_at.ensures.back_len) in
-    kept_is c.args.self.now.arrived c.args.place n
-    (kept_after f c.self.invariant c.args.self.now.arrived (ap (λ (h : Held). h.arrived) c.self.view_is) c.args.place n from (omega (arith, c.saturating_sub-before.ensures, c.self.invariant.missing)) (omega (arith, c.if-to-self.false, c.self.invariant.missing)) (omega (arith, c.if-is_beyond.ensures)) some c.if-is_one_too_many.ensures)
-
-pub returns-clause-ok : goal.returns-clause-ok
-returns-clause-ok g c =
-    let f : Fields = fields_of c.self.inside in
-    let n = length c.args.octets.now in
-    let from = c.args.place + c.saturating_sub-before.result in
-    let some : 0 < n = grind (arith, nat_tests, c.is_empty.ensures, c.if-is_empty.false) in
-    let end : from + length c.split_at.result.1.now ≡ c.args.place + n = omega (arith, c.split_at.ensures.back_len) in
-    let spans : c.put.new.spans.items ≡ add_span from (c.args.place + n) f.spans = c.in_ok-put.ensures.spans ∙ ap (λ t. add_span from t f.spans) end in
-    let after : Fields = record { base = f.base; floor = f.floor; missing = c.end_of_first-self-inside-2.result; octets = c.put.new.buffer.items; spans = c.put.new.spans.items; gone = f.gone } in
-    let puts : PutsIn f after from (c.args.place + n) c.split_at.result.1.now = record {
-      base = refl;
-      floor = refl;
-      missing = c.end_of_first-self-inside-2.ensures;
-      gone = refl;
-      spans = spans;
-      end = sym end;
-      len = omega (arith, c.in_ok-put.ensures.len, end, c.put.new.buffer.ok.0, c.self.inside.octets.ok.0);
-      written = c.in_ok-put.ensures.octets;
-    } in
-    put_delivers f after c.self.invariant c.args.self.now.arrived (ap (λ (h : Held). h.arrived) c.self.view_is) c.args.place from c.args.octets.now c.split_at.result.1.now
-    (omega (arith, c.if-to-self.false, c.self.invariant.missing)) some (omega (arith, c.saturating_sub-before.ensures, c.self.invariant.missing)) (c.split_at.ensures.back ∙ ap (λ k. drop k c.args.octets.now) (omega (arith, c.saturating_sub-before.ensures, c.self.invariant.missing))) (omega (arith, c.if-is_beyond.ensures)) c.if-is_one_too_many.ensures puts
+    put_delivers f after c.self.invariant c.args.self.now.arrived (ap (λ (h : Held). h.arrived) c.self.view_is) c.args.place from c.args.octets.now c.args.octets.now
+    (omega (arith, c.if-place-self.true, some, c.self.invariant.missing)) some (omega (arith, c.if-place-self.true, c.self.invariant.missing)) (ap (λ k. drop k c.args.octets.now) none) (omega (arith, c.if-is_beyond.ensures)) (omega (arith, c.put_behind.ensures.few, ap length c.put_behind.ensures.spans, c.self.invariant.few)) puts
 
 pub end_of_first-self-inside-requires : goal.end_of_first-self-inside-requires
 end_of_first-self-inside-requires g c =
     let f : Fields = fields_of c.self.inside in
     let n = length c.args.octets.now in
-    let from = c.args.place + c.saturating_sub-before.result in
+    let from = c.args.place in
     let some : 0 < n = grind (arith, nat_tests, c.is_empty.ensures, c.if-is_empty.false) in
-    let end : from + length c.split_at.result.1.now ≡ c.args.place + n = omega (arith, c.split_at.ensures.back_len) in
     subst IsFromStart (sym c.put_behind.ensures.spans)
-    (add_from_start from (from + length c.split_at.result.1.now) f.spans (omega (arith, end, some, c.saturating_sub-before.ensures, c.if-to-self.false)) c.self.invariant.order)
-
-pub end_of_first-self-inside-requires-2 : goal.end_of_first-self-inside-requires-2
-end_of_first-self-inside-requires-2 g c =
-    let f : Fields = fields_of c.self.inside in
-    let n = length c.args.octets.now in
-    let from = c.args.place + c.saturating_sub-before.result in
-    let some : 0 < n = grind (arith, nat_tests, c.is_empty.ensures, c.if-is_empty.false) in
-    let end : from + length c.split_at.result.1.now ≡ c.args.place + n = omega (arith, c.split_at.ensures.back_len) in
-    subst IsFromStart (sym c.in_ok-put.ensures.spans)
-    (add_from_start from (from + length c.split_at.result.1.now) f.spans (omega (arith, end, some, c.saturating_sub-before.ensures, c.if-to-self.false)) c.self.invariant.order)
+    (add_from_start from (from + n) f.spans (omega (arith, some)) c.self.invariant.order)
