@@ -17,7 +17,7 @@ use Rattle.iw_fpdu.proofs.Octets.{length_data}
 use Rattle.iw_rdmap.specs.declared.head.Head.{Head}
 use Rattle.iw_rdmap.specs.declared.head.Head.TheVariants as heads
 use Rattle.iw_rdmap.specs.FirstPath.{plain_tagged, plain_untagged}
-use Rattle.iw_rdmap.specs.Operation.{rdmap_version, opcode_of}
+use Rattle.iw_octets.specs.Operation.{rdmap_version, opcode_of}
 use Rattle.iw_tagged.specs.Placing.{placing_fault}
 use Rattle.iw_untagged.specs.Receiving.{Receiving, HasRoom, HoldsLimits, ahead_of, buffer_of, buffer_fault, turned, written}
 use Rattle.iw_stream.specs.declared.judging.Landed.{Landed}

@@ -12,7 +12,7 @@ use Rattle.iw_octets.specs.Octets.{splice}
 use Rattle.iw_memory.specs.declared.rights.Right.TheVariants.{Write}
 use Rattle.iw_memory.specs.Table.{Table}
 use Rattle.iw_tagged.specs.Placing.{placing_fault}
-use Rattle.iw_rdmap.specs.Operation.{opcode_of}
+use Rattle.iw_octets.specs.Operation.{opcode_of}
 use Rattle.iw_rdmap.specs.FirstPath.{plain_tagged, plain_untagged}
 use Rattle.iw_untagged.specs.Receiving.{Receiving, ahead_of, buffer_of, buffer_fault, turn_fault}
 use Rattle.iw_stream.specs.Judging.{or_else, tagged_fault, untagged_fault}
