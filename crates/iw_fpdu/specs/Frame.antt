@@ -2,13 +2,14 @@
 use Rattle.std.specs.Prelude.{ℕ, ◌+◌, ◌-◌, ◌*◌, ◌/◌, ◌%◌, ◌==◌, Bool, true, if◌then◌else◌, List, [], ◌∷◌, ◌++◌, length, map, replicate, slice_index}
 use Rattle.std.specs.Int.{w32, to_le_bytes}
 use Rattle.std.specs.List.{range_with_len}
+use Rattle.iw_octets.specs.declared.constants.TheConstants.{MAX_ULPDU}
 use Rattle.iw_octets.specs.Crc.{crc32c}
 use Rattle.iw_fpdu.specs.declared.layout.Layout.{Layout}
 use Rattle.iw_fpdu.specs.Places.{data_place, data_index, in_marker, place_after, frame_start, span_start}
 
 -- the most octets that a ULPDU has which is sent
 abbrev pub max_sent : ℕ
-max_sent = 64512
+max_sent = MAX_ULPDU
 
 -- the pad octets behind a ULPDU of this length, which make length field, ULPDU and pad a multiple of four octets
 abbrev pub pad_len : ℕ → ℕ

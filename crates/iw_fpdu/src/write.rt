@@ -7,11 +7,8 @@ ghost use Rattle.iw_fpdu.specs.Laying.{HasRoom, IsEdge, marker_before, marker_be
 ghost use Rattle.iw_fpdu.specs.Places.{data_place, data_index, frame_start, place_after};
 
 use crate::layout::{Layout, MARKER, SPACING, end_of, index_of, pad_of, place_of, run_at};
-use iw_octets::Crc;
+use iw_octets::{Crc, MAX_ULPDU};
 use std::alloc::Allocator;
-
-/// The most octets that a ULPDU has which is sent.
-const MAX_SENT: usize = 64_512;
 
 /// Why a frame isn't written.
 #[derive(Clone, Copy, Debug, PartialEq, Eq)]
@@ -114,7 +111,7 @@ fn len_of(parts: &[&[u8]]) -> Option<u16>
 {
     let mut len = 0;
     for part in parts {
-        if part.len() > MAX_SENT - len {
+        if part.len() > MAX_ULPDU - len {
             return None;
         }
         len += part.len();

@@ -9,16 +9,13 @@ use crate::refusal::{
 use crate::region::{Facts, Stored};
 use crate::rights::{Right, Rights};
 use crate::slots::{Slot, find, lowest_free_in, make_room, set_slot};
-use iw_octets::Stag;
+use iw_octets::{MAX_OCTETS, Stag};
 use slab::Slab;
 use std::alloc::{AllocError, Allocator, Global};
 use std::marker::Model;
 
 // How many regions a domain may have.
 const MAX_SLOTS: usize = 1024;
-
-// How many octets a region may have.
-const MAX_OCTETS: usize = 16_777_216;
 
 /// The registered regions of an endpoint, by domain. An STag names a region by its domain, its slot there, and a key
 /// that tells the uses of the slot apart.

@@ -1,5 +1,6 @@
 -- Reading undoes writing, whatever stands behind, and writing undoes reading; what is read is read off the octets at the front.
 use Rattle.std.specs.Prelude.{ℕ, ◌≡◌, ◌<◌, ◌+◌, ◌*◌, ◌/◌, ◌%◌, true, false, List, [], ◌∷◌, ◌++◌, slice_index, Some, None, codes, replicate}
+use Rattle.iw_octets.specs.declared.constants.TheConstants as constants
 use Rattle.iw_octets.specs.declared.fault.Fault.{Fault}
 use Rattle.iw_octets.specs.declared.fault.TheConstants.Fault as faults
 use Rattle.iw_octets.specs.declared.head.TaggedHead.{TaggedHead}
@@ -75,6 +76,17 @@ pub record KnownFaults : Type 0 where
   pub untagged_version : faults.UNTAGGED_VERSION ≡ numbered 1 2 6
   pub crc_mismatch : faults.CRC_MISMATCH ≡ numbered 2 0 2
   pub marker_mismatch : faults.MARKER_MISMATCH ≡ numbered 2 0 3
+
+-- the numbers that the RFCs give (RFC 5041 4.1 to 4.3, RFC 5040 4.1 and 4.4, RFC 5044 7.1.1), and how long this endpoint lets a ULPDU and a message be
+pub record KnownConstants : Type 0 where
+  pub ddp_version : constants.DDP_VERSION ≡ 1
+  pub rdmap_version : constants.RDMAP_VERSION ≡ 1
+  pub tagged_header : constants.TAGGED_HEADER ≡ 14
+  pub untagged_header : constants.UNTAGGED_HEADER ≡ 18
+  pub read_request_header : constants.READ_REQUEST_HEADER ≡ 28
+  pub max_ulpdu : constants.MAX_ULPDU ≡ 64512
+  pub max_octets : constants.MAX_OCTETS ≡ 16777216
+  pub max_private : constants.MAX_PRIVATE ≡ 512
 
 -- each operation is told by its octet, which has RDMAP's version, and no octet names a tagged operation and an untagged one
 pub record OperationsAreTold : Type 0 where

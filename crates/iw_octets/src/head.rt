@@ -4,6 +4,7 @@ ghost use Rattle.iw_octets.specs.Head.{first_octet, is_tagged, is_last, tagged_o
 ghost use Rattle.iw_octets.specs.Shown.{shown};
 ghost use Rattle.iw_octets.specs.Stag.{stag_at};
 
+use crate::constants::{TAGGED_HEADER, UNTAGGED_HEADER};
 use crate::stag::Stag;
 use arrayvec::ArrayVec;
 use std::error::Error;
@@ -113,7 +114,7 @@ impl TaggedHead {
         ensures read { shown result ≡ read_tagged octets.now }
         ensures fits { IfOk result (λ read. FitsTagged read.0) }
     {
-        if octets.len() < 14 {
+        if octets.len() < TAGGED_HEADER {
             return Err(Short);
         }
         let head = TaggedHead {
@@ -123,7 +124,7 @@ impl TaggedHead {
             stag: read_stag(octets, 2),
             to: number_64(octets, 6),
         };
-        Ok((head, &octets[14..]))
+        Ok((head, &octets[TAGGED_HEADER..]))
     }
 
     /// The header's 14 octets.
@@ -148,7 +149,7 @@ impl UntaggedHead {
         ensures read { shown result ≡ read_untagged octets.now }
         ensures fits { IfOk result (λ read. FitsUntagged read.0) }
     {
-        if octets.len() < 18 {
+        if octets.len() < UNTAGGED_HEADER {
             return Err(Short);
         }
         let head = UntaggedHead {
@@ -160,7 +161,7 @@ impl UntaggedHead {
             msn: number_32(octets, 10),
             mo: number_32(octets, 14),
         };
-        Ok((head, &octets[18..]))
+        Ok((head, &octets[UNTAGGED_HEADER..]))
     }
 
     /// The header's 18 octets.

@@ -1,4 +1,4 @@
-ghost use Rattle.iw_octets.specs.Laws.{AddsInPieces, KnownFaults, KnownValues, NumbersTell, OperationsAreTold, ReadsAgain, WritesAgain};
+ghost use Rattle.iw_octets.specs.Laws.{AddsInPieces, KnownConstants, KnownFaults, KnownValues, NumbersTell, OperationsAreTold, ReadsAgain, WritesAgain};
 
 /// What is written is read again, whatever stands behind it, and more octets behind a segment are more of its payload.
 pub fn reads_again()
@@ -13,6 +13,11 @@ pub fn writes_again()
 /// The constants of [`Fault`](crate::Fault) have the numbers that the RFCs give.
 pub fn known_faults()
     ensures { KnownFaults }
+{}
+
+/// The constants are the numbers that the RFCs give, and those that this endpoint chose.
+pub fn known_constants()
+    ensures { KnownConstants }
 {}
 
 /// Each operation is told by its octet of a header, and no octet names two.

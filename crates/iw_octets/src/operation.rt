@@ -2,8 +2,7 @@
 ghost use Rattle.std.specs.Prelude.{◌≡◌, ◌<◌};
 ghost use Rattle.iw_octets.specs.Operation.{rdmap_version, opcode_of, control_of, tagged_opcode, untagged_opcode, tagged_operation, untagged_operation, queue_of};
 
-/// RDMAP's version (RFC 5040 4.1).
-pub const RDMAP_VERSION: u8 = 1;
+use crate::constants::RDMAP_VERSION;
 
 /// What a tagged segment is part of.
 #[derive(Clone, Copy, Debug, PartialEq, Eq)]

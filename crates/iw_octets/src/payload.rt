@@ -2,6 +2,7 @@ ghost use Rattle.std.specs.Prelude.{IfOk, ◌≡◌, ◌<◌};
 ghost use Rattle.iw_octets.specs.Payload.{request_octets, read_request, word_octets, read_word, flags_octet, FitsRequest, FitsWord};
 ghost use Rattle.iw_octets.specs.Shown.{shown};
 
+use crate::constants::READ_REQUEST_HEADER;
 use crate::fault::Fault;
 use crate::head::{Short, number_32, number_64, read_stag};
 use crate::stag::Stag;
@@ -36,7 +37,7 @@ impl ReadRequest {
         ensures read { shown result ≡ read_request octets.now }
         ensures fits { IfOk result (λ read. FitsRequest read.0) }
     {
-        if octets.len() < 28 {
+        if octets.len() < READ_REQUEST_HEADER {
             return Err(Short);
         }
         let request = ReadRequest {
@@ -46,7 +47,7 @@ impl ReadRequest {
             source: read_stag(octets, 16),
             source_to: number_64(octets, 20),
         };
-        Ok((request, &octets[28..]))
+        Ok((request, &octets[READ_REQUEST_HEADER..]))
     }
 
     /// The request's 28 octets.

@@ -1,6 +1,7 @@
 -- The segments that carry posted messages: any cut of the octets of each, one message behind the other.
 use Rattle.std.specs.Prelude.{ℕ, ◌≡◌, ◌+◌, ◌%◌, ◌^◌, ◌<◌, ◌≤◌, Bool, true, false, List, [], ◌∷◌, ◌++◌, length, take, drop, if◌then◌else◌, Option, is_some, ◌-◌}
 use Rattle.std.specs.Option.{option_map_or}
+use Rattle.iw_octets.specs.declared.constants.TheConstants.{DDP_VERSION, TAGGED_HEADER, UNTAGGED_HEADER, MAX_ULPDU}
 use Rattle.iw_octets.specs.declared.message.Message.TheVariants.{Write, Send}
 use Rattle.iw_octets.specs.declared.operation.TaggedOperation.TheVariants as tagged
 use Rattle.iw_octets.specs.declared.operation.UntaggedOperation.TheVariants as untagged
@@ -37,14 +38,14 @@ numbers_after_all numbers (m ∷ ms) = numbers_after_all (numbers_after numbers 
 -- the segment with these octets of a Write, which stand from `offset` on in its payload (RFC 5041 4.2)
 abbrev pub write_segment : Stag → ℕ → ℕ → Bool → List ℕ → Segment (List ℕ)
 write_segment stag to offset last octets =
-    Tagged (record { last = last; ddp_version = 1; control = control_of (tagged_opcode tagged.Write); stag = stag; to = (to + offset) % 2 ^ 64 }) octets
+    Tagged (record { last = last; ddp_version = DDP_VERSION; control = control_of (tagged_opcode tagged.Write); stag = stag; to = (to + offset) % 2 ^ 64 }) octets
 
 -- the same of a Send, each segment of which has the opcode and the STag to invalidate (RFC 5040 4.1, RFC 5041 4.3)
 abbrev pub send_segment : ℕ → Bool → Option Stag → ℕ → Bool → List ℕ → Segment (List ℕ)
 send_segment msn solicited invalidate offset last octets =
     Untagged (record {
       last = last;
-      ddp_version = 1;
+      ddp_version = DDP_VERSION;
       control = control_of (untagged_opcode (untagged.Send solicited (is_some invalidate)));
       tail = option_map_or number_of invalidate 0;
       queue = queue_of (untagged.Send solicited (is_some invalidate));
@@ -55,7 +56,7 @@ send_segment msn solicited invalidate offset last octets =
 -- the one segment of a Read: its request, on a queue of its own (RFC 5040 5.2.1)
 abbrev pub request_segment : ℕ → ReadRequest → Segment (List ℕ)
 request_segment msn request =
-    Untagged (record { last = true; ddp_version = 1; control = control_of (untagged_opcode untagged.ReadRequest); tail = 0; queue = queue_of untagged.ReadRequest; msn = msn; mo = 0 }) (request_octets request)
+    Untagged (record { last = true; ddp_version = DDP_VERSION; control = control_of (untagged_opcode untagged.ReadRequest); tail = 0; queue = queue_of untagged.ReadRequest; msn = msn; mo = 0 }) (request_octets request)
 
 -- the segment with these octets of a message, which stand from `offset` on in its payload; a Read has the octets of its request
 abbrev pub segment_with : Numbers → Request (List ℕ) → ℕ → Bool → List ℕ → Segment (List ℕ)
@@ -64,10 +65,6 @@ segment_with numbers (Message (Send payload solicited invalidate)) offset last o
 segment_with numbers (Read request) offset last octets = request_segment numbers.read request
 
 -- ---- cuts
--- the largest ULPDU that is sent, in octets
-abbrev pub max_ulpdu : ℕ
-max_ulpdu = 64512
-
 -- these octets, from `offset` of their message on, in a segment of at most `room` octets that is not the last
 pub record IsFront (room : ℕ) (segment : ℕ → Bool → List ℕ → Segment (List ℕ)) (offset : ℕ) (octets : List ℕ) (s : Segment (List ℕ)) (front back : List ℕ) : Type 0 where
   pub cut : octets ≡ front ++ back
@@ -85,9 +82,9 @@ IsCut room segment offset octets (s ∷ t ∷ ss) =
 
 -- the segments of what is left of a message behind its first `offset` octets (RFC 5041 5.2)
 abbrev pub AreSegments : Numbers → Request (List ℕ) → ℕ → List (Segment (List ℕ)) → Type 0
-AreSegments numbers (Message (Write stag to octets)) offset ss = IsCut (max_ulpdu - 14) (write_segment stag to) offset (drop offset octets) ss
+AreSegments numbers (Message (Write stag to octets)) offset ss = IsCut (MAX_ULPDU - TAGGED_HEADER) (write_segment stag to) offset (drop offset octets) ss
 AreSegments numbers (Message (Send octets solicited invalidate)) offset ss =
-    IsCut (max_ulpdu - 18) (send_segment numbers.send solicited invalidate) offset (drop offset octets) ss
+    IsCut (MAX_ULPDU - UNTAGGED_HEADER) (send_segment numbers.send solicited invalidate) offset (drop offset octets) ss
 AreSegments numbers (Read request) offset ss = ss ≡ request_segment numbers.read request ∷ []
 
 -- the segments of these messages, one message behind the other, `offset` octets of the first having gone before (RFC 5041 5.3)

@@ -2,7 +2,7 @@ ghost use Rattle.std.specs.Prelude.{◌≡◌, ◌≤◌, length};
 ghost use Rattle.iw_queues.specs.Request.{kind_of, payload, size_of, header_len};
 
 use bytes::Bytes;
-use iw_octets::{Message, ReadRequest};
+use iw_octets::{Message, ReadRequest, TAGGED_HEADER, UNTAGGED_HEADER};
 use std::alloc::Allocator;
 
 /// What is posted: a message with octets of this end, or a Read of octets of the peer. The payload's type is the parameter.
@@ -29,12 +29,6 @@ pub enum Refusal {
     TooLong,
     NoMemory,
 }
-
-// DDP's header of a tagged segment, with RDMAP's octet in it (RFC 5041 4.2).
-const TAGGED_HEADER: usize = 14;
-
-// DDP's header of an untagged segment, with RDMAP's octets in it (RFC 5041 4.3).
-const UNTAGGED_HEADER: usize = 18;
 
 impl<A: Allocator> Request<Bytes<A>> {
     pub fn kind(&self) -> Kind

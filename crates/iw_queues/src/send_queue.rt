@@ -5,15 +5,13 @@ ghost use Rattle.iw_queues.specs.Request.{kind_of, payload};
 use crate::completions::{Completions, Done};
 use crate::request::{Kind, Refusal, Request};
 use bytes::Bytes;
+use iw_octets::MAX_OCTETS;
 use std::alloc::{Allocator, Global};
 use std::collections::VecDeque;
 use std::marker::Model;
 
 /// How many messages may be posted and not yet handed out.
 const MAX_POSTED: usize = 256;
-
-/// How many octets a message may have, or a Read ask for.
-const MAX_OCTETS: usize = 16_777_216;
 
 /// A part of a message: `n` octets of its payload from `offset` on. The message's type is the parameter.
 #[derive(Clone, Copy, Debug, PartialEq, Eq)]

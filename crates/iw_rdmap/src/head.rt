@@ -1,8 +1,9 @@
 ghost use Rattle.std.specs.Prelude.{◌≡◌};
 ghost use Rattle.iw_rdmap.specs.Head.{header_octets, is_request, is_early};
 
-use crate::sizes::{TAGGED_HEADER, UNTAGGED_HEADER};
-use iw_octets::{ReadRequest, TaggedHead, TerminateWord, UntaggedHead};
+use iw_octets::{
+    ReadRequest, TAGGED_HEADER, TaggedHead, TerminateWord, UNTAGGED_HEADER, UntaggedHead,
+};
 
 /// A segment whose header passed its checks, by what the segment is part of (RFC 5040 4.1, figure 4).
 ///

@@ -4,13 +4,12 @@ ghost use Rattle.iw_rdmap.specs.Judging.{IsFront, judged, tagged_checked, untagg
 ghost use Rattle.iw_rdmap.specs.Terminate.{FitsFault, HasCause, HasHeaders};
 
 use crate::head::Head;
-use crate::sizes::{FIRST_OCTETS, MAX_TERMINATE, READ_REQUEST, UNTAGGED_HEADER};
+use crate::sizes::{FIRST_OCTETS, MAX_TERMINATE};
 use iw_octets::{
-    Fault, RDMAP_VERSION, ReadRequest, Segment, Short, TaggedHead, TaggedOperation, TerminateWord,
-    UntaggedHead, UntaggedOperation, rdmap_version,
+    DDP_VERSION, Fault, RDMAP_VERSION, READ_REQUEST_HEADER, ReadRequest, Segment, Short,
+    TaggedHead, TaggedOperation, TerminateWord, UNTAGGED_HEADER, UntaggedHead, UntaggedOperation,
+    rdmap_version,
 };
-
-const DDP_VERSION: u8 = 1;
 
 // The number of a queue's first message.
 const FIRST_MSN: u32 = 1;
@@ -19,7 +18,7 @@ const FIRST_MSN: u32 = 1;
 const LAST_QUEUE: u32 = 2;
 
 // How many Read Requests may be unanswered.
-const MOST_UNANSWERED: usize = 16;
+const MAX_UNANSWERED: usize = 16;
 
 /// The checks of a tagged header up to that of its opcode: the operation, or the first fault.
 pub(crate) fn tagged_operation(head: &TaggedHead) -> Result<TaggedOperation, Fault>
@@ -62,19 +61,19 @@ fn judge_request(
     next: u32,
     unanswered: usize,
 ) -> Result<Head, Fault>
-    requires { IsFront READ_REQUEST payload.now n }
+    requires { IsFront READ_REQUEST_HEADER payload.now n }
     ensures { result ≡ judged_request head payload.now n next unanswered }
 {
     if head.msn != next {
         return Err(Fault::UNTAGGED_MSN_RANGE);
     }
-    if unanswered >= MOST_UNANSWERED {
+    if unanswered >= MAX_UNANSWERED {
         return Err(Fault::UNTAGGED_NO_BUFFER);
     }
     if head.mo != 0 {
         return Err(Fault::UNTAGGED_INVALID_OFFSET);
     }
-    if n > READ_REQUEST || !head.last {
+    if n > READ_REQUEST_HEADER || !head.last {
         return Err(Fault::UNTAGGED_TOO_LONG);
     }
     match ReadRequest::read(payload) {
@@ -86,7 +85,7 @@ fn judge_request(
 // A Terminate behind the check of its opcode, with `n` octets of payload, of which these are the first.
 #[tactic(auto, unfolding(iw_octets::specs::Payload::read_word))]
 fn judge_terminate(head: UntaggedHead, payload: &[u8], n: usize) -> Result<Head, Fault>
-    requires { IsFront READ_REQUEST payload.now n }
+    requires { IsFront READ_REQUEST_HEADER payload.now n }
     ensures { result ≡ judged_terminate head payload.now n }
 {
     if head.msn != FIRST_MSN {

@@ -2,9 +2,11 @@ ghost use Rattle.std.specs.Prelude.{◌≡◌, ◌+◌, ◌≤◌, ◌++◌, len
 ghost use Rattle.arrayvec.specs.ArrayVec.{array_vec_len};
 ghost use Rattle.iw_rdmap.specs.Terminate.{FitsFault, HasCause, has_segment, has_request, word_for, header_len, terminate_octets};
 
-use crate::sizes::{MAX_TERMINATE, READ_REQUEST, TAGGED_HEADER, UNTAGGED_HEADER};
+use crate::sizes::MAX_TERMINATE;
 use arrayvec::ArrayVec;
-use iw_octets::{Fault, TerminateWord, is_tagged};
+use iw_octets::{
+    Fault, READ_REQUEST_HEADER, TAGGED_HEADER, TerminateWord, UNTAGGED_HEADER, is_tagged,
+};
 
 // The layers whose faults are those of a segment, and the type of RDMAP's remote protection errors.
 const RDMAP: u8 = 0;
@@ -81,7 +83,7 @@ pub fn terminate(fault: Fault, first: &[u8], len: u16, request: bool) -> ArrayVe
     }
     if word.has_request {
         let header = header_len(first);
-        append(&mut payload, &first[header..header + READ_REQUEST]);
+        append(&mut payload, &first[header..header + READ_REQUEST_HEADER]);
     }
     payload
 }

@@ -1,10 +1,8 @@
 use arrayvec::ArrayVec;
+use iw_octets::MAX_PRIVATE;
 
 /// How many octets of a start-up frame stand before its private data.
 pub const FIXED_OCTETS: usize = 20;
-
-/// How many octets of private data a start-up frame holds at most (RFC 5044 7.1.1).
-pub const MAX_PRIVATE: usize = 512;
 
 /// How many octets a start-up frame has at most.
 pub const MAX_FRAME: usize = FIXED_OCTETS + MAX_PRIVATE;

@@ -5,10 +5,11 @@ ghost use Rattle.iw_startup.specs.Frame.{flags, start_frame, has_flag, private_l
 ghost use Rattle.iw_startup.specs.Peer.{fixed_fault, frame_end, is_whole, progress_of};
 ghost use Rattle.iw_startup.specs.State.{agreement};
 
-use crate::config::{Agreed, Config, FIXED_OCTETS, MAX_FRAME, MAX_PRIVATE, PrivateData};
+use crate::config::{Agreed, Config, FIXED_OCTETS, MAX_FRAME, PrivateData};
 use crate::progress::{Progress, StartupFault};
 use crate::side::Side;
 use arrayvec::ArrayVec;
+use iw_octets::MAX_PRIVATE;
 
 // Where the fields behind the key stand.
 const FLAGS_AT: usize = 16;

@@ -12,7 +12,8 @@ mod progress;
 mod side;
 mod startup;
 
-pub use config::{Agreed, Config, FIXED_OCTETS, MAX_FRAME, MAX_PRIVATE, PrivateData};
+pub use config::{Agreed, Config, FIXED_OCTETS, MAX_FRAME, PrivateData};
+pub use iw_octets::MAX_PRIVATE;
 pub use laws::{
     accepted_ends_agree, answers_stay, cuts_do_not_matter, rejections_are_told, requests_are_asked,
 };

@@ -2,9 +2,7 @@ ghost use Rattle.std.specs.Prelude.{◌≡◌, ◌-◌, ◌<◌};
 ghost use Rattle.iw_tagged.specs.Parts.{parts};
 
 use crate::parts::Cut;
-
-// How many octets a tagged header has (RFC 5041 4.2).
-const TAGGED_HEADER: usize = 14;
+use iw_octets::TAGGED_HEADER;
 
 /// Cuts a message of `len` octets into parts for segments of at most `max` octets each, the header included. Each part
 /// but the last is full, and the last holds what is left: it is empty only for an empty message, which is one part.
