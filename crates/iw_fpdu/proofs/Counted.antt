@@ -192,10 +192,23 @@ marker_value_is start p z =
           ap (λ b. cond b 0 (512 * (p / 512) - start)) t ∙ omega arith
     ]
 
--- the place behind the last octet of a frame
-pub end_at : (m : Bool) (start len k p : ℕ) → p ≡ data_place m k → k ≡ data_index m start + (frame_size len - 1) → p + 1 ≡ frame_end m start len
-end_at m start len k p e f =
-    ap (λ x. x + 1) (e ∙ ap (data_place m) f) ∙ sym (after_some m start (frame_size len) (frame_size len - 1) (omega arith))
+-- the place behind a frame, by the octets of the frames behind the last marker before its end
+last_with : (start n : ℕ) → 0 < n → data_place true (data_index true start + (n - 1)) + 1 ≡ start - start % 512 + 4 + (start % 512 - 4 + n) + 4 * ((start % 512 - 4 + n - 1) / 508)
+unfolding data_place data_index
+last_with start n some = omega arith
+
+last_without : (start n : ℕ) → 0 < n → data_place false (data_index false start + (n - 1)) + 1 ≡ start + n
+unfolding data_place data_index
+last_without start n some = omega arith
+
+pub end_with : (m : Bool) (start len n : ℕ) → m ≡ true → n ≡ start % 512 - 4 + frame_size len → start - start % 512 + 4 + n + 4 * ((n - 1) / 508) ≡ frame_end m start len
+end_with m start len n t e =
+    ap (λ k. start - start % 512 + 4 + k + 4 * ((k - 1) / 508)) e
+    ∙ sym (ap (λ b. frame_end b start len) t ∙ after_some true start (frame_size len) (frame_size len - 1) (omega arith) ∙ last_with start (frame_size len) (omega arith))
+
+pub end_without : (m : Bool) (start len : ℕ) → m ≡ false → start + frame_size len ≡ frame_end m start len
+end_without m start len f =
+    sym (ap (λ b. frame_end b start len) f ∙ after_some false start (frame_size len) (frame_size len - 1) (omega arith) ∙ last_without start (frame_size len) (omega arith))
 
 -- where the next data octet goes, with a marker before it and without
 pub next_behind : (m : Bool) (a : ℕ) → m ≡ true → a % 512 ≡ 0 → data_place m (data_index m a) ≡ a + 4

@@ -97,7 +97,13 @@ pub(crate) fn end_of(markers: bool, start: u64, len: u16) -> u64
     ensures bound { result ≤ 2 ^ 63 + 2 ^ 62 }
 {
     let size = 2 + u64::from(len) + pad_of(len) + 4;
-    place_of(markers, index_of(markers, start) + (size - 1)) + 1
+    if markers {
+        let into = start % SPACING;
+        let behind_marker = into.saturating_sub(MARKER) + size;
+        start - into + MARKER + behind_marker + MARKER * ((behind_marker - 1) / (SPACING - MARKER))
+    } else {
+        start + size
+    }
 }
 
 /// How many of `len` octets go to `at` and the places behind it before the next marker.
