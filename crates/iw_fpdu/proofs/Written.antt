@@ -1,6 +1,6 @@
 -- A frame, as it is written: what stands before the CRC field, and the field.
 use Rattle.std.proofs.Common.{◌≡◌, ℕ, ◌+◌, ◌-◌, ◌/◌, ◌%◌, ◌<◌, ◌≤◌, zero, suc, Bool, true, false, not, cond, eqb, List, [], ◌∷◌, ◌++◌, take, drop, length, replicate, refl, sym, ap, ◌∙◌, subst, arith, inl, inr}
-use Rattle.std.proofs.lemmas.List.{take-replicate, append_assoc, append-nil, length-append, length-replicate, drop_at, take_at, get_or_append_left}
+use Rattle.std.proofs.lemmas.List.{take-replicate, append_assoc, append-nil, length-append, length-replicate, drop_at, take_at, take_all, get_or_append_left}
 use Rattle.std.proofs.lemmas.List.FromFn.{length-map-range_with_len}
 use Rattle.std.proofs.lemmas.Bool.{cases_lt, cases_eq}
 use Rattle.std.proofs.lemmas.Bool.Decides.{nat_tests}
@@ -283,3 +283,15 @@ pub cut_pad : (old new : List ℕ) (n pad : ℕ) → new ≡ old ++ (0 ∷ 0 ∷
 cut_pad old new n pad e f few =
     ap (take n) (e ∙ ap (λ (ys : List ℕ). old ++ ys) (four_zeros pad few) ∙ sym (append_assoc old (replicate pad 0) (replicate (4 - pad) 0)))
     ∙ take_at (old ++ replicate pad 0) (replicate (4 - pad) 0) n (simp (length-append, length-replicate) (omega arith))
+
+-- without markers the data octets stand one behind another
+pub plain_written : (m : Bool) (at start len : ℕ) (ulpdu : List ℕ) → m ≡ false → len ≡ length ulpdu → laid m start (data_index m at) (bare_data ulpdu) at (field_place m at len) ≡ bare_data ulpdu
+plain_written true at start len ulpdu f e = cc
+plain_written false at start len ulpdu f e =
+    let n = length (bare_data ulpdu) in
+    ap (laid false start (data_index false at) (bare_data ulpdu) at) (let place : field_place false at len ≡ at + n = omega (arith, plain_place at (2 + len + pad_len len), length_bare ulpdu, e, ap pad_len e) in place)
+    ∙ laid_run false start (bare_data ulpdu) at n (omega arith) tt
+    ∙ take_all n (bare_data ulpdu) (omega arith)
+  where
+    plain_place : (at n : ℕ) → data_place false (data_index false at + n) ≡ at + n
+    plain_place at n = unfold data_place data_index in refl

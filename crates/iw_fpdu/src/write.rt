@@ -1,8 +1,8 @@
 ghost use Rattle.std.specs.Int.{w32, to_le_bytes};
-ghost use Rattle.std.specs.Prelude.{◌≡◌, ◌<◌, ◌≤◌, ◌+◌, ◌-◌, ◌/◌, ◌%◌, ◌^◌, ◌++◌, [], ◌∷◌, length, if◌then◌else◌, nat_lt, replicate, vec_len, vec_capacity, MatchOption, OnOk, OnErr, IfErr, IsOk};
+ghost use Rattle.std.specs.Prelude.{◌≡◌, ◌<◌, ◌≤◌, ◌+◌, ◌-◌, ◌/◌, ◌%◌, ◌^◌, ◌++◌, [], ◌∷◌, length, if◌then◌else◌, nat_lt, replicate, vec_len, vec_capacity, MatchOption, OnOk, OnErr, IfErr, IsOk, true};
 ghost use Rattle.iw_octets.specs.Crc.{after_octets, all_ones, crc32c};
 ghost use Rattle.iw_octets.specs.Pieces.{joined};
-ghost use Rattle.iw_fpdu.specs.Frame.{max_sent, bare_data, frame_end, frame_octets, field_place, laid, marker_octets};
+ghost use Rattle.iw_fpdu.specs.Frame.{max_sent, bare_data, frame_end, frame_octets, frame_size, field_place, laid, marker_octets};
 ghost use Rattle.iw_fpdu.specs.Laying.{HasRoom, IsEdge, marker_before, marker_behind};
 ghost use Rattle.iw_fpdu.specs.Places.{data_place, data_index, frame_start, place_after};
 
@@ -158,6 +158,50 @@ fn put_pad<A: Allocator>(markers: bool, start: u64, at: u64, pad: u64, out: &mut
     at + pad
 }
 
+/// Appends the pieces one behind the other.
+#[inline(always)]
+fn append_all<A: Allocator>(parts: &[&[u8]], out: &mut Vec<u8, A>)
+    requires { vec_len out.old + length (joined parts.now) ≤ vec_capacity out.old }
+    ensures items { out.new.items ≡ out.old.items ++ joined parts.now }
+    ensures len { vec_len out.new ≡ vec_len out.old + length (joined parts.now) }
+    ensures capacity { vec_capacity out.old ≤ vec_capacity out.new }
+{
+    for part in parts {
+        append(out, part);
+    }
+}
+
+/// Appends all of a frame without markers that stands before its CRC field.
+fn put_plain<A: Allocator>(len: u16, parts: &[&[u8]], out: &mut Vec<u8, A>)
+    requires len { len ≡ length (joined parts.now) }
+    requires room { vec_len out.old + frame_size len ≤ vec_capacity out.old }
+    ensures items { out.new.items ≡ out.old.items ++ bare_data (joined parts.now) }
+    ensures room { vec_len out.new + 4 ≤ vec_capacity out.new }
+{
+    append(out, &[(len / 256) as u8, (len % 256) as u8]);
+    append_all(parts, out);
+    let end = out.len() + pad_of(len) as usize;
+    append(out, &[0; 4]);
+    out.truncate(end);
+}
+
+/// Appends all of a frame with markers that stands before its CRC field.
+fn put_among_markers<A: Allocator>(at: u64, len: u16, parts: &[&[u8]], out: &mut Vec<u8, A>)
+    requires place { at < 2 ^ 63 }
+    requires aligned { at % 4 ≡ 0 }
+    requires len { len ≡ length (joined parts.now) }
+    requires short { len ≤ max_sent }
+    requires room { vec_len out.old + (frame_end true at len - at) ≤ vec_capacity out.old }
+    ensures items { out.new.items ≡ out.old.items ++ laid true (frame_start true at) (data_index true at) (bare_data (joined parts.now)) at (field_place true at len) }
+    ensures room { vec_len out.new + 4 ≤ vec_capacity out.new }
+{
+    let start = place_of(true, index_of(true, at));
+    let behind_length = put_length(true, start, at, len, out);
+    let behind_ulpdu = put_all(true, start, behind_length, parts, out);
+    let behind_pad = put_pad(true, start, behind_ulpdu, pad_of(len), out);
+    put_marker(true, start, behind_pad, out);
+}
+
 /// Appends all of a frame that stands before its CRC field.
 fn put_bare<A: Allocator>(markers: bool, at: u64, len: u16, parts: &[&[u8]], out: &mut Vec<u8, A>)
     requires place { at < 2 ^ 63 }
@@ -168,11 +212,11 @@ fn put_bare<A: Allocator>(markers: bool, at: u64, len: u16, parts: &[&[u8]], out
     ensures items { out.new.items ≡ out.old.items ++ laid markers (frame_start markers at) (data_index markers at) (bare_data (joined parts.now)) at (field_place markers at len) }
     ensures room { vec_len out.new + 4 ≤ vec_capacity out.new }
 {
-    let start = place_of(markers, index_of(markers, at));
-    let behind_length = put_length(markers, start, at, len, out);
-    let behind_ulpdu = put_all(markers, start, behind_length, parts, out);
-    let behind_pad = put_pad(markers, start, behind_ulpdu, pad_of(len), out);
-    put_marker(markers, start, behind_pad, out);
+    if markers {
+        put_among_markers(at, len, parts, out);
+    } else {
+        put_plain(len, parts, out);
+    }
 }
 
 /// The CRC so far of a frame that is written at `at`: over the marker directly before it, where that stands before `at`.
