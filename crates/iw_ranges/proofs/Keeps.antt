@@ -7,7 +7,7 @@ use Rattle.std.specs.Prelude.{nat_lt}
 use Rattle.iw_ranges.specs.Spans.{in_spans, IsFromStart, AreSpans, first_end, add_span, octet_after}
 use Rattle.iw_ranges.specs.declared.Delivery.TheVariants.{Kept, Dropped}
 use Rattle.iw_ranges.specs.Arrived.{Cell, Missing, Here, Gone, Arrived, cell_at, in_segment, first_copy, taken_in, is_dropped, delivery, delivered, drawn, end_of, window}
-use Rattle.iw_ranges.specs.Fields.{Fields, cell_of, arrived_in, IsSound}
+use Rattle.iw_ranges.specs.Fields.{Fields, cell_of, arrived_in, IsSound, max_held}
 use Rattle.iw_ranges.proofs.Reaches.{in_order_start}
 use Rattle.iw_ranges.proofs.Adds.{in_add, add_from_start, add_first}
 use Rattle.iw_ranges.proofs.Fills.{in_octets, in_the_spans}
@@ -69,9 +69,9 @@ pub record PutsIn (f after : Fields) (from to : ℕ) (octets : List ℕ) : Type 
 in_after : (f after : Fields) → IsSound f → (from to : ℕ) (octets : List ℕ) → from < to → PutsIn f after from to octets → (p : ℕ) → in_spans p after.spans ≡ ((leb from p && ltb p to) || in_spans p f.spans)
 in_after f after ok from to octets some puts p = ap (in_spans p) puts.spans ∙ in_add p from to f.spans (omega arith) (in_order_start f.spans ok.order)
 
-pub sound_put : (f after : Fields) → IsSound f → (from to : ℕ) (octets : List ℕ) → from < to → to ≤ f.floor + window → PutsIn f after from to octets
+pub sound_put : (f after : Fields) → IsSound f → (from to : ℕ) (octets : List ℕ) → from < to → to ≤ f.floor + window → to ≤ f.base + max_held → PutsIn f after from to octets
     → length (add_span from to f.spans) ≤ 1025 → IsSound after
-sound_put f after ok from to octets some near puts few = record {
+sound_put f after ok from to octets some near room puts few = record {
   base = omega (arith, ok.base, puts.base, puts.floor);
   missing = puts.missing;
   order = subst IsFromStart (sym puts.spans) (add_from_start from to f.spans some ok.order);
@@ -79,6 +79,7 @@ sound_put f after ok from to octets some near puts few = record {
   within = λ p t. inside p (sym (in_after f after ok from to octets some puts p) ∙ t);
   windowed = omega (arith, ok.windowed, ok.base, puts.base, puts.floor, puts.len);
   half = omega (arith, ok.half, puts.base, puts.floor, puts.len);
+  held = omega (arith, ok.held, room, puts.len);
   few = omega (arith, few, ap length puts.spans);
   low = omega (arith, ok.low, puts.floor);
   gone_order = subst AreSpans (sym puts.gone) ok.gone_order;

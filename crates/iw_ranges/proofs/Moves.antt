@@ -64,12 +64,32 @@ pub cells_from : (f : ℕ → Cell) (floor top to : ℕ) → floor ≤ to → to
 cells_from f floor top to low high =
     ap (map f) (sym (drop_range floor (top - floor) (to - floor) to (top - to) (omega arith) (omega arith))) ∙ sym (drop-map f (to - floor) (range_with_len floor (top - floor)))
 
+-- what was given up from place `to` on stays so, and no more is
+pub record KeepsGone (to : ℕ) (old new : List Span) : Type 0 where
+  pub order : AreSpans new
+  pub came : (p : ℕ) → in_spans p new ≡ true → in_spans p old ≡ true
+  pub behind : (p : ℕ) → to ≤ p → in_spans p new ≡ in_spans p old
+
+pub forgot : (to : ℕ) (old new : List Span) → AreSpans old → new ≡ spans_behind to old → KeepsGone to old new
+forgot to old new order is = record {
+  order = subst AreSpans (sym is) (behind_spans to old order);
+  came = λ p t. behind_in to old p (sym (ap (in_spans p) is) ∙ t);
+  behind = λ p low. ap (in_spans p) is ∙ in_behind to old p low;
+}
+
+untouched : (to : ℕ) (old : List Span) → AreSpans old → KeepsGone to old old
+untouched to old order = record {
+  order = order;
+  came = λ p t. t;
+  behind = λ p low. refl;
+}
+
 -- the in-order point and, where octets before it were let go, the buffer
 pub record MovesTo (f after : Fields) (to : ℕ) : Type 0 where
   pub floor : after.floor ≡ to
   pub missing : after.missing ≡ f.missing
   pub spans : after.spans ≡ f.spans
-  pub gone : after.gone ≡ spans_behind to f.gone
+  pub gone : KeepsGone to f.gone after.gone
   pub octets : after.octets ≡ drop (after.base - f.base) f.octets
   pub low : f.base ≤ after.base
   pub high : after.base ≤ to
@@ -84,10 +104,11 @@ sound_moved f after ok to low high small moves = record {
   within = λ p t. omega (arith, end, ok.within p (sym (ap (in_spans p) moves.spans) ∙ t));
   windowed = omega (arith, end, ok.windowed, moves.floor);
   half = subst (λ n. 2 * (n - after.base) ≤ length after.octets) (sym moves.floor) moves.half;
+  held = omega (arith, ok.held, ap length moves.octets, length-drop (after.base - f.base) f.octets);
   few = omega (arith, ok.few, ap length moves.spans);
   low = omega (arith, moves.floor);
-  gone_order = subst AreSpans (sym moves.gone) (behind_spans to f.gone ok.gone_order);
-  gone_came = λ p t. ap (in_spans p) moves.spans ∙ ok.gone_came p (behind_in to f.gone p (sym (ap (in_spans p) moves.gone) ∙ t));
+  gone_order = moves.gone.order;
+  gone_came = λ p t. ap (in_spans p) moves.spans ∙ ok.gone_came p (moves.gone.came p t);
 }
   where
     end : after.base + length after.octets ≡ f.base + length f.octets
@@ -100,7 +121,7 @@ cell_moved f after to p moves low = go (in_spans p f.spans) (in_spans p f.gone) 
     spans_is = ap (in_spans p) moves.spans
 
     gone_is : in_spans p after.gone ≡ in_spans p f.gone
-    gone_is = ap (in_spans p) moves.gone ∙ in_behind to f.gone p low
+    gone_is = moves.gone.behind p low
 
     go : (v g : Bool) → in_spans p f.spans ≡ v → in_spans p f.gone ≡ g → cell_of after p ≡ cell_of f p
     go false g h k = cell_missing after p (spans_is ∙ h) ∙ sym (cell_missing f p h)
@@ -109,9 +130,6 @@ cell_moved f after to p moves low = go (in_spans p f.spans) (in_spans p f.gone) 
         cell_here after p (spans_is ∙ h) (gone_is ∙ k)
         ∙ ap Here (ap (λ xs. get_or xs (p - after.base) 0) moves.octets ∙ get_or-drop (after.base - f.base) f.octets (p - after.base) 0 ∙ ap (λ n. get_or f.octets n 0) (omega (arith, moves.low, moves.high)))
         ∙ sym (cell_here f p h k)
-
-pub drop_none : (n : ℕ) (xs : List ℕ) → drop (n - n) xs ≡ xs
-drop_none n xs = ap (λ k. drop k xs) (let e : n - n ≡ 0 = omega arith in e)
 
 pub advanced_to : (f after : Fields) → IsSound f → (to : ℕ) → f.floor ≤ to → to ≤ first_end f.spans → MovesTo f after to → arrived_in after ≡ advanced (arrived_in f) to
 unfolding advanced
@@ -128,6 +146,40 @@ unfolding advanced
 advanced_back a to back =
     ap (λ n. let b : Arrived = record { floor = max a.floor to; cells = drop n a.cells } in b) (let e : to - a.floor ≡ 0 = omega arith in e)
     ∙ ap (λ n. let b : Arrived = record { floor = n; cells = a.cells } in b) (omega arith)
+
+-- ---- octets before the in-order point are let go
+abbrev pub shorter : Fields → List ℕ → ℕ → Fields
+shorter f octets base = record { base = base; floor = f.floor; missing = f.missing; octets = octets; spans = f.spans; gone = f.gone }
+
+shorter_moves : (f : Fields) → IsSound f → (octets : List ℕ) (base : ℕ) → octets ≡ drop (base - f.base) f.octets → f.base ≤ base → base ≤ f.floor
+    → 2 * (f.floor - base) ≤ length octets → MovesTo f (shorter f octets base) f.floor
+shorter_moves f ok octets base cut low high half = record {
+  floor = refl;
+  missing = refl;
+  spans = refl;
+  gone = untouched f.floor f.gone ok.gone_order;
+  octets = cut;
+  low = low;
+  high = high;
+  half = half;
+}
+
+pub shorter_sound : (f : Fields) → IsSound f → (octets : List ℕ) (base : ℕ) → octets ≡ drop (base - f.base) f.octets → f.base ≤ base → base ≤ f.floor
+    → 2 * (f.floor - base) ≤ length octets → IsSound (shorter f octets base)
+shorter_sound f ok octets base cut low high half =
+    sound_moved f (shorter f octets base) ok f.floor (omega arith) ok.reached ok.low (shorter_moves f ok octets base cut low high half)
+
+-- and nothing changed
+pub shorter_same : (f : Fields) → IsSound f → (octets : List ℕ) (base : ℕ) → octets ≡ drop (base - f.base) f.octets → f.base ≤ base → base ≤ f.floor
+    → 2 * (f.floor - base) ≤ length octets → arrived_in (shorter f octets base) ≡ arrived_in f
+shorter_same f ok octets base cut low high half =
+    advanced_to f (shorter f octets base) ok f.floor (omega arith) ok.reached (shorter_moves f ok octets base cut low high half)
+    ∙ advanced_back (arrived_in f) f.floor (omega arith)
+
+-- fields that are the same are as sound
+pub sound_same : (f : Fields) (octets : List ℕ) (spans : List Span) → octets ≡ f.octets → spans ≡ f.spans → IsSound f
+    → IsSound (record { base = f.base; floor = f.floor; missing = f.missing; octets = octets; spans = spans; gone = f.gone })
+sound_same f octets spans e h ok = rw (e, h) ok
 
 -- ---- octets are given up
 pub record GivesUp (f after : Fields) (from to : ℕ) : Type 0 where
@@ -150,6 +202,7 @@ sound_release f after ok from to some came gives = record {
   within = λ p t. omega (arith, gives.base, ap length gives.octets, ok.within p (sym (ap (in_spans p) gives.spans) ∙ t));
   windowed = omega (arith, ok.windowed, gives.base, gives.floor, ap length gives.octets);
   half = omega (arith, ok.half, gives.base, gives.floor, ap length gives.octets);
+  held = omega (arith, ok.held, ap length gives.octets);
   few = omega (arith, ok.few, ap length gives.spans);
   low = omega (arith, ok.low, gives.floor);
   gone_order = subst AreSpans (sym gives.gone) (add_spans from to f.gone some ok.gone_order);

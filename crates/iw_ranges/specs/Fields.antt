@@ -27,6 +27,10 @@ arrived_in f = drawn f.floor (f.base + length f.octets) (cell_of f)
 abbrev pub held_by : {A : Type 0} → Inside A → Held
 held_by {A} a = record { arrived = arrived_in (fields_of a); room = deque_capacity a.gone - deque_len a.gone }
 
+-- a buffer holds a window, and a quarter of one that lies before the in-order point
+abbrev pub max_held : ℕ
+max_held = 327680
+
 pub record IsSound (f : Fields) : Type 0 where
   pub base : f.base ≤ f.floor
   pub order : IsFromStart f.spans
@@ -35,6 +39,7 @@ pub record IsSound (f : Fields) : Type 0 where
   pub within : (p : ℕ) → in_spans p f.spans ≡ true → p < f.base + length f.octets
   pub windowed : f.base + length f.octets ≤ f.floor + window
   pub half : 2 * (f.floor - f.base) ≤ length f.octets
+  pub held : length f.octets ≤ max_held
   pub few : length f.spans ≤ 1025
   pub low : f.floor ≤ 2 ^ 63
   pub gone_order : AreSpans f.gone

@@ -7,6 +7,9 @@ use crate::spans::{Span, join, widen};
 use std::alloc::{AllocError, Allocator};
 use std::collections::VecDeque;
 
+/// How many octets a buffer may hold: 262,144 from the in-order point on, and 65,536 before it.
+const MAX_HELD: usize = 327_680;
+
 /// Writes the octets over those that stand at `at`.
 fn write_at(buffer: &mut [u8], at: usize, octets: &[u8])
     requires { at + length octets.now ≤ length buffer.old }
@@ -50,10 +53,35 @@ fn fill<A: Allocator>(
     write_at(buffer, (next - base) as usize, rest);
 }
 
+/// How many octets a buffer of `capacity` should have room for, so that `len` fit: twice as many where they don't, but 327,680
+/// at most.
+fn room_for(capacity: usize, len: usize) -> usize
+    requires { len ≤ 327680 }
+    ensures enough { max len capacity ≤ result }
+    ensures bounded { result ≤ max capacity 327680 }
+{
+    if len <= capacity {
+        return capacity;
+    }
+    capacity.saturating_add(capacity).min(MAX_HELD).max(len)
+}
+
+/// Puts the octets at index `at`, behind all that stands in the buffer, with zeros between. There is room for them.
+fn lay_behind<A: Allocator>(buffer: &mut Vec<u8, A>, at: usize, octets: &[u8])
+    requires behind { vec_len buffer.old ≤ at }
+    requires room { at + length octets.now ≤ vec_capacity buffer.old }
+    ensures octets { (i : ℕ) → slice_index buffer.new.items i
+        ≡ (if nat_le at i && nat_lt i (at + length octets.now) then slice_index octets.now (i - at) else slice_index buffer.old.items i) }
+    ensures len { vec_len buffer.new ≡ at + length octets.now }
+{
+    let _ = buffer.resize(at, 0);
+    let _ = buffer.extend_from_slice(octets);
+}
+
 /// Puts the octets at index `at`, behind all that stands in the buffer, with zeros between. An `Err` changes nothing.
 fn append<A: Allocator>(buffer: &mut Vec<u8, A>, at: usize, octets: &[u8]) -> Result<(), AllocError>
     requires behind { 0 < length octets.now → vec_len buffer.old ≤ at }
-    requires small { at + length octets.now < 2 ^ 64 }
+    requires held { at + length octets.now ≤ 327680 }
     ensures octets { OnOk result ((i : ℕ) → slice_index buffer.new.items i
         ≡ (if nat_le at i && nat_lt i (at + length octets.now) then slice_index octets.now (i - at) else slice_index buffer.old.items i)) }
     ensures len { OnOk result (vec_len buffer.new ≡ (if nat_lt 0 (length octets.now) then at + length octets.now else vec_len buffer.old)) }
@@ -62,9 +90,9 @@ fn append<A: Allocator>(buffer: &mut Vec<u8, A>, at: usize, octets: &[u8]) -> Re
     if octets.is_empty() {
         return Ok(());
     }
-    buffer.reserve(at - buffer.len() + octets.len())?;
-    let _ = buffer.resize(at, 0);
-    let _ = buffer.extend_from_slice(octets);
+    let room = room_for(buffer.capacity(), at + octets.len());
+    buffer.reserve_exact(room - buffer.len())?;
+    lay_behind(buffer, at, octets);
     Ok(())
 }
 
@@ -87,10 +115,12 @@ pub(crate) fn fits_behind<A: Allocator>(
     from: u64,
     octets: &[u8],
 ) -> bool
-    requires { base ≤ from }
-    ensures { OnTrue result ((from ≡ base + vec_len buffer.now) × (vec_len buffer.now + length octets.now ≤ vec_capacity buffer.now)) }
+    requires base { base ≤ from }
+    requires held { vec_len buffer.now ≤ 327680 }
+    ensures { OnTrue result ((from ≡ base + vec_len buffer.now) × (vec_len buffer.now + length octets.now ≤ vec_capacity buffer.now) × (vec_len buffer.now + length octets.now ≤ 327680)) }
 {
-    from - base == buffer.len() as u64 && octets.len() <= buffer.capacity() - buffer.len()
+    from - base == buffer.len() as u64
+        && octets.len() <= buffer.capacity().min(MAX_HELD) - buffer.len()
 }
 
 /// Takes in the octets from place `from` on, where the first span and the buffer end, and adds their places to the spans.
@@ -131,6 +161,7 @@ pub(crate) fn put<A: Allocator>(
     requires base { base ≤ from }
     requires some { 0 < length octets.now }
     requires small { from + length octets.now < 2 ^ 64 }
+    requires held { from + length octets.now ≤ base + 327680 }
     requires order { IsFromStart spans.old.items }
     requires place { IsFirstReaching spans.old.items from low }
     requires within { (p : ℕ) → in_spans p spans.old.items ≡ true → p < base + vec_len buffer.old }
@@ -191,5 +222,40 @@ pub(crate) fn let_go<A: Allocator>(octets: &mut Vec<u8, A>, base: &mut u64, to: 
     } else if dead > octets.len() / 2 {
         drop_front(octets, dead);
         *base = to;
+    }
+}
+
+/// Lets the first `n` octets go, however many stand behind them.
+#[inline(never)]
+fn drop_few<A: Allocator>(octets: &mut Vec<u8, A>, n: usize)
+    requires { n ≤ vec_len octets.old }
+    ensures items { octets.new.items ≡ drop n octets.old.items }
+    ensures len { vec_len octets.new + n ≡ vec_len octets.old }
+{
+    let len = octets.len();
+    octets.as_mut_slice().copy_within(n..len, 0);
+    octets.truncate(len - n);
+}
+
+/// Lets the octets before the in-order point `floor` go, if the buffer, which begins at place `base`, would have to hold
+/// more than 327,680 octets to reach place `to`.
+///
+/// They are then more than 65,536, and no more than 262,144 stand behind them: four octets are moved at most for each that
+/// the in-order point passed.
+pub(crate) fn shorten<A: Allocator>(octets: &mut Vec<u8, A>, base: &mut u64, floor: u64, to: u64)
+    requires low { base.old ≤ floor }
+    requires high { floor ≤ base.old + vec_len octets.old }
+    requires half { 2 * (floor - base.old) ≤ vec_len octets.old }
+    requires ahead { floor ≤ to }
+    requires near { to ≤ floor + 262144 }
+    ensures octets { octets.new.items ≡ drop (base.new - base.old) octets.old.items }
+    ensures low { base.old ≤ base.new }
+    ensures high { base.new ≤ floor }
+    ensures half { 2 * (floor - base.new) ≤ vec_len octets.new }
+    ensures room { to ≤ base.new + 327680 }
+{
+    if to - *base > MAX_HELD as u64 {
+        drop_few(octets, (floor - *base) as usize);
+        *base = floor;
     }
 }

@@ -13,7 +13,7 @@ mod buffer;
 pub mod laws;
 mod spans;
 
-use buffer::{fits_behind, let_go, put, put_behind};
+use buffer::{fits_behind, let_go, put, put_behind, shorten};
 use spans::{Span, end_of_first, first_reaching, forget, holds_all, is_one_too_many, join};
 use std::alloc::{AllocError, Allocator, Global};
 use std::collections::VecDeque;
@@ -45,7 +45,7 @@ pub struct Islands<A: Allocator = Global> {
     floor: u64,
     /// The first place that didn't come.
     missing: u64,
-    /// Octets side by side; those at places that didn't come mean nothing.
+    /// Octets side by side, 327,680 at most; those at places that didn't come mean nothing.
     octets: Vec<u8, A>,
     /// The places that came, the first span from place 0 on.
     spans: VecDeque<Span, A>,
@@ -139,6 +139,7 @@ impl<A: Allocator> Islands<A> {
         if is_one_too_many(&self.spans, low, from, to) {
             return Ok(Delivery::Dropped);
         }
+        shorten(&mut self.octets, &mut self.base, self.floor, to);
         put(
             &mut self.octets,
             self.base,

@@ -53,7 +53,7 @@ invariant_of-self g c =
       len = omega (arith, c.put_behind.ensures.len, c.if-fits_behind.ensures.0, c.put_behind.new.buffer.ok.0, c.self.inside.octets.ok.0);
       written = c.put_behind.ensures.octets;
     } in
-    sound_put f after c.self.invariant from (c.args.place + n) c.args.octets.now (omega (arith, some)) (omega (arith, c.if-is_beyond.ensures)) puts (omega (arith, c.put_behind.ensures.few, ap length c.put_behind.ensures.spans, c.self.invariant.few))
+    sound_put f after c.self.invariant from (c.args.place + n) c.args.octets.now (omega (arith, some)) (omega (arith, c.if-is_beyond.ensures)) (omega (arith, c.if-fits_behind.ensures)) puts (omega (arith, c.put_behind.ensures.few, ap length c.put_behind.ensures.spans, c.self.invariant.few))
 
 pub returns-then-fits_behind-clause-answer : goal.returns-then-fits_behind-clause-answer
 returns-then-fits_behind-clause-answer g c =

@@ -1,12 +1,13 @@
-use Rattle.std.proofs.Common.{◌≡◌, ◌≤◌, ◌<◌, ◌+◌, List, ℕ, length, drop, true, false, sym, ap, subst, ◌∙◌, refl, arith, rules}
+use Rattle.std.proofs.Common.{◌*◌, ◌-◌, ◌≡◌, ◌≤◌, ◌<◌, ◌+◌, List, ℕ, length, drop, true, false, sym, ap, subst, ◌∙◌, refl, arith, rules}
 use Rattle.iw_ranges.specs.Arrived.{Arrived, Held, is_dropped, window, delivery, delivered, BringsOctets}
 use Rattle.iw_ranges.specs.declared.Delivery.TheVariants.{Kept}
 use Rattle.iw_ranges.specs.Spans.{add_span, IsFromStart}
 use Rattle.iw_ranges.proofs.Adds.{add_from_start}
 use Rattle.iw_ranges.specs.Fields.{Fields, fields_of, arrived_in, IsSound}
-use Rattle.iw_ranges.proofs.Cells.{come_via}
+use Rattle.iw_ranges.proofs.Cells.{come_via, top_reaches}
 use Rattle.iw_ranges.proofs.Counts.{AllCame, all_low, all_from, dropped_came, dropped_put}
 use Rattle.iw_ranges.proofs.Keeps.{taken_came, sound_put, put_delivers, PutsIn, kept_is, dropped_is, delivered_kept, delivered_dropped, kept_after}
+use Rattle.iw_ranges.proofs.Moves.{shorter, shorter_sound, shorter_same, sound_same}
 use Rattle.iw_ranges.proofs.Islands.add_apart.Given as given
 use Rattle.iw_ranges.proofs.Islands.add_apart.Goals as goal
 
@@ -85,7 +86,10 @@ returns-in_err-put-clause-memory g c =
 -- where they belong
 pub invariant_of-self-2 : goal.invariant_of-self-2
 invariant_of-self-2 g c =
-    let f : Fields = fields_of c.self.inside in
+    let start : Fields = fields_of c.self.inside in
+    let f : Fields = shorter start c.shorten.new.octets.items c.shorten.new.base in
+    let half : 2 * (start.floor - c.shorten.new.base) ≤ length c.shorten.new.octets.items = omega (arith, c.shorten.ensures.half, c.shorten.new.octets.ok.0) in
+    let sound : IsSound f = shorter_sound start c.self.invariant _ _ c.shorten.ensures.octets c.shorten.ensures.low c.shorten.ensures.high half in
     let n = length c.args.octets.now in
     let from = c.args.place + c.saturating_sub-before.result in
     let some : 0 < n = c.requires.some in
@@ -99,10 +103,10 @@ invariant_of-self-2 g c =
       gone = refl;
       spans = spans;
       end = sym end;
-      len = omega (arith, c.in_ok-put.ensures.len, end, c.put.new.buffer.ok.0, c.self.inside.octets.ok.0);
+      len = omega (arith, c.in_ok-put.ensures.len, end, c.put.new.buffer.ok.0, c.shorten.new.octets.ok.0);
       written = c.in_ok-put.ensures.octets;
     } in
-    sound_put f after c.self.invariant from (c.args.place + n) c.split_at.result.1.now (omega (arith, some, c.saturating_sub-before.ensures, c.if-to-self.false)) (omega (arith, c.requires.near, ap (λ (h : Held). h.arrived.floor) c.self.view_is)) puts c.if-is_one_too_many.ensures
+    sound_put f after sound from (c.args.place + n) c.split_at.result.1.now (omega (arith, some, c.saturating_sub-before.ensures, c.if-to-self.false)) (omega (arith, c.requires.near, ap (λ (h : Held). h.arrived.floor) c.self.view_is)) (omega (arith, c.shorten.ensures.room)) puts c.if-is_one_too_many.ensures
 
 pub returns-clause-answer : goal.returns-clause-answer
 returns-clause-answer g c =
@@ -116,7 +120,12 @@ returns-clause-answer g c =
 
 pub returns-clause-ok : goal.returns-clause-ok
 returns-clause-ok g c =
-    let f : Fields = fields_of c.self.inside in
+    let start : Fields = fields_of c.self.inside in
+    let f : Fields = shorter start c.shorten.new.octets.items c.shorten.new.base in
+    let half : 2 * (start.floor - c.shorten.new.base) ≤ length c.shorten.new.octets.items = omega (arith, c.shorten.ensures.half, c.shorten.new.octets.ok.0) in
+    let sound : IsSound f = shorter_sound start c.self.invariant _ _ c.shorten.ensures.octets c.shorten.ensures.low c.shorten.ensures.high half in
+    let same : arrived_in f ≡ c.args.self.now.arrived =
+    shorter_same start c.self.invariant _ _ c.shorten.ensures.octets c.shorten.ensures.low c.shorten.ensures.high half ∙ ap (λ (h : Held). h.arrived) c.self.view_is in
     let n = length c.args.octets.now in
     let from = c.args.place + c.saturating_sub-before.result in
     let some : 0 < n = c.requires.some in
@@ -130,10 +139,10 @@ returns-clause-ok g c =
       gone = refl;
       spans = spans;
       end = sym end;
-      len = omega (arith, c.in_ok-put.ensures.len, end, c.put.new.buffer.ok.0, c.self.inside.octets.ok.0);
+      len = omega (arith, c.in_ok-put.ensures.len, end, c.put.new.buffer.ok.0, c.shorten.new.octets.ok.0);
       written = c.in_ok-put.ensures.octets;
     } in
-    put_delivers f after c.self.invariant c.args.self.now.arrived (ap (λ (h : Held). h.arrived) c.self.view_is) c.args.place from c.args.octets.now c.split_at.result.1.now
+    put_delivers f after sound c.args.self.now.arrived same c.args.place from c.args.octets.now c.split_at.result.1.now
     (omega (arith, c.if-to-self.false, c.self.invariant.missing)) some (omega (arith, c.saturating_sub-before.ensures, c.self.invariant.missing)) (c.split_at.ensures.back ∙ ap (λ k. drop k c.args.octets.now) (omega (arith, c.saturating_sub-before.ensures, c.self.invariant.missing))) (omega (arith, c.requires.near, ap (λ (h : Held). h.arrived.floor) c.self.view_is)) c.if-is_one_too_many.ensures puts
 
 pub end_of_first-self-inside-requires : goal.end_of_first-self-inside-requires
@@ -148,3 +157,35 @@ end_of_first-self-inside-requires g c =
 
 pub overflow_add-to : goal.overflow_add-to
 overflow_add-to g c = omega (arith, c.requires.near, ap (λ (h : Held). h.arrived.floor) c.self.view_is, c.self.invariant.low)
+
+-- what stood before the in-order point was let go, and that is all
+pub invariant_of-self : goal.invariant_of-self
+invariant_of-self g c =
+    let start : Fields = fields_of c.self.inside in
+    let f : Fields = shorter start c.shorten.new.octets.items c.shorten.new.base in
+    let half : 2 * (start.floor - c.shorten.new.base) ≤ length c.shorten.new.octets.items = omega (arith, c.shorten.ensures.half, c.shorten.new.octets.ok.0) in
+    let sound : IsSound f = shorter_sound start c.self.invariant _ _ c.shorten.ensures.octets c.shorten.ensures.low c.shorten.ensures.high half in
+    sound_same f _ _ c.in_err-put.ensures.err_octets c.in_err-put.ensures.err_spans sound
+
+pub returns-in_err-put-clause-err : goal.returns-in_err-put-clause-err
+returns-in_err-put-clause-err g c =
+    let start : Fields = fields_of c.self.inside in
+    let f : Fields = shorter start c.shorten.new.octets.items c.shorten.new.base in
+    let half : 2 * (start.floor - c.shorten.new.base) ≤ length c.shorten.new.octets.items = omega (arith, c.shorten.ensures.half, c.shorten.new.octets.ok.0) in
+    let sound : IsSound f = shorter_sound start c.self.invariant _ _ c.shorten.ensures.octets c.shorten.ensures.low c.shorten.ensures.high half in
+    let same : arrived_in f ≡ c.args.self.now.arrived =
+    shorter_same start c.self.invariant _ _ c.shorten.ensures.octets c.shorten.ensures.low c.shorten.ensures.high half ∙ ap (λ (h : Held). h.arrived) c.self.view_is in
+    search (rules, same)
+
+pub shorten-requires-clause-high : goal.shorten-requires-clause-high
+shorten-requires-clause-high g c =
+    let f : Fields = fields_of c.self.inside in
+    omega (arith, c.self.invariant.reached, top_reaches f c.self.invariant, c.self.inside.octets.ok.0)
+
+pub put-requires-clause-within : goal.put-requires-clause-within
+put-requires-clause-within g c =
+    let start : Fields = fields_of c.self.inside in
+    let f : Fields = shorter start c.shorten.new.octets.items c.shorten.new.base in
+    let half : 2 * (start.floor - c.shorten.new.base) ≤ length c.shorten.new.octets.items = omega (arith, c.shorten.ensures.half, c.shorten.new.octets.ok.0) in
+    let sound : IsSound f = shorter_sound start c.self.invariant _ _ c.shorten.ensures.octets c.shorten.ensures.low c.shorten.ensures.high half in
+    λ p t. omega (arith, sound.within p t, c.shorten.new.octets.ok.0)

@@ -2,7 +2,7 @@ use Rattle.std.proofs.Common.{ap, ◌∙◌, sym, arith, refl}
 use Rattle.iw_ranges.specs.Arrived.{Held, advanced}
 use Rattle.iw_ranges.specs.Fields.{Fields, fields_of}
 use Rattle.iw_ranges.proofs.Cells.{top_reaches}
-use Rattle.iw_ranges.proofs.Moves.{reaches, sound_moved, advanced_to, advanced_back}
+use Rattle.iw_ranges.proofs.Moves.{reaches, sound_moved, advanced_to, advanced_back, forgot}
 use Rattle.iw_ranges.proofs.Islands.advance.Goals as goal
 
 pub returns-then-to-self-clause-arrived : goal.returns-then-to-self-clause-arrived
@@ -22,7 +22,7 @@ invariant_of-self g c =
       floor = refl;
       missing = refl;
       spans = refl;
-      gone = c.forget.ensures.items;
+      gone = forgot c.args.to f.gone _ c.self.invariant.gone_order c.forget.ensures.items;
       octets = c.let_go.ensures.octets;
       low = c.let_go.ensures.low;
       high = c.let_go.ensures.high;
@@ -37,7 +37,7 @@ returns-clause-arrived g c =
       floor = refl;
       missing = refl;
       spans = refl;
-      gone = c.forget.ensures.items;
+      gone = forgot c.args.to f.gone _ c.self.invariant.gone_order c.forget.ensures.items;
       octets = c.let_go.ensures.octets;
       low = c.let_go.ensures.low;
       high = c.let_go.ensures.high;
