@@ -9,3 +9,4 @@ pub mod Folds
 pub mod FoldSteps
 pub mod Stags
 pub mod Again
+pub mod PartLemmas

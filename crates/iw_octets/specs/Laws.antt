@@ -1,5 +1,5 @@
 -- Reading undoes writing, whatever stands behind, and writing undoes reading; what is read is read off the octets at the front.
-use Rattle.std.specs.Prelude.{ℕ, ◌≡◌, ◌<◌, ◌+◌, ◌*◌, ◌/◌, ◌%◌, true, false, List, [], ◌∷◌, ◌++◌, slice_index, Some, None, codes, replicate}
+use Rattle.std.specs.Prelude.{ℕ, ◌≡◌, ◌<◌, ◌+◌, ◌-◌, ◌*◌, ◌/◌, ◌%◌, true, false, List, [], ◌∷◌, ◌++◌, slice_index, Some, None, codes, replicate, if◌then◌else◌}
 use Rattle.iw_octets.specs.declared.constants.TheConstants as constants
 use Rattle.iw_octets.specs.declared.fault.Fault.{Fault}
 use Rattle.iw_octets.specs.declared.fault.TheConstants.Fault as faults
@@ -15,6 +15,7 @@ use Rattle.iw_octets.specs.Stag.{number_of, FitsStag}
 use Rattle.iw_octets.specs.Crc.{after_octets, crc32c}
 use Rattle.iw_octets.specs.Head.{is_tagged, tagged_octets, untagged_octets, read_tagged, read_untagged, FitsTagged, FitsUntagged}
 use Rattle.iw_octets.specs.Operation.{rdmap_version, opcode_of, control_of, tagged_opcode, untagged_opcode, tagged_operation, untagged_operation}
+use Rattle.iw_octets.specs.Parts.{part_at, parts_from}
 use Rattle.iw_octets.specs.Payload.{request_octets, read_request, word_octets, read_word, FitsRequest, FitsWord}
 use Rattle.iw_octets.specs.Segment.{segment_octets, read_segment, FitsSegment, with_behind}
 
@@ -95,6 +96,12 @@ pub record OperationsAreTold : Type 0 where
   pub tagged_version : (operation : TaggedOperation) → rdmap_version (control_of (tagged_opcode operation)) ≡ 1
   pub untagged_version : (operation : UntaggedOperation) → rdmap_version (control_of (untagged_opcode operation)) ≡ 1
   pub apart : (opcode : ℕ) (operation : TaggedOperation) → tagged_operation opcode ≡ Some operation → untagged_operation opcode ≡ None
+
+-- taken one by one, the parts of a message from an offset on are the part there, and unless it is the last those from its end on
+abbrev pub PartsAreTaken : Type 0
+PartsAreTaken = (len size offset : ℕ) → 0 < size →
+    let part = part_at len size offset in
+    parts_from offset (len - offset) size ≡ part ∷ (if part.last then [] else parts_from (offset + part.n) (len - (offset + part.n)) size)
 
 -- two STags of one number are one
 pub record NumbersTell : Type 0 where

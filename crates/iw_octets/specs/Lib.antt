@@ -6,6 +6,7 @@ pub mod Segment
 pub mod Shown
 pub mod ShownSegment
 pub mod Operation
+pub mod Parts
 pub mod Laws
 pub mod Pieces
 pub mod Crc

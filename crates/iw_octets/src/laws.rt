@@ -1,4 +1,4 @@
-ghost use Rattle.iw_octets.specs.Laws.{AddsInPieces, KnownConstants, KnownFaults, KnownValues, NumbersTell, OperationsAreTold, ReadsAgain, WritesAgain};
+ghost use Rattle.iw_octets.specs.Laws.{AddsInPieces, KnownConstants, KnownFaults, KnownValues, NumbersTell, OperationsAreTold, PartsAreTaken, ReadsAgain, WritesAgain};
 
 /// What is written is read again, whatever stands behind it, and more octets behind a segment are more of its payload.
 pub fn reads_again()
@@ -23,6 +23,11 @@ pub fn known_constants()
 /// Each operation is told by its octet of a header, and no octet names two.
 pub fn operations_are_told()
     ensures { OperationsAreTold }
+{}
+
+/// Taken one by one, each from the end of the one before, the parts of a message are those that it is cut into.
+pub fn parts_are_taken()
+    ensures { PartsAreTaken }
 {}
 
 /// The CRC of octets is the same in whatever pieces they are added.

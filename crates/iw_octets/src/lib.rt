@@ -10,6 +10,7 @@ mod laws;
 mod message;
 mod octets;
 mod operation;
+mod part;
 mod payload;
 mod pieces;
 mod segment;
@@ -25,11 +26,12 @@ pub use fault::Fault;
 pub use head::{Short, TaggedHead, UntaggedHead, is_tagged};
 pub use laws::{
     adds_in_pieces, known_constants, known_faults, known_values, numbers_tell, operations_are_told,
-    reads_again, writes_again,
+    parts_are_taken, reads_again, writes_again,
 };
 pub use message::Message;
 pub use octets::Octets;
 pub use operation::{TaggedOperation, UntaggedOperation, rdmap_version};
+pub use part::Part;
 pub use payload::{ReadRequest, TerminateWord};
 pub use pieces::{InPieces, gather};
 pub use segment::Segment;

@@ -1,5 +1,6 @@
 -- The messages posted at one end of a stream and not handed out, and what each call leaves of them.
-use Rattle.std.specs.Prelude.{ℕ, ◌≡◌, ◌+◌, ◌-◌, ◌%◌, ◌^◌, ◌<◌, ◌≤◌, All, List, [], ◌∷◌, ◌++◌, length, drop, min, nat_lt, nat_le, if◌then◌else◌, Option, Some, None}
+use Rattle.std.specs.Prelude.{ℕ, ◌≡◌, ◌+◌, ◌-◌, ◌%◌, ◌^◌, ◌<◌, ◌≤◌, All, List, [], ◌∷◌, ◌++◌, length, drop, nat_lt, nat_le, if◌then◌else◌, Option, Some, None}
+use Rattle.iw_octets.specs.Parts.{part_at}
 use Rattle.iw_queues.specs.declared.request.Request.{Request}
 use Rattle.iw_queues.specs.declared.request.Refusal.{Refusal}
 use Rattle.iw_queues.specs.declared.request.Refusal.TheVariants.{Full, TooLong}
@@ -36,9 +37,8 @@ posted q message = record q { unsent = q.unsent ++ message ∷ [] }
 -- the part from `offset` on of a message, where a ULPDU may have `max` octets: as many as fit behind the header, or what is left
 abbrev pub part_from : ℕ → Request (List ℕ) → ℕ → ℕ → Part (Request (List ℕ))
 part_from ticket message offset max =
-    let left = length (payload message) - offset in
-    let room = max - header_len message in
-    record { ticket = ticket; message = message; offset = offset; n = min left room; last = nat_le left room }
+    let part = part_at (length (payload message)) (max - header_len message) offset in
+    record { ticket = ticket; message = message; offset = part.offset; n = part.n; last = part.last }
 
 abbrev pub part_of_first : ℕ → List (Request (List ℕ)) → ℕ → ℕ → Option (Part (Request (List ℕ)))
 part_of_first ticket [] offset max = None

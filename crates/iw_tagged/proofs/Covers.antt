@@ -7,8 +7,8 @@ use Rattle.std.proofs.lemmas.List.Elements.{All-nil, All-cons, All-append}
 use Rattle.std.proofs.lemmas.Nat.{div-add-mod'}
 use Rattle.std.proofs.Math.Nat.{lt-div-mul-add}
 use Rattle.std.proofs.Math.Seq.{take-add}
-use Rattle.iw_tagged.specs.declared.parts.Part.{Part}
-use Rattle.iw_tagged.specs.Parts.{full_parts, full_count, parts_from}
+use Rattle.iw_octets.specs.declared.part.Part.{Part}
+use Rattle.iw_octets.specs.Parts.{full_parts, full_count, parts_from}
 use Rattle.iw_tagged.specs.Laws.{octets_of, Covers}
 
 -- full parts, joined, are so many octets

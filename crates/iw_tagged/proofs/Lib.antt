@@ -1,3 +1,2 @@
-pub mod PartLemmas
 pub mod Denials
 pub mod Covers

@@ -5,8 +5,8 @@ use Rattle.iw_octets.specs.declared.head.TaggedHead.{TaggedHead}
 use Rattle.iw_memory.specs.declared.rights.Right.{Right}
 use Rattle.iw_memory.specs.Table.{Table}
 use Rattle.iw_memory.specs.Laws.{Allows}
-use Rattle.iw_tagged.specs.declared.parts.Part.{Part}
-use Rattle.iw_tagged.specs.Parts.{parts, full_count}
+use Rattle.iw_octets.specs.declared.part.Part.{Part}
+use Rattle.iw_octets.specs.Parts.{parts, full_count}
 use Rattle.iw_tagged.specs.Placing.{placing_fault}
 
 -- the octets of a message that a part has

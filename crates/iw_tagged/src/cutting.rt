@@ -1,5 +1,5 @@
 ghost use Rattle.std.specs.Prelude.{◌≡◌, ◌-◌, ◌<◌};
-ghost use Rattle.iw_tagged.specs.Parts.{parts};
+ghost use Rattle.iw_octets.specs.Parts.{parts};
 
 use crate::parts::Cut;
 use iw_octets::TAGGED_HEADER;

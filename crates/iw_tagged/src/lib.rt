@@ -10,6 +10,7 @@ mod parts;
 mod placing;
 
 pub use cutting::cut;
+pub use iw_octets::Part;
 pub use laws::{known_parts, parts_cover, passes_where_allowed};
-pub use parts::{Cut, Part};
+pub use parts::Cut;
 pub use placing::{Placed, check, place};

@@ -1,19 +1,9 @@
 ghost use Rattle.std.specs.Prelude.{◌≡◌, ◌<◌};
 ghost use Rattle.std.specs.Iterator.{YieldsFirst, item_count};
-ghost use Rattle.iw_tagged.specs.Parts.{parts};
+ghost use Rattle.iw_octets.specs.Parts.{parts};
 
+use iw_octets::Part;
 use std::marker::Model;
-
-/// A part of a message: what one segment carries.
-#[derive(Clone, Copy, Debug, PartialEq, Eq)]
-pub struct Part {
-    /// Where it begins, in octets from the message's first.
-    pub offset: usize,
-    /// How many octets it has.
-    pub n: usize,
-    /// Whether it is the message's last.
-    pub last: bool,
-}
 
 /// The parts of a message, in order. [`cut`](crate::cut) makes it.
 #[derive(Drop)]
@@ -26,8 +16,8 @@ pub struct Cut {
 
 impl Model for Cut {
     ghost use Rattle.std.specs.Prelude.{List, [], ◌<◌, ◌+◌, ◌^◌, if◌then◌else◌};
-    ghost use Rattle.iw_tagged.specs.declared.parts.Part.{Part};
-    ghost use Rattle.iw_tagged.specs.Parts.{parts_from};
+    ghost use Rattle.iw_octets.specs.declared.part.Part.{Part};
+    ghost use Rattle.iw_octets.specs.Parts.{parts_from};
 
     ghost Value = { List Part };
 

@@ -1,5 +1,5 @@
 use Rattle.std.proofs.Common.{refl}
-use Rattle.iw_tagged.specs.Parts.{full_parts, parts_from}
+use Rattle.iw_octets.specs.Parts.{full_parts, parts_from}
 use Rattle.iw_tagged.proofs.laws.known_parts.Goals as goal
 
 pub returns : goal.returns

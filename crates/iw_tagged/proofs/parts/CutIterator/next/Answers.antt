@@ -1,6 +1,6 @@
 use Rattle.std.proofs.Common.{length, [], if◌then◌else◌, ap, sym, ◌∙◌, arith}
-use Rattle.iw_tagged.specs.Parts.{parts_from}
-use Rattle.iw_tagged.proofs.PartLemmas.{parts_from-next}
+use Rattle.iw_octets.specs.Parts.{parts_from}
+use Rattle.iw_octets.proofs.PartLemmas.{parts_from-next}
 use Rattle.iw_tagged.proofs.parts.CutIterator.next.Goals as goal
 
 pub returns-clause-steps : goal.returns-clause-steps

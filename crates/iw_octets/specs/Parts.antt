@@ -1,6 +1,10 @@
--- The parts of a message, each of which one segment carries.
-use Rattle.std.specs.Prelude.{ℕ, zero, suc, ◌+◌, ◌-◌, ◌*◌, ◌/◌, true, false, List, [], ◌∷◌, ◌++◌}
-use Rattle.iw_tagged.specs.declared.parts.Part.{Part}
+-- How a message is cut into parts, each of which one segment carries (RFC 5041 5.2).
+use Rattle.std.specs.Prelude.{ℕ, zero, suc, ◌+◌, ◌-◌, ◌*◌, ◌/◌, min, nat_le, true, false, List, [], ◌∷◌, ◌++◌}
+use Rattle.iw_octets.specs.declared.part.Part.{Part}
+
+-- the part of a message of `len` octets that begins at an offset, where a part has at most `size`: as many as it may have, or what is left, which is the last
+abbrev pub part_at : ℕ → ℕ → ℕ → Part
+part_at len size offset = record { offset = offset; n = min (len - offset) size; last = nat_le (len - offset) size }
 
 -- so many full parts of this size, one behind the other, from an offset on
 unfoldable pub full_parts : ℕ → ℕ → ℕ → List Part

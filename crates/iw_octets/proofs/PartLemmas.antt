@@ -1,10 +1,13 @@
 -- The parts of a message, one by one.
 use Rattle.std.proofs.Common.{◌≡◌, ◌==◌, ℕ, suc, ◌+◌, ◌-◌, ◌*◌, ◌/◌, ◌<◌, ◌≤◌, min, if◌then◌else◌, true, false, [], ◌∷◌, ◌++◌, ap, sym, ◌∙◌, arith, inl, inr}
-use Rattle.std.proofs.lemmas.Bool.Decides.{eqb_tells}
+use Rattle.std.specs.Prelude.{nat_le}
+use Rattle.std.proofs.lemmas.Bool.{cases_lt}
+use Rattle.std.proofs.lemmas.Bool.Decides.{eqb_tells, nat_tests}
 use Rattle.std.proofs.lemmas.Nat.{div-mul-add}
 use Rattle.std.proofs.Math.Nat.{add-div_right}
-use Rattle.iw_tagged.specs.declared.parts.Part.{Part}
-use Rattle.iw_tagged.specs.Parts.{full_parts, full_count, parts_from}
+use Rattle.iw_octets.specs.declared.part.Part.{Part}
+use Rattle.iw_octets.specs.Parts.{full_parts, full_count, parts_from}
+use Rattle.iw_octets.specs.Laws.{PartsAreTaken}
 
 abbrev last_part : ℕ → ℕ → Part
 last_part offset n = record { offset = offset; n = n; last = true }
@@ -50,4 +53,21 @@ parts_from-next offset left size n some is = elim (eqb_tells n left) [
       let full : size ≡ n = omega (arith, less.1) in
       parts_from-more offset left size some (omega (arith, less.1))
       ∙ (λ i. record { offset = offset; n = full i; last = sym less.0 i } ∷ (if sym less.0 i then [] else parts_from (offset + full i) (left - full i) size))
+]
+
+-- the same of the part that the offset names
+pub parts_are_taken : PartsAreTaken
+parts_are_taken len size offset some = elim (cases_lt size (len - offset)) [
+  | inl more ↦
+      let over : false ≡ nat_le (len - offset) size = grind (arith, nat_tests) in
+      let full : size ≡ min (len - offset) size = omega arith in
+      let rest : len - offset - size ≡ len - (offset + size) = omega arith in
+      parts_from-more offset (len - offset) size some more
+      ∙ ap (λ left. full_part offset size ∷ parts_from (offset + size) left size) rest
+      ∙ (λ i. record { offset = offset; n = full i; last = over i } ∷ (if over i then [] else parts_from (offset + full i) (len - (offset + full i)) size))
+  | inr fits ↦
+      let under : true ≡ nat_le (len - offset) size = grind (arith, nat_tests) in
+      let left : len - offset ≡ min (len - offset) size = omega arith in
+      parts_from-last offset (len - offset) size some fits
+      ∙ (λ i. record { offset = offset; n = left i; last = under i } ∷ (if under i then [] else parts_from (offset + left i) (len - (offset + left i)) size))
 ]
