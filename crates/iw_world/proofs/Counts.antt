@@ -27,7 +27,10 @@ use Rattle.iw_queues.specs.declared.send_queue.Part.{Part}
 use Rattle.iw_queues.specs.Request.{kind_of, payload}
 use Rattle.iw_queues.specs.Completions.{added, done_from, is_finished_when_sent}
 use Rattle.iw_queues.specs.Queue.{Queue, next_part, part_sent, posted, done_in, handed_from, behind_oldest}
-use Rattle.iw_queues.specs.Segments.{Numbers, IsCut, AreSegments, AreSpelled, write_segment, send_segment, request_segment, segment_with, segment_of, numbers_after, control_of, write_opcode, send_opcode}
+use Rattle.iw_queues.specs.Segments.{Numbers, IsCut, AreSegments, AreSpelled, write_segment, send_segment, request_segment, segment_with, segment_of, numbers_after}
+use Rattle.iw_octets.specs.declared.operation.TaggedOperation.TheVariants as tagged
+use Rattle.iw_octets.specs.declared.operation.UntaggedOperation.TheVariants as untagged
+use Rattle.iw_octets.specs.Operation.{control_of, tagged_opcode, untagged_opcode}
 use Rattle.iw_queues.specs.Laws.{kinds_in}
 use Rattle.iw_queues.proofs.Order.{keeps_order}
 use Rattle.iw_world.specs.Words.{Octets}
@@ -267,13 +270,13 @@ cut_told room segment one offset octets (s ∷ t ∷ ss) cut =
 
 message_told : (numbers : Numbers) (m : Message Octets) (ss : List (Segment Octets)) → AreSegments numbers (Posted m) 0 ss → Each IsTold ss
 message_told numbers (Write stag to octets) ss cut =
-    cut_told _ (write_segment stag to) (λ o l x few. tagged_told (write_segment stag to o l x) (omega arith) (omega (arith, few, length-segment_octets_tagged (record { last = l; ddp_version = 1; control = control_of write_opcode; stag = stag; to = (to + o) % 2 ^ 64 }) x)))
+    cut_told _ (write_segment stag to) (λ o l x few. tagged_told (write_segment stag to o l x) (omega arith) (omega (arith, few, length-segment_octets_tagged (record { last = l; ddp_version = 1; control = control_of (tagged_opcode tagged.Write); stag = stag; to = (to + o) % 2 ^ 64 }) x)))
     0 octets ss cut
 message_told numbers (Send octets solicited invalidate) ss cut =
     cut_told _ (send_segment numbers.send solicited invalidate)
     (λ o l x few.
     tagged_told (send_segment numbers.send solicited invalidate o l x) (omega arith)
-    (omega (arith, few, length-segment_octets_untagged (record { last = l; ddp_version = 1; control = control_of (send_opcode solicited (is_some invalidate)); tail = option_map_or number_of invalidate 0; queue = 0; msn = numbers.send; mo = o }) x)))
+    (omega (arith, few, length-segment_octets_untagged (record { last = l; ddp_version = 1; control = control_of (untagged_opcode (untagged.Send solicited (is_some invalidate))); tail = option_map_or number_of invalidate 0; queue = 0; msn = numbers.send; mo = o }) x)))
     0 octets ss cut
 
 pub spelled_told : (numbers : Numbers) (ms : List (Message Octets)) (ss : List (Segment Octets)) → AreSpelled numbers 0 (requests ms) ss → Each IsTold ss

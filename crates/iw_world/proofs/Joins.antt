@@ -14,7 +14,8 @@ use Rattle.iw_octets.specs.declared.segment.Segment.{Segment}
 use Rattle.iw_octets.specs.declared.segment.Segment.TheVariants.{Tagged, Untagged}
 use Rattle.iw_octets.specs.Octets.{splice}
 use Rattle.iw_octets.specs.Stag.{number_of}
-use Rattle.iw_queues.specs.Joined.{Whole, Cell, joined, completed, opcode_of, count_in, count_writes, count_segments}
+use Rattle.iw_queues.specs.Joined.{Whole, Cell, joined, completed, is_solicited, is_invalidating, count_in, count_writes, count_segments}
+use Rattle.iw_octets.specs.Operation.{opcode_of, untagged_operation}
 use Rattle.iw_untagged.specs.Receiving.{Receiving, ahead_of, buffer_of, oldest, with_buffer, written, turned, finished, turn_fault}
 use Rattle.iw_world.specs.Words.{Octets, Sent}
 use Rattle.iw_world.specs.Safe.{requests}
@@ -281,8 +282,8 @@ joins_part segments r head payload o' received placements turn last j =
 plain_whole : (head : UntaggedHead) (octets : Octets) → opcode_of head.control ≡ 3 → completed head octets ≡ record { octets = octets; solicited = false; invalidate = None }
 plain_whole head octets op = ap (λ n. record {
   octets = octets;
-  solicited = nat_eq n 5 || nat_eq n 6;
-  invalidate = cond (nat_eq n 4 || nat_eq n 6) (Some head.tail) None;
+  solicited = is_solicited (untagged_operation n);
+  invalidate = cond (is_invalidating (untagged_operation n)) (Some head.tail) None;
 }) op
 
 -- a Send's last segment has its turn: the Send is received

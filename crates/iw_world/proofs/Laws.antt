@@ -16,7 +16,10 @@ use Rattle.iw_memory.specs.Table.{Table, part_of, slots_of, region_at, is_added,
 use Rattle.iw_octets.specs.declared.segment.Segment.{Segment}
 use Rattle.iw_fpdu.specs.Sequence.{sequence}
 use Rattle.iw_queues.specs.Joined.{IsPrefixOf, Cell}
-use Rattle.iw_queues.specs.Segments.{Numbers, AreSpelled, segment_with, segment_of, control_of, write_opcode, send_opcode}
+use Rattle.iw_queues.specs.Segments.{Numbers, AreSpelled, segment_with, segment_of}
+use Rattle.iw_octets.specs.declared.operation.TaggedOperation.TheVariants as tagged
+use Rattle.iw_octets.specs.declared.operation.UntaggedOperation.TheVariants as untagged
+use Rattle.iw_octets.specs.Operation.{control_of, tagged_opcode, untagged_opcode}
 use Rattle.iw_queues.proofs.Sending.{sends_in_order}
 use Rattle.iw_startup.specs.State.{StartupState, awaits_answer, agreement}
 use Rattle.iw_stream.specs.Stream.{StreamState, part_due, own_frame, owes_frame, recv_refusal, recv_refusal_of, post_refusal, post_refusal_of, may_answer, accepted_agreed, delivery_of}
@@ -226,12 +229,12 @@ part_size numbers part fits within = sized numbers part.message part.offset part
   where
     sized : (numbers : Numbers) (m : Request Octets) (offset n : ℕ) (last : Bool) → FitsRequest m → offset + n ≤ length (payload m) → length (segment_octets (segment_with numbers m offset last (take n (drop offset (payload m))))) ≡ n + header_len m
     sized numbers (Posted (Write stag to octets)) offset n last fits within =
-        omega (arith, within, length-segment_octets_tagged (record { last = last; ddp_version = 1; control = control_of write_opcode; stag = stag; to = (to + offset) % 2 ^ 64 }) (take n (drop offset octets)), length-take n (drop offset octets), length-drop offset octets)
+        omega (arith, within, length-segment_octets_tagged (record { last = last; ddp_version = 1; control = control_of (tagged_opcode tagged.Write); stag = stag; to = (to + offset) % 2 ^ 64 }) (take n (drop offset octets)), length-take n (drop offset octets), length-drop offset octets)
     sized numbers (Posted (Send octets solicited invalidate)) offset n last fits within =
         omega (
           arith,
           within,
-          length-segment_octets_untagged (record { last = last; ddp_version = 1; control = control_of (send_opcode solicited (is_some invalidate)); tail = option_map_or number_of invalidate 0; queue = 0; msn = numbers.send; mo = offset }) (take n (drop offset octets)),
+          length-segment_octets_untagged (record { last = last; ddp_version = 1; control = control_of (untagged_opcode (untagged.Send solicited (is_some invalidate))); tail = option_map_or number_of invalidate 0; queue = 0; msn = numbers.send; mo = offset }) (take n (drop offset octets)),
           length-take n (drop offset octets),
           length-drop offset octets,
         )

@@ -19,7 +19,10 @@ use Rattle.iw_queues.specs.Request.{payload, size_of, header_len}
 use Rattle.iw_queues.specs.Completions.{next_ticket}
 use Rattle.iw_queues.specs.Queue.{Queue, next_part, part_of_first, part_from, IsBegun, IsWithinLimits}
 use Rattle.iw_queues.specs.Queue as queues
-use Rattle.iw_queues.specs.Segments.{Numbers, numbers_after, numbers_behind, control_of, send_opcode, segment_with, segment_of}
+use Rattle.iw_queues.specs.Segments.{Numbers, numbers_after, numbers_behind, segment_with, segment_of}
+use Rattle.iw_octets.specs.declared.operation.TaggedOperation.TheVariants as tagged
+use Rattle.iw_octets.specs.declared.operation.UntaggedOperation.TheVariants as untagged
+use Rattle.iw_octets.specs.Operation.{control_of, tagged_opcode, untagged_opcode}
 use Rattle.iw_stream.specs.declared.answer.PostRefusal.TheVariants as post_refusals
 use Rattle.iw_stream.specs.declared.answer.Emission.TheVariants as emissions
 use Rattle.iw_stream.specs.Stream.{StreamState, post_refusal, post_refusal_of, is_open, own_frame, owes_frame, keeps_silent, part_due, frame_of_part, emission_of, emitted}
@@ -147,7 +150,7 @@ number_fits : (invalidate : Option Stag) → FitsOptional invalidate → option_
 number_fits None h = omega arith
 number_fits (Some stag) h = omega (arith, h.domain, h.slot, h.key)
 
-control_fits : (solicited invalidates : Bool) → control_of (send_opcode solicited invalidates) < 256
+control_fits : (solicited invalidates : Bool) → control_of (untagged_opcode (untagged.Send solicited invalidates)) < 256
 control_fits false false = omega arith
 control_fits false true = omega arith
 control_fits true false = omega arith
@@ -182,7 +185,7 @@ part_good numbers (Posted (Send octets solicited invalidate)) offset n last numb
         (record {
           last = last;
           ddp_version = 1;
-          control = control_of (send_opcode solicited (is_some invalidate));
+          control = control_of (untagged_opcode (untagged.Send solicited (is_some invalidate)));
           tail = option_map_or number_of invalidate 0;
           queue = 0;
           msn = numbers.send;
