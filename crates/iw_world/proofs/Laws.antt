@@ -63,7 +63,7 @@ use Rattle.iw_world.specs.Sends.{Silent as Muted}
 use Rattle.iw_world.specs.Turns.{story, story_of, start_frame, sending, standing, TurnsSeen, TurnsStream, Turns}
 use Rattle.iw_world.specs.Rest.{IdleStream, IdleOnlyAtRest}
 use Rattle.iw_world.specs.Calls.{deregister_answer, invalidate_refusal, IsNew, open_refusal_by, EndAnswered, ShowsMemory, recv_refusal_by, post_refusal_by, is_asked, Accepted, Rejected, StreamAnswered, AnsweredStream, Answered, delivery_by, KeptStream, KeepsOctets, CarriedStream, CarriesOctets}
-use Rattle.iw_world.specs.Each.{OnSome, OnStream, AtEach}
+use Rattle.iw_world.specs.Words.{OnSome, OnStream, AtEach}
 use Rattle.iw_world.specs.Rules.{Connected, EndState, State, end_of, has_stream, stream_at, start, open_refusal, register_answer, accept_answer, answer_refusal, Rule, EndRule, PeerRule, WireRule, StreamRule, state_after, Follows}
 use Rattle.iw_world.specs.Bounds.{LacksStream, AsksTooMuch, AsksOver}
 use Rattle.iw_world.specs.Stops.{NamesNoStream, AsksNotSent, IsUnopened}
@@ -71,8 +71,8 @@ use Rattle.iw_world.proofs.Told.{told, sees}
 use Rattle.iw_world.proofs.Tracks.{Track, point_is, may, accepting, refusing}
 use Rattle.iw_world.proofs.Answers.{standing_of, answers, idles, idle_unfinished}
 use Rattle.iw_world.proofs.Tales.{Tale, tale_of}
-use Rattle.iw_world.proofs.Sending.{FitsRequest, Rests, Ended, Shut, Silent, Sent, rests, none_left, shows, EmitsStart, EmitsPart, emits_frame}
-use Rattle.iw_world.proofs.Owns.{Own, Emits, within, WithinTale, IsFramed, Unspoken, Spoken, behind_start, part_fits, and_left, and_right}
+use Rattle.iw_world.proofs.Sending.{shown_good, FitsRequest, Rests, Ended, Shut, Silent, Sent, rests, none_left, shows, EmitsStart, EmitsPart, emits_frame}
+use Rattle.iw_world.proofs.Owns.{first_fits, Own, Emits, within, WithinTale, IsFramed, Unspoken, Spoken, behind_start, part_fits, and_left, and_right}
 use Rattle.iw_world.proofs.Counts.{last_of}
 use Rattle.iw_world.proofs.Messages.{start_frame_is, open_is, silent_is, sequence_is, can_finish, cannot_finish}
 use Rattle.iw_world.proofs.Heard.{IsHeard, hears_all}
@@ -277,6 +277,7 @@ frame_sized o c done from octets own (inr p) =
       p.from_is ∙ own.sent,
       inr (record {
         segment = segment_of s.numbers p.part;
+        known = (shown_good s.numbers s.queue s.mulpdu p.part p.due e.limits e.enough e.few e.number (first_fits s.queue e.fit)).fits;
         is = p.octets_are ∙ (λ i. frame_octets (own.track.begins.sends i) (own.sent i - length (sym (start_frame_is s t own.track) i)) (segment_octets (segment_of s.numbers p.part)));
         fits = omega (arith, size, filled.fits, e.size);
         full = λ h. size ∙ filled.full (sym (last_of s.numbers p.part fits) ∙ h) ∙ e.size;

@@ -6,7 +6,7 @@ use Rattle.iw_fpdu.specs.declared.layout.Layout.{Layout}
 use Rattle.iw_fpdu.specs.Sequence.{Carried, first_frame, frames_within, frames_of}
 use Rattle.iw_fpdu.specs.Laws.{IsBetween}
 use Rattle.iw_fpdu.proofs.Sequences.{first_takes}
-use Rattle.iw_world.specs.Frames.{Located, located, located_within, located_of, behind_last}
+use Rattle.iw_world.specs.Turns.{Located, located, located_within, located_of, behind_last}
 
 -- without their places they are the frames of the octets
 abbrev pub frames_at : List Located → List Carried

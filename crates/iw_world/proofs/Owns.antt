@@ -58,7 +58,7 @@ use Rattle.iw_world.specs.Words.{Octets, deed, Opening, posted_by, finished_by, 
 use Rattle.iw_world.specs.Rules.{Connected, connected_after, stream_after, shown_of, private_data}
 use Rattle.iw_world.specs.Turns.{Story, story_after}
 use Rattle.iw_world.specs.Safe.{InBuffer, requests}
-use Rattle.iw_world.specs.Each.{OnSome}
+use Rattle.iw_world.specs.Words.{OnSome}
 use Rattle.iw_world.proofs.Told.{Told}
 use Rattle.iw_world.proofs.Tales.{Tale, tale_after}
 use Rattle.iw_world.proofs.Tracks.{Track, tracking, unread, MayAnswer, may, accepting, refusing, unanswered}

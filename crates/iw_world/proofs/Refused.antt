@@ -1,22 +1,24 @@
 -- Each wrong run breaks its law.
-use Rattle.std.proofs.Common.{◌≡◌, ℕ, zero, suc, ◌≤◌, [], ◌∷◌, ◌++◌, length, take, replicate, Some, None, Ok, true, false, refl, sym, ap, ◌∙◌, arith, inl, inr, get_or}
+use Rattle.std.proofs.Common.{◌≡◌, ℕ, zero, suc, ◌<◌, ◌≤◌, [], ◌∷◌, ◌++◌, length, take, replicate, Some, None, Ok, true, false, refl, sym, ap, ◌∙◌, arith, inl, inr, get_or}
 use Rattle.std.specs.Option.{option_map_or}
 use Rattle.std.proofs.lemmas.Bool.{false≢true, true≢false}
-use Rattle.std.proofs.lemmas.Option.{none-some}
+use Rattle.std.proofs.lemmas.Option.{none-some, some_pair_parts}
 use Rattle.iw_octets.specs.declared.message.Message.{Message}
 use Rattle.iw_octets.specs.declared.message.Message.TheVariants as messages
 use Rattle.iw_octets.specs.declared.segment.Segment.{Segment}
 use Rattle.iw_octets.specs.Head.{untagged_octets}
-use Rattle.iw_octets.specs.Segment.{segment_octets}
+use Rattle.iw_octets.specs.declared.segment.Segment.TheVariants.{Tagged, Untagged}
+use Rattle.iw_octets.specs.Segment.{segment_octets, FitsSegment}
 use Rattle.iw_memory.specs.Table.{empty}
 use Rattle.iw_memory.specs.declared.refusal.DomainRefusal.TheVariants.{DomainTaken}
 use Rattle.iw_ranges.specs.declared.Delivery.TheVariants.{Kept, Dropped}
 use Rattle.iw_ranges.specs.Arrived.{in_order, taken_in, held}
 use Rattle.iw_fpdu.specs.Places.{data_place, data_index, in_marker, place_after, span_start}
-use Rattle.iw_fpdu.specs.Frame.{frame_octets, frame_size, laid, octet_at, marker_value}
-use Rattle.iw_fpdu.specs.Sequence.{sequence}
+use Rattle.iw_fpdu.specs.Frame.{max_sent, frame_octets, frame_size, laid, octet_at, marker_value}
+use Rattle.iw_fpdu.specs.Sequence.{Carried, intact, first_frame, sequence}
 use Rattle.iw_fpdu.proofs.Written.{frame_is}
-use Rattle.iw_fpdu.proofs.Sequences.{length_written}
+use Rattle.iw_fpdu.proofs.Sequences.{length_written, written_is_first}
+use Rattle.iw_fpdu.proofs.Follows.{frames_follow}
 use Rattle.iw_queues.specs.declared.request.Kind.TheVariants as kinds
 use Rattle.iw_queues.specs.declared.request.Request.TheVariants.{Message as Posted}
 use Rattle.iw_queues.specs.Request.{kind_of}
@@ -33,10 +35,11 @@ use Rattle.iw_events.specs.declared.act.Shown.TheVariants.{Frame}
 use Rattle.iw_world.specs.Words.{Octets, acts, stream_acts, openings, ended, sent, size_set, posted, finished_kinds, table_after}
 use Rattle.iw_world.specs.Turns.{story, story_of}
 use Rattle.iw_world.specs.Rest.{Over, AwaitsFrame, AwaitsAnswer, NoFrame}
-use Rattle.iw_world.specs.Sends.{IsSentMessage}
-use Rattle.iw_world.specs.WrongRuns.{a, b, on, raw, works, places, registers, emits, send_frame, reads_behind_fault, reads_unopened, rests_with_reply, never_finished, finished_unsent, finished_as_write, sends_too_large, sends_elsewhere, sends_behind_end, delivers_others, keeps_behind_end, accepts_unasked, answers_stag_again}
-use Rattle.iw_world.specs.WrongRuns.{RefusesFramesBehindFault, RefusesFramesUnopened, RefusesRestWithReply, RefusesNeverFinished, RefusesFinishedUnsent, RefusesFinishedAsWrite, RefusesTooLarge, RefusesElsewhere, RefusesBehindEnd, RefusesOtherOctets, RefusesKeptBehindEnd, RefusesUnaskedAccept, RefusesWrongRefusal, RefusesSameStag}
+use Rattle.iw_world.specs.Sends.{is_last, IsSentMessage}
+use Rattle.iw_world.specs.WrongRuns.{a, b, on, raw, works, places, registers, emits, send_frame, reads_behind_fault, reads_unopened, rests_with_reply, never_finished, finished_unsent, finished_as_write, sends_too_large, cut_frame, cuts_short, sends_elsewhere, sends_behind_end, delivers_others, keeps_behind_end, accepts_unasked, answers_stag_again}
+use Rattle.iw_world.specs.WrongRuns.{RefusesFramesBehindFault, RefusesFramesUnopened, RefusesRestWithReply, RefusesNeverFinished, RefusesFinishedUnsent, RefusesFinishedAsWrite, RefusesTooLarge, RefusesCutShort, RefusesElsewhere, RefusesBehindEnd, RefusesOtherOctets, RefusesKeptBehindEnd, RefusesUnaskedAccept, RefusesWrongRefusal, RefusesSameStag}
 use Rattle.iw_world.proofs.Messages.{nothing_sent}
+use Rattle.iw_world.proofs.Counts.{last_in, tagged_told, version_of}
 
 pub refuses_frames_behind_fault : RefusesFramesBehindFault
 unfolding acts stream_acts ended
@@ -116,6 +119,42 @@ unfolding acts stream_acts openings story sent size_set large_octets
 refuses_too_large h = elim (h (take 4 sends_too_large) (a (emits large_octets)) [] refl).1 [
   | inl s ↦ absurd (omega (arith, large_size, ap length s.1))
   | inr f ↦ not_large (segment_octets f.segment) f.is f.fits
+]
+
+cut_ulpdu : Octets
+cut_ulpdu = (0x81 ∷ 0x40 ∷ 1 ∷ 0 ∷ 0 ∷ 0 ∷ []) ++ replicate 8 0 ++ (0xaa ∷ [])
+
+cut_framed : cut_frame ≡ frame_octets plain 0 cut_ulpdu
+unfolding cut_ulpdu data_place data_index in_marker place_after marker_value span_start octet_at laid
+cut_framed = sym (frame_is plain 0 cut_ulpdu refl)
+
+cut_size : (length cut_ulpdu ≡ 15) × (last_in cut_ulpdu ≡ false)
+unfolding cut_ulpdu
+cut_size = (refl, refl)
+
+versioned : (segment : Segment Octets) → FitsSegment segment → version_of segment < 4
+versioned (Tagged head payload) h = h.ddp_version
+versioned (Untagged head payload) h = h.ddp_version
+
+-- a frame is of one ULPDU
+same_ulpdu : (u v : Octets) → length u ≤ max_sent → length v ≤ max_sent → frame_octets plain 0 u ≡ frame_octets plain 0 v → u ≡ v
+same_ulpdu u v hu hv e =
+    let firsts : Some (intact u, []) ≡ Some (intact v, []) =
+    sym (written_is_first plain 0 u [] (frames_follow.first false) hu) ∙ ap (λ z. first_frame plain 0 (z ++ [])) e ∙ written_is_first plain 0 v [] (frames_follow.first false) hv in
+    ap (λ (c : Carried). c.ulpdu) (some_pair_parts _ _ _ _ firsts).0
+
+not_cut : (segment : Segment Octets) → FitsSegment segment → cut_frame ≡ frame_octets plain 0 (segment_octets segment) → length (segment_octets segment) ≤ 1400
+    → (is_last segment ≡ false → length (segment_octets segment) ≡ 1400) → ⊥
+not_cut segment known e few full =
+    let same : cut_ulpdu ≡ segment_octets segment = same_ulpdu cut_ulpdu (segment_octets segment) (omega (arith, cut_size.0)) (omega (arith, few)) (sym cut_framed ∙ e) in
+    let more : is_last segment ≡ false = sym (tagged_told segment (versioned segment known) (omega (arith, few))).last ∙ ap last_in (sym same) ∙ cut_size.1 in
+    omega (arith, full more, ap length same, cut_size.0)
+
+pub refuses_cut_short : RefusesCutShort
+unfolding acts stream_acts openings story sent size_set
+refuses_cut_short h = elim (h (take 3 cuts_short) (a (emits cut_frame)) [] refl).1 [
+  | inl s ↦ absurd (omega (arith, ap length s.1))
+  | inr f ↦ not_cut f.segment f.known f.is f.fits f.full
 ]
 
 pub refuses_elsewhere : RefusesElsewhere

@@ -27,7 +27,7 @@ use Rattle.iw_stream.specs.declared.answer.PostRefusal.TheVariants as post_refus
 use Rattle.iw_stream.specs.declared.answer.Emission.TheVariants as emissions
 use Rattle.iw_stream.specs.Stream.{StreamState, post_refusal, post_refusal_of, is_open, own_frame, owes_frame, keeps_silent, part_due, frame_of_part, emission_of, emitted}
 use Rattle.iw_events.specs.declared.act.Shown.TheVariants.{Frame, Nothing}
-use Rattle.iw_world.specs.Fitting.{FitsMessage, FitsOptional}
+use Rattle.iw_world.specs.Rules.{FitsMessage, FitsOptional}
 use Rattle.iw_world.specs.Words.{Octets}
 use Rattle.iw_world.specs.Rules.{shown_of}
 

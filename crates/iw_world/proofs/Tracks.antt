@@ -50,7 +50,7 @@ use Rattle.iw_stream.specs.declared.answer.Step.TheVariants as steps
 use Rattle.iw_stream.proofs.Inverse.{Hears, HearsReply, Fronts, PlacesSend, IsPassing}
 use Rattle.iw_world.specs.Words.{Octets, placed_by}
 use Rattle.iw_fpdu.specs.Places.{frame_start}
-use Rattle.iw_world.specs.Frames.{Located, located_of, behind_last}
+use Rattle.iw_world.specs.Turns.{Located, located_of, behind_last}
 use Rattle.iw_world.specs.Turns.{Story, expecting, sending, first_place, hears, next_frame, next_segment, segment_of, in_order_point}
 use Rattle.iw_world.proofs.Located.{frames_at, located_are, located_first, located_none, behind_last-push}
 use Rattle.iw_world.specs.Rules.{stream_after, private_data, accept_answer, answer_refusal}

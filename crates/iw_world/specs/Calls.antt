@@ -28,7 +28,7 @@ use Rattle.iw_events.specs.declared.act.StreamAct.TheVariants.{Recv, Post, Emit,
 use Rattle.iw_events.specs.declared.act.Entry.{Entry}
 use Rattle.iw_world.specs.Words.{Octets, other, acts, deed, stream_acts, openings, was_opened, stream_numbers, posted, finished_kinds, ended, sent, table_after, buffers}
 use Rattle.iw_world.specs.Turns.{Story, story_of, is_open, in_order_point}
-use Rattle.iw_world.specs.Each.{OnSome, OnStream, AtEach}
+use Rattle.iw_world.specs.Words.{OnSome, OnStream, AtEach}
 
 -- ---- the calls of an end
 

@@ -1,8 +1,5 @@
 pub mod Words
-pub mod Fitting
 pub mod Rules
-pub mod Each
-pub mod Frames
 pub mod Turns
 pub mod Safe
 pub mod Sends

@@ -10,7 +10,7 @@ use Rattle.iw_events.specs.declared.act.Entry.{Entry}
 use Rattle.iw_world.specs.Words.{Octets, deed, stream_acts, ended}
 use Rattle.iw_world.specs.Turns.{Story, story_of, is_open, next_frame, HearsFrame}
 use Rattle.iw_world.specs.Sends.{CanFinish}
-use Rattle.iw_world.specs.Each.{OnSome, OnStream, AtEach}
+use Rattle.iw_world.specs.Words.{OnSome, OnStream, AtEach}
 
 -- why there is nothing to do: the stream has ended; the peer's start-up frame is not whole; the user has not answered it;
 -- or the stream is open, and every frame that came had its turn

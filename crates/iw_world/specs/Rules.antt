@@ -1,7 +1,10 @@
 -- The state of both ends, which answer is right in a state, and what each entry leaves of it.
-use Rattle.std.specs.Prelude.{◌≡◌, ℕ, List, [], ◌∷◌, ◌++◌, length, take, replicate, slice_index_or, slice_set, Bool, true, false, not, nat_le, is_some, unwrap_or, if◌then◌else◌, Option, Some, None, Ok, Err, Result}
+use Rattle.std.specs.Prelude.{◌≡◌, ℕ, ◌<◌, ◌^◌, List, [], ◌∷◌, ◌++◌, length, take, replicate, slice_index_or, slice_set, Bool, true, false, not, nat_le, is_some, unwrap_or, if◌then◌else◌, Option, Some, None, Ok, Err, Result}
 use Rattle.std.specs.Option.{option_map_or}
 use Rattle.iw_octets.specs.declared.stag.Stag.{Stag}
+use Rattle.iw_octets.specs.declared.message.Message.{Message}
+use Rattle.iw_octets.specs.declared.message.Message.TheVariants.{Write, Send}
+use Rattle.iw_octets.specs.Stag.{FitsStag}
 use Rattle.iw_memory.specs.declared.refusal.RegisterRefusal.{RegisterRefusal}
 use Rattle.iw_memory.specs.Table.{Table, empty, is_added, domain_refusal, register_refusal, store_refusal, next_stag, octets_at}
 use Rattle.arrayvec.specs.ArrayVec.{ArrayVec}
@@ -33,8 +36,17 @@ use Rattle.iw_events.specs.declared.act.Seen.TheVariants as seen
 use Rattle.iw_events.specs.declared.act.Entry.{Entry}
 use Rattle.iw_world.specs.Words.{Octets, other, deed, sent_by, table_by, Opening, no_opening, stream_numbers, config_for}
 use Rattle.iw_world.specs.Calls.{deregister_answer, invalidate_refusal, StandIn}
-use Rattle.iw_world.specs.Each.{OnSome}
-use Rattle.iw_world.specs.Fitting.{FitsMessage}
+use Rattle.iw_world.specs.Words.{OnSome, of_stream}
+
+-- ---- the numbers of a message fit the fields of its header
+
+abbrev pub FitsOptional : Option Stag → Type 0
+FitsOptional None = Unit {0}
+FitsOptional (Some stag) = FitsStag stag
+
+abbrev pub FitsMessage : Message (List ℕ) → Type 0
+FitsMessage (Write stag to octets) = FitsStag stag × (to < 2 ^ 64)
+FitsMessage (Send octets solicited invalidate) = FitsOptional invalidate
 
 -- ---- states
 
@@ -167,14 +179,9 @@ EndRule s (Stream n act) = (has_stream s n ≡ true) × StreamRule s.table (stre
 
 -- what the other end has to do with it
 abbrev pub PeerRule : EndState → Act Octets → Type 0
-PeerRule peer (Stream n act) =
-    (needs_peer (stream_call_of act) ≡ true → has_stream peer n ≡ true) × WireRule (stream_at peer n).wire act
-PeerRule peer (Domain pd refused) = Unit {0}
-PeerRule peer (Register pd base rights octets answer) = Unit {0}
-PeerRule peer (Deregister stag answer) = Unit {0}
-PeerRule peer (Invalidate stag refused) = Unit {0}
-PeerRule peer (Store stag to octets refused) = Unit {0}
-PeerRule peer (Open n pd role options private refused) = Unit {0}
+PeerRule peer act =
+    OnSome (λ x. (needs_peer (stream_call_of x.1) ≡ true → has_stream peer x.0 ≡ true) × WireRule (stream_at peer x.0).wire x.1)
+    (of_stream act)
 
 -- the right answer at an end of two
 abbrev pub Rule : EndState → EndState → Act Octets → Type 0

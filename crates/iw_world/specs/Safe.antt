@@ -12,7 +12,7 @@ use Rattle.iw_events.specs.declared.act.StreamAct.{StreamAct}
 use Rattle.iw_events.specs.declared.act.Entry.{Entry}
 use Rattle.iw_stream.specs.declared.answer.Role.TheVariants.{Preset, Initiator, Responder}
 use Rattle.iw_world.specs.Words.{Octets, other, acts, deed, stream_acts, openings, Opening, domain_of, posted, sends, received, has_raw, placements, table_after, buffers, due}
-use Rattle.iw_world.specs.Each.{OnSome, OnStream, AtEach}
+use Rattle.iw_world.specs.Words.{OnSome, OnStream, AtEach}
 
 -- ---- receives
 

@@ -3,7 +3,7 @@ use Rattle.std.specs.Prelude.{◌≡◌, ◌⊎◌, Bool, true, false, ℕ, ◌+
 use Rattle.iw_octets.specs.declared.message.Message.{Message}
 use Rattle.iw_octets.specs.declared.segment.Segment.{Segment}
 use Rattle.iw_octets.specs.declared.segment.Segment.TheVariants.{Tagged, Untagged}
-use Rattle.iw_octets.specs.Segment.{segment_octets}
+use Rattle.iw_octets.specs.Segment.{segment_octets, FitsSegment}
 use Rattle.iw_fpdu.specs.Frame.{frame_octets}
 use Rattle.iw_fpdu.specs.Sequence.{sequence}
 use Rattle.iw_queues.specs.declared.request.Kind.{Kind}
@@ -20,7 +20,7 @@ use Rattle.iw_events.specs.declared.act.Entry.{Entry}
 use Rattle.iw_world.specs.Words.{Octets, acts, deed, stream_acts, posted, finished_kinds, ended, sent, size_set}
 use Rattle.iw_world.specs.Turns.{Story, story_of, start_frame, sending, is_open, is_silent}
 use Rattle.iw_world.specs.Safe.{requests}
-use Rattle.iw_world.specs.Each.{OnSome, OnStream, AtEach}
+use Rattle.iw_world.specs.Words.{OnSome, OnStream, AtEach}
 
 -- ---- all that was sent
 
@@ -52,10 +52,11 @@ abbrev pub is_last : Segment Octets → Bool
 is_last (Tagged head payload) = head.last
 is_last (Untagged head payload) = head.last
 
--- the octets that go out behind others are the frame of a segment, whose ULPDU has at most this size, and exactly this
--- size if it is not the last of its message
+-- the octets that go out behind others are the frame of a segment (the numbers of its header fit their fields), whose ULPDU
+-- has at most this size, and exactly this size if it is not the last of its message
 pub record IsFrameOf (t : Story) (size : ℕ) (before octets : Octets) : Type 0 where
   pub segment : Segment Octets
+  pub known : FitsSegment segment
   pub is : octets ≡ frame_octets (sending t) (length before - length (start_frame t)) (segment_octets segment)
   pub fits : length (segment_octets segment) ≤ size
   pub full : is_last segment ≡ false → length (segment_octets segment) ≡ size

@@ -1,5 +1,5 @@
 -- What became of each frame that came, in words of the trace alone.
-use Rattle.std.specs.Prelude.{◌≡◌, ◌⊎◌, ℕ, ◌+◌, ◌==◌, ◌&&◌, List, [], length, take, drop, replicate, is_some, slice_get, fold, Bool, true, false, if◌then◌else◌, Option, Some, None}
+use Rattle.std.specs.Prelude.{◌≡◌, ◌⊎◌, ℕ, zero, suc, ◌+◌, ◌-◌, [], ◌∷◌, ◌==◌, ◌&&◌, List, length, take, drop, replicate, is_some, slice_get, fold, Bool, true, false, if◌then◌else◌, Option, Some, None}
 use Rattle.std.specs.Option.{option_map, option_map_or}
 use Rattle.iw_octets.specs.declared.fault.Fault.{Fault}
 use Rattle.iw_octets.specs.declared.fault.TheConstants.Fault as faults
@@ -9,7 +9,8 @@ use Rattle.iw_memory.specs.declared.rights.Right.TheVariants.{Write}
 use Rattle.iw_memory.specs.Table.{Table}
 use Rattle.iw_ranges.specs.Arrived.{Arrived, nothing, in_order}
 use Rattle.iw_fpdu.specs.declared.layout.Layout.{Layout}
-use Rattle.iw_fpdu.specs.Sequence.{Carried}
+use Rattle.iw_fpdu.specs.Places.{frame_start}
+use Rattle.iw_fpdu.specs.Sequence.{Carried, first_frame}
 use Rattle.iw_untagged.specs.Receiving.{Receiving, nothing_received, with_buffer, written, finished, oldest, turn_fault}
 use Rattle.iw_startup.specs.declared.config.Agreed.{Agreed}
 use Rattle.iw_startup.specs.declared.progress.Progress.{Progress}
@@ -24,8 +25,37 @@ use Rattle.iw_events.specs.declared.act.Seen.{Seen}
 use Rattle.iw_events.specs.declared.act.Seen.TheVariants as seen
 use Rattle.iw_events.specs.declared.act.Entry.{Entry}
 use Rattle.iw_world.specs.Words.{Octets, deed, stream_acts, Opening, opening_of, domain_of, ended, came_after, table_after}
-use Rattle.iw_world.specs.Frames.{Located, located_of, behind_last}
-use Rattle.iw_world.specs.Each.{OnSome, OnStream, AtEach}
+use Rattle.iw_world.specs.Words.{OnSome, OnStream, AtEach}
+
+-- ---- frames, each with its places
+
+-- a frame, the frame place of its first octet, and the place behind it
+pub record Located : Type 0 where
+  pub start : ℕ
+  pub behind : ℕ
+  pub frame : Carried
+
+-- the first frame of octets that stand at place `at`, where these are behind it
+abbrev pub located : Layout → ℕ → List ℕ → Carried → List ℕ → Located
+located layout at octets frame rest =
+    record { start = frame_start layout.markers at; behind = at + (length octets - length rest); frame = frame }
+
+-- at most n frames that are whole, one behind another
+unfoldable pub located_within : ℕ → Layout → ℕ → List ℕ → List Located
+located_within zero layout at octets = []
+located_within (suc n) layout at octets =
+    option_map_or
+    (λ first. located layout at octets first.0 first.1 ∷ located_within n layout (at + (length octets - length first.1)) first.1)
+    (first_frame layout at octets) []
+
+-- all of them
+abbrev pub located_of : Layout → ℕ → List ℕ → List Located
+located_of layout at octets = located_within (length octets) layout at octets
+
+-- the place behind the last of these frames; without one, the place before them
+abbrev pub behind_last : ℕ → List Located → ℕ
+behind_last at [] = at
+behind_last at (frame ∷ frames) = behind_last frame.behind frames
 
 -- ---- what the acts of a stream say of the frames that came
 

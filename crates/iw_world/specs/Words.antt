@@ -1,5 +1,5 @@
 -- What a trace says has happened, by its entries alone.
-use Rattle.std.specs.Prelude.{ℕ, ◌+◌, ◌%◌, ◌^◌, ◌==◌, List, [], ◌∷◌, ◌++◌, length, take, drop, Bool, true, false, is_none, if◌then◌else◌, Option, Some, None, Result, Ok, Err, fold, unwrap_or, slice_set}
+use Rattle.std.specs.Prelude.{◌≡◌, ℕ, ◌+◌, ◌%◌, ◌^◌, ◌==◌, List, [], ◌∷◌, ◌++◌, length, take, drop, Bool, true, false, is_none, if◌then◌else◌, Option, Some, None, Result, Ok, Err, fold, unwrap_or, slice_set}
 use Rattle.std.specs.List.{flat_map}
 use Rattle.std.specs.Option.{option_map_or}
 use Rattle.iw_octets.specs.declared.stag.Stag.{Stag}
@@ -54,14 +54,18 @@ acts_if B A act = []
 unfoldable pub acts : End → List (Entry Octets) → List (Act Octets)
 acts x trace = flat_map (λ e. acts_if x e.end e.act) trace
 
+-- the stream that an act is of, and what was done there
+abbrev pub of_stream : Act Octets → Option (ℕ × StreamAct Octets)
+of_stream (Stream number act) = Some (number, act)
+of_stream (Domain pd refused) = None
+of_stream (Register pd base rights octets answer) = None
+of_stream (Deregister stag answer) = None
+of_stream (Invalidate stag refused) = None
+of_stream (Store stag to octets refused) = None
+of_stream (Open number pd role options private refused) = None
+
 abbrev pub stream_acts_by : ℕ → Act Octets → List (StreamAct Octets)
-stream_acts_by n (Stream number act) = if number == n then act ∷ [] else []
-stream_acts_by n (Domain pd refused) = []
-stream_acts_by n (Register pd base rights octets answer) = []
-stream_acts_by n (Deregister stag answer) = []
-stream_acts_by n (Invalidate stag refused) = []
-stream_acts_by n (Store stag to octets refused) = []
-stream_acts_by n (Open number pd role options private refused) = []
+stream_acts_by n act = option_map_or (λ x. if x.0 == n then x.1 ∷ [] else []) (of_stream act) []
 
 unfoldable pub stream_acts : ℕ → List (Act Octets) → List (StreamAct Octets)
 stream_acts n done = flat_map (stream_acts_by n) done
@@ -364,3 +368,20 @@ buffers done = fold buffers_after [] done
 -- the message sequence number of the oldest buffer
 abbrev pub due : List (StreamAct Octets) → ℕ
 due done = (1 + length (received done)) % 2 ^ 32
+
+-- ---- laws that speak of each entry, at the moment before it
+
+-- it is so of what is there
+abbrev pub OnSome : {A : Type 0} → (A → Type 0) → Option A → Type 0
+OnSome {A} P None = Unit {0}
+OnSome {A} P (Some x) = P x
+
+-- an act of a stream is so, by what was done at its end before
+abbrev pub OnStream : (List (Act Octets) → ℕ → StreamAct Octets → Type 0) → List (Act Octets) → Act Octets → Type 0
+OnStream P before act = OnSome (λ x. P before x.0 x.1) (of_stream act)
+
+-- each act is so, by what was done at its end before
+abbrev pub AtEach : (List (Act Octets) → Act Octets → Type 0) → List (Entry Octets) → Type 0
+AtEach P trace =
+    (past : List (Entry Octets)) (e : Entry Octets) (future : List (Entry Octets)) → trace ≡ past ++ e ∷ future
+    → P (acts e.end past) e.act

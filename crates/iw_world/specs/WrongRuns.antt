@@ -131,6 +131,13 @@ sends_too_large =
     ++ (a (on (Mulpdu 128 None)) ∷ a (on (Post (messages.Send (replicate 204 0x22) false None) None))
     ∷ a (emits ((0 ∷ 222 ∷ 0x41 ∷ 0x43 ∷ []) ++ replicate 11 0 ++ (1 ∷ 0 ∷ 0 ∷ 0 ∷ 0 ∷ []) ++ replicate 204 0x22 ++ replicate 4 0)) ∷ [])
 
+-- a Write of two octets is cut, though they fit
+abbrev pub cut_frame : Octets
+cut_frame = (0 ∷ 15 ∷ 0x81 ∷ 0x40 ∷ 1 ∷ 0 ∷ 0 ∷ 0 ∷ []) ++ replicate 8 0 ++ (0xaa ∷ []) ++ replicate 7 0
+
+abbrev pub cuts_short : Run
+cuts_short = opens a Preset ++ (a (on (Post (messages.Write stag 0 (0xaa ∷ 0xbb ∷ [])) None)) ∷ a (emits cut_frame) ∷ [])
+
 abbrev pub sends_elsewhere : Run
 sends_elsewhere = opens a Preset ++ (a sends_one ∷ a (on (Emit (Frame 7 send_frame))) ∷ [])
 
@@ -141,6 +148,9 @@ sends_behind_end =
 
 abbrev pub RefusesTooLarge : Type 0
 RefusesTooLarge = ¬ Sized sends_too_large
+
+abbrev pub RefusesCutShort : Type 0
+RefusesCutShort = ¬ Sized cuts_short
 
 abbrev pub RefusesElsewhere : Type 0
 RefusesElsewhere = ¬ Sized sends_elsewhere

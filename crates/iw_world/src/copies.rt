@@ -1,7 +1,7 @@
 //! Copies for the trace, and facts that reading a value tells.
 
 ghost use Rattle.std.specs.Prelude.{◌≡◌, ◌+◌, ◌-◌, ◌≤◌, ◌<◌, take, drop, length, Some, IfOk};
-ghost use Rattle.iw_world.specs.Fitting.{FitsMessage};
+ghost use Rattle.iw_world.specs.Rules.{FitsMessage};
 ghost use Rattle.iw_octets.specs.Stag.{FitsStag};
 ghost use Rattle.iw_memory.specs.Table.{octets_at};
 ghost use Rattle.iw_world.specs.Rules.{private_data};

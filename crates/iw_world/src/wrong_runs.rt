@@ -1,6 +1,6 @@
 //! Runs that no two ends make, each refused by one law of a trace alone, beside that every answer follows the rules.
 
-ghost use Rattle.iw_world.specs.WrongRuns.{RefusesFramesBehindFault, RefusesFramesUnopened, RefusesRestWithReply, RefusesNeverFinished, RefusesFinishedUnsent, RefusesFinishedAsWrite, RefusesTooLarge, RefusesElsewhere, RefusesBehindEnd, RefusesOtherOctets, RefusesKeptBehindEnd, RefusesUnaskedAccept, RefusesWrongRefusal, RefusesSameStag};
+ghost use Rattle.iw_world.specs.WrongRuns.{RefusesFramesBehindFault, RefusesFramesUnopened, RefusesRestWithReply, RefusesNeverFinished, RefusesFinishedUnsent, RefusesFinishedAsWrite, RefusesTooLarge, RefusesCutShort, RefusesElsewhere, RefusesBehindEnd, RefusesOtherOctets, RefusesKeptBehindEnd, RefusesUnaskedAccept, RefusesWrongRefusal, RefusesSameStag};
 
 /// A frame is not placed behind a fault, though its region was registered since.
 pub fn refuses_frames_behind_fault()
@@ -35,6 +35,11 @@ pub fn refuses_finished_as_write()
 /// No ULPDU is larger than the size that was set.
 pub fn refuses_too_large()
     ensures { RefusesTooLarge }
+{}
+
+/// A part that is not the last of its message has the size that was set.
+pub fn refuses_cut_short()
+    ensures { RefusesCutShort }
 {}
 
 /// A frame stands nowhere but behind what was sent before.
