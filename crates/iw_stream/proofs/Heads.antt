@@ -1,22 +1,19 @@
--- A header is read, and judged, off the first octets of a ULPDU.
-use Rattle.std.proofs.Common.{◌≡◌, ℕ, ◌+◌, ◌≤◌, Bool, true, false, min, List, ◌++◌, length, drop, take, get_or, Option, Some, None, Ok, Err, refl, sym, ap, ◌∙◌, subst, arith, inl, inr, Bor}
+-- A header is read, and judged, off the octets at the front of a ULPDU.
+use Rattle.std.proofs.Common.{◌≡◌, ℕ, ◌+◌, ◌-◌, ◌≤◌, Bool, true, false, min, List, [], ◌∷◌, ◌++◌, length, drop, take, get_or, if◌then◌else◌, Option, Some, None, Ok, Err, refl, sym, ap, ◌∙◌, subst, arith, inl, inr, Bor, length-append, length-drop}
 use Rattle.std.specs.Prelude.{Result}
 use Rattle.std.proofs.lemmas.Bool.{cases_lt}
 use Rattle.std.proofs.lemmas.Option.{none-some, same_Some}
-use Rattle.std.proofs.lemmas.List.{get_or-take, length-take, take-append-drop, take-append-le, take_all}
+use Rattle.std.proofs.lemmas.List.{append-nil, length-take, take-append-drop, take-append-le, take_all}
 use Rattle.std.proofs.Math.Seq.{take-append-add}
-use Rattle.iw_octets.specs.declared.head.TaggedHead.{TaggedHead}
-use Rattle.iw_octets.specs.declared.head.UntaggedHead.{UntaggedHead}
-use Rattle.iw_octets.specs.declared.head.Short.{Short}
 use Rattle.iw_octets.specs.declared.segment.Segment.{Segment}
 use Rattle.iw_octets.specs.declared.segment.Segment.TheVariants.{Tagged, Untagged}
 use Rattle.iw_octets.specs.Head.{is_tagged}
 use Rattle.iw_octets.specs.Segment.{read_segment, with_behind}
-use Rattle.iw_octets.specs.ShownSegment.{shown_segment}
 use Rattle.iw_octets.proofs.Front.{read_segment-append, read_segment-long_tagged, read_segment-long_untagged, read_segment-short_tagged, read_segment-short_untagged}
 use Rattle.iw_rdmap.specs.FirstPath.{judged_first_path}
 use Rattle.iw_rdmap.proofs.Plain.{said, said-tagged, said-untagged}
-use Rattle.iw_stream.specs.Landing.{judged_head}
+use Rattle.iw_stream.specs.Frames.{header_in}
+use Rattle.iw_stream.specs.Judging.{IsFirst, judged_head}
 
 -- the octets of a segment's header, and its payload
 abbrev pub header_of : Segment (List ℕ) → ℕ
@@ -47,51 +44,60 @@ segment_behind octets segment e = go (is_tagged (get_or octets 0 0)) refl
           subst (Behind octets) (same_Some _ _ (sym (read_segment-long_untagged octets long untagged) ∙ e)) (record { long = long; payload = refl })
     ]
 
--- the first octets are no segment where all are none
-pub none_whole : (u : List ℕ) → read_segment (take 46 u) ≡ None → read_segment u ≡ None
-none_whole u e = go (is_tagged (get_or u 0 0)) refl
-  where
-    first : is_tagged (get_or (take 46 u) 0 0) ≡ is_tagged (get_or u 0 0)
-    first = ap is_tagged (get_or-take 46 u 0 0 (omega arith))
+-- ---- octets at the front
+no_octets : (xs : List ℕ) → length xs ≡ 0 → xs ≡ []
+no_octets [] e = refl
+no_octets (x ∷ xs) e = absurd (omega arith)
 
-    go : (tagged : Bool) → is_tagged (get_or u 0 0) ≡ tagged → read_segment u ≡ None
-    go true tagged = elim (cases_lt (length u) 14) [
-      | inl short ↦ read_segment-short_tagged u short tagged
-      | inr long ↦ absurd (none-some _ (sym e ∙ read_segment-long_tagged (take 46 u) (omega (arith, length-take 46 u)) (first ∙ tagged)))
-    ]
-    go false untagged = elim (cases_lt (length u) 18) [
-      | inl short ↦ read_segment-short_untagged u short untagged
-      | inr long ↦ absurd (none-some _ (sym e ∙ read_segment-long_untagged (take 46 u) (omega (arith, length-take 46 u)) (first ∙ untagged)))
-    ]
+pub first_taken : (u : List ℕ) → IsFirst u (take 46 u)
+first_taken u = record { behind = drop 46 u; whole = sym (take-append-drop 46 u); enough = omega (arith, length-take 46 u) }
+
+-- they are all, or enough for a header
+all_first : (u first : List ℕ) → IsFirst u first → length u ≤ length first → u ≡ first
+all_first u first f few =
+    let long : length u ≡ length first + length f.behind = ap length f.whole ∙ length-append first f.behind in
+    f.whole ∙ ap (λ xs. first ++ xs) (no_octets f.behind (omega (arith, long, few))) ∙ append-nil first
+
+-- they are no segment where all are none
+none_whole : (u first : List ℕ) → IsFirst u first → read_segment first ≡ None → read_segment u ≡ None
+none_whole u first f e = elim (cases_lt (length first) 46) [
+  | inl few ↦ ap read_segment (all_first u first f (omega (arith, f.enough, few))) ∙ e
+  | inr enough ↦ absurd (go (is_tagged (get_or first 0 0)) refl enough)
+]
+  where
+    go : (tagged : Bool) → is_tagged (get_or first 0 0) ≡ tagged → 46 ≤ length first → ⊥
+    go true tagged long = none-some _ (sym e ∙ read_segment-long_tagged first (omega arith) tagged)
+    go false untagged long = none-some _ (sym e ∙ read_segment-long_untagged first (omega arith) untagged)
 
 -- otherwise they have its header
-pub some_whole : (u : List ℕ) (segment : Segment (List ℕ)) → read_segment (take 46 u) ≡ Some segment → read_segment u ≡ Some (with_behind segment (drop 46 u))
-some_whole u segment e = ap read_segment (sym (take-append-drop 46 u)) ∙ read_segment-append (take 46 u) (drop 46 u) segment e
+some_whole : (u first : List ℕ) (f : IsFirst u first) (segment : Segment (List ℕ)) → read_segment first ≡ Some segment → read_segment u ≡ Some (with_behind segment f.behind)
+some_whole u first f segment e = ap read_segment f.whole ∙ read_segment-append first f.behind segment e
 
--- so that a header that is read off them is the segment's
-pub record Read (u : List ℕ) (head : UntaggedHead) : Type 0 where
-  pub payload : List ℕ
-  pub is : read_segment u ≡ Some (Untagged head payload)
-
-pub read_untagged : (u first : List ℕ) (result : Result (Segment (Bor (List ℕ))) Short) (head : UntaggedHead) (payload : Bor (List ℕ)) → first ≡ take 46 u → shown_segment result ≡ read_segment first
-    → result ≡ Ok (Untagged head payload) → Read u head
-read_untagged u first result head payload same shown is =
-    record { payload = payload.now ++ drop 46 u; is = some_whole u (Untagged head payload.now) (ap read_segment (sym same) ∙ sym shown ∙ ap shown_segment is) }
-
-pub read_tagged : (u first : List ℕ) (result : Result (Segment (Bor (List ℕ))) Short) (head : TaggedHead) (payload : Bor (List ℕ)) → first ≡ take 46 u → shown_segment result ≡ read_segment first
-    → result ≡ Ok (Tagged head payload) → read_segment u ≡ Some (Tagged head (payload.now ++ drop 46 u))
-read_tagged u first result head payload same shown is = some_whole u (Tagged head payload.now) (ap read_segment (sym same) ∙ sym shown ∙ ap shown_segment is)
-
-pub read_none : (u first : List ℕ) (result : Result (Segment (Bor (List ℕ))) Short) (short : Short) → first ≡ take 46 u → shown_segment result ≡ read_segment first → result ≡ Err short → read_segment u ≡ None
-read_none u first result short same shown is = none_whole u (ap read_segment (sym same) ∙ sym shown ∙ ap shown_segment is)
-
-pub judged_front : (u : List ℕ) (len : ℕ) → judged_first_path (take 46 u) len ≡ judged_head (read_segment u)
-judged_front u len = go (read_segment (take 46 u)) refl
+pub judged_front : (u first : List ℕ) (len : ℕ) → IsFirst u first → judged_first_path first len ≡ judged_head (read_segment u)
+judged_front u first len f = go (read_segment first) refl
   where
-    go : (o : Option (Segment (List ℕ))) → read_segment (take 46 u) ≡ o → judged_first_path (take 46 u) len ≡ judged_head (read_segment u)
-    go None e = ap (λ s. said s len) e ∙ ap judged_head (sym (none_whole u e))
-    go (Some (Tagged head payload)) e = ap (λ s. said s len) e ∙ said-tagged head payload len ∙ ap judged_head (sym (some_whole u (Tagged head payload) e))
-    go (Some (Untagged head payload)) e = ap (λ s. said s len) e ∙ said-untagged head payload len ∙ ap judged_head (sym (some_whole u (Untagged head payload) e))
+    go : (o : Option (Segment (List ℕ))) → read_segment first ≡ o → judged_first_path first len ≡ judged_head (read_segment u)
+    go None e = ap (λ s. said s len) e ∙ ap judged_head (sym (none_whole u first f e))
+    go (Some (Tagged head payload)) e = ap (λ s. said s len) e ∙ said-tagged head payload len ∙ ap judged_head (sym (some_whole u first f (Tagged head payload) e))
+    go (Some (Untagged head payload)) e = ap (λ s. said s len) e ∙ said-untagged head payload len ∙ ap judged_head (sym (some_whole u first f (Untagged head payload) e))
+
+-- ---- the header as it came
+front_octet : (xs ys : List ℕ) → 1 ≤ length xs → get_or (xs ++ ys) 0 0 ≡ get_or xs 0 0
+front_octet [] ys some = absurd (omega arith)
+front_octet (x ∷ xs) ys some = refl
+
+size_few : (tagged : Bool) → (if tagged then 14 else 18) ≤ 18
+size_few true = omega arith
+size_few false = omega arith
+
+pub header_first : (u first : List ℕ) → IsFirst u first → header_in first ≡ header_in u
+header_first u first f = elim (cases_lt (length first) 46) [
+  | inl few ↦ sym (ap header_in (all_first u first f (omega (arith, f.enough, few))))
+  | inr enough ↦
+      sym (ap header_in f.whole
+      ∙ ap (λ x. take (if is_tagged x then 14 else 18) (first ++ f.behind)) (front_octet first f.behind (omega arith))
+      ∙ take-append-le (if is_tagged (get_or first 0 0) then 14 else 18) first f.behind (omega (arith, size_few (is_tagged (get_or first 0 0)))))
+]
 
 -- ---- the first octets, piece by piece
 take_some : (n : ℕ) (xs : List ℕ) → take n xs ≡ take (min n (length xs)) xs

@@ -1,80 +1,84 @@
 -- What a stream keeps of its fields stays so from call to call.
-use Rattle.std.proofs.Common.{◌≡◌, ℕ, ◌+◌, ◌-◌, ◌<◌, ◌≤◌, ◌%◌, Bool, true, false, max, nat_le, nat_lt, if◌then◌else◌, List, [], ◌++◌, length, drop, Option, Some, None, Ok, Err, refl, sym, ap, ◌∙◌, subst, arith, length-drop}
-use Rattle.std.specs.Prelude.{Result, OnOk, OnErr}
-use Rattle.std.proofs.lemmas.Bool.{true≢false}
+use Rattle.std.proofs.Common.{◌≡◌, ℕ, ◌+◌, ◌-◌, ◌<◌, ◌≤◌, ◌%◌, ◌^◌, Bool, true, false, max, nat_le, nat_lt, if◌then◌else◌, List, [], ◌++◌, length, take, Option, Some, None, Ok, Err, refl, sym, ap, ◌∙◌, subst, arith, inl, inr}
+use Rattle.std.specs.Prelude.{Result, OnOk, OnErr, IfSome, not}
+use Rattle.std.specs.Option.{option_map_or}
+use Rattle.iw_fpdu.specs.declared.fpdu.Mismatch.{Mismatch}
+use Rattle.std.proofs.lemmas.Bool.{cases_lt, true≢false}
 use Rattle.std.proofs.lemmas.Bool.Decides.{nat_tests}
-use Rattle.std.proofs.lemmas.List.{get_or-set_same, length-set}
+use Rattle.std.proofs.lemmas.List.{get_or-set_same, length-set, length-take}
 use Rattle.iw_octets.specs.declared.fault.Fault.{Fault}
 use Rattle.iw_octets.specs.declared.fault.TheConstants.Fault as faults
-use Rattle.iw_octets.specs.declared.head.UntaggedHead.{UntaggedHead}
 use Rattle.iw_octets.specs.declared.segment.Segment.{Segment}
 use Rattle.iw_octets.specs.declared.segment.Segment.TheVariants.{Tagged, Untagged}
 use Rattle.iw_octets.specs.Octets.{splice}
 use Rattle.iw_octets.specs.Segment.{read_segment}
 use Rattle.iw_memory.specs.Table.{Table}
-use Rattle.iw_ranges.specs.Arrived.{Arrived, delivered, taken_in, advanced, in_order, is_dropped}
+use Rattle.iw_ranges.specs.Arrived.{Arrived, delivered, taken_in, advanced, cell_at, has_come, first_copy, is_missing, is_dropped, in_segment, Cell, Missing, Here, Gone}
 use Rattle.iw_ranges.specs.InOrder.{IsHeld}
-use Rattle.iw_ranges.proofs.InOrder.{floor_moves, floor_takes, held_moves, held_takes, takes}
+use Rattle.iw_ranges.proofs.ByPlace.{cell_at-taken_in}
+use Rattle.iw_ranges.proofs.InOrder.{floor_moves, floor_takes, held_moves, held_takes}
 use Rattle.iw_fpdu.specs.declared.layout.Layout.{Layout}
-use Rattle.iw_fpdu.specs.declared.fpdu.Mismatch.{Mismatch}
 use Rattle.iw_fpdu.specs.Frame.{frame_end, frame_octets}
 use Rattle.iw_fpdu.specs.Places.{frame_start}
-use Rattle.iw_fpdu.specs.Found.{Found, ulpdu}
+use Rattle.iw_fpdu.specs.Found.{Found, ulpdu, ulpdu_len}
 use Rattle.iw_fpdu.specs.Laws.{IsBetween}
-use Rattle.iw_fpdu.specs.Sequence.{Carried, first_frame}
 use Rattle.iw_fpdu.proofs.Follows.{ends, frames_follow, starts}
-use Rattle.iw_fpdu.proofs.Sequences.{first_stays, first_takes, length_written}
-use Rattle.iw_tagged.specs.declared.placing.Placed.{Placed}
+use Rattle.iw_fpdu.proofs.Sequences.{length_written}
+use Rattle.iw_queues.specs.Queue.{Queue}
+use Rattle.iw_queues.specs.Segments.{Numbers}
 use Rattle.iw_untagged.specs.Receiving.{Receiving, ahead_of, buffer_of, buffer_fault, written}
 use Rattle.iw_untagged.proofs.Splices.{length-splice}
-use Rattle.iw_rdmap.specs.FirstPath.{plain_untagged}
-use Rattle.iw_stream.specs.declared.answer.Step.{Step}
-use Rattle.iw_stream.specs.declared.answer.Step.TheVariants as steps
-use Rattle.iw_memory.specs.declared.rights.Right.TheVariants.{Write}
-use Rattle.iw_stream.specs.declared.judging.Landed.{Landed}
-use Rattle.iw_stream.specs.declared.judging.Landed.TheVariants as landeds
-use Rattle.iw_stream.specs.Front.{IsFirst, carried_by, end_of}
-use Rattle.iw_stream.specs.Judging.{fault_or, placed_step, judged_step, or_else}
+use Rattle.iw_stream.specs.declared.judging.Landing.{Landing}
+use Rattle.iw_stream.specs.declared.judging.Landing.TheVariants as landings
+use Rattle.iw_stream.specs.declared.judging.PlacedFrame.{PlacedFrame}
+use Rattle.iw_stream.specs.Frames.{Frame, IsNext, frame_by, segment_in, payload_of, header_in, placed, head_in, payload_len}
+use Rattle.iw_stream.specs.Judging.{Standing, mismatch_fault, or_else, fault_or, segment_verdict, verdict, receiving_landed}
 use Rattle.iw_stream.specs.Kept.{HasBuffer, IsPlaced, IsStarted, Keeps}
-use Rattle.iw_stream.specs.Landing.{unless, landed, landed_frame, receiving_landed}
-use Rattle.iw_stream.specs.Stream.{StreamState, Front, front, payload_of, is_open, first_place_in}
-use Rattle.std.specs.Result.{result_err}
+use Rattle.iw_stream.specs.Starting.{is_open, expecting, first_place_in, first_place_out}
+use Rattle.iw_stream.specs.Stream.{StreamState, owes_frame}
+use Rattle.iw_stream.specs.Work.{place_behind}
+use Rattle.iw_stream.proofs.Headers.{header_short, kept_buffer}
+use Rattle.iw_stream.proofs.Landings.{length_ulpdu}
 
 -- ---- delivery
--- a frame that was placed stays so whatever comes behind it
-placed_more : (layout : Layout) (r : Receiving) (at : ℕ) (octets more : List ℕ) → IsBetween layout.markers at → IsPlaced r (first_frame layout at octets) → IsPlaced r (first_frame layout at (octets ++ more))
-placed_more layout r at octets more b has = go (first_frame layout at octets) refl has
-  where
-    go : (o : Front) → first_frame layout at octets ≡ o → IsPlaced r o → IsPlaced r (first_frame layout at (octets ++ more))
-    go None e h = absurd h
-    go (Some x) e h = subst (IsPlaced r) (sym (first_stays layout at octets more x.0 x.1 b e)) h
+come_more : (place : ℕ) (octets : List ℕ) (p : ℕ) (c : Cell) → not (is_missing c) ≡ true → not (is_missing (first_copy place octets p c)) ≡ true
+come_more place octets p Missing e = absurd (true≢false (sym e))
+come_more place octets p (Here x) e = refl
+come_more place octets p Gone e = refl
 
--- the in-order point stands where it did
-pub started_arrived : (s : StreamState) (a : Arrived) → a.floor ≡ s.arrived.floor → IsStarted s → IsStarted (record s { arrived = a })
-started_arrived s a floor k = record {
-  unheard = k.unheard;
-  unopened = λ e. (floor ∙ (k.unopened e).0, (k.unopened e).1);
-  unspoken = k.unspoken;
-  spoken = k.spoken;
-  behind_in = omega (arith, floor, k.behind_in);
-  behind_out = k.behind_out;
-}
+-- what came stays so whatever comes behind it
+pub come_takes : (a : Arrived) (place : ℕ) (octets : List ℕ) (p : ℕ) → has_come a p ≡ true → has_come (taken_in a place octets) p ≡ true
+come_takes a place octets p e = ap (λ c. not (is_missing c)) (cell_at-taken_in a place octets p) ∙ come_more place octets p (cell_at a p) e
 
 keeps_taken : (s : StreamState) (place : ℕ) (octets : List ℕ) → Keeps s → Keeps (record s { arrived = taken_in s.arrived place octets })
 keeps_taken s place octets k =
-    let floor = floor_takes s.arrived place octets in
-    let more = takes s.arrived place octets in record {
-      started = started_arrived s (taken_in s.arrived place octets) floor k.started;
-      between = subst (λ f. IsBetween s.expecting.markers (f - first_place_in s)) (sym floor) k.between;
+    let floor = floor_takes s.arrived place octets in record {
+      started = record {
+        unopened = λ e. (floor ∙ (k.started.unopened e).0, (k.started.unopened e).1);
+        unsent = k.started.unsent;
+        alone = k.started.alone;
+        behind = omega (arith, floor, k.started.behind);
+      };
+      between = subst (λ f. IsBetween (expecting s.start).markers (f - first_place_in s.start)) (sym floor) k.between;
       held = held_takes s.arrived place octets k.held;
       aligned = k.aligned;
       enough = k.enough;
       few = k.few;
-      is_placed = λ placed.
-          subst (λ f. IsPlaced s.receiving (first_frame s.expecting (f - first_place_in s) (in_order (taken_in s.arrived place octets)))) (sym floor)
-          (subst (λ xs. IsPlaced s.receiving (first_frame s.expecting (s.arrived.floor - first_place_in s) xs)) (sym more.1)
-          (placed_more s.expecting s.receiving (s.arrived.floor - first_place_in s) (in_order s.arrived) more.0 k.between (k.is_placed placed)));
+      is_placed = go s.front k.is_placed;
     }
+  where
+    go : (o : Option PlacedFrame) → IfSome o (IsPlaced s) → IfSome o (IsPlaced (record s { arrived = taken_in s.arrived place octets }))
+    go None p = tt
+    go (Some frame) p =
+        let floor = floor_takes s.arrived place octets in record {
+          low = omega (arith, floor, p.low);
+          header = p.header;
+          on = omega (arith, floor, p.on);
+          near = omega (arith, floor, p.near);
+          come = λ q lt. come_takes s.arrived place octets q (p.come q lt);
+          next = p.next;
+          buffer = p.buffer;
+        }
 
 pub keeps_delivered : {D E : Type 0} (s : StreamState) (place : ℕ) (octets : List ℕ) (result : Result D E) (after : Arrived) → OnOk result (after ≡ delivered s.arrived place octets) → OnErr result (after ≡ s.arrived) → Keeps s
     → Keeps (record s { arrived = after })
@@ -86,39 +90,31 @@ keeps_delivered s place octets (Ok d) after ok err k = go (is_dropped s.arrived 
     go false is = subst (λ a. Keeps (record s { arrived = a })) (sym is) (keeps_taken s place octets k)
 
 -- ---- a frame that had its turn
-moved_between : (layout : Layout) (a : Arrived) (base : ℕ) (found : Found) → base ≤ a.floor → IsBetween layout.markers (a.floor - base) → IsFirst layout a base found
-    → IsBetween layout.markers ((advanced a (base + end_of found)).floor - base)
-moved_between layout a base found low b first =
-    let rest : List ℕ = drop (end_of found - (a.floor - base)) (in_order a) in
-    let t = first_takes layout (a.floor - base) (in_order a) (carried_by found) rest b first.first in
-    let there : a.floor - base + (length (in_order a) - length rest) ≡ (advanced a (base + end_of found)).floor - base =
-    omega (arith, floor_moves a (base + end_of found), length-drop (end_of found - (a.floor - base)) (in_order a), first.behind, first.within, low) in
-    subst (IsBetween layout.markers) there t.next
-
-pub keeps_passed : (s : StreamState) (found : Found) (base end : ℕ) (after : Arrived) (r : Receiving) → is_open s ≡ true → base ≡ first_place_in s → IsFirst s.expecting s.arrived base found → end ≡ base + end_of found
-    → after ≡ advanced s.arrived end → Keeps s → Keeps (record s { receiving = r; arrived = after; placed = false; passed = true })
-keeps_passed s found base end after r running at first is moved k =
-    let there : after ≡ advanced s.arrived (base + end_of found) = moved ∙ ap (advanced s.arrived) is in
-    let low : base ≤ s.arrived.floor = omega (arith, at, k.started.behind_in) in
-    let floor : after.floor ≡ max s.arrived.floor (base + end_of found) = ap (λ a. a.floor) there ∙ floor_moves s.arrived (base + end_of found) in
-    let was : IsBetween s.expecting.markers (s.arrived.floor - base) = subst (λ n. IsBetween s.expecting.markers (s.arrived.floor - n)) (sym at) k.between in
+pub keeps_passed : (s : StreamState) (frame : PlacedFrame) (place : ℕ) (after : Arrived) (r : Receiving) → is_open s.start ≡ true → s.front ≡ Some frame → place ≡ place_behind s frame
+    → after ≡ advanced s.arrived place → Keeps s → Keeps (record s { receiving = r; arrived = after; front = None })
+keeps_passed s frame place after r running is there moved k =
+    let p : IsPlaced s frame = subst (λ o. IfSome o (IsPlaced s)) is k.is_placed in
+    let floor : after.floor ≡ max s.arrived.floor place = ap (λ a. a.floor) moved ∙ floor_moves s.arrived place in
+    let end : after.floor - first_place_in s.start ≡ frame_end (expecting s.start).markers frame.start frame.len = omega (arith, floor, there, p.on) in
     record {
       started = record {
-        unheard = k.started.unheard;
         unopened = λ e. absurd (true≢false (sym running ∙ e));
-        unspoken = k.started.unspoken;
-        spoken = k.started.spoken;
-        behind_in = omega (arith, floor, k.started.behind_in);
-        behind_out = k.started.behind_out;
+        unsent = k.started.unsent;
+        alone = λ e. absurd (true≢false (sym running ∙ e));
+        behind = omega (arith, floor, k.started.behind);
       };
-      between = subst (λ n. IsBetween s.expecting.markers (after.floor - n)) at
-          (subst (λ a. IsBetween s.expecting.markers (a.floor - base)) (sym there) (moved_between s.expecting s.arrived base found low was first));
-      held = subst IsHeld (sym there) (held_moves s.arrived (base + end_of found) k.held);
+      between = subst (IsBetween (expecting s.start).markers) (sym end) p.next;
+      held = subst IsHeld (sym moved) (held_moves s.arrived place k.held);
       aligned = k.aligned;
       enough = k.enough;
       few = k.few;
-      is_placed = λ e. cc;
+      is_placed = tt;
     }
+
+-- ---- how far the in-order point moves
+pub reaches : (s t : StreamState) (after : Arrived) (to : ℕ) → after ≡ advanced s.arrived to → to ≤ s.arrived.floor + 2 ^ 18 → s ≡ t → after.floor ≤ t.arrived.floor + 2 ^ 18
+reaches s t after to moved near same =
+    subst (λ (x : StreamState). after.floor ≤ x.arrived.floor + 2 ^ 18) same (omega (arith, ap (λ (a : Arrived). a.floor) moved ∙ floor_moves s.arrived to, near))
 
 -- ---- a part that was sent
 pub aligned_behind : (layout : Layout) (at : ℕ) (u : List ℕ) → at % 4 ≡ 0 → (at + length (frame_octets layout at u)) % 4 ≡ 0
@@ -130,39 +126,33 @@ aligned_behind layout at u aligned =
     let there : end % 4 ≡ 0 = ap (λ n. n % 4) (sym same) ∙ next.aligned in
     omega (arith, there, aligned, length_written layout at u)
 
--- ---- a frame that was placed
--- the step that says where
-step_of : Result Landed Fault → Step (List ℕ)
-step_of (Ok (landeds.Tagged placed)) = steps.Placed Write placed.stag placed.to placed.n
-step_of (Ok (landeds.Untagged msn mo len)) = steps.Buffered msn mo len
-step_of (Err fault) = steps.Fault fault
+not_owed : (sent n first : ℕ) → nat_lt sent first ≡ false → nat_lt (sent + n) first ≡ true → ⊥
+not_owed sent n first e f = grind (arith, nat_tests)
 
-step_unless : (fault : Option Fault) (x : Landed) → step_of (unless fault x) ≡ fault_or fault (step_of (Ok x))
-unfolding step_of
-step_unless None x = refl
-step_unless (Some fault) x = refl
+first_sent : (sent first : ℕ) → nat_lt sent first ≡ false → first ≤ sent
+first_sent sent first e = grind (arith, nat_tests)
 
-step_segment : (table : Table) (s : StreamState) (o : Option (Segment (List ℕ))) → step_of (landed table s.domain s.receiving o) ≡ placed_step table s o
-unfolding step_of
-step_segment table s None = refl
-step_segment table s (Some (Tagged head payload)) = step_unless _ _
-step_segment table s (Some (Untagged head payload)) = step_unless _ _
-
-step_frame : (table : Table) (s : StreamState) (wrong : Option Mismatch) (u : List ℕ)
-    → step_of (landed_frame table s.domain s.receiving (record { mismatch = wrong; ulpdu = u })) ≡ judged_step table s (Some (record { mismatch = wrong; ulpdu = u }, []))
-unfolding step_of
-step_frame table s None u = step_segment table s (read_segment u)
-step_frame table s (Some m) u = refl
-
-pub placed_in_region : (table : Table) (s : StreamState) (frame : Carried) (rest : List ℕ) (placed : Placed) → front s ≡ Some (frame, rest) → landed_frame table s.domain s.receiving frame ≡ Ok (landeds.Tagged placed)
-    → steps.Placed Write placed.stag placed.to placed.n ≡ judged_step table s (front s)
-unfolding step_of
-placed_in_region table s frame rest placed e h = ap step_of (sym h) ∙ step_frame table s frame.mismatch frame.ulpdu ∙ sym (ap (judged_step table s) e)
-
-pub placed_in_buffer : (table : Table) (s : StreamState) (frame : Carried) (rest : List ℕ) (msn mo n : ℕ) → front s ≡ Some (frame, rest) → landed_frame table s.domain s.receiving frame ≡ Ok (landeds.Untagged msn mo n)
-    → steps.Buffered msn mo n ≡ judged_step table s (front s)
-unfolding step_of
-placed_in_buffer table s frame rest msn mo n e h = ap step_of (sym h) ∙ step_frame table s frame.mismatch frame.ulpdu ∙ sym (ap (judged_step table s) e)
+pub keeps_part : (s : StreamState) (queue : Queue) (numbers : Numbers) (n : ℕ) → is_open s.start ≡ true → owes_frame s ≡ false → (s.sent - first_place_out s.start + n) % 4 ≡ 0 → Keeps s
+    → Keeps (record s { queue = queue; numbers = numbers; sent = s.sent + n })
+keeps_part s queue numbers n running owes aligned k =
+    let low = first_sent s.sent (first_place_out s.start) owes in record {
+      started = record {
+        unopened = k.started.unopened;
+        unsent = λ e. absurd (not_owed s.sent n (first_place_out s.start) owes e);
+        alone = λ e. absurd (true≢false (sym running ∙ e));
+        behind = k.started.behind;
+      };
+      between = k.between;
+      held = k.held;
+      aligned = λ e. ap (λ m. m % 4) (let same : s.sent + n - first_place_out s.start ≡ s.sent - first_place_out s.start + n = omega (arith, low) in same) ∙ aligned;
+      enough = k.enough;
+      few = k.few;
+      is_placed = go s.front k.is_placed;
+    }
+  where
+    go : (o : Option PlacedFrame) → IfSome o (IsPlaced s) → IfSome o (IsPlaced (record s { queue = queue; numbers = numbers; sent = s.sent + n }))
+    go None p = tt
+    go (Some frame) p = record { low = p.low; header = p.header; on = p.on; near = p.near; come = p.come; next = p.next; buffer = p.buffer }
 
 -- ---- a segment in its buffer
 buffer_there : (r : Receiving) (msn mo n : ℕ) → buffer_fault r msn mo n ≡ None → (ahead_of r.due msn < length r.buffers) × (mo + n ≤ length (buffer_of r msn))
@@ -191,73 +181,56 @@ buffer_written r msn mo octets e =
     let same : buffer_of (written r msn mo octets) msn ≡ new = get_or-set_same r.buffers (ahead_of r.due msn) new [] there.0 in
     (omega (arith, length-set r.buffers (ahead_of r.due msn) new, there.0), omega (arith, ap length same, length-splice (buffer_of r msn) mo octets there.1, there.1))
 
--- what is placed in a buffer is a Send's segment
-pub record Buffered (r : Receiving) (o : Option (Segment (List ℕ))) (msn mo : ℕ) : Type 0 where
-  pub head : UntaggedHead
-  pub payload : List ℕ
-  pub is : o ≡ Some (Untagged head payload)
-  pub msn_is : msn ≡ head.msn
-  pub mo_is : mo ≡ head.mo
-  pub passed : buffer_fault r head.msn head.mo (length payload) ≡ None
+later_passes : (a b : Option Fault) (x y : Landing) → fault_or (or_else a b) x ≡ Ok y → (b ≡ None) × (x ≡ y)
+later_passes None None x y e = (refl, let w = e in cc)
+later_passes None (Some fault) x y e = absurd (let no : ⊥ = cc in no)
+later_passes (Some fault) b x y e = absurd (let no : ⊥ = cc in no)
 
-unless_ok : {A : Type 0} (fault : Option Fault) (x y : A) → unless fault x ≡ Ok y → (fault ≡ None) × (x ≡ y)
-unless_ok None x y e = (refl, let w = e in cc)
-unless_ok (Some fault) x y e = absurd (let no : ⊥ = cc in no)
+-- a Send's segment that was placed has its buffer
+segment_placed : (at : Standing) (o : Option (Segment (List ℕ))) (x : Landing) → segment_verdict at o ≡ Ok x
+    → HasBuffer (receiving_landed at.receiving (payload_of o) x) (length (payload_of o)) o
+segment_placed at None x e = absurd (let no : ⊥ = cc in no)
+segment_placed at (Some (Tagged head payload)) x e = tt
+segment_placed at (Some (Untagged head payload)) x e =
+    let parts = later_passes _ _ _ _ e in
+    subst (λ y. HasBuffer (receiving_landed at.receiving payload y) (length payload) (Some (Untagged head payload))) parts.1 (buffer_written at.receiving head.msn head.mo payload parts.0)
 
-none_later : (a b : Option Fault) → or_else a b ≡ None → b ≡ None
-none_later None b e = e
-none_later (Some fault) b e = absurd (let no : ⊥ = cc in no)
-
-buffered_parts : (table : Table) (domain : ℕ) (r : Receiving) (o : Option (Segment (List ℕ))) (msn mo n : ℕ) → landed table domain r o ≡ Ok (landeds.Untagged msn mo n) → Buffered r o msn mo
-buffered_parts table domain r None msn mo n e = absurd (let no : ⊥ = cc in no)
-buffered_parts table domain r (Some (Tagged head payload)) msn mo n e = absurd (let w = (unless_ok _ _ _ e).1 in let no : ⊥ = cc in no)
-buffered_parts table domain r (Some (Untagged head payload)) msn mo n e =
-    let parts = unless_ok _ _ _ e in
-    let same = parts.1 in
-    record {
-      head = head;
-      payload = payload;
-      is = refl;
-      msn_is = let m : head.msn ≡ msn = cc in sym m;
-      mo_is = let m : head.mo ≡ mo = cc in sym m;
-      passed = none_later (result_err (plain_untagged head)) (buffer_fault r head.msn head.mo (length payload)) parts.0;
-    }
-
-framed : (table : Table) (domain : ℕ) (r : Receiving) (wrong : Option Mismatch) (u : List ℕ) (x : Landed) → landed_frame table domain r (record { mismatch = wrong; ulpdu = u }) ≡ Ok x → landed table domain r (read_segment u) ≡ Ok x
-framed table domain r None u x e = e
-framed table domain r (Some m) u x e = absurd (let no : ⊥ = cc in no)
-
-pub has_buffer : (table : Table) (domain : ℕ) (r after : Receiving) (frame : Carried) (result : Result Landed Fault) (msn mo n : ℕ) → result ≡ landed_frame table domain r frame → result ≡ Ok (landeds.Untagged msn mo n)
-    → after ≡ receiving_landed r (payload_of (read_segment frame.ulpdu)) result → HasBuffer after (read_segment frame.ulpdu)
-has_buffer table domain r after frame result msn mo n is ok there =
-    let b = buffered_parts table domain r (read_segment frame.ulpdu) msn mo n (framed table domain r frame.mismatch frame.ulpdu (landeds.Untagged msn mo n) (sym is ∙ ok)) in
-    let now : after ≡ written r b.head.msn b.head.mo b.payload =
-    there ∙ ap (receiving_landed r (payload_of (read_segment frame.ulpdu))) ok ∙ (λ i. written r (b.msn_is i) (b.mo_is i) (payload_of (b.is i))) in
-    subst (λ x. HasBuffer x (read_segment frame.ulpdu)) (sym now) (subst (HasBuffer (written r b.head.msn b.head.mo b.payload)) (sym b.is) (buffer_written r b.head.msn b.head.mo b.payload b.passed))
+verdict_ok : (at : Standing) (wrong : Option Mismatch) (o : Option (Segment (List ℕ))) (x : Landing) → option_map_or (λ m. Err (mismatch_fault m)) wrong (segment_verdict at o) ≡ Ok x → segment_verdict at o ≡ Ok x
+verdict_ok at None o x e = e
+verdict_ok at (Some m) o x e = absurd (let no : ⊥ = cc in no)
 
 -- a frame that was placed, of a stream that is open
-keeps_placed : (s : StreamState) (after : Receiving) → is_open s ≡ true → IsPlaced after (front s) → Keeps s → Keeps (record s { receiving = after; placed = true })
-keeps_placed s after running has k = record {
-  started = record {
-    unheard = k.started.unheard;
-    unopened = λ e. absurd (true≢false (sym running ∙ e));
-    unspoken = k.started.unspoken;
-    spoken = k.started.spoken;
-    behind_in = k.started.behind_in;
-    behind_out = k.started.behind_out;
-  };
-  between = k.between;
-  held = k.held;
-  aligned = k.aligned;
-  enough = k.enough;
-  few = k.few;
-  is_placed = λ e. has;
-}
-
-pub front_at : (s : StreamState) (base : ℕ) (found : Found) → base ≡ first_place_in s → IsFirst s.expecting s.arrived base found
-    → front s ≡ Some (carried_by found, drop (end_of found - (s.arrived.floor - base)) (in_order s.arrived))
-front_at s base found at first = ap (λ n. first_frame s.expecting (s.arrived.floor - n) (in_order s.arrived)) (sym at) ∙ first.first
-
-pub keeps_buffered : (s : StreamState) (base : ℕ) (found : Found) (after : Receiving) → is_open s ≡ true → base ≡ first_place_in s → IsFirst s.expecting s.arrived base found → HasBuffer after (read_segment (ulpdu found)) → Keeps s
-    → Keeps (record s { receiving = after; placed = true })
-keeps_buffered s base found after running at first has k = keeps_placed s after running (subst (IsPlaced after) (sym (front_at s base found at first)) has) k
+pub keeps_judged : (s : StreamState) (table : Table) (found : Found) (after : Receiving) (x : Landing) → is_open s.start ≡ true
+    → IsNext (expecting s.start) s.arrived (first_place_in s.start) found
+    → verdict (record { table = table; domain = s.domain; receiving = s.receiving }) (frame_by found) ≡ Ok x
+    → after ≡ receiving_landed s.receiving (payload_of (read_segment (ulpdu found))) x → Keeps s
+    → Keeps (record s { front = Some (placed (frame_by found)); receiving = after })
+keeps_judged s table found after x running n ok there k =
+    let m : Bool = (expecting s.start).markers in
+    let base : ℕ = first_place_in s.start in
+    let long : length (ulpdu found) ≡ ulpdu_len found = length_ulpdu found in
+    let at : Standing = record { table = table; domain = s.domain; receiving = s.receiving } in
+    let sound = verdict_ok at (frame_by found).mismatch (read_segment (ulpdu found)) x ok in
+    record {
+      started = record {
+        unopened = λ e. absurd (true≢false (sym running ∙ e));
+        unsent = k.started.unsent;
+        alone = k.started.alone;
+        behind = k.started.behind;
+      };
+      between = k.between;
+      held = k.held;
+      aligned = k.aligned;
+      enough = k.enough;
+      few = k.few;
+      is_placed = record {
+        low = n.low;
+        header = header_short (ulpdu found);
+        on = subst (λ z. s.arrived.floor < base + frame_end m found.start z) (sym long) n.on;
+        near = subst (λ z. base + frame_end m found.start z ≤ s.arrived.floor + 2 ^ 18) (sym long) n.near;
+        come = λ p lt. n.come p (subst (λ z. p < base + frame_end m found.start z) long lt);
+        next = subst (λ z. IsBetween m (frame_end m found.start z)) (sym long) n.next;
+        buffer = subst (λ r. HasBuffer r (payload_len (placed (frame_by found))) (head_in (placed (frame_by found)))) (sym there)
+            (kept_buffer (receiving_landed s.receiving (payload_of (read_segment (ulpdu found))) x) (ulpdu found) (segment_placed at (read_segment (ulpdu found)) x sound));
+      };
+    }

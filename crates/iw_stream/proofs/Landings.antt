@@ -1,6 +1,6 @@
 -- A segment whose header passed its checks: its payload is placed, and has its turn.
 use Rattle.std.proofs.Common.{◌≡◌, ℕ, ◌+◌, ◌-◌, ◌<◌, ◌≤◌, ◌%◌, ◌^◌, Bool, true, false, not, ◌&&◌, nat_lt, if◌then◌else◌, List, [], length, drop, get_or, Option, Some, None, Ok, Err, refl, sym, ap, ◌∙◌, subst, arith, length-drop}
-use Rattle.std.specs.Prelude.{Result, OnOk, OnErr, ◌==◌}
+use Rattle.std.specs.Prelude.{IfOk, Result, OnOk, OnErr, ◌==◌}
 use Rattle.std.specs.Result.{result_err}
 use Rattle.iw_octets.specs.declared.fault.Fault.{Fault}
 use Rattle.iw_octets.specs.declared.fault.TheConstants.Fault as faults
@@ -20,13 +20,12 @@ use Rattle.iw_rdmap.specs.FirstPath.{plain_tagged, plain_untagged}
 use Rattle.iw_octets.specs.Operation.{rdmap_version, opcode_of}
 use Rattle.iw_tagged.specs.Placing.{placing_fault}
 use Rattle.iw_untagged.specs.Receiving.{Receiving, HasRoom, HoldsLimits, ahead_of, buffer_of, buffer_fault, turned, written}
-use Rattle.iw_stream.specs.declared.judging.Landed.{Landed}
-use Rattle.iw_stream.specs.declared.judging.Landed.TheVariants as landeds
-use Rattle.iw_stream.specs.Stream.{payload_of, turned_by}
-use Rattle.iw_stream.specs.Judging.{or_else}
+use Rattle.iw_stream.specs.declared.judging.Landing.{Landing}
+use Rattle.iw_stream.specs.declared.judging.Landing.TheVariants as landings
+use Rattle.iw_stream.specs.Frames.{payload_of}
+use Rattle.iw_stream.specs.Judging.{Standing, or_else, fault_or, judged_head, segment_verdict, table_landed, receiving_landed}
 use Rattle.iw_stream.specs.Kept.{HasBuffer}
-use Rattle.iw_stream.specs.Landing.{judged_head, unless, landed, table_landed, receiving_landed, receiving_turned}
-use Rattle.iw_stream.proofs.Heads.{Read, segment_behind}
+use Rattle.iw_stream.proofs.Heads.{segment_behind}
 
 pub length_ulpdu : (f : Found) → length (ulpdu f) ≡ ulpdu_len f
 length_ulpdu f = length_data (octet_in f.arrived f.base) f.layout.markers (data_index f.layout.markers f.start + 2) (ulpdu_len f)
@@ -87,29 +86,44 @@ sent_parts u head e = go (read_segment u) refl e
         record { payload = payload; is = is ∙ ap (λ x. Some (Untagged x payload)) same; passed = subst (λ x. plain_untagged x ≡ Ok (heads.Send head)) same h }
 
 -- ---- placing them
+abbrev pub standing : Table → ℕ → Receiving → Standing
+standing table domain r = record { table = table; domain = domain; receiving = r }
+
+-- a header that fails a check
+pub head_fails : (at : Standing) (o : Option (Segment (List ℕ))) (fault : Fault) → judged_head o ≡ Err fault → segment_verdict at o ≡ Err fault
+head_fails at None fault e = let same : faults.SEGMENT_SHORT ≡ fault = cc in ap Err same
+head_fails at (Some (Tagged head payload)) fault e =
+    ap (λ (x : Result Head Fault). fault_or (or_else (result_err x) (placing_fault at.table at.domain head (length payload) Write)) (landings.Write (record { stag = head.stag; to = head.to; n = length payload }))) e
+head_fails at (Some (Untagged head payload)) fault e =
+    ap (λ (x : Result Head Fault). fault_or (or_else (result_err x) (buffer_fault at.receiving head.msn head.mo (length payload))) (landings.Send head.msn head.mo (length payload))) e
+
 pub written_long : (u : List ℕ) (head : TaggedHead) → Written u head → 14 ≤ length u
 written_long u head w = (segment_behind u (Tagged head w.payload) w.is).long
 
 pub written_payload : (u : List ℕ) (head : TaggedHead) → Written u head → payload_of (read_segment u) ≡ drop 14 u
 written_payload u head w = ap payload_of w.is ∙ (segment_behind u (Tagged head w.payload) w.is).payload
 
-pub written_landed : (table : Table) (domain : ℕ) (r : Receiving) (u : List ℕ) (head : TaggedHead) (n : ℕ) → Written u head → n ≡ length u
-    → unless (placing_fault table domain head (n - 14) Write) (landeds.Tagged (record { stag = head.stag; to = head.to; n = n - 14 })) ≡ landed table domain r (read_segment u)
-written_landed table domain r u head n w all =
+pub written_verdict : (table : Table) (domain : ℕ) (r : Receiving) (u : List ℕ) (head : TaggedHead) (n : ℕ) → Written u head → n ≡ length u
+    → fault_or (placing_fault table domain head (n - 14) Write) (landings.Write (record { stag = head.stag; to = head.to; n = n - 14 })) ≡ segment_verdict (standing table domain r) (read_segment u)
+written_verdict table domain r u head n w all =
     let len : n - 14 ≡ length w.payload = omega (arith, all, ap length (segment_behind u (Tagged head w.payload) w.is).payload, length-drop 14 u) in
-    ap (λ k. unless (placing_fault table domain head k Write) (landeds.Tagged (record { stag = head.stag; to = head.to; n = k }))) len
-    ∙ sym (ap (λ (checked : Result Head Fault). unless (or_else (result_err checked) (placing_fault table domain head (length w.payload) Write)) (landeds.Tagged (record { stag = head.stag; to = head.to; n = length w.payload }))) w.passed)
-    ∙ sym (ap (landed table domain r) w.is)
+    ap (λ k. fault_or (placing_fault table domain head k Write) (landings.Write (record { stag = head.stag; to = head.to; n = k }))) len
+    ∙ sym (ap (λ (checked : Result Head Fault). fault_or (or_else (result_err checked) (placing_fault table domain head (length w.payload) Write)) (landings.Write (record { stag = head.stag; to = head.to; n = length w.payload }))) w.passed)
+    ∙ sym (ap (segment_verdict (standing table domain r)) w.is)
 
-pub written_table : (fault : Option Fault) (old new : Table) (head : TaggedHead) (n : ℕ) (payload octets : List ℕ) (result : Result Landed Fault)
-    → result ≡ unless fault (landeds.Tagged (record { stag = head.stag; to = head.to; n = n })) → OnOk result (new ≡ put old head.stag head.to octets) → OnErr result (new ≡ old)
-    → payload ≡ octets → new ≡ table_landed old payload result
-written_table None old new head n payload octets result e ok err same =
-    let put_there : new ≡ put old head.stag head.to octets = subst (λ x. OnOk x (new ≡ put old head.stag head.to octets)) e ok in
-    put_there ∙ ap (put old head.stag head.to) (sym same) ∙ sym (ap (table_landed old payload) e)
-written_table (Some fault) old new head n payload octets result e ok err same =
-    let stays : new ≡ old = subst (λ x. OnErr x (new ≡ old)) e err in
-    stays ∙ sym (ap (table_landed old payload) e)
+-- a placement that passed its checks has the header's place
+pub written_table : (fault : Option Fault) (old new : Table) (head : TaggedHead) (n : ℕ) (payload octets : List ℕ) (result : Result Landing Fault)
+    → result ≡ fault_or fault (landings.Write (record { stag = head.stag; to = head.to; n = n })) → OnOk result (new ≡ put old head.stag head.to octets)
+    → payload ≡ octets → IfOk result (λ at. new ≡ table_landed old payload at)
+written_table None old new head n payload octets result e ok same =
+    subst (λ x. IfOk x (λ at. new ≡ table_landed old payload at)) (sym e)
+    (subst (λ x. OnOk x (new ≡ put old head.stag head.to octets)) e ok ∙ ap (put old head.stag head.to) (sym same))
+written_table (Some fault) old new head n payload octets result e ok same = subst (λ x. IfOk x (λ at. new ≡ table_landed old payload at)) (sym e) tt
+
+pub written_queue : (fault : Option Fault) (old : Receiving) (head : TaggedHead) (n : ℕ) (payload : List ℕ) (result : Result Landing Fault)
+    → result ≡ fault_or fault (landings.Write (record { stag = head.stag; to = head.to; n = n })) → IfOk result (λ at. old ≡ receiving_landed old payload at)
+written_queue None old head n payload result e = subst (λ x. IfOk x (λ at. old ≡ receiving_landed old payload at)) (sym e) refl
+written_queue (Some fault) old head n payload result e = subst (λ x. IfOk x (λ at. old ≡ receiving_landed old payload at)) (sym e) tt
 
 pub sent_long : (u : List ℕ) (head : UntaggedHead) → Sent u head → 18 ≤ length u
 sent_long u head w = (segment_behind u (Untagged head w.payload) w.is).long
@@ -117,23 +131,26 @@ sent_long u head w = (segment_behind u (Untagged head w.payload) w.is).long
 pub sent_payload : (u : List ℕ) (head : UntaggedHead) → Sent u head → payload_of (read_segment u) ≡ drop 18 u
 sent_payload u head w = ap payload_of w.is ∙ (segment_behind u (Untagged head w.payload) w.is).payload
 
-pub sent_landed : (table : Table) (domain : ℕ) (r : Receiving) (u : List ℕ) (head : UntaggedHead) (n : ℕ) → Sent u head → n ≡ length u
-    → unless (buffer_fault r head.msn head.mo (n - 18)) (landeds.Untagged head.msn head.mo (n - 18)) ≡ landed table domain r (read_segment u)
-sent_landed table domain r u head n w all =
+pub sent_verdict : (table : Table) (domain : ℕ) (r : Receiving) (u : List ℕ) (head : UntaggedHead) (n : ℕ) → Sent u head → n ≡ length u
+    → fault_or (buffer_fault r head.msn head.mo (n - 18)) (landings.Send head.msn head.mo (n - 18)) ≡ segment_verdict (standing table domain r) (read_segment u)
+sent_verdict table domain r u head n w all =
     let len : n - 18 ≡ length w.payload = omega (arith, all, ap length (segment_behind u (Untagged head w.payload) w.is).payload, length-drop 18 u) in
-    ap (λ k. unless (buffer_fault r head.msn head.mo k) (landeds.Untagged head.msn head.mo k)) len
-    ∙ sym (ap (λ (checked : Result Head Fault). unless (or_else (result_err checked) (buffer_fault r head.msn head.mo (length w.payload))) (landeds.Untagged head.msn head.mo (length w.payload))) w.passed)
-    ∙ sym (ap (landed table domain r) w.is)
+    ap (λ k. fault_or (buffer_fault r head.msn head.mo k) (landings.Send head.msn head.mo k)) len
+    ∙ sym (ap (λ (checked : Result Head Fault). fault_or (or_else (result_err checked) (buffer_fault r head.msn head.mo (length w.payload))) (landings.Send head.msn head.mo (length w.payload))) w.passed)
+    ∙ sym (ap (segment_verdict (standing table domain r)) w.is)
 
-pub sent_receiving : (fault : Option Fault) (old new : Receiving) (head : UntaggedHead) (n : ℕ) (payload octets : List ℕ) (result : Result Landed Fault)
-    → result ≡ unless fault (landeds.Untagged head.msn head.mo n) → OnOk result (new ≡ written old head.msn head.mo octets) → OnErr result (new ≡ old)
-    → payload ≡ octets → new ≡ receiving_landed old payload result
-sent_receiving None old new head n payload octets result e ok err same =
-    let there : new ≡ written old head.msn head.mo octets = subst (λ x. OnOk x (new ≡ written old head.msn head.mo octets)) e ok in
-    there ∙ ap (written old head.msn head.mo) (sym same) ∙ sym (ap (receiving_landed old payload) e)
-sent_receiving (Some fault) old new head n payload octets result e ok err same =
-    let stays : new ≡ old = subst (λ x. OnErr x (new ≡ old)) e err in
-    stays ∙ sym (ap (receiving_landed old payload) e)
+pub sent_queue : (fault : Option Fault) (old new : Receiving) (head : UntaggedHead) (n : ℕ) (payload octets : List ℕ) (result : Result Landing Fault)
+    → result ≡ fault_or fault (landings.Send head.msn head.mo n) → OnOk result (new ≡ written old head.msn head.mo octets)
+    → payload ≡ octets → IfOk result (λ at. new ≡ receiving_landed old payload at)
+sent_queue None old new head n payload octets result e ok same =
+    subst (λ x. IfOk x (λ at. new ≡ receiving_landed old payload at)) (sym e)
+    (subst (λ x. OnOk x (new ≡ written old head.msn head.mo octets)) e ok ∙ ap (written old head.msn head.mo) (sym same))
+sent_queue (Some fault) old new head n payload octets result e ok same = subst (λ x. IfOk x (λ at. new ≡ receiving_landed old payload at)) (sym e) tt
+
+pub sent_table : (fault : Option Fault) (old : Table) (head : UntaggedHead) (n : ℕ) (payload : List ℕ) (result : Result Landing Fault)
+    → result ≡ fault_or fault (landings.Send head.msn head.mo n) → IfOk result (λ at. old ≡ table_landed old payload at)
+sent_table None old head n payload result e = subst (λ x. IfOk x (λ at. old ≡ table_landed old payload at)) (sym e) refl
+sent_table (Some fault) old head n payload result e = subst (λ x. IfOk x (λ at. old ≡ table_landed old payload at)) (sym e) tt
 
 -- ---- its turn
 -- the message that is due has the oldest buffer
@@ -144,22 +161,3 @@ pub room_due : (r : Receiving) (head : UntaggedHead) (n : ℕ) → HoldsLimits r
 room_due r head n limits has is =
     let first : ahead_of r.due head.msn ≡ 0 = ap (ahead_of r.due) is ∙ due_ahead r.due limits.due in
     record { posted = omega (arith, has.0); room = subst (λ i. head.mo + n ≤ length (get_or r.buffers i [])) first has.1 }
-
-pub untagged_len : (u : List ℕ) (head : UntaggedHead) (n : ℕ) (read : Read u head) → n ≡ length u → (18 ≤ n) × (n - 18 ≡ length read.payload)
-untagged_len u head n read all =
-    let b = segment_behind u (Untagged head read.payload) read.is in
-    (omega (arith, all, b.long), omega (arith, all, ap length b.payload, length-drop 18 u))
-
-pub room_read : (r : Receiving) (u : List ℕ) (head : UntaggedHead) (n : ℕ) → Read u head → n ≡ length u → HoldsLimits r → HasBuffer r (read_segment u) → head.msn ≡ r.due → HasRoom r (head.mo + (n - 18))
-room_read r u head n read all limits has is =
-    let buffer = subst (HasBuffer r) read.is has in
-    room_due r head (n - 18) limits (buffer.0, omega (arith, (untagged_len u head n read all).1, buffer.1)) is
-
-pub turned_after : (fault : Option Fault) (old new : Receiving) (u : List ℕ) (head : UntaggedHead) (n : ℕ) (last : Bool) (result : Result Bool Fault) (read : Read u head)
-    → result ≡ unless fault last → OnOk result (new ≡ turned old n) → OnErr result (new ≡ old) → n ≡ length read.payload → new ≡ receiving_turned old (read_segment u) result
-turned_after None old new u head n last result read e ok err len =
-    let there : new ≡ turned old n = subst (λ x. OnOk x (new ≡ turned old n)) e ok in
-    there ∙ ap (turned old) len ∙ sym (ap (turned_by old) read.is) ∙ sym (ap (receiving_turned old (read_segment u)) e)
-turned_after (Some fault) old new u head n last result read e ok err len =
-    let stays : new ≡ old = subst (λ x. OnErr x (new ≡ old)) e err in
-    stays ∙ sym (ap (receiving_turned old (read_segment u)) e)

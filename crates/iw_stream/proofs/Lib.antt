@@ -1,7 +1,8 @@
 pub mod Heads
-pub mod Fronts
+pub mod Headers
 pub mod Landings
+pub mod Fronts
 pub mod Keeping
-pub mod Inverse
-pub mod Started
 pub mod Opening
+pub mod Started
+pub mod Tasks

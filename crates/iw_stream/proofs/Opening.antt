@@ -1,10 +1,11 @@
 -- What a stream keeps of its start-up.
-use Rattle.std.proofs.Common.{◌≡◌, ℕ, zero, suc, ◌+◌, ◌-◌, ◌<◌, ◌%◌, Bool, true, false, not, ◌&&◌, max, nat_lt, if◌then◌else◌, List, [], ◌∷◌, length, Option, Some, None, refl, sym, ap, ◌∙◌, subst, arith}
-use Rattle.std.specs.Prelude.{is_some}
+use Rattle.std.proofs.Common.{◌≡◌, ℕ, zero, suc, ◌+◌, ◌-◌, ◌<◌, ◌%◌, Bool, true, false, max, nat_lt, List, [], ◌∷◌, length, Option, Some, None, refl, sym, ap, ◌∙◌, subst, arith}
+use Rattle.std.specs.Prelude.{IfSome, is_some}
 use Rattle.std.specs.Option.{option_map_or}
-use Rattle.std.proofs.lemmas.Bool.{true≢false}
+use Rattle.std.proofs.lemmas.Bool.{true≢false, false≢true}
 use Rattle.std.proofs.lemmas.Bool.Decides.{nat_tests}
-use Rattle.iw_ranges.specs.Arrived.{Arrived, nothing, advanced, in_order}
+use Rattle.arrayvec.specs.ArrayVec.{ArrayVec}
+use Rattle.iw_ranges.specs.Arrived.{Arrived, nothing, advanced}
 use Rattle.iw_ranges.proofs.InOrder.{floor_moves, held_moves, held_nothing}
 use Rattle.iw_fpdu.specs.declared.layout.Layout.{Layout}
 use Rattle.iw_fpdu.specs.Laws.{IsBetween}
@@ -18,16 +19,21 @@ use Rattle.iw_startup.specs.declared.config.Config.{Config}
 use Rattle.iw_startup.specs.declared.side.Side.{Side}
 use Rattle.iw_startup.specs.declared.side.Side.TheVariants as sides
 use Rattle.iw_startup.specs.Frame.{flags, start_frame, request_key, reply_key}
-use Rattle.iw_startup.specs.Peer.{frame_part, progress_of}
-use Rattle.iw_startup.specs.State.{StartupState, begun, frame_of, has_agreed, agreement, agreed_of, awaits_answer, is_asked, answered, pushed}
+use Rattle.iw_startup.specs.Peer.{progress_of}
+use Rattle.iw_startup.specs.State.{StartupState, frame_of, agreed_of, agreement, awaits_answer, is_asked, answered, pushed}
 use Rattle.iw_startup.proofs.Ends.{least_end}
 use Rattle.iw_startup.proofs.Reached.{progress_of-short}
-use Rattle.iw_startup.proofs.Heard.{frame_of-pushed, octets-pushed}
+use Rattle.iw_startup.proofs.Heard.{agreed_of-pushed, frame_of-pushed, octets-pushed}
 use Rattle.iw_untagged.specs.Receiving.{Receiving}
 use Rattle.iw_stream.specs.declared.answer.Role.{Role}
 use Rattle.iw_stream.specs.declared.answer.Role.TheVariants.{Preset, Initiator, Responder}
-use Rattle.iw_stream.specs.Kept.{IsStarted, Keeps}
-use Rattle.iw_stream.specs.Stream.{StreamState, startup_at_first, is_open, own_frame, owes_frame, awaits_frame, first_place_in, first_place_out}
+use Rattle.iw_stream.specs.declared.judging.PlacedFrame.{PlacedFrame}
+use Rattle.iw_stream.specs.declared.starting.Start.TheInside.{Inside}
+use Rattle.iw_stream.specs.Fields.{IsStart, start_of}
+use Rattle.iw_stream.specs.Kept.{IsPlaced, IsStarted, Keeps}
+use Rattle.iw_stream.specs.Starting.{StartState, AtOnce, Unheard, Heard, IsFresh, start_by, start_at_first, is_open, expecting, own_frame, awaits_frame, heard, answered_with, agreed_in, agreement_in, first_place_in, first_place_out}
+use Rattle.iw_stream.specs.Starting as starting
+use Rattle.iw_stream.specs.Stream.{StreamState, owes_frame}
 
 -- ---- lengths of start-up frames
 request_long : (fl : ℕ) (private : List ℕ) → 0 < length (start_frame request_key fl private)
@@ -37,15 +43,6 @@ request_long fl private = omega arith
 reply_long : (fl : ℕ) (private : List ℕ) → 0 < length (start_frame reply_key fl private)
 unfolding start_frame
 reply_long fl private = omega arith
-
--- an end that has agreed has a frame of its own
-silent_closed : (config : Config) (side : Side) (octets : List ℕ) → length (frame_of (record { config = config; side = side; octets = octets })) ≡ 0
-    → is_some (agreed_of (record { config = config; side = side; octets = octets })) ≡ false
-unfolding agreed_of
-silent_closed config sides.Initiator octets e = absurd (omega (arith, e, request_long (flags config.markers config.crc false) config.private.items))
-silent_closed config (sides.Responder None) octets e = refl
-silent_closed config (sides.Responder (Some (Accept private))) octets e = absurd (omega (arith, e, reply_long (flags config.markers config.crc false) private.items))
-silent_closed config (sides.Responder (Some (Reject private))) octets e = absurd (omega (arith, e, reply_long (flags config.markers config.crc true) private.items))
 
 answered_long : (u : StartupState) (reply : Reply) → 0 < length (frame_of (answered u reply))
 answered_long u (Accept private) = reply_long (flags u.config.markers u.config.crc false) private.items
@@ -70,251 +67,170 @@ waits_at config (sides.Responder (Some reply)) octets e = cc
 pub waits : (u : StartupState) → awaits_answer u ≡ true → Waits u
 waits u e = waits_at u.config u.side u.octets e
 
--- ---- frames that are owed
-pub owes_some : (s : StreamState) → owes_frame s ≡ true → (s.spoken ≡ false) × (0 < length (own_frame s))
-owes_some s e = go s.spoken (length (own_frame s)) e
-  where
-    go : (spoken : Bool) (n : ℕ) → (not spoken && nat_lt 0 n) ≡ true → (spoken ≡ false) × (0 < n)
-    go true n e = cc
-    go false n e = (refl, grind (arith, nat_tests))
+not_owing : (n : ℕ) → nat_lt 0 n ≡ false → 0 ≡ n
+not_owing n e = grind (arith, nat_tests)
 
-own_some : (s : StreamState) → 0 < length (own_frame s) → is_some s.startup ≡ true
-own_some s long = go s.startup long
-  where
-    go : (o : Option StartupState) → 0 < length (option_map_or frame_of o []) → is_some o ≡ true
-    go None long = absurd (omega arith)
-    go (Some u) long = refl
-
-owed : (s : StreamState) → s.spoken ≡ false → 0 < length (own_frame s) → owes_frame s ≡ false → ⊥
-owed s unspoken long e = go s.spoken (length (own_frame s)) unspoken long e
-  where
-    go : (spoken : Bool) (n : ℕ) → spoken ≡ false → 0 < n → (not spoken && nat_lt 0 n) ≡ false → ⊥
-    go true n u long e = cc
-    go false n u long e = grind (arith, nat_tests)
+owing : (sent n : ℕ) → sent ≡ 0 → 0 < n → nat_lt sent n ≡ false → ⊥
+owing sent n none long e = grind (arith, nat_tests)
 
 -- ---- a stream to which nothing has happened
-unheard_closed : (config : Config) (side : Side) → is_some (agreed_of (begun side config)) ≡ false
-unfolding agreed_of
-unheard_closed config sides.Initiator = rw (progress_of-short sides.Initiator [] (omega (arith, least_end sides.Initiator []))) refl
-unheard_closed config (sides.Responder None) = refl
-unheard_closed config (sides.Responder (Some reply)) = rw (progress_of-short (sides.Responder (Some reply)) [] (omega (arith, least_end (sides.Responder (Some reply)) []))) (closed reply)
-  where
-    closed : (reply : Reply) → is_some (if has_agreed (sides.Responder (Some reply)) progress.More then Some (agreement config []) else None) ≡ false
-    closed (Accept private) = refl
-    closed (Reject private) = refl
-
-abbrev pub fresh : ℕ → Option StartupState → Layout → Layout → Queue → Numbers → Receiving → Arrived → StreamState
-fresh domain startup sending expecting queue numbers receiving arrived = record {
+abbrev pub fresh : ℕ → StartState → Queue → Numbers → Receiving → Arrived → StreamState
+fresh domain start queue numbers receiving arrived = record {
   domain = domain;
-  startup = startup;
-  spoken = false;
-  heard = false;
-  passed = false;
-  sending = sending;
-  expecting = expecting;
+  start = start;
   mulpdu = 1400;
   queue = queue;
   numbers = numbers;
   sent = 0;
   receiving = receiving;
   arrived = arrived;
-  placed = false;
+  front = None;
   ended = false;
 }
 
-started_fresh : (role : Role) (config : Config) (domain : ℕ) (sending expecting : Layout) (queue : Queue) (numbers : Numbers) (receiving : Receiving) → IsStarted (fresh domain (startup_at_first role config) sending expecting queue numbers receiving nothing)
-started_fresh Preset config domain sending expecting queue numbers receiving = record {
-  unheard = λ e. cc;
-  unopened = λ e. cc;
-  unspoken = λ e f. cc;
-  spoken = λ e. cc;
-  behind_in = omega arith;
-  behind_out = λ e. omega arith;
-}
-started_fresh Initiator config domain sending expecting queue numbers receiving = record {
-  unheard = λ e. (refl, unheard_closed config sides.Initiator);
-  unopened = λ e. (refl, refl);
-  unspoken = λ e f. refl;
-  spoken = λ e. cc;
-  behind_in = omega arith;
-  behind_out = λ e. absurd (owed (fresh domain (startup_at_first Initiator config) sending expecting queue numbers receiving nothing) refl (request_long (flags config.markers config.crc false) config.private.items) e);
-}
-started_fresh Responder config domain sending expecting queue numbers receiving = record {
-  unheard = λ e. (refl, unheard_closed config (sides.Responder None));
-  unopened = λ e. (refl, refl);
-  unspoken = λ e f. refl;
-  spoken = λ e. cc;
-  behind_in = omega arith;
-  behind_out = λ e. omega arith;
-}
+none_read : (role : Role) (config : Config) → first_place_in (start_at_first role config) ≡ 0
+none_read Preset config = refl
+none_read Initiator config = refl
+none_read Responder config = refl
 
-keeps_nothing : (role : Role) (config : Config) (domain : ℕ) (sending expecting : Layout) (queue : Queue) (numbers : Numbers) (receiving : Receiving) → Keeps (fresh domain (startup_at_first role config) sending expecting queue numbers receiving nothing)
-keeps_nothing role config domain sending expecting queue numbers receiving = record {
-  started = started_fresh role config domain sending expecting queue numbers receiving;
-  between = subst (IsBetween expecting.markers) (let start : 0 ≡ 0 - first_place_in (fresh domain (startup_at_first role config) sending expecting queue numbers receiving nothing) = omega arith in start) (frames_follow.first expecting.markers);
-  held = held_nothing;
-  aligned = λ e. ap (λ n. n % 4) (let start : 0 - first_place_out (fresh domain (startup_at_first role config) sending expecting queue numbers receiving nothing) ≡ 0 = omega arith in start);
-  enough = omega arith;
-  few = omega arith;
-  is_placed = λ e. cc;
-}
-
-pub keeps_fresh : (role : Role) (config : Config) (domain : ℕ) (startup : Option StartupState) (sending expecting : Layout) (queue : Queue) (numbers : Numbers) (receiving : Receiving) (arrived : Arrived)
-    → startup ≡ startup_at_first role config → arrived ≡ nothing → Keeps (fresh domain startup sending expecting queue numbers receiving arrived)
-keeps_fresh role config domain startup sending expecting queue numbers receiving arrived first none =
-    subst (λ o. Keeps (fresh domain o sending expecting queue numbers receiving arrived)) (sym first)
-    (subst (λ a. Keeps (fresh domain (startup_at_first role config) sending expecting queue numbers receiving a)) (sym none) (keeps_nothing role config domain sending expecting queue numbers receiving))
-
--- ---- the start-up frame is emitted
-pub keeps_spoken : (s : StreamState) (n : ℕ) → owes_frame s ≡ true → n ≡ length (own_frame s) → Keeps s → Keeps (record s { spoken = true; sent = s.sent + n })
-keeps_spoken s n owes is k =
-    let due = owes_some s owes in
-    let start : s.sent ≡ 0 = k.started.unspoken (own_some s due.1) due.0 in record {
+keeps_nothing : (role : Role) (config : Config) (domain : ℕ) (queue : Queue) (numbers : Numbers) (receiving : Receiving) → Keeps (fresh domain (start_at_first role config) queue numbers receiving nothing)
+keeps_nothing role config domain queue numbers receiving =
+    let start = start_at_first role config in record {
       started = record {
-        unheard = k.started.unheard;
-        unopened = k.started.unopened;
-        unspoken = λ some e. absurd (true≢false e);
-        spoken = λ e. due.1;
-        behind_in = k.started.behind_in;
-        behind_out = λ e. omega (arith, start, is);
+        unopened = λ e. (sym (none_read role config), refl);
+        unsent = λ e. refl;
+        alone = λ e f. not_owing (first_place_out start) f;
+        behind = omega (arith, none_read role config);
       };
-      between = k.between;
-      held = k.held;
-      aligned = λ e. omega (arith, start, is);
-      enough = k.enough;
-      few = k.few;
-      is_placed = k.is_placed;
+      between = subst (IsBetween (expecting start).markers) (let at : 0 ≡ 0 - first_place_in start = omega arith in at) (frames_follow.first (expecting start).markers);
+      held = held_nothing;
+      aligned = λ e. ap (λ n. n % 4) (let at : 0 - first_place_out start ≡ 0 = omega arith in at);
+      enough = omega arith;
+      few = omega arith;
+      is_placed = tt;
     }
 
--- ---- a part is emitted
-open_speaks : (s : StreamState) → is_open s ≡ true → is_some s.startup ≡ true → s.spoken ≡ false → owes_frame s ≡ false → ⊥
-open_speaks s running some unspoken owes = go s.startup refl
-  where
-    go : (o : Option StartupState) → s.startup ≡ o → ⊥
-    go None e = true≢false (sym some ∙ ap is_some e)
-    go (Some u) e = silent (length (frame_of u)) refl
-      where
-        own : own_frame s ≡ frame_of u
-        own = ap (λ o. option_map_or frame_of o []) e
-
-        agreed : is_open s ≡ is_some (agreed_of u)
-        agreed = ap (λ o. option_map_or (λ v. is_some (agreed_of v)) o true) e
-
-        silent : (n : ℕ) → length (frame_of u) ≡ n → ⊥
-        silent zero none = true≢false (sym running ∙ agreed ∙ silent_closed u.config u.side u.octets none)
-        silent (suc n) long = owed s unspoken (omega (arith, ap length own, long)) owes
-
-pub keeps_part : (s : StreamState) (queue : Queue) (numbers : Numbers) (n : ℕ) → is_open s ≡ true → owes_frame s ≡ false → (s.sent - first_place_out s + n) % 4 ≡ 0 → Keeps s
-    → Keeps (record s { queue = queue; numbers = numbers; sent = s.sent + n })
-keeps_part s queue numbers n running owes aligned k = record {
-  started = record {
-    unheard = k.started.unheard;
-    unopened = k.started.unopened;
-    unspoken = λ some e. absurd (open_speaks s running some e owes);
-    spoken = k.started.spoken;
-    behind_in = k.started.behind_in;
-    behind_out = λ e. omega (arith, k.started.behind_out owes);
-  };
-  between = k.between;
-  held = k.held;
-  aligned = λ e. ap (λ m. m % 4) (let same : s.sent + n - first_place_out s ≡ s.sent - first_place_out s + n = omega (arith, k.started.behind_out owes) in same) ∙ aligned;
-  enough = k.enough;
-  few = k.few;
-  is_placed = k.is_placed;
-}
+pub keeps_fresh : (role : Role) (config : Config) (domain : ℕ) (start : StartState) (queue : Queue) (numbers : Numbers) (receiving : Receiving) (arrived : Arrived)
+    → start ≡ start_at_first role config → arrived ≡ nothing → Keeps (fresh domain start queue numbers receiving arrived)
+keeps_fresh role config domain start queue numbers receiving arrived first none =
+    subst (λ o. Keeps (fresh domain o queue numbers receiving arrived)) (sym first)
+    (subst (λ a. Keeps (fresh domain (start_at_first role config) queue numbers receiving a)) (sym none) (keeps_nothing role config domain queue numbers receiving))
 
 -- ---- an answer
-pub keeps_answered : (s : StreamState) (u : StartupState) (reply : Reply) (sending expecting : Layout) (ended : Bool) → s.startup ≡ Some u → awaits_answer u ≡ true → Keeps s
-    → Keeps (record s { startup = Some (answered u reply); sending = sending; expecting = expecting; ended = ended })
-keeps_answered s u reply sending expecting ended is asked k =
+none_placed : (s t : StreamState) → s.front ≡ None → IfSome s.front (IsPlaced t)
+none_placed s t e = subst (λ o. IfSome o (IsPlaced t)) (sym e) tt
+
+answers : (s : StreamState) (u : StartupState) (reply : Reply) (ended : Bool) → s.start ≡ Heard u → awaits_answer u ≡ true → Keeps s → Keeps (record s { start = Heard (answered u reply); ended = ended })
+answers s u reply ended is asked k =
     let w : Waits u = waits u asked in
-    let closed : is_open s ≡ false = ap (λ o. option_map_or (λ v. is_some (agreed_of v)) o true) is ∙ w.closed in
+    let closed : is_open s.start ≡ false = ap is_open is ∙ w.closed in
     let rest = k.started.unopened closed in
-    let place : first_place_in s ≡ length u.octets = ap (λ o. option_map_or (λ v. length v.octets) o 0) is in
-    let some : is_some s.startup ≡ true = ap is_some is in
-    let heard : s.heard ≡ false → ⊥ = λ e.
-    let awaits : awaits_frame s ≡ true = (λ i. is_some (is i) && not (e i)) in
-    omega (arith, (k.started.unheard awaits).0, place, w.whole) in
-    let spoken : s.spoken ≡ true → ⊥ = λ e. omega (arith, k.started.spoken e, ap (λ o. length (option_map_or frame_of o [])) is, ap length w.mute) in
-    let unspoken : s.spoken ≡ false = is_false s.spoken spoken in
-    let owes : owes_frame (record s { startup = Some (answered u reply); sending = sending; expecting = expecting; ended = ended }) ≡ false → ⊥ = λ e.
-    owed (record s { startup = Some (answered u reply); sending = sending; expecting = expecting; ended = ended }) unspoken (answered_long u reply) e in
-    record {
+    let place : first_place_in s.start ≡ length u.octets = ap first_place_in is in
+    let mute : first_place_out s.start ≡ 0 = ap first_place_out is ∙ ap length w.mute in
+    let silent : owes_frame s ≡ false = (let n : first_place_out s.start ≡ 0 = mute in grind (arith, nat_tests)) in
+    let none : s.sent ≡ 0 = k.started.alone closed silent ∙ mute in record {
       started = record {
-        unheard = λ e. absurd (heard (not_heard s.heard e));
         unopened = λ e. (rest.0 ∙ place, rest.1);
-        unspoken = λ e f. k.started.unspoken some f;
-        spoken = λ e. absurd (spoken e);
-        behind_in = omega (arith, k.started.behind_in, place);
-        behind_out = λ e. absurd (owes e);
+        unsent = λ e. none;
+        alone = λ e f. absurd (owing s.sent (length (frame_of (answered u reply))) none (answered_long u reply) f);
+        behind = omega (arith, rest.0, place);
       };
-      between = subst (IsBetween expecting.markers) (let start : 0 ≡ s.arrived.floor - length u.octets = omega (arith, rest.0, place) in start) (frames_follow.first expecting.markers);
+      between = subst (IsBetween (expecting (Heard (answered u reply))).markers) (let at : 0 ≡ s.arrived.floor - length u.octets = omega (arith, rest.0, place) in at) (frames_follow.first (expecting (Heard (answered u reply))).markers);
       held = k.held;
-      aligned = λ e. absurd (owes e);
+      aligned = λ e. absurd (owing s.sent (length (frame_of (answered u reply))) none (answered_long u reply) e);
       enough = k.enough;
       few = k.few;
-      is_placed = λ e. absurd (true≢false (sym e ∙ rest.1));
+      is_placed = none_placed s (record s { start = Heard (answered u reply); ended = ended }) rest.1;
     }
-  where
-    is_false : (b : Bool) → (b ≡ true → ⊥) → b ≡ false
-    is_false true not_true = absurd (not_true refl)
-    is_false false not_true = refl
 
-    not_heard : (b : Bool) → (true && not b) ≡ true → b ≡ false
-    not_heard true e = cc
-    not_heard false e = refl
+pub keeps_answered : (s : StreamState) (reply : Reply) (ended : Bool) → starting.is_asked s.start ≡ true → Keeps s → Keeps (record s { start = answered_with s.start reply; ended = ended })
+keeps_answered s reply ended asked k = go s.start refl asked
+  where
+    go : (x : StartState) → s.start ≡ x → starting.is_asked x ≡ true → Keeps (record s { start = answered_with x reply; ended = ended })
+    go (AtOnce layout) is e = absurd (false≢true e)
+    go (Unheard u) is e = absurd (false≢true e)
+    go (Heard u) is e = answers s u reply ended is e k
 
 -- ---- the peer's frame is read
-no_octets : (xs : List ℕ) → length xs ≡ 0 → xs ≡ []
-no_octets [] e = refl
-no_octets (x ∷ xs) e = absurd (omega arith)
-
-pub fresh_octets : (s : StreamState) (u : StartupState) → s.startup ≡ Some u → awaits_frame s ≡ true → Keeps s → u.octets ≡ []
-fresh_octets s u is awaits k = no_octets u.octets (sym (ap (λ o. option_map_or (λ v. length v.octets) o 0) is) ∙ (k.started.unheard awaits).0)
-
-pub keeps_heard : (s : StreamState) (u : StartupState) (sending expecting : Layout) (ended : Bool) → s.startup ≡ Some u → awaits_frame s ≡ true → Keeps s
-    → Keeps (record s {
-      startup = Some (pushed u (in_order s.arrived));
-      heard = true;
-      sending = sending;
-      expecting = expecting;
-      arrived = advanced s.arrived (s.arrived.floor + length (frame_part u.side (in_order s.arrived)));
-      ended = ended;
-    })
-keeps_heard s u sending expecting ended is awaits k =
-    let fresh = fresh_octets s u is awaits k in
-    let rest = k.started.unopened (k.started.unheard awaits).1 in
-    let begin : s.arrived.floor ≡ 0 = rest.0 ∙ (k.started.unheard awaits).0 in
-    let floor : (advanced s.arrived (s.arrived.floor + length (frame_part u.side (in_order s.arrived)))).floor ≡ max s.arrived.floor (s.arrived.floor + length (frame_part u.side (in_order s.arrived)))
-    = floor_moves s.arrived (s.arrived.floor + length (frame_part u.side (in_order s.arrived))) in
-    let long : length (pushed u (in_order s.arrived)).octets ≡ length (frame_part u.side (in_order s.arrived)) = ap length (octets-pushed u (in_order s.arrived) fresh) in
-    let some : is_some s.startup ≡ true = ap is_some is in
-    let own : own_frame s ≡ frame_of (pushed u (in_order s.arrived)) = ap (λ o. option_map_or frame_of o []) is ∙ sym (frame_of-pushed u (in_order s.arrived)) in
-    let place : length (own_frame s) ≡ length (frame_of (pushed u (in_order s.arrived))) = ap length own in
-    let owes : owes_frame s ≡ (not s.spoken && nat_lt 0 (length (frame_of (pushed u (in_order s.arrived))))) = ap (λ m. not s.spoken && nat_lt 0 m) place in
+hears : (s : StreamState) (u : StartupState) (octets : List ℕ) (ended : Bool) → s.start ≡ Unheard u → Keeps s
+    → Keeps (record s { start = Heard (pushed u octets); arrived = advanced s.arrived (length (pushed u octets).octets); ended = ended })
+hears s u octets ended is k =
+    let closed : is_open s.start ≡ false = ap is_open is in
+    let rest = k.started.unopened closed in
+    let begin : s.arrived.floor ≡ 0 = rest.0 ∙ ap first_place_in is in
+    let n : ℕ = length (pushed u octets).octets in
+    let floor : (advanced s.arrived n).floor ≡ max s.arrived.floor n = floor_moves s.arrived n in
+    let own : first_place_out s.start ≡ length (frame_of (pushed u octets)) = ap first_place_out is ∙ ap length (sym (frame_of-pushed u octets)) in
     record {
       started = record {
-        unheard = λ e. cc;
-        unopened = λ e. (omega (arith, floor, long, begin), rest.1);
-        unspoken = λ e f. k.started.unspoken some f;
-        spoken = λ e. omega (arith, k.started.spoken e, place);
-        behind_in = omega (arith, floor, long, begin);
-        behind_out = λ e. omega (arith, k.started.behind_out (owes ∙ e), place);
+        unopened = λ e. (omega (arith, floor, begin), rest.1);
+        unsent = λ e. k.started.unsent (ap (nat_lt s.sent) own ∙ e);
+        alone = λ e f. k.started.alone closed (ap (nat_lt s.sent) own ∙ f) ∙ own;
+        behind = omega (arith, floor, begin);
       };
-      between = subst (IsBetween expecting.markers)
-          (let start : 0 ≡ (advanced s.arrived (s.arrived.floor + length (frame_part u.side (in_order s.arrived)))).floor - length (pushed u (in_order s.arrived)).octets = omega (arith, floor, long, begin) in start)
-          (frames_follow.first expecting.markers);
-      held = held_moves s.arrived (s.arrived.floor + length (frame_part u.side (in_order s.arrived))) k.held;
-      aligned = λ e. ap (λ m. (s.sent - m) % 4) (sym place) ∙ k.aligned (owes ∙ e);
+      between = subst (IsBetween (expecting (Heard (pushed u octets))).markers) (let at : 0 ≡ (advanced s.arrived n).floor - n = omega (arith, floor, begin) in at) (frames_follow.first (expecting (Heard (pushed u octets))).markers);
+      held = held_moves s.arrived n k.held;
+      aligned = λ e. ap (λ m. (s.sent - m) % 4) (sym own) ∙ k.aligned (ap (nat_lt s.sent) own ∙ e);
       enough = k.enough;
       few = k.few;
-      is_placed = λ e. absurd (true≢false (sym e ∙ rest.1));
+      is_placed = none_placed s (record s { start = Heard (pushed u octets); arrived = advanced s.arrived n; ended = ended }) rest.1;
     }
 
-pub keeps_heard_as : (s : StreamState) (u v : StartupState) (a : Arrived) (sending expecting : Layout) (ended : Bool) → s.startup ≡ Some u → awaits_frame s ≡ true
-    → v ≡ pushed u (in_order s.arrived) → a ≡ advanced s.arrived (s.arrived.floor + length (frame_part u.side (in_order s.arrived))) → Keeps s
-    → Keeps (record s { startup = Some v; heard = true; sending = sending; expecting = expecting; arrived = a; ended = ended })
-keeps_heard_as s u v a sending expecting ended is awaits pushes moves k =
-    subst (λ w. Keeps (record s { startup = Some w; heard = true; sending = sending; expecting = expecting; arrived = a; ended = ended })) (sym pushes)
-    (subst (λ b. Keeps (record s { startup = Some (pushed u (in_order s.arrived)); heard = true; sending = sending; expecting = expecting; arrived = b; ended = ended })) (sym moves)
-    (keeps_heard s u sending expecting ended is awaits k))
+pub keeps_heard : (s : StreamState) (octets : List ℕ) (start : StartState) (arrived : Arrived) (ended : Bool) → awaits_frame s.start ≡ true
+    → start ≡ heard s.start octets → arrived ≡ advanced s.arrived (first_place_in start) → Keeps s
+    → Keeps (record s { start = start; arrived = arrived; ended = ended })
+keeps_heard s octets start arrived ended awaits now moved k = go s.start refl awaits now
+  where
+    go : (x : StartState) → s.start ≡ x → awaits_frame x ≡ true → start ≡ heard x octets → Keeps (record s { start = start; arrived = arrived; ended = ended })
+    go (AtOnce layout) is e n = absurd (false≢true e)
+    go (Heard u) is e n = absurd (false≢true e)
+    go (Unheard u) is e n =
+        subst (λ a. Keeps (record s { start = start; arrived = a; ended = ended })) (sym moved)
+        (subst (λ x. Keeps (record s { start = x; arrived = advanced s.arrived (first_place_in x); ended = ended })) (sym n) (hears s u octets ended is k))
+
+-- ---- what is kept of a start-up
+pub fresh_octets : (frames : Option StartupState) (was : Bool) (layout : Layout) (u : StartupState) → frames ≡ Some u → awaits_frame (start_by frames was layout) ≡ true → IsFresh (start_by frames was layout) → u.octets ≡ []
+fresh_octets None was layout u is awaits f = absurd (false≢true awaits)
+fresh_octets (Some v) true layout u is awaits f = absurd (false≢true awaits)
+fresh_octets (Some v) false layout u is awaits f = let same : v ≡ u = cc in ap (λ (x : StartupState). x.octets) (sym same) ∙ f
+
+no_some : {A : Type 0} (o : Option A) → is_some o ≡ false → o ≡ None
+no_some None e = refl
+no_some (Some x) e = absurd (true≢false e)
+
+-- a Request that was rejected is not agreed on
+rejects : (u : StartupState) (private : ArrayVec ℕ) → agreed_of (answered u (Reject private)) ≡ None
+unfolding agreed_of
+rejects u private = refl
+
+pub start_rejected : (s : Inside) (u v : StartupState) (private : ArrayVec ℕ) → s.heard ≡ true → s.frames ≡ Some u → awaits_answer u ≡ true → v ≡ answered u (Reject private) → IsStart s → IsStart (record s { frames = Some v })
+start_rejected s u v private was is asked now k =
+    let before : start_of s ≡ Heard u = (λ i. start_by (is i) (was i) s.sending) in
+    let none : agreed_of u ≡ None = no_some (agreed_of u) (waits u asked).closed in
+    let after : start_of (record s { frames = Some v }) ≡ Heard (answered u (Reject private)) = (λ i. start_by (Some (now i)) (was i) s.sending) in
+    let gone : agreed_of (answered u (Reject private)) ≡ agreed_of u = rejects u private ∙ sym none in
+    record {
+      fresh = subst IsFresh (sym after) tt;
+      running_is = k.running_is ∙ ap is_open before ∙ ap is_some (sym gone) ∙ ap is_open (sym after);
+      sending_is = k.sending_is ∙ ap starting.sending before ∙ ap (λ o. option_map_or starting.layout_out o starting.plain) (sym gone) ∙ ap starting.sending (sym after);
+      expecting_is = k.expecting_is ∙ ap expecting before ∙ ap (λ o. option_map_or starting.layout_in o starting.plain) (sym gone) ∙ ap expecting (sym after);
+    }
+
+-- what an initiator learns is what was agreed on
+pub told : (start : StartState) (octets : List ℕ) → IsFresh start → starting.progress_in start octets ≡ progress.Agreed → agreed_in (heard start octets) ≡ Some (agreement_in (heard start octets))
+unfolding pushed
+told (AtOnce layout) octets f e = absurd (let no : ⊥ = cc in no)
+told (Heard u) octets f e = absurd (let no : ⊥ = cc in no)
+told (Unheard u) octets f e = agreed_of-pushed u octets f e ∙ ap (λ xs. Some (agreement u.config xs)) (sym (octets-pushed u octets f))
+
+pub heard_is : (frames : Option StartupState) (was : Bool) (layout : Layout) (u : StartupState) (octets : List ℕ) → frames ≡ Some u → awaits_frame (start_by frames was layout) ≡ true → heard (start_by frames was layout) octets ≡ Heard (pushed u octets)
+heard_is None was layout u octets is awaits = absurd (false≢true awaits)
+heard_is (Some v) true layout u octets is awaits = absurd (false≢true awaits)
+heard_is (Some v) false layout u octets is awaits = let same : v ≡ u = cc in ap (λ x. Heard (pushed x octets)) same
+
+-- so it is told of the start-up that is left
+pub told_of : (s : Inside) (start : StartState) (u v : StartupState) (octets : List ℕ) → start_of s ≡ start → s.frames ≡ Some u → awaits_frame start ≡ true → v ≡ pushed u octets → IsFresh (start_of s) → starting.progress_in start octets ≡ progress.Agreed
+    → agreed_of v ≡ Some (agreement v.config v.octets)
+told_of s start u v octets view is awaits now f e =
+    let new : Heard v ≡ heard (start_of s) octets = ap Heard now ∙ sym (heard_is s.frames s.heard s.sending u octets is (ap awaits_frame view ∙ awaits)) in
+    ap agreed_in new ∙ told (start_of s) octets f (ap (λ x. starting.progress_in x octets) view ∙ e) ∙ ap (λ x. Some (agreement_in x)) (sym new)

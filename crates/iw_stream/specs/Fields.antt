@@ -1,27 +1,35 @@
--- What the fields of a stream mean, and what they keep.
-use Rattle.iw_stream.specs.declared.stream.Stream.TheInside.{Inside}
+-- What the fields of a stream and of its start-up mean, and what they keep.
+use Rattle.std.specs.Prelude.{◌≡◌}
+use Rattle.iw_stream.specs.declared.starting.Start.TheInside as start
+use Rattle.iw_stream.specs.declared.stream.Stream.TheInside as stream
 use Rattle.iw_stream.specs.Emitting.{numbers_of}
-use Rattle.iw_stream.specs.Stream.{StreamState}
 use Rattle.iw_stream.specs.Kept.{Keeps}
+use Rattle.iw_stream.specs.Starting.{StartState, IsFresh, start_by, is_open, sending, expecting}
+use Rattle.iw_stream.specs.Stream.{StreamState}
 
-abbrev pub state_of : {A : Type 0} → Inside A → StreamState
+abbrev pub start_of : start.Inside → StartState
+start_of s = start_by s.frames s.heard s.sending
+
+-- what is asked for often is kept
+pub record IsStart (s : start.Inside) : Type 0 where
+  pub fresh : IsFresh (start_of s)
+  pub running_is : s.running ≡ is_open (start_of s)
+  pub sending_is : s.sending ≡ sending (start_of s)
+  pub expecting_is : s.expecting ≡ expecting (start_of s)
+
+abbrev pub state_of : {A : Type 0} → stream.Inside A → StreamState
 state_of {A} s = record {
   domain = s.domain;
-  startup = s.startup;
-  spoken = s.spoken;
-  heard = s.heard;
-  passed = s.passed;
-  sending = s.sending;
-  expecting = s.incoming.expecting;
+  start = s.start;
   mulpdu = s.mulpdu;
   queue = s.queue;
   numbers = numbers_of s.numbers;
   sent = s.sent;
   receiving = s.receiving;
-  arrived = s.incoming.arrived.arrived;
-  placed = s.placed;
+  arrived = s.arrived.arrived;
+  front = s.front;
   ended = s.ended;
 }
 
-abbrev pub IsSound : {A : Type 0} → Inside A → Type 0
+abbrev pub IsSound : {A : Type 0} → stream.Inside A → Type 0
 IsSound {A} s = Keeps (state_of s)

@@ -1,41 +1,74 @@
--- What a stream keeps of its fields.
-use Rattle.std.specs.Prelude.{◌≡◌, ℕ, ◌+◌, ◌<◌, ◌≤◌, ◌%◌, ◌-◌, true, false, List, length, Option, Some, None, is_some}
+-- What a stream keeps of its fields, and the limits that callers may rely on.
+use Rattle.std.specs.Prelude.{◌≡◌, ℕ, ◌+◌, ◌<◌, ◌≤◌, ◌%◌, ◌-◌, ◌^◌, true, false, List, length, Option, Some, None, IfSome}
 use Rattle.iw_octets.specs.declared.segment.Segment.{Segment}
 use Rattle.iw_octets.specs.declared.segment.Segment.TheVariants.{Tagged, Untagged}
+use Rattle.iw_ranges.specs.Arrived.{IsWithinLimits, has_come}
 use Rattle.iw_ranges.specs.InOrder.{IsHeld}
+use Rattle.iw_fpdu.specs.Frame.{frame_end}
 use Rattle.iw_fpdu.specs.Laws.{IsBetween}
-use Rattle.iw_untagged.specs.Receiving.{Receiving, ahead_of, buffer_of}
-use Rattle.iw_stream.specs.Stream.{StreamState, Front, front, segment_in, is_open, owes_frame, awaits_frame, first_place_in, first_place_out}
+use Rattle.iw_untagged.specs.Receiving.{Receiving, HoldsLimits, ahead_of, buffer_of}
+use Rattle.iw_queues.specs.Queue as queues
+use Rattle.iw_stream.specs.declared.answer.Step.{Step}
+use Rattle.iw_stream.specs.declared.answer.Step.TheVariants.{Done, Asked, Opened, Closed, Placed, Buffered, Passed, Received, Fault, Idle}
+use Rattle.iw_stream.specs.declared.judging.PlacedFrame.{PlacedFrame}
+use Rattle.iw_stream.specs.Frames.{head_in, payload_len}
+use Rattle.iw_stream.specs.Starting.{is_open, expecting, first_place_in, first_place_out}
+use Rattle.iw_stream.specs.Stream.{StreamState, owes_frame}
+use Rattle.iw_stream.specs.Work.{place_behind}
 
--- a Send's segment that was placed has its buffer, with room for it
-abbrev pub HasBuffer : Receiving → Option (Segment (List ℕ)) → Type 0
-HasBuffer r None = ⊥
-HasBuffer r (Some (Tagged head payload)) = Unit {0}
-HasBuffer r (Some (Untagged head payload)) = (ahead_of r.due head.msn < length r.buffers) × (head.mo + length payload ≤ length (buffer_of r head.msn))
+-- a Send's segment of n octets that was placed has its buffer, with room for it
+abbrev pub HasBuffer : Receiving → ℕ → Option (Segment (List ℕ)) → Type 0
+HasBuffer r n None = ⊥
+HasBuffer r n (Some (Tagged head payload)) = Unit {0}
+HasBuffer r n (Some (Untagged head payload)) = (ahead_of r.due head.msn < length r.buffers) × (head.mo + n ≤ length (buffer_of r head.msn))
 
--- a frame that was placed is whole, and a Send's has its buffer
-abbrev pub IsPlaced : Receiving → Front → Type 0
-IsPlaced r None = ⊥
-IsPlaced r (Some x) = HasBuffer r (segment_in x.0)
+-- the frame at the in-order point, which was placed: it came whole, and the next one begins where it ends
+pub record IsPlaced (s : StreamState) (frame : PlacedFrame) : Type 0 where
+  pub low : frame.start ≤ s.arrived.floor + 4
+  pub header : length frame.header.items ≤ frame.len
+  pub on : s.arrived.floor < place_behind s frame
+  pub near : place_behind s frame ≤ s.arrived.floor + 2 ^ 18
+  pub come : (p : ℕ) → p < place_behind s frame → has_come s.arrived p ≡ true
+  pub next : IsBetween (expecting s.start).markers (frame_end (expecting s.start).markers frame.start frame.len)
+  pub buffer : HasBuffer s.receiving (payload_len frame) (head_in frame)
 
 -- how far the start-up has come
 pub record IsStarted (s : StreamState) : Type 0 where
-  -- before the peer's frame was read nothing is counted as it, and the stream is not open
-  pub unheard : awaits_frame s ≡ true → (first_place_in s ≡ 0) × (is_open s ≡ false)
   -- before the stream is open no frame had its turn, or was placed
-  pub unopened : is_open s ≡ false → (s.arrived.floor ≡ first_place_in s) × (s.placed ≡ false)
-  -- this end's frame is the first that it emits
-  pub unspoken : is_some s.startup ≡ true → s.spoken ≡ false → s.sent ≡ 0
-  pub spoken : s.spoken ≡ true → 0 < first_place_out s
-  -- frames stand behind the start-up frames
-  pub behind_in : first_place_in s ≤ s.arrived.floor
-  pub behind_out : owes_frame s ≡ false → first_place_out s ≤ s.sent
+  pub unopened : is_open s.start ≡ false → (s.arrived.floor ≡ first_place_in s.start) × (s.front ≡ None)
+  -- this end's start-up frame is the first that it emits, and the only one before the stream is open
+  pub unsent : owes_frame s ≡ true → s.sent ≡ 0
+  pub alone : is_open s.start ≡ false → owes_frame s ≡ false → s.sent ≡ first_place_out s.start
+  -- the peer's frames stand behind its start-up frame
+  pub behind : first_place_in s.start ≤ s.arrived.floor
 
 pub record Keeps (s : StreamState) : Type 0 where
   pub started : IsStarted s
-  pub between : IsBetween s.expecting.markers (s.arrived.floor - first_place_in s)
+  pub between : IsBetween (expecting s.start).markers (s.arrived.floor - first_place_in s.start)
   pub held : IsHeld s.arrived
-  pub aligned : owes_frame s ≡ false → (s.sent - first_place_out s) % 4 ≡ 0
+  pub aligned : owes_frame s ≡ false → (s.sent - first_place_out s.start) % 4 ≡ 0
   pub enough : 128 ≤ s.mulpdu
   pub few : s.mulpdu ≤ 64512
-  pub is_placed : s.placed ≡ true → IsPlaced s.receiving (front s)
+  pub is_placed : IfSome s.front (IsPlaced s)
+
+-- at most 1,024 islands and 262,144 octets behind the in-order point, 256 messages of 16,777,216 octets, 256 receive buffers, a maximum ULPDU of
+-- 128 to 64,512 octets
+pub record IsWithin (s : StreamState) : Type 0 where
+  pub arrived : IsWithinLimits s.arrived
+  pub queue : queues.IsWithinLimits s.queue
+  pub receiving : HoldsLimits s.receiving
+  pub enough : 128 ≤ s.mulpdu
+  pub few : s.mulpdu ≤ 64512
+
+-- a message that is handed out lies in its buffer
+abbrev pub IsWithinBuffer : Step (List ℕ) → Type 0
+IsWithinBuffer (Received buffer len solicited invalidate) = len ≤ length buffer
+IsWithinBuffer (Done kind) = Unit {0}
+IsWithinBuffer Asked = Unit {0}
+IsWithinBuffer (Opened agreed) = Unit {0}
+IsWithinBuffer (Closed fault) = Unit {0}
+IsWithinBuffer (Placed right stag to len) = Unit {0}
+IsWithinBuffer (Buffered msn mo len) = Unit {0}
+IsWithinBuffer Passed = Unit {0}
+IsWithinBuffer (Fault fault) = Unit {0}
+IsWithinBuffer Idle = Unit {0}

@@ -1,8 +1,8 @@
-pub mod Stream
+pub mod Starting
+pub mod Frames
 pub mod Judging
+pub mod Stream
+pub mod Work
 pub mod Kept
 pub mod Emitting
-pub mod Front
-pub mod Landing
 pub mod Fields
-pub mod Starting

@@ -12,4 +12,5 @@ pub use answer::{Emission, PostRefusal, RecvRefusal, Role, SizeRefusal, Step};
 pub use iw_queues::Kind;
 pub use iw_ranges::Delivery;
 pub use iw_startup::{Agreed, Config, NotAsked, PrivateData, StartupFault};
+pub use judging::{Landing, PlacedFrame, Turning};
 pub use stream::Stream;

@@ -1,46 +1,49 @@
-//! The octets that came before the peer's start-up frame was read.
-ghost use Rattle.std.specs.Prelude.{◌≡◌, ◌+◌, ◌≤◌, ◌^◌, ◌++◌, [], length, IfOk, OnOk, OnErr};
-ghost use Rattle.iw_ranges.specs.Arrived.{in_order};
+ghost use Rattle.std.specs.Prelude.{◌≡◌, ◌+◌, ◌≤◌, ◌^◌, ◌++◌, [], length, true, is_ok, Some, IfOk, IfSome, OnOk, OnErr};
+ghost use Rattle.iw_ranges.specs.Arrived.{advanced, in_order};
 ghost use Rattle.iw_ranges.specs.InOrder.{IsHeld};
-ghost use Rattle.iw_startup.specs.Peer.{progress_of};
-ghost use Rattle.iw_stream.specs.Starting.{heard, startup_heard, arrived_heard, frame_in};
-ghost use Rattle.iw_stream.specs.Stream.{layout_at_first, startup_at_first, layout_in, layout_out};
+ghost use Rattle.iw_startup.specs.declared.side.Reply.TheVariants.{Accept, Reject};
+ghost use Rattle.iw_stream.specs.Starting.{layout_out, layout_in};
 
 use crate::answer::Role;
 use iw_fpdu::Layout;
 use iw_ranges::Islands;
-use iw_startup::{Agreed, Config, MAX_FRAME, Progress, Startup, StartupFault};
+use iw_startup::{Agreed, Config, MAX_FRAME, NotAsked, PrivateData, Progress, Startup};
 use std::alloc::{AllocError, Allocator};
+use std::marker::Model;
 
-/// The layout with which a stream begins, in both directions.
-pub(crate) fn first_layout(role: Role, config: &Config) -> Layout
-    ensures { result ≡ layout_at_first role config.now }
-{
-    match role {
-        Role::Preset => Layout {
-            markers: config.markers,
-            crc: config.crc,
-        },
-        Role::Initiator | Role::Responder => Layout {
-            markers: false,
-            crc: false,
-        },
-    }
+const PLAIN: Layout = Layout {
+    markers: false,
+    crc: false,
+};
+
+/// What the start-up of a stream has come to (RFC 5044 7.1).
+#[derive(Drop)]
+pub(crate) struct Start {
+    // Frames go both ways.
+    running: bool,
+    // How this end's frames are laid out, and the peer's: plain before both ends agree.
+    sending: Layout,
+    expecting: Layout,
+    // The peer's start-up frame was read.
+    heard: bool,
+    // The exchange of start-up frames, where the stream begins with one.
+    frames: Option<Startup>,
 }
 
-/// The start-up with which a stream begins, if it does.
-pub(crate) fn first_startup(role: Role, config: Config) -> Option<Startup>
-    ensures { result ≡ startup_at_first role config }
-{
-    match role {
-        Role::Preset => None,
-        Role::Initiator => Some(Startup::initiator(config)),
-        Role::Responder => Some(Startup::responder(config)),
-    }
+impl Model for Start {
+    ghost use Rattle.iw_stream.specs.Starting.{StartState};
+
+    ghost Value = { StartState };
+
+    ghost use Rattle.iw_stream.specs.Fields.{start_of, IsStart};
+
+    ghost view = { λ s. start_of s };
+
+    ghost invariant = { λ s. IsStart s };
 }
 
-/// The layout of the frames that this end sends.
-pub(crate) fn layout_out(agreed: Agreed) -> Layout
+// The layout of the frames that this end sends.
+fn layout_out(agreed: Agreed) -> Layout
     ensures { result ≡ layout_out agreed }
 {
     Layout {
@@ -49,8 +52,8 @@ pub(crate) fn layout_out(agreed: Agreed) -> Layout
     }
 }
 
-/// The layout of the frames that the peer sends.
-pub(crate) fn layout_in(agreed: Agreed) -> Layout
+// The layout of the frames that the peer sends.
+fn layout_in(agreed: Agreed) -> Layout
     ensures { result ≡ layout_in agreed }
 {
     Layout {
@@ -59,69 +62,227 @@ pub(crate) fn layout_in(agreed: Agreed) -> Layout
     }
 }
 
-/// Appends this end's start-up frame, and tells its length. An `Err` leaves `out` as it was.
-pub(crate) fn append_frame<A: Allocator>(
-    startup: &Option<Startup>,
-    out: &mut Vec<u8, A>,
-) -> Result<usize, AllocError>
-    ensures len { IfOk result (λ len. len ≡ length (frame_in startup.now)) }
-    ensures fits { IfOk result (λ len. len ≤ MAX_FRAME) }
-    ensures ok { OnOk result (out.new.items ≡ out.old.items ++ frame_in startup.now) }
-    ensures err { OnErr result (out.new.items ≡ out.old.items) }
-{
-    let Some(startup) = startup else {
-        return Ok(0);
-    };
-    let frame = startup.frame();
-    out.extend_from_slice(frame.as_slice())?;
-    Ok(frame.len())
+impl Start {
+    ghost use Rattle.iw_stream.specs.Starting.{Unheard, start_at_first, is_open, sending, expecting, own_frame, first_place_in, first_place_out, is_responder, awaits_frame, progress_in, heard, private_in, agreed_in, agreement_in, is_asked, answered_with};
+
+    /// Open at once, with the markers and CRCs that `config` asks for in both directions, or with start-up frames, which
+    /// agree on them.
+    pub(crate) fn new(role: Role, config: Config) -> Start
+        ensures { result ≡ start_at_first role config }
+    {
+        match role {
+            Role::Preset => {
+                let layout = Layout {
+                    markers: config.markers,
+                    crc: config.crc,
+                };
+                Start {
+                    running: true,
+                    sending: layout,
+                    expecting: layout,
+                    heard: false,
+                    frames: None,
+                }
+            }
+            Role::Initiator => Start::with_frames(Startup::initiator(config)),
+            Role::Responder => Start::with_frames(Startup::responder(config)),
+        }
+    }
+
+    // With start-up frames, none of which was read.
+    fn with_frames(startup: Startup) -> Start
+        requires { startup.octets ≡ [] }
+        ensures { result ≡ Unheard startup }
+    {
+        Start {
+            running: false,
+            sending: PLAIN,
+            expecting: PLAIN,
+            heard: false,
+            frames: Some(startup),
+        }
+    }
+
+    /// Frames go both ways: at once, or once both ends agree.
+    #[inline(always)]
+    pub(crate) fn is_open(&self) -> bool
+        ensures { result ≡ is_open self.now }
+    {
+        self.running
+    }
+
+    /// The layout of the frames that this end sends.
+    #[inline(always)]
+    pub(crate) fn sending(&self) -> Layout
+        ensures { result ≡ sending self.now }
+    {
+        self.sending
+    }
+
+    /// The layout of the frames that the peer sends.
+    #[inline(always)]
+    pub(crate) fn expecting(&self) -> Layout
+        ensures { result ≡ expecting self.now }
+    {
+        self.expecting
+    }
+
+    /// How many octets this end's start-up frame has: its frames begin behind it.
+    pub(crate) fn first_place_out(&self) -> u64
+        ensures place { result ≡ first_place_out self.now }
+        ensures fits { result ≤ MAX_FRAME }
+    {
+        match &self.frames {
+            None => 0,
+            Some(startup) => startup.frame_len() as u64,
+        }
+    }
+
+    /// How many octets of the peer's start-up frame were read: the peer's frames begin behind it.
+    pub(crate) fn first_place_in(&self) -> u64
+        ensures place { result ≡ first_place_in self.now }
+        ensures fits { result ≤ MAX_FRAME }
+    {
+        match &self.frames {
+            None => 0,
+            Some(startup) => startup.taken() as u64,
+        }
+    }
+
+    /// The peer's start-up frame is awaited.
+    #[inline(always)]
+    pub(crate) fn awaits_frame(&self) -> bool
+        ensures { result ≡ awaits_frame self.now }
+    {
+        self.frames.is_some() && !self.heard
+    }
+
+    /// This end receives the Request.
+    pub(crate) fn is_responder(&self) -> bool
+        ensures { result ≡ is_responder self.now }
+    {
+        match &self.frames {
+            None => false,
+            Some(startup) => startup.is_responder(),
+        }
+    }
+
+    /// The private data of the peer's start-up frame, once that was read.
+    pub(crate) fn private(&self) -> &[u8]
+        ensures { result.now ≡ private_in self.now }
+    {
+        match &self.frames {
+            Some(startup) if self.heard => startup.private(),
+            _ => &[],
+        }
+    }
+
+    /// Appends this end's start-up frame, and tells its length. An `Err` leaves `out` as it was.
+    pub(crate) fn append_frame<A: Allocator>(
+        &self,
+        out: &mut Vec<u8, A>,
+    ) -> Result<usize, AllocError>
+        ensures len { IfOk result (λ len. len ≡ first_place_out self.now) }
+        ensures fits { IfOk result (λ len. len ≤ MAX_FRAME) }
+        ensures ok { OnOk result (out.new.items ≡ out.old.items ++ own_frame self.now) }
+        ensures err { OnErr result (out.new.items ≡ out.old.items) }
+    {
+        let Some(startup) = &self.frames else {
+            return Ok(0);
+        };
+        let frame = startup.frame();
+        out.extend_from_slice(frame.as_slice())?;
+        Ok(frame.len())
+    }
+
+    /// Accepts the peer's Request with this private data. An `Err` changes nothing, and comes where no Request waits for an
+    /// answer.
+    pub(crate) fn accept(&mut self, private: PrivateData) -> Result<Agreed, NotAsked>
+        ensures asked { is_ok result ≡ is_asked self.old }
+        ensures agreed { IfOk result (λ agreed. agreed ≡ agreement_in self.old) }
+        ensures ok { OnOk result (self.new ≡ answered_with self.old (Accept private)) }
+        ensures err { OnErr result (self.new ≡ self.old) }
+    {
+        if !self.heard {
+            return Err(NotAsked);
+        }
+        let Some(startup) = &mut self.frames else {
+            return Err(NotAsked);
+        };
+        let agreed = startup.accept(private)?;
+        self.running = true;
+        self.sending = layout_out(agreed);
+        self.expecting = layout_in(agreed);
+        Ok(agreed)
+    }
+
+    /// Rejects the peer's Request with this private data. An `Err` changes nothing, and comes where no Request waits for an
+    /// answer.
+    pub(crate) fn reject(&mut self, private: PrivateData) -> Result<(), NotAsked>
+        ensures asked { is_ok result ≡ is_asked self.old }
+        ensures ok { OnOk result (self.new ≡ answered_with self.old (Reject private)) }
+        ensures err { OnErr result (self.new ≡ self.old) }
+    {
+        if !self.heard {
+            return Err(NotAsked);
+        }
+        let Some(startup) = &mut self.frames else {
+            return Err(NotAsked);
+        };
+        startup.reject(private)?;
+        Ok(())
+    }
+
+    /// What the peer's start-up frame comes to by these octets, as far as they go. It only looks.
+    pub(crate) fn progress(&self, octets: &[u8]) -> Progress
+        ensures { result ≡ progress_in self.now octets.now }
+    {
+        match &self.frames {
+            Some(startup) if !self.heard => startup.progress_of(octets),
+            _ => Progress::More,
+        }
+    }
+
+    /// Reads the peer's start-up frame, which is awaited, off the octets that came, and moves the in-order point behind it.
+    pub(crate) fn hear<A: Allocator>(&mut self, arrived: &mut Islands<A>)
+        requires awaits { awaits_frame self.old ≡ true }
+        requires held { IsHeld arrived.old.arrived }
+        requires begin { arrived.old.arrived.floor ≡ 0 }
+        ensures after { self.new ≡ heard self.old (in_order arrived.old.arrived) }
+        ensures arrived { arrived.new.arrived ≡ advanced arrived.old.arrived (first_place_in self.new) }
+        ensures few { first_place_in self.new ≤ 2 ^ 18 }
+        ensures agreed { progress_in self.old (in_order arrived.old.arrived) ≡ Progress.Agreed → agreed_in self.new ≡ Some (agreement_in self.new) }
+    {
+        let Some(startup) = &mut self.frames else {
+            return;
+        };
+        let (used, _) = startup.push(octets_in_order(arrived));
+        arrived.advance(used as u64);
+        self.heard = true;
+        if let Some(agreed) = startup.agreed() {
+            self.running = true;
+            self.sending = layout_out(agreed);
+            self.expecting = layout_in(agreed);
+        }
+    }
+
+    /// What both ends agree on, where they do and the stream began with start-up frames.
+    pub(crate) fn agreed(&self) -> Agreed
+        ensures { IfSome (agreed_in self.now) (λ agreed. result ≡ agreed) }
+    {
+        Agreed {
+            send_markers: self.sending.markers,
+            expect_markers: self.expecting.markers,
+            crc: self.expecting.crc,
+        }
+    }
 }
 
-/// What the peer's start-up frame comes to, as far as it has come.
-#[derive(Clone, Copy, Debug, PartialEq, Eq)]
-pub(crate) enum Heard {
-    /// It is not whole.
-    More,
-    /// It is a Request, which the user is to answer.
-    Asked,
-    /// It is a Reply that accepts.
-    Agreed(Agreed),
-    /// It ends the stream.
-    Faulted(StartupFault),
-}
-
-// The octets that came without a gap.
-fn octets_in_order<A: Allocator>(arrived: &Islands<A>) -> &[u8]
+/// The octets that came without a gap from the in-order point on.
+pub(crate) fn octets_in_order<A: Allocator>(arrived: &Islands<A>) -> &[u8]
     requires { IsHeld arrived.now.arrived }
-    ensures { result.now ≡ in_order arrived.now.arrived }
+    ensures octets { result.now ≡ in_order arrived.now.arrived }
+    ensures few { length result.now ≤ 2 ^ 18 }
 {
     arrived.part(arrived.floor(), arrived.missing())
-}
-
-/// Takes the peer's start-up frame off the octets that came, once it is whole or at fault.
-pub(crate) fn hear<A: Allocator>(startup: &mut Startup, arrived: &mut Islands<A>) -> Heard
-    requires fresh { startup.old.octets ≡ [] }
-    requires held { IsHeld arrived.old.arrived }
-    requires place { arrived.old.arrived.floor + 2 ^ 18 ≤ 2 ^ 63 }
-    ensures heard { result ≡ heard startup.old (in_order arrived.old.arrived) (progress_of startup.old.side (in_order arrived.old.arrived)) }
-    ensures startup { startup.new ≡ startup_heard startup.old (in_order arrived.old.arrived) result }
-    ensures arrived { arrived.new.arrived ≡ arrived_heard arrived.old.arrived startup.old result }
-{
-    let octets = octets_in_order(arrived);
-    let progress = startup.progress_of(octets);
-    if let Progress::More = progress {
-        return Heard::More;
-    }
-    let (used, _) = startup.push(octets);
-    let end = arrived.floor() + used as u64;
-    arrived.advance(end);
-    match progress {
-        Progress::More => unreachable!(),
-        Progress::Asked => Heard::Asked,
-        Progress::Faulted(fault) => Heard::Faulted(fault),
-        Progress::Agreed => match startup.agreed() {
-            Some(agreed) => Heard::Agreed(agreed),
-            None => unreachable!(),
-        },
-    }
 }

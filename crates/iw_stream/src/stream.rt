@@ -1,21 +1,22 @@
-ghost use Rattle.std.specs.Prelude.{◌≡◌, ◌+◌, ◌≤◌, ◌^◌, ◌++◌, length, true, false, is_ok, Some, None, IfSome, IfNone, IfOk, IfErr, IsErr, OnOk, OnErr};
+ghost use Rattle.std.specs.Prelude.{◌≡◌, ◌+◌, ◌≤◌, ◌^◌, ◌++◌, length, true, false, is_ok, is_some, Some, None, IfSome, IfNone, IfOk, IfErr, IsErr, IsSome, OnOk, OnErr};
+ghost use Rattle.std.specs.Option.{option_map_or};
 ghost use Rattle.std.specs.Result.{result_err};
+ghost use Rattle.iw_memory.specs.Table.{Table};
+ghost use Rattle.iw_ranges.specs.Arrived.{BringsOctets};
+ghost use Rattle.iw_stream.specs.Starting.{is_open, own_frame, first_place_in, first_place_out, awaits_frame, private_in, agreement_in};
 ghost use Rattle.iw_stream.specs.Stream.{post_refusal_of, recv_refusal_of};
 
 use crate::answer::{Emission, PostRefusal, RecvRefusal, Role, SizeRefusal, Step};
 use crate::emitting::{Numbers, write_part};
-use crate::incoming::Incoming;
-use crate::judging::{Landed, land_frame, turn_frame};
-use crate::starting::{
-    Heard, append_frame, first_layout, first_startup, hear, layout_in, layout_out,
-};
+use crate::incoming::frame_at;
+use crate::judging::{Landing, PlacedFrame, Turning, land_frame, placed_frame, turn_frame};
+use crate::starting::{Start, octets_in_order};
 use bytes::Bytes;
-use iw_fpdu::Layout;
 use iw_memory::{Memory, Right};
 use iw_octets::{Message, Octets};
 use iw_queues::{Refusal, Request, SendQueue};
 use iw_ranges::{Delivery, Islands};
-use iw_startup::{Agreed, Config, MAX_FRAME, NotAsked, PrivateData, Startup};
+use iw_startup::{Agreed, Config, NotAsked, PrivateData, Progress};
 use iw_tagged::Placed;
 use iw_untagged::{BufferRefusal, Received, RecvQueue};
 use std::alloc::{AllocError, Allocator, Global};
@@ -31,24 +32,18 @@ const MAX_MULPDU: u32 = 64_512;
 /// One stream of a domain: what was posted at it, and what came.
 #[derive(Drop)]
 pub struct Stream<A: Allocator = Global> {
-    domain: u8,
-    // What is agreed on by start-up frames, where the stream begins with them.
-    startup: Option<Startup>,
-    // This end's start-up frame was emitted.
-    spoken: bool,
-    // The peer's start-up frame was read.
-    heard: bool,
-    // A frame had its turn.
-    passed: bool,
-    sending: Layout,
-    mulpdu: usize,
-    queue: SendQueue<A>,
-    numbers: Numbers,
-    sent: u64,
-    receiving: RecvQueue<A>,
-    incoming: Incoming<A>,
-    placed: bool,
+    // What came from the peer, from the in-order point on.
+    arrived: Islands<A>,
+    // The frame at the in-order point, once it was placed.
+    front: Option<PlacedFrame>,
     ended: bool,
+    domain: u8,
+    mulpdu: usize,
+    sent: u64,
+    numbers: Numbers,
+    queue: SendQueue<A>,
+    receiving: RecvQueue<A>,
+    start: Start,
 }
 
 impl<A: Allocator> Model for Stream<A> {
@@ -83,8 +78,9 @@ fn recv_refusal_of(refusal: BufferRefusal) -> RecvRefusal
 }
 
 impl<A: Allocator> Stream<A> {
-    ghost use Rattle.iw_stream.specs.Stream.{opened, is_open, owes_frame, is_mute, first_place_in, first_place_out, own_frame, awaits_frame, keeps_silent, may_answer, accepted_agreed, accepted, rejected, private_of, post_refusal, with_message, recv_refusal, with_buffer, delivery_of, after_deliver, emission_of, emitted, after_emit, part_emission, part_emitted, after_part, worked, front, size_refusal, with_mulpdu};
-    ghost use Rattle.iw_stream.specs.Judging.{startup_step, work_step, judged_step, turned_step, table_worked};
+    ghost use Rattle.iw_stream.specs.Stream.{opened, owes_frame, is_mute, keeps_silent, may_answer, accepted, rejected, post_refusal, with_message, recv_refusal, with_buffer, delivery_of, after_deliver, part_due, StartUp, NextPart, NoneDue, octets_due, emission_due, left_due, emission_of, emitted, after_emit, size_refusal, with_mulpdu};
+    ghost use Rattle.iw_stream.specs.Work.{Hear, Judge, Turn, Rest, next_frame, step_of, left_by, table_left, work_step, worked, table_worked};
+    ghost use Rattle.iw_stream.specs.Kept.{IsWithin, IsWithinBuffer};
 
     /// A stream of this domain with a ULPDU size of 1,400 octets, which begins as its role says: open at once, with the
     /// markers and CRCs that `config` asks for in both directions, or with start-up frames, which agree on them.
@@ -97,90 +93,65 @@ impl<A: Allocator> Stream<A> {
     {
         let receiving = RecvQueue::new(alloc)?;
         let arrived = Islands::new(alloc)?;
-        let layout = first_layout(role, &config);
         Ok(Stream {
-            domain,
-            startup: first_startup(role, config),
-            spoken: false,
-            heard: false,
-            passed: false,
-            sending: layout,
-            mulpdu: FIRST_MULPDU,
-            queue: SendQueue::new(alloc),
-            numbers: Numbers::first(),
-            sent: 0,
-            receiving,
-            incoming: Incoming {
-                arrived,
-                expecting: layout,
-            },
-            placed: false,
+            arrived,
+            front: None,
             ended: false,
+            domain,
+            mulpdu: FIRST_MULPDU,
+            sent: 0,
+            numbers: Numbers::first(),
+            queue: SendQueue::new(alloc),
+            receiving,
+            start: Start::new(role, config),
         })
     }
 
-    // Frames go both ways: at once, or once both ends agree.
-    fn is_open(&self) -> bool
-        ensures { result ≡ is_open self.now }
+    /// The limits that a stream keeps: at most 1,024 islands of octets that came, within 262,144 octets from the in-order
+    /// point on; at most 256 posted messages, of at most 16,777,216 octets each; at most 256 receive buffers; a maximum
+    /// ULPDU of 128 to 64,512 octets.
+    pub fn limits(&self)
+        ensures { IsWithin self.now }
     {
-        match &self.startup {
-            None => true,
-            Some(startup) => startup.agreed().is_some(),
-        }
+        let _ = self.arrived.floor();
+        let _ = self.queue.len();
+        self.receiving.limits();
     }
 
-    // How many octets this end's start-up frame has.
-    fn first_place_out(&self) -> usize
-        ensures place { result ≡ first_place_out self.now }
-        ensures fits { result ≤ MAX_FRAME }
+    /// How many octets were emitted: the place behind them in the stream.
+    pub fn sent(&self) -> u64
+        ensures { result ≡ self.now.sent }
     {
-        match &self.startup {
-            None => 0,
-            Some(startup) => startup.frame_len(),
-        }
+        self.sent
     }
 
-    // How many octets of the peer's start-up frame were read.
-    fn first_place_in(&self) -> usize
-        ensures place { result ≡ first_place_in self.now }
-        ensures fits { result ≤ MAX_FRAME }
-        ensures behind { result ≤ self.now.arrived.floor }
+    /// The place of the first octet that is not done with: the end of the last frame that had its turn, or of the peer's
+    /// start-up frame.
+    pub fn in_order_point(&self) -> u64
+        ensures { result ≡ self.now.arrived.floor }
     {
-        match &self.startup {
-            None => 0,
-            Some(startup) => startup.taken(),
-        }
+        self.arrived.floor()
     }
 
     // This end's start-up frame is to be emitted.
     fn owes_frame(&self) -> bool
         ensures { result ≡ owes_frame self.now }
     {
-        !self.spoken && self.first_place_out() > 0
-    }
-
-    // The peer's start-up frame is awaited.
-    fn awaits_frame(&self) -> bool
-        ensures { result ≡ awaits_frame self.now }
-    {
-        self.startup.is_some() && !self.heard
+        self.sent < self.start.first_place_out()
     }
 
     // A responder sends no frame before a frame of the peer had its turn (RFC 5044 7.1.2).
     fn keeps_silent(&self) -> bool
         ensures { result ≡ keeps_silent self.now }
     {
-        match &self.startup {
-            None => false,
-            Some(startup) => startup.is_responder() && !self.passed,
-        }
+        self.start.is_responder() && self.arrived.floor() == self.start.first_place_in()
     }
 
     // No frame may be sent.
     fn is_mute(&self) -> bool
         ensures { result ≡ is_mute self.now }
     {
-        self.ended || !self.is_open() || self.keeps_silent()
+        self.ended || !self.start.is_open() || self.keeps_silent()
     }
 
     /// Accepts the peer's Request; the Reply carries this private data. The stream is open from then on, and as a responder
@@ -189,20 +160,14 @@ impl<A: Allocator> Stream<A> {
     /// An `Err` changes nothing. It comes where no Request waits for an answer, and where the stream has ended.
     pub fn accept(&mut self, private: PrivateData) -> Result<Agreed, NotAsked>
         ensures asked { is_ok result ≡ may_answer self.old }
-        ensures agreed { IfOk result (λ agreed. agreed ≡ accepted_agreed self.old) }
+        ensures agreed { IfOk result (λ agreed. agreed ≡ agreement_in self.old.start) }
         ensures ok { OnOk result (self.new ≡ accepted self.old private) }
         ensures err { OnErr result (self.new ≡ self.old) }
     {
         if self.ended {
             return Err(NotAsked);
         }
-        let Some(startup) = &mut self.startup else {
-            return Err(NotAsked);
-        };
-        let agreed = startup.accept(private)?;
-        self.sending = layout_out(agreed);
-        self.incoming.expecting = layout_in(agreed);
-        Ok(agreed)
+        self.start.accept(private)
     }
 
     /// Rejects the peer's Request; the Reply carries this private data. The stream has ended, and the Reply is still emitted.
@@ -216,22 +181,16 @@ impl<A: Allocator> Stream<A> {
         if self.ended {
             return Err(NotAsked);
         }
-        let Some(startup) = &mut self.startup else {
-            return Err(NotAsked);
-        };
-        startup.reject(private)?;
+        self.start.reject(private)?;
         self.ended = true;
         Ok(())
     }
 
     /// The private data of the peer's start-up frame: empty before that was read, and where there is none.
     pub fn private(&self) -> &[u8]
-        ensures { result.now ≡ private_of self.now }
+        ensures { result.now ≡ private_in self.now.start }
     {
-        match &self.startup {
-            None => &[],
-            Some(startup) => startup.private(),
-        }
+        self.start.private()
     }
 
     /// Posts a message behind the others. An `Err` changes nothing, and has the message.
@@ -246,7 +205,7 @@ impl<A: Allocator> Stream<A> {
         ensures err { OnErr result (self.new ≡ self.old) }
         ensures ok { OnOk result (self.new ≡ with_message self.old message) }
     {
-        if self.ended || !self.is_open() {
+        if self.ended || !self.start.is_open() {
             return Err((PostRefusal::NotOpen, message));
         }
         match self.queue.post(Request::Message(message)) {
@@ -261,7 +220,7 @@ impl<A: Allocator> Stream<A> {
         // The refusal, where one applies, and otherwise want of memory alone.
         ensures refused { IfSome (recv_refusal self.old) (λ refusal. IfErr result (λ e. e.0 ≡ refusal) × IsErr result) }
         ensures memory { IfNone (recv_refusal self.old) (IfErr result (λ e. e.0 ≡ RecvRefusal.NoMemory)) }
-        ensures back { IfErr result (λ e. e.1.items ≡ buffer.items) }
+        ensures back { IfErr result (λ e. e.1 ≡ buffer) }
         ensures err { OnErr result (self.new ≡ self.old) }
         ensures ok { OnOk result (self.new ≡ with_buffer self.old buffer.items) }
     {
@@ -291,27 +250,29 @@ impl<A: Allocator> Stream<A> {
     /// Takes octets that came, the first of them at the stream place `from`.
     ///
     /// They are dropped whole where one of them lies 262,144 octets or more behind the in-order point, or where they would
-    /// make more than 1,024 islands; where the stream has ended, they are dropped too. An `Err` is want of memory, and
-    /// changes nothing.
+    /// make more than 1,024 islands; where the stream has ended, they are dropped too. An `Err` is want of memory, comes
+    /// only where they would be kept and one of them is new, and changes nothing.
     pub fn deliver(&mut self, from: u64, octets: &[u8]) -> Result<Delivery, AllocError>
         ensures delivery { IfOk result (λ delivery. delivery ≡ delivery_of self.old from (length octets.now)) }
         ensures after { IfOk result (λ delivery. self.new ≡ after_deliver self.old from octets.now delivery) }
         ensures err { OnErr result (self.new ≡ self.old) }
+        ensures memory { OnErr result ((self.old.ended ≡ false) × BringsOctets self.old.arrived from (length octets.now)) }
     {
         if self.ended {
             return Ok(Delivery::Dropped);
         }
-        self.incoming.arrived.add(from, octets)
+        self.arrived.add(from, octets)
     }
 
     /// Appends to `out` what is to be emitted next: this end's start-up frame, or else the frame of the part that is due, if
-    /// one is and frames may be sent. An `Err` is want of memory, and changes nothing.
+    /// one is and frames may be sent. An `Err` is want of memory, comes only where something is due, and changes nothing.
     pub fn emit(&mut self, out: &mut Vec<u8, A>) -> Result<Emission, AllocError>
         requires { self.old.sent ≤ 2 ^ 62 }
         ensures emission { IfOk result (λ emission. emission ≡ emission_of self.old) }
         ensures out { OnOk result (out.new.items ≡ out.old.items ++ emitted self.old) }
-        ensures after { IfOk result (λ emission. self.new ≡ after_emit self.old emission) }
+        ensures after { OnOk result (self.new ≡ after_emit self.old) }
         ensures err { OnErr result ((self.new ≡ self.old) × (out.new.items ≡ out.old.items)) }
+        ensures memory { emission_of self.old ≡ Emission.Nothing → is_ok result ≡ true }
     {
         if self.owes_frame() {
             return self.emit_startup(out);
@@ -326,14 +287,13 @@ impl<A: Allocator> Stream<A> {
     fn emit_startup(&mut self, out: &mut Vec<u8, A>) -> Result<Emission, AllocError>
         requires place { self.old.sent ≤ 2 ^ 62 }
         requires owed { owes_frame self.old ≡ true }
-        ensures emission { IfOk result (λ emission. emission ≡ Emission.Frame self.old.sent (length (own_frame self.old))) }
-        ensures out { OnOk result (out.new.items ≡ out.old.items ++ own_frame self.old) }
-        ensures after { OnOk result (self.new ≡ record self.old { spoken = true; sent = self.old.sent + length (own_frame self.old) }) }
+        ensures emission { IfOk result (λ emission. emission ≡ emission_due self.old StartUp) }
+        ensures out { OnOk result (out.new.items ≡ out.old.items ++ octets_due self.old StartUp) }
+        ensures after { OnOk result (self.new ≡ left_due self.old StartUp) }
         ensures err { OnErr result ((self.new ≡ self.old) × (out.new.items ≡ out.old.items)) }
     {
         let from = self.sent;
-        let len = append_frame(&self.startup, out)?;
-        self.spoken = true;
+        let len = self.start.append_frame(out)?;
         self.sent += len as u64;
         Ok(Emission::Frame { from, len })
     }
@@ -341,21 +301,22 @@ impl<A: Allocator> Stream<A> {
     // Appends the frame of the part that is due, if one is.
     fn emit_part(&mut self, out: &mut Vec<u8, A>) -> Result<Emission, AllocError>
         requires place { self.old.sent ≤ 2 ^ 62 }
-        requires open { is_open self.old ≡ true }
+        requires open { is_open self.old.start ≡ true }
         requires owed { owes_frame self.old ≡ false }
-        ensures emission { IfOk result (λ emission. emission ≡ part_emission self.old) }
-        ensures out { OnOk result (out.new.items ≡ out.old.items ++ part_emitted self.old) }
-        ensures after { IfOk result (λ emission. self.new ≡ after_part self.old emission) }
+        ensures emission { IfOk result (λ emission. emission ≡ emission_due self.old (option_map_or NextPart (part_due self.old) NoneDue)) }
+        ensures out { OnOk result (out.new.items ≡ out.old.items ++ octets_due self.old (option_map_or NextPart (part_due self.old) NoneDue)) }
+        ensures after { OnOk result (self.new ≡ left_due self.old (option_map_or NextPart (part_due self.old) NoneDue)) }
         ensures err { OnErr result ((self.new ≡ self.old) × (out.new.items ≡ out.old.items)) }
+        ensures memory { part_due self.old ≡ None → is_ok result ≡ true }
     {
-        let place = self.sent - self.first_place_out() as u64;
+        let place = self.sent - self.start.first_place_out();
         // Its contract has the queue's limits.
         let _ = self.queue.len();
         let Some(part) = self.queue.next_part(self.mulpdu) else {
             return Ok(Emission::Nothing);
         };
         let before = out.len();
-        write_part(self.sending, place, self.numbers, &part, out)?;
+        write_part(self.start.sending(), place, self.numbers, &part, out)?;
         let len = out.len() - before;
         let from = self.sent;
         self.numbers = self.numbers.behind(&part);
@@ -364,13 +325,16 @@ impl<A: Allocator> Stream<A> {
         Ok(Emission::Frame { from, len })
     }
 
-    /// Does one step: hands out a finished message, or reads the peer's start-up frame, or judges the frame at the in-order
-    /// point, or gives it its turn.
+    /// Does one step: hands out a finished message, or reads the peer's start-up frame, or gives the frame at the in-order
+    /// point, where it was placed, its turn, or judges and places it.
     pub fn work(&mut self, memory: &mut Memory<A>) -> Step<Octets<A>>
         requires { self.old.arrived.floor + 2 ^ 18 ≤ 2 ^ 63 }
         ensures step { result ≡ work_step memory.old self.old }
-        ensures after { self.new ≡ worked self.old result }
-        ensures memory { memory.new ≡ table_worked memory.old self.old result }
+        ensures after { self.new ≡ worked memory.old self.old }
+        ensures memory { memory.new ≡ table_worked memory.old self.old }
+        // The in-order point moves on by no more than may have come, and a message lies in its buffer.
+        ensures reach { self.new.arrived.floor ≤ self.old.arrived.floor + 2 ^ 18 }
+        ensures within { IsWithinBuffer result }
     {
         if let Some(done) = self.queue.next() {
             return Step::Done(done.kind);
@@ -378,13 +342,13 @@ impl<A: Allocator> Stream<A> {
         if self.ended {
             return Step::Idle;
         }
-        if self.awaits_frame() {
-            return self.start();
+        if self.start.awaits_frame() {
+            return self.hear();
         }
-        if !self.is_open() {
+        if !self.start.is_open() {
             return Step::Idle;
         }
-        if self.placed {
+        if self.front.is_some() {
             self.turn()
         } else {
             self.judge(memory)
@@ -392,29 +356,25 @@ impl<A: Allocator> Stream<A> {
     }
 
     // Reads the peer's start-up frame off the octets that came, once it is whole or at fault.
-    fn start(&mut self) -> Step<Octets<A>>
-        requires awaits { awaits_frame self.old ≡ true }
-        requires place { self.old.arrived.floor + 2 ^ 18 ≤ 2 ^ 63 }
-        ensures step { result ≡ startup_step self.old self.old.startup }
-        ensures after { self.new ≡ worked self.old result }
+    fn hear(&mut self) -> Step<Octets<A>>
+        requires { awaits_frame self.old.start ≡ true }
+        ensures step { (table : Table) → result ≡ step_of table self.old Hear }
+        ensures after { (table : Table) → self.new ≡ left_by table self.old Hear }
+        ensures reach { self.new.arrived.floor ≤ self.old.arrived.floor + 2 ^ 18 }
+        ensures within { IsWithinBuffer result }
     {
-        let Some(startup) = &mut self.startup else {
-            return Step::Idle;
-        };
-        match hear(startup, &mut self.incoming.arrived) {
-            Heard::More => Step::Idle,
-            Heard::Asked => {
-                self.heard = true;
+        match self.start.progress(octets_in_order(&self.arrived)) {
+            Progress::More => Step::Idle,
+            Progress::Asked => {
+                self.start.hear(&mut self.arrived);
                 Step::Asked
             }
-            Heard::Agreed(agreed) => {
-                self.heard = true;
-                self.sending = layout_out(agreed);
-                self.incoming.expecting = layout_in(agreed);
-                Step::Opened(agreed)
+            Progress::Agreed => {
+                self.start.hear(&mut self.arrived);
+                Step::Opened(self.start.agreed())
             }
-            Heard::Faulted(fault) => {
-                self.heard = true;
+            Progress::Faulted(fault) => {
+                self.start.hear(&mut self.arrived);
                 self.ended = true;
                 Step::Closed(fault)
             }
@@ -422,16 +382,20 @@ impl<A: Allocator> Stream<A> {
     }
 
     // Judges the frame at the in-order point, where it is whole.
+    #[inline(always)]
     fn judge(&mut self, memory: &mut Memory<A>) -> Step<Octets<A>>
-        requires open { is_open self.old ≡ true }
-        requires placed { self.old.placed ≡ false }
+        requires open { is_open self.old.start ≡ true }
         requires place { self.old.arrived.floor + 2 ^ 18 ≤ 2 ^ 63 }
-        ensures step { result ≡ judged_step memory.old self.old (front self.old) }
-        ensures after { self.new ≡ worked self.old result }
-        ensures memory { memory.new ≡ table_worked memory.old self.old result }
+        ensures step { result ≡ step_of memory.old self.old (option_map_or Judge (next_frame self.old) Rest) }
+        ensures after { self.new ≡ left_by memory.old self.old (option_map_or Judge (next_frame self.old) Rest) }
+        ensures memory { memory.new ≡ table_left memory.old self.old (option_map_or Judge (next_frame self.old) Rest) }
+        ensures stays { self.new.arrived ≡ self.old.arrived }
+        ensures within { IsWithinBuffer result }
     {
-        let base = self.first_place_in() as u64;
-        let Some(fpdu) = self.incoming.front(base) else {
+        let base = self.start.first_place_in();
+        let layout = self.start.expecting();
+        let start = layout.start_of(self.arrived.floor() - base);
+        let Some(fpdu) = frame_at(layout, &self.arrived, base, start) else {
             return Step::Idle;
         };
         match land_frame(&fpdu, self.domain, memory, &mut self.receiving) {
@@ -439,8 +403,8 @@ impl<A: Allocator> Stream<A> {
                 self.ended = true;
                 Step::Fault(fault)
             }
-            Ok(Landed::Tagged(Placed { stag, to, n })) => {
-                self.placed = true;
+            Ok(Landing::Write(Placed { stag, to, n })) => {
+                self.front = Some(placed_frame(&fpdu, start));
                 Step::Placed {
                     right: Right::Write,
                     stag,
@@ -448,45 +412,50 @@ impl<A: Allocator> Stream<A> {
                     len: n,
                 }
             }
-            Ok(Landed::Untagged { msn, mo, len }) => {
-                self.placed = true;
+            Ok(Landing::Send { msn, mo, len }) => {
+                self.front = Some(placed_frame(&fpdu, start));
                 Step::Buffered { msn, mo, len }
             }
         }
     }
 
     // Gives the frame at the in-order point, which was placed, its turn.
+    #[inline(always)]
     fn turn(&mut self) -> Step<Octets<A>>
-        requires open { is_open self.old ≡ true }
-        requires placed { self.old.placed ≡ true }
+        requires open { is_open self.old.start ≡ true }
+        requires placed { IsSome self.old.front }
         requires place { self.old.arrived.floor + 2 ^ 18 ≤ 2 ^ 63 }
-        ensures step { result ≡ turned_step self.old (front self.old) }
-        ensures after { self.new ≡ worked self.old result }
+        ensures step { (table : Table) → result ≡ step_of table self.old (option_map_or Turn self.old.front Rest) }
+        ensures after { (table : Table) → self.new ≡ left_by table self.old (option_map_or Turn self.old.front Rest) }
+        ensures reach { self.new.arrived.floor ≤ self.old.arrived.floor + 2 ^ 18 }
+        ensures within { IsWithinBuffer result }
     {
-        let base = self.first_place_in() as u64;
-        let Some(fpdu) = self.incoming.front(base) else {
+        let Some(frame) = &self.front else {
             return Step::Idle;
         };
-        let end = base + fpdu.end();
-        let complete = match turn_frame(&fpdu, &mut self.receiving) {
+        let end = self.start.expecting().end_of(frame.start, frame.len);
+        let place = self.start.first_place_in() + end;
+        match turn_frame(frame, &mut self.receiving) {
             Err(fault) => {
                 self.ended = true;
-                return Step::Fault(fault);
+                Step::Fault(fault)
             }
-            Ok(complete) => complete,
-        };
-        self.placed = false;
-        self.passed = true;
-        self.incoming.arrived.advance(end);
-        if !complete {
-            return Step::Passed;
-        }
-        let Received { buffer, len, .. } = self.receiving.finish();
-        Step::Received {
-            buffer,
-            len,
-            solicited: false,
-            invalidate: None,
+            Ok(Turning::Passed) => {
+                self.front = None;
+                self.arrived.advance(place);
+                Step::Passed
+            }
+            Ok(Turning::Completed) => {
+                self.front = None;
+                self.arrived.advance(place);
+                let Received { buffer, len, .. } = self.receiving.finish();
+                Step::Received {
+                    buffer,
+                    len,
+                    solicited: false,
+                    invalidate: None,
+                }
+            }
         }
     }
 }

@@ -1,14 +1,20 @@
-use Rattle.std.proofs.Common.{Some, sym, subst}
+use Rattle.std.proofs.Common.{◌≡◌, Bool, true, false, Ok, Err, sym, subst}
+use Rattle.std.specs.Prelude.{Result, OnOk, OnErr, is_ok}
+use Rattle.iw_startup.specs.declared.side.Reply.{Reply}
 use Rattle.iw_startup.specs.declared.side.Reply.TheVariants.{Accept}
 use Rattle.iw_stream.specs.Fields.{state_of}
 use Rattle.iw_stream.specs.Kept.{Keeps}
+use Rattle.iw_stream.specs.Starting.{StartState, is_asked, answered_with}
+use Rattle.iw_stream.specs.Stream.{StreamState}
 use Rattle.iw_stream.proofs.Opening.{keeps_answered}
 use Rattle.iw_stream.proofs.stream.Stream.accept.Goals as goal
 
-pub invariant_of-self-2 : goal.invariant_of-self-2
-invariant_of-self-2 g c =
-    let s = state_of c.self.inside in
-    let out = c.layout_out-self-inside.result in
-    let layout = c.layout_in-self-inside.result in
-    subst (λ v. Keeps (record s { startup = Some v; sending = out; expecting = layout; ended = s.ended })) (sym c.in_ok-agreed.ensures.ok)
-    (keeps_answered s c.in-Some.startup (Accept c.args.private) out layout s.ended c.in-Some.is (sym c.in_ok-agreed.ensures.refused) c.self.invariant)
+-- answered or not
+keeps : {D E : Type 0} (s : StreamState) (reply : Reply) (result : Result D E) (new : StartState) → is_ok result ≡ is_asked s.start → OnOk result (new ≡ answered_with s.start reply) → OnErr result (new ≡ s.start) → Keeps s
+    → Keeps (record s { start = new })
+keeps s reply (Err e) new asked ok err k = subst (λ x. Keeps (record s { start = x })) (sym err) k
+keeps s reply (Ok d) new asked ok err k = subst (λ x. Keeps (record s { start = x })) (sym ok) (keeps_answered s reply s.ended (sym asked) k)
+
+pub invariant_of-self : goal.invariant_of-self
+invariant_of-self g c =
+    keeps (state_of c.self.inside) (Accept c.args.private) c.accept.result c.accept.new.self c.accept.ensures.asked c.accept.ensures.ok c.accept.ensures.err c.self.invariant

@@ -5,9 +5,9 @@ use Rattle.iw_queues.specs.Segments.{segment_of}
 use Rattle.iw_queues.specs.Shown.{shown_part}
 use Rattle.iw_stream.specs.Emitting.{numbers_of}
 use Rattle.iw_stream.specs.Fields.{state_of}
-use Rattle.iw_stream.specs.Stream.{StreamState, is_open, owes_frame, first_place_out}
-use Rattle.iw_stream.proofs.Keeping.{aligned_behind}
-use Rattle.iw_stream.proofs.Opening.{keeps_part}
+use Rattle.iw_stream.specs.Starting.{is_open, first_place_out}
+use Rattle.iw_stream.specs.Stream.{StreamState, owes_frame}
+use Rattle.iw_stream.proofs.Keeping.{aligned_behind, keeps_part}
 use Rattle.iw_stream.proofs.stream.Stream.emit_part.Goals as goal
 
 pub invariant_of-self : goal.invariant_of-self
@@ -15,11 +15,11 @@ invariant_of-self g c =
     let s = c.self.inside in
     let first = c.first_place_out.result in
     let u = segment_octets (segment_of (numbers_of s.numbers) (shown_part c.in-Some.part)) in
-    let frame = frame_octets s.sending (s.sent - first) u in
-    let running : is_open (state_of c.self.inside) ≡ true = ap (λ (t : StreamState). is_open t) c.self.view_is ∙ c.requires.open in
+    let frame = frame_octets c.sending.result (s.sent - first) u in
+    let running : is_open (state_of c.self.inside).start ≡ true = ap (λ (t : StreamState). is_open t.start) c.self.view_is ∙ c.requires.open in
     let owes : owes_frame (state_of c.self.inside) ≡ false = ap (λ (t : StreamState). owes_frame t) c.self.view_is ∙ c.requires.owed in
-    let at : c.first_place_out.result ≡ first_place_out (state_of c.self.inside) = c.first_place_out.ensures.place ∙ sym (ap (λ (t : StreamState). first_place_out t) c.self.view_is) in
+    let at : c.first_place_out.result ≡ first_place_out (state_of c.self.inside).start = c.first_place_out.ensures.place in
     let long : length c.write_part.new.out.items ≡ length c.args.out.now.items + length frame = ap length c.in_ok-write_part.ensures.ok ∙ length-append c.args.out.now.items frame in
-    let all : s.sent - first_place_out (state_of c.self.inside) + (c.len-2.result - c.len-before.result) ≡ s.sent - first + length frame = omega (arith, long, c.len-2.ensures, c.len-before.ensures, at) in
+    let all : s.sent - first_place_out (state_of c.self.inside).start + (c.len-2.result - c.len-before.result) ≡ s.sent - first + length frame = omega (arith, long, c.len-2.ensures, c.len-before.ensures, at) in
     keeps_part (state_of s) c.part_sent.new.self (numbers_of c.behind-self-inside.result) (c.len-2.result - c.len-before.result) running owes
-    (ap (λ n. n % 4) all ∙ aligned_behind s.sending (s.sent - first) u (ap (λ n. (s.sent - n) % 4) at ∙ c.self.invariant.aligned owes)) c.self.invariant
+    (ap (λ n. n % 4) all ∙ aligned_behind c.sending.result (s.sent - first) u (ap (λ n. (s.sent - n) % 4) at ∙ c.self.invariant.aligned owes)) c.self.invariant

@@ -1,26 +1,45 @@
-use Rattle.std.proofs.Common.{◌≡◌, ◌+◌, true, ap, sym, ◌∙◌, arith}
-use Rattle.iw_ranges.proofs.InOrder.{all_come}
+use Rattle.std.proofs.Common.{◌≡◌, ◌+◌, true, ap, sym, ◌∙◌, subst, arith}
+use Rattle.std.specs.Prelude.{IfSome}
 use Rattle.iw_stream.specs.Fields.{state_of}
-use Rattle.iw_stream.specs.Stream.{StreamState, is_open, first_place_in}
-use Rattle.iw_stream.proofs.Keeping.{keeps_passed}
+use Rattle.iw_fpdu.specs.declared.layout.Layout.{Layout}
+use Rattle.iw_fpdu.specs.Frame.{frame_end}
+use Rattle.iw_stream.specs.Starting.{is_open, first_place_in}
+use Rattle.iw_stream.specs.Stream.{StreamState}
+use Rattle.iw_stream.specs.Work.{place_behind}
+use Rattle.iw_stream.specs.Kept.{IsPlaced}
+use Rattle.iw_stream.proofs.Keeping.{keeps_passed, reaches}
 use Rattle.iw_stream.proofs.stream.Stream.turn.Goals as goal
 
-pub advance-requires-clause-come : goal.advance-requires-clause-come
-advance-requires-clause-come g c =
-    all_come c.self.inside.incoming.arrived.arrived (c.first_place_in-base.result + c.end.result) (omega (arith, c.end.ensures, c.in-Some.ensures.first.within))
+pub invariant_of-self-in-Ok-Passed : goal.invariant_of-self-in-Ok-Passed
+invariant_of-self-in-Ok-Passed g c =
+    let running : is_open (state_of c.self.inside).start ≡ true = ap (λ (t : StreamState). is_open t.start) c.self.view_is ∙ c.requires.open in
+    let there : c.first_place_in.result + c.end_of-end.result ≡ place_behind (state_of c.self.inside) c.in-Some.frame =
+    (λ i. c.first_place_in.ensures.place i + c.end_of-end.ensures i)
+    ∙ ap (λ (l : Layout). first_place_in c.self.inside.start + frame_end l.markers c.in-Some.frame.start c.in-Some.frame.len) c.expecting.ensures in
+    keeps_passed (state_of c.self.inside) c.in-Some.frame (c.first_place_in.result + c.end_of-end.result) c.advance.new.self.arrived c.turn_frame.new.receiving running c.in-Some.is there c.advance.ensures.arrived c.self.invariant
 
-pub invariant_of-self-then-not-complete : goal.invariant_of-self-then-not-complete
-invariant_of-self-then-not-complete g c =
-    let s = state_of c.self.inside in
-    let base = c.first_place_in-base.result in
-    let running : is_open (state_of c.self.inside) ≡ true = ap (λ (t : StreamState). is_open t) c.self.view_is ∙ c.requires.open in
-    let at : c.first_place_in-base.result ≡ first_place_in (state_of c.self.inside) = c.first_place_in-base.ensures.place ∙ sym (ap (λ (t : StreamState). first_place_in t) c.self.view_is) in
-    keeps_passed s c.in-Some.fpdu base (base + c.end.result) c.advance.new.self.arrived c.turn_frame.new.receiving running at c.in-Some.ensures.first (ap (λ n. base + n) c.end.ensures) c.advance.ensures.arrived c.self.invariant
+pub invariant_of-self-in-Ok-Completed : goal.invariant_of-self-in-Ok-Completed
+invariant_of-self-in-Ok-Completed g c =
+    let running : is_open (state_of c.self.inside).start ≡ true = ap (λ (t : StreamState). is_open t.start) c.self.view_is ∙ c.requires.open in
+    let there : c.first_place_in.result + c.end_of-end.result ≡ place_behind (state_of c.self.inside) c.in-Some.frame =
+    (λ i. c.first_place_in.ensures.place i + c.end_of-end.ensures i)
+    ∙ ap (λ (l : Layout). first_place_in c.self.inside.start + frame_end l.markers c.in-Some.frame.start c.in-Some.frame.len) c.expecting.ensures in
+    keeps_passed (state_of c.self.inside) c.in-Some.frame (c.first_place_in.result + c.end_of-end.result) c.advance-in-Ok-Completed.new.self.arrived c.finish-buffer.new.self running c.in-Some.is there c.advance-in-Ok-Completed.ensures.arrived c.self.invariant
 
-pub invariant_of-self-2 : goal.invariant_of-self-2
-invariant_of-self-2 g c =
+pub returns-in-Ok-Passed-clause-reach : goal.returns-in-Ok-Passed-clause-reach
+returns-in-Ok-Passed-clause-reach g c =
     let s = state_of c.self.inside in
-    let base = c.first_place_in-base.result in
-    let running : is_open (state_of c.self.inside) ≡ true = ap (λ (t : StreamState). is_open t) c.self.view_is ∙ c.requires.open in
-    let at : c.first_place_in-base.result ≡ first_place_in (state_of c.self.inside) = c.first_place_in-base.ensures.place ∙ sym (ap (λ (t : StreamState). first_place_in t) c.self.view_is) in
-    keeps_passed s c.in-Some.fpdu base (base + c.end.result) c.advance.new.self.arrived c.finish-buffer.new.self running at c.in-Some.ensures.first (ap (λ n. base + n) c.end.ensures) c.advance.ensures.arrived c.self.invariant
+    let p : IsPlaced (state_of c.self.inside) c.in-Some.frame = subst (λ o. IfSome o (IsPlaced (state_of c.self.inside))) c.in-Some.is c.self.invariant.is_placed in
+    let there : c.first_place_in.result + c.end_of-end.result ≡ place_behind (state_of c.self.inside) c.in-Some.frame =
+    (λ i. c.first_place_in.ensures.place i + c.end_of-end.ensures i)
+    ∙ ap (λ (l : Layout). first_place_in c.self.inside.start + frame_end l.markers c.in-Some.frame.start c.in-Some.frame.len) c.expecting.ensures in
+    reaches s c.args.self.now c.advance.new.self.arrived (c.first_place_in.result + c.end_of-end.result) c.advance.ensures.arrived (omega (arith, there, p.near)) c.self.view_is
+
+pub returns-in-Ok-Completed-clause-reach : goal.returns-in-Ok-Completed-clause-reach
+returns-in-Ok-Completed-clause-reach g c =
+    let s = state_of c.self.inside in
+    let p : IsPlaced (state_of c.self.inside) c.in-Some.frame = subst (λ o. IfSome o (IsPlaced (state_of c.self.inside))) c.in-Some.is c.self.invariant.is_placed in
+    let there : c.first_place_in.result + c.end_of-end.result ≡ place_behind (state_of c.self.inside) c.in-Some.frame =
+    (λ i. c.first_place_in.ensures.place i + c.end_of-end.ensures i)
+    ∙ ap (λ (l : Layout). first_place_in c.self.inside.start + frame_end l.markers c.in-Some.frame.start c.in-Some.frame.len) c.expecting.ensures in
+    reaches s c.args.self.now c.advance-in-Ok-Completed.new.self.arrived (c.first_place_in.result + c.end_of-end.result) c.advance-in-Ok-Completed.ensures.arrived (omega (arith, there, p.near)) c.self.view_is

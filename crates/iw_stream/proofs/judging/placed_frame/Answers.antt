@@ -1,0 +1,11 @@
+use Rattle.std.proofs.Common.{sym, ap, ◌∙◌}
+use Rattle.arrayvec.specs.ArrayVec.{ArrayVec}
+use Rattle.iw_fpdu.specs.Found.{ulpdu}
+use Rattle.iw_stream.specs.declared.judging.PlacedFrame.{PlacedFrame}
+use Rattle.iw_stream.proofs.Landings.{length_ulpdu}
+use Rattle.iw_stream.proofs.judging.placed_frame.Goals as goal
+
+pub returns : goal.returns
+returns g c =
+    let len = c.len.ensures.len ∙ sym (length_ulpdu c.args.fpdu.now) in
+    (λ i. let f : PlacedFrame = record { start = c.requires.start i; len = len i; header = record { items = c.header_of.ensures i } } in f)

@@ -1,0 +1,28 @@
+use Rattle.std.proofs.Common.{sym, ap, ◌∙◌}
+use Rattle.std.specs.Option.{option_map_or}
+use Rattle.iw_stream.specs.Fields.{state_of}
+use Rattle.iw_stream.specs.Work.{Hear, Turn, Rest, step_of, left_by, work_step, worked}
+use Rattle.iw_stream.proofs.Tasks.{task_hears, task_turns}
+use Rattle.iw_stream.proofs.stream.Stream.work.Goals as goal
+
+pub returns-then-awaits_frame-clause-step : goal.returns-then-awaits_frame-clause-step
+returns-then-awaits_frame-clause-step g c =
+    let s = state_of c.self.inside in
+    let table = c.args.memory.now in
+    let hears = task_hears s (sym c.in_default.ensures.done) c.if-self.false (sym c.awaits_frame.ensures ∙ c.if-awaits_frame.true) in
+    c.hear.ensures.step table ∙ ap (step_of table s) (sym hears) ∙ ap (work_step table) c.self.view_is
+
+pub returns-then-awaits_frame-clause-after : goal.returns-then-awaits_frame-clause-after
+returns-then-awaits_frame-clause-after g c =
+    let s = state_of c.self.inside in
+    let table = c.args.memory.now in
+    let hears = task_hears s (sym c.in_default.ensures.done) c.if-self.false (sym c.awaits_frame.ensures ∙ c.if-awaits_frame.true) in
+    c.hear.ensures.after table ∙ ap (λ q. left_by table (record s { queue = q }) Hear) c.in_default.ensures.after ∙ ap (left_by table s) (sym hears) ∙ ap (worked table) c.self.view_is
+
+pub returns-then-is_some-clause-step : goal.returns-then-is_some-clause-step
+returns-then-is_some-clause-step g c =
+    let s = state_of c.self.inside in
+    let table = c.args.memory.now in
+    let turns =
+    task_turns s (sym c.in_default.ensures.done) c.if-self.false (sym c.awaits_frame.ensures ∙ c.if-awaits_frame.false) (sym c.is_open.ensures ∙ c.if-not-is_open.false) (sym c.is_some.ensures ∙ c.if-is_some.true) in
+    c.turn.ensures.step table ∙ ap (λ q. step_of table (record s { queue = q }) (option_map_or Turn s.front Rest)) c.in_default.ensures.after ∙ ap (step_of table s) (sym turns) ∙ ap (work_step table) c.self.view_is
