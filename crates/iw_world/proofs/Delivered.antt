@@ -1,6 +1,6 @@
 -- Where what came is what the other end sent: the segments that had their turn are the first of those that were sent.
 use Rattle.std.proofs.Common.{◌≡◌, ℕ, ◌+◌, ◌-◌, ◌≤◌, List, [], ◌∷◌, ◌++◌, length, map, Option, Some, None, Bool, true, false, refl, sym, ap, ◌∙◌, subst, arith, append_assoc}
-use Rattle.std.specs.Prelude.{All}
+use Rattle.std.specs.Prelude.{All, is_some}
 use Rattle.std.specs.Option.{option_map}
 use Rattle.std.proofs.lemmas.List.{map-append, length-map, append_cancel_left}
 use Rattle.std.proofs.lemmas.List.Elements.{All-cons}
@@ -24,12 +24,15 @@ use Rattle.iw_queues.specs.Segments.{first_numbers, AreSpelled}
 use Rattle.iw_queues.specs.Laws.{IsCovered}
 use Rattle.iw_queues.proofs.Cuts.{in_order as spelled_in_order, covered as spelled_covered}
 use Rattle.iw_queues.proofs.Sending.{sends_in_order}
-use Rattle.iw_stream.specs.Stream.{StreamState, Front, front, inbox, segment_in, segment_at}
+use Rattle.iw_stream.specs.Starting.{expecting}
+use Rattle.iw_stream.specs.Stream.{StreamState}
+use Rattle.iw_stream.specs.Work.{inbox}
 use Rattle.iw_world.specs.Words.{Octets, Sent}
 use Rattle.iw_world.specs.Words as words
 use Rattle.iw_world.specs.Rules.{Connected}
 use Rattle.iw_world.specs.Safe.{requests, CoversWrites}
 use Rattle.iw_world.proofs.Tales.{Tale}
+use Rattle.iw_world.proofs.Nexts.{Front, fore, segment_in, segment_at}
 use Rattle.iw_world.proofs.Tracks.{Track, front_is, split_is}
 use Rattle.iw_world.proofs.Joins.{whole, count_waiting, count-append}
 use Rattle.iw_world.proofs.Lists.{Each}
@@ -83,19 +86,19 @@ first_segments layout sent segments firsts frames later good framed are carried 
 pub delivered : (c : Connected) (t : Tale) (d : Connected) (u : Tale) (e : Emits c.stream t) (k : Track d.stream u) → IsHeard c t d u e.segments k → IsOf u.story.came t.sent → (later : List (Segment Octets)) × (e.segments ≡ k.segments ++ later)
 delivered c t d u e k (Bare bare) of = (e.segments, ap (λ z. z ++ e.segments) (sym (no_segments k.segments (sym k.carried ∙ ap (map segment_in) bare.frames))))
 delivered c t d u e k (Clear is) of =
-    let layout : Layout = d.stream.expecting in
+    let layout : Layout = expecting d.stream.start in
     let r = reaches d.stream u k t.sent of in
     let all : Octets = inbox d.stream ++ r.rest in
     first_segments layout (k.before ++ all) e.segments k.segments k.frames (frames_of layout (length k.before) all) e.good (append_cancel_left k.intro (k.before ++ all) (sequence layout 0 (map segment_octets e.segments)) (sym r.is ∙ is))
     (split_is d.stream u k all) k.carried
 
 -- the segment that waits for its turn is the next
-pub waiting : (c : Connected) (t : Tale) (d : Connected) (u : Tale) (e : Emits c.stream t) (k : Track d.stream u) → IsHeard c t d u e.segments k → IsOf u.story.came t.sent → d.stream.placed ≡ true
-    → (frame : Carried) (left : Octets) (segment : Segment Octets) → front d.stream ≡ Some (frame, left) → segment_in frame ≡ Some segment
+pub waiting : (c : Connected) (t : Tale) (d : Connected) (u : Tale) (e : Emits c.stream t) (k : Track d.stream u) → IsHeard c t d u e.segments k → IsOf u.story.came t.sent → is_some d.stream.front ≡ true
+    → (frame : Carried) (left : Octets) (segment : Segment Octets) → fore d.stream ≡ Some (frame, left) → segment_in frame ≡ Some segment
     → (later : List (Segment Octets)) × (e.segments ≡ (k.segments ++ segment ∷ []) ++ later)
 waiting c t d u e k (Bare bare) of placed frame left segment whole carries = absurd (true≢false (sym placed ∙ bare.placed))
 waiting c t d u e k (Clear is) of placed frame left segment whole carries =
-    let layout : Layout = d.stream.expecting in
+    let layout : Layout = expecting d.stream.start in
     let r = reaches d.stream u k t.sent of in
     let at : ℕ = length k.before in
     let all : Octets = inbox d.stream ++ r.rest in
@@ -163,9 +166,9 @@ most : (c : Connected) (t : Tale) (d : Connected) (u : Tale) (e : Emits c.stream
 most c t d u e k heard of cell =
     let bare : count_segments cell k.segments ≤ count_writes cell (requests t.posted) =
     (let x = delivered c t d u e k heard of in let g = goes_on c.stream t e k.segments x.0 x.1 in (spelled_covered first_numbers (requests t.posted) k.segments g.later g.spelled cell).most) in
-    omega (arith, k.joins.counted cell, go d.stream.placed refl (front d.stream) refl bare)
+    omega (arith, k.joins.counted cell, go (is_some d.stream.front) refl (fore d.stream) refl bare)
   where
-    shown : (placed : Bool) → d.stream.placed ≡ placed → (p : Option (Segment Octets)) (frame : Carried) (left : Octets) → front d.stream ≡ Some (frame, left) → segment_in frame ≡ p → count_segments cell k.segments ≤ count_writes cell (requests t.posted)
+    shown : (placed : Bool) → is_some d.stream.front ≡ placed → (p : Option (Segment Octets)) (frame : Carried) (left : Octets) → fore d.stream ≡ Some (frame, left) → segment_in frame ≡ p → count_segments cell k.segments ≤ count_writes cell (requests t.posted)
         → count_segments cell k.segments + count_waiting cell placed p ≤ count_writes cell (requests t.posted)
     shown false is p frame left whole carries bare = omega (arith, bare)
     shown true is None frame left whole carries bare = omega (arith, bare)
@@ -174,7 +177,7 @@ most c t d u e k heard of cell =
         let g = goes_on c.stream t e (k.segments ++ segment ∷ []) x.0 x.1 in
         omega (arith, (spelled_covered first_numbers (requests t.posted) (k.segments ++ segment ∷ []) g.later g.spelled cell).most, count-append cell k.segments (segment ∷ []))
 
-    go : (placed : Bool) → d.stream.placed ≡ placed → (f : Front) → front d.stream ≡ f → count_segments cell k.segments ≤ count_writes cell (requests t.posted)
+    go : (placed : Bool) → is_some d.stream.front ≡ placed → (f : Front) → fore d.stream ≡ f → count_segments cell k.segments ≤ count_writes cell (requests t.posted)
         → count_segments cell k.segments + count_waiting cell placed (segment_at f) ≤ count_writes cell (requests t.posted)
     go false is f whole bare = omega (arith, bare)
     go true is None whole bare = omega (arith, bare)

@@ -1,23 +1,28 @@
 -- What one more act does to the streams of an end, and to what its acts say of them.
-use Rattle.std.proofs.Common.{◌≡◌, ◌≢◌, ℕ, zero, suc, ◌+◌, ◌<◌, List, [], ◌∷◌, ◌++◌, length, Option, Some, None, Ok, Err, Bool, true, false, cond, eqb, refl, sym, ap, ◌∙◌, subst, arith, eqb-true}
-use Rattle.std.specs.Prelude.{slice_set, slice_index_or, unwrap_or, is_some, not, nat_le}
+use Rattle.std.proofs.Common.{◌≡◌, ◌≢◌, ℕ, zero, suc, ◌<◌, List, [], ◌∷◌, ◌++◌, length, Option, Some, None, Ok, Err, Bool, true, false, cond, eqb, refl, sym, ap, ◌∙◌, subst, arith, eqb-true}
+use Rattle.std.specs.Prelude.{slice_set, slice_index_or, unwrap_or, is_some, not, nat_le, Result}
 use Rattle.std.proofs.lemmas.Bool.Decides.{nat_tests}
 use Rattle.std.proofs.lemmas.List.{append-nil, get_or-set_same, get_or-set_other, length-set}
 use Rattle.std.proofs.lemmas.Bool.{eq-eqb, false≢true, true≢false}
-use Rattle.iw_memory.specs.Table.{is_added}
+use Rattle.iw_memory.specs.Table.{Table, is_added}
 use Rattle.iw_ranges.specs.declared.Delivery.TheVariants.{Kept, Dropped}
-use Rattle.std.specs.Option.{option_map_or}
-use Rattle.iw_startup.specs.State.{StartupState}
-use Rattle.iw_queues.specs.Queue.{part_sent}
-use Rattle.iw_queues.specs.Segments.{numbers_behind}
-use Rattle.iw_stream.specs.Stream.{StreamState, owes_frame, part_due, after_frame, after_hearing}
+use Rattle.iw_octets.specs.declared.fault.Fault.{Fault}
+use Rattle.iw_startup.specs.declared.progress.Progress.{Progress}
+use Rattle.iw_startup.specs.declared.progress.Progress.TheVariants as progresses
+use Rattle.iw_stream.specs.declared.judging.Landing.{Landing}
+use Rattle.iw_stream.specs.declared.judging.PlacedFrame.{PlacedFrame}
+use Rattle.iw_stream.specs.declared.judging.Turning.{Turning}
+use Rattle.iw_stream.specs.declared.judging.Turning.TheVariants as turning
+use Rattle.iw_stream.specs.Frames as placed
+use Rattle.iw_stream.specs.Judging.{verdict, turn_of}
+use Rattle.iw_stream.specs.Starting.{progress_in}
+use Rattle.iw_stream.specs.Stream.{StreamState, Due, StartUp, NextPart, NoneDue, due, left_due}
+use Rattle.iw_stream.specs.Work.{Task, HandOut, Hear, Turn, Judge, Rest, task, inbox, standing, after_hearing, after_turn, after_judging, left_by, worked}
 use Rattle.iw_events.specs.declared.act.OpenRefusal.TheVariants.{NumberTaken, BadNumber, NoDomain}
 use Rattle.iw_events.specs.declared.act.Act.{Act}
 use Rattle.iw_events.specs.declared.act.Act.TheVariants.{Domain, Register, Deregister, Invalidate, Store, Open, Stream}
 use Rattle.iw_events.specs.declared.act.StreamAct.{StreamAct}
 use Rattle.iw_events.specs.declared.act.StreamAct.TheVariants.{Recv, Post, Emit, Deliver, Raw, Mulpdu, Accept, Reject, Work}
-use Rattle.iw_events.specs.declared.act.Shown.TheVariants.{Frame, Nothing}
-use Rattle.iw_events.specs.declared.act.Seen.TheVariants as seen
 use Rattle.iw_world.specs.Words.{Octets, Opening, stream_acts, stream_acts_by, openings, openings_by, opening_in, was_opened, stream_numbers, domain_of, table_after, table_by}
 use Rattle.iw_world.specs.Rules.{opening_by, Connected, connected, unconnected, EndState, has_stream, stream_at, open_refusal, Rule, stream_after, connected_after, streams_after, end_after}
 use Rattle.iw_world.proofs.Tales.{table-push, stream_acts-push, openings-push}
@@ -60,46 +65,53 @@ opens s n pd e = go (has_stream s n) (nat_le stream_numbers n) refl refl (is_add
     go false false h z added e' = record { fresh = h; number = grind (arith, nat_tests) }
 
 -- a stream keeps its domain
-framed_domain : (s : StreamState) (n : ℕ) → (after_frame s n).domain ≡ s.domain
-framed_domain s n = go (owes_frame s)
+left_domain : (s : StreamState) (d : Due) → (left_due s d).domain ≡ s.domain
+left_domain s StartUp = refl
+left_domain s (NextPart part) = refl
+left_domain s NoneDue = refl
+
+worked_domain : (table : Table) (s : StreamState) → (worked table s).domain ≡ s.domain
+worked_domain table s = go (task s)
   where
-    go : (b : Bool)
-        → (cond b (record s { spoken = true; sent = s.sent + n }) (record s { queue = part_sent s.queue (part_due s); numbers = option_map_or (numbers_behind s.numbers) (part_due s) s.numbers; sent = s.sent + n })).domain
-        ≡ s.domain
-    go true = refl
-    go false = refl
+    hearing : (p : Progress) → (after_hearing s p).domain ≡ s.domain
+    hearing progresses.More = refl
+    hearing progresses.Asked = refl
+    hearing progresses.Agreed = refl
+    hearing (progresses.Faulted fault) = refl
 
-heard_domain : (s : StreamState) (u : Option StartupState) → (after_hearing s u).domain ≡ s.domain
-heard_domain s None = refl
-heard_domain s (Some u) = refl
+    turns : (frame : PlacedFrame) (r : Result Turning Fault) → (after_turn s frame r).domain ≡ s.domain
+    turns frame (Ok turning.Passed) = refl
+    turns frame (Ok turning.Completed) = refl
+    turns frame (Err fault) = refl
 
-pub same_domain : (s : StreamState) (act : StreamAct Octets) → (stream_after s act).domain ≡ s.domain
-same_domain s (Recv len None) = refl
-same_domain s (Recv len (Some refusal)) = refl
-same_domain s (Post m None) = refl
-same_domain s (Post m (Some refusal)) = refl
-same_domain s (Emit (Frame from octets)) = framed_domain s (length octets)
-same_domain s (Accept private (Ok agreed)) = refl
-same_domain s (Accept private (Err refusal)) = refl
-same_domain s (Reject private None) = refl
-same_domain s (Reject private (Some refusal)) = refl
-same_domain s (Work (seen.Asked private)) = heard_domain s s.startup
-same_domain s (Work (seen.Opened agreed private)) = heard_domain s s.startup
-same_domain s (Work (seen.Closed fault)) = heard_domain s s.startup
-same_domain s (Emit Nothing) = refl
-same_domain s (Deliver from octets Kept) = refl
-same_domain s (Raw from octets Kept) = refl
-same_domain s (Deliver from octets Dropped) = refl
-same_domain s (Raw from octets Dropped) = refl
-same_domain s (Mulpdu size None) = refl
-same_domain s (Mulpdu size (Some refusal)) = refl
-same_domain s (Work (seen.Done kind)) = refl
-same_domain s (Work (seen.Placed right stag to octets)) = refl
-same_domain s (Work (seen.Buffered msn mo len)) = refl
-same_domain s (Work seen.Passed) = refl
-same_domain s (Work (seen.Received octets solicited invalidate)) = refl
-same_domain s (Work (seen.Fault fault)) = refl
-same_domain s (Work seen.Idle) = refl
+    judges : (frame : placed.Frame) (r : Result Landing Fault) → (after_judging s frame r).domain ≡ s.domain
+    judges frame (Ok at) = refl
+    judges frame (Err fault) = refl
+
+    go : (t : Task) → (left_by table s t).domain ≡ s.domain
+    go (HandOut done) = refl
+    go Hear = hearing (progress_in s.start (inbox s))
+    go (Turn frame) = turns frame (turn_of (standing table s) frame)
+    go (Judge frame) = judges frame (verdict (standing table s) frame)
+    go Rest = refl
+
+pub same_domain : (table : Table) (s : StreamState) (act : StreamAct Octets) → (stream_after table s act).domain ≡ s.domain
+same_domain table s (Recv len None) = refl
+same_domain table s (Recv len (Some refusal)) = refl
+same_domain table s (Post m None) = refl
+same_domain table s (Post m (Some refusal)) = refl
+same_domain table s (Emit shown) = left_domain s (due s)
+same_domain table s (Accept private (Ok agreed)) = refl
+same_domain table s (Accept private (Err refusal)) = refl
+same_domain table s (Reject private None) = refl
+same_domain table s (Reject private (Some refusal)) = refl
+same_domain table s (Deliver from octets Kept) = refl
+same_domain table s (Raw from octets Kept) = refl
+same_domain table s (Deliver from octets Dropped) = refl
+same_domain table s (Raw from octets Dropped) = refl
+same_domain table s (Mulpdu size None) = refl
+same_domain table s (Mulpdu size (Some refusal)) = refl
+same_domain table s (Work step) = worked_domain table s
 
 -- ---- the stream of a number, behind an act
 
@@ -121,7 +133,7 @@ pub record KeepsNumber (s : EndState) (done : List (Act Octets)) (act : Act Octe
   pub domain : has_stream (end_after s act) n ≡ true → (stream_at (end_after s act) n).stream.domain ≡ domain_of n (done ++ act ∷ [])
   pub unused : has_stream (end_after s act) n ≡ false → stream_acts n (done ++ act ∷ []) ≡ []
 
-keeps_number : (s : EndState) (done : List (Act Octets)) (act : Act Octets) (n : ℕ) → EndSeen s done → slice_index_or (streams_after s.streams act) n None ≡ slice_index_or s.streams n None → openings_by n act ≡ []
+keeps_number : (s : EndState) (done : List (Act Octets)) (act : Act Octets) (n : ℕ) → EndSeen s done → slice_index_or (streams_after s.table s.streams act) n None ≡ slice_index_or s.streams n None → openings_by n act ≡ []
     → stream_acts_by n act ≡ [] → KeepsNumber s done act n
 keeps_number s done act n k same none silent =
     let opened_same : openings n (done ++ act ∷ []) ≡ openings n done = opens_same n done act none in
@@ -169,22 +181,22 @@ number_after s peer done (Open m pd role options private None) n k rule = go (eq
 number_after s peer done (Stream m act) n k rule = go (eqb m n) refl
   where
     go : (b : Bool) → eqb m n ≡ b → KeepsNumber s done (Stream m act) n
-    go false e = keeps_number s done (Stream m act) n k (at_other s m n (Some (connected_after (stream_at s m) act)) e) refl (silent_other m n act e)
+    go false e = keeps_number s done (Stream m act) n k (at_other s m n (Some (connected_after s.table (stream_at s m) act)) e) refl (silent_other m n act e)
     go true e =
         let same : m ≡ n = eqb-true m n e in
-        let c : Connected = connected_after (stream_at s m) act in
+        let c : Connected = connected_after s.table (stream_at s m) act in
         let here : slice_index_or (slice_set s.streams m (Some c)) n None ≡ Some c =
         subst (λ j. slice_index_or (slice_set s.streams m (Some c)) j None ≡ Some c) same (at_same s m c (number_there s m rule.0.0)) in
         let has : has_stream s n ≡ true = subst (λ j. has_stream s j ≡ true) same rule.0.0 in
         let opened_same : openings n (done ++ Stream m act ∷ []) ≡ openings n done = opens_same n done (Stream m act) refl in
         record {
           has = ap is_some here ∙ sym has ∙ k.opened n ∙ ap was_opened (sym opened_same);
-          domain = λ h. ap (λ z. (unwrap_or z unconnected).stream.domain) here ∙ same_domain (stream_at s m).stream act
+          domain = λ h. ap (λ z. (unwrap_or z unconnected).stream.domain) here ∙ same_domain s.table (stream_at s m).stream act
               ∙ ap (λ j. (stream_at s j).stream.domain) same ∙ k.domain n has ∙ ap (λ os. (opening_in os).domain) (sym opened_same);
           unused = λ h. absurd (true≢false (sym (ap is_some here) ∙ h));
         }
 
-numbers_after : (s : EndState) (act : Act Octets) → length (streams_after s.streams act) ≡ length s.streams
+numbers_after : (s : EndState) (act : Act Octets) → length (streams_after s.table s.streams act) ≡ length s.streams
 numbers_after s (Domain pd None) = refl
 numbers_after s (Domain pd (Some refusal)) = refl
 numbers_after s (Register pd base rights octets answer) = refl
@@ -193,7 +205,7 @@ numbers_after s (Invalidate stag refused) = refl
 numbers_after s (Store stag to octets refused) = refl
 numbers_after s (Open m pd role options private None) = length-set s.streams m (Some (connected (opening_by pd role options private)))
 numbers_after s (Open m pd role options private (Some refusal)) = refl
-numbers_after s (Stream m act) = length-set s.streams m (Some (connected_after (stream_at s m) act))
+numbers_after s (Stream m act) = length-set s.streams m (Some (connected_after s.table (stream_at s m) act))
 
 -- an act that the rules give keeps what the end has in common with what was done
 pub end_step : (s peer : EndState) (done : List (Act Octets)) (act : Act Octets) → EndSeen s done → Rule s peer act → EndSeen (end_after s act) (done ++ act ∷ [])

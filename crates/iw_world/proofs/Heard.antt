@@ -18,15 +18,18 @@ use Rattle.iw_startup.specs.declared.side.Reply.{Reply}
 use Rattle.iw_startup.specs.declared.side.Reply.TheVariants as replies
 use Rattle.iw_startup.specs.State.{StartupState, IsReached, own_frame, reply_frame, agreed_of, private_in, frame_of, is_answered}
 use Rattle.iw_startup.proofs.Ends.{least_end}
-use Rattle.iw_startup.proofs.Openings.{unanswered_not_agreed}
+use Rattle.iw_startup.proofs.Openings.{nothing_agreed, unanswered_not_agreed}
 use Rattle.iw_startup.proofs.Agreement.{IsAgreed, Asking, Accepting, is_agreed, HasRead, has_read, request_read, reply_read, rejection_read, Agree, both_agree}
 use Rattle.iw_stream.specs.declared.answer.Role.TheVariants.{Preset, Initiator, Responder}
-use Rattle.iw_stream.specs.Stream.{StreamState, inbox, plain, layout_in, layout_out, layout_at_first, is_open}
+use Rattle.iw_stream.specs.Starting.{StartState, AtOnce, Unheard, Heard, IsFresh, is_open, plain, layout_in, layout_out, sending, expecting}
+use Rattle.iw_stream.specs.Starting as starting
+use Rattle.iw_stream.specs.Stream.{StreamState}
+use Rattle.iw_stream.specs.Work.{inbox}
 use Rattle.iw_world.specs.Words.{Octets, Opening}
 use Rattle.iw_world.specs.Rules.{Connected}
 use Rattle.iw_world.specs.Safe.{Fits}
 use Rattle.iw_world.proofs.Tales.{Tale}
-use Rattle.iw_world.proofs.Tracks.{OnStartup, Track, IsBare}
+use Rattle.iw_world.proofs.Tracks.{OnStart, start_octets, Track, IsBare}
 use Rattle.iw_world.proofs.Owns.{Own, IsFramed, Unspoken, Spoken, IsStartOf, StartsAs, IsSmall, role_of}
 
 -- ---- what came, and what was sent
@@ -44,9 +47,25 @@ reaches s u k sent of =
       is = sym p.1 ∙ ap (λ z. z ++ p.0) k.came ∙ append_assoc k.intro (k.before ++ inbox s) p.0 ∙ ap (λ z. k.intro ++ z) (append_assoc k.before (inbox s) p.0);
     }
 
+-- a stream that begins with start-up frames, by their exchange
+pub record Exchanges (start : StartState) (u : StartupState) : Type 0 where
+  pub open_is : is_open start ≡ is_some (agreed_of u)
+  pub expects : expecting start ≡ option_map_or layout_in (agreed_of u) plain
+  pub sends : sending start ≡ option_map_or layout_out (agreed_of u) plain
+  pub octets : start_octets start ≡ u.octets
+  pub frame : starting.own_frame start ≡ frame_of u
+
+unheard_exchanges : (u : StartupState) → u.octets ≡ [] → Exchanges (Unheard u) u
+unheard_exchanges u fresh =
+    let none : agreed_of u ≡ None = nothing_agreed u fresh in
+    record { open_is = ap is_some (sym none); expects = ap (λ o. option_map_or layout_in o plain) (sym none); sends = ap (λ o. option_map_or layout_out o plain) (sym none); octets = sym fresh; frame = refl }
+
+heard_exchanges : (u : StartupState) → Exchanges (Heard u) u
+heard_exchanges u = record { open_is = refl; expects = refl; sends = refl; octets = refl; frame = refl }
+
 -- the start-up of an end
 pub record Starts (o : Opening) (s : StreamState) (u : StartupState) : Type 0 where
-  pub is : s.startup ≡ Some u
+  pub is : Exchanges s.start u
   pub begun : StartsAs o u
   pub reached : IsReached u
 
@@ -56,36 +75,38 @@ role_not_preset (sides.Responder reply) e = cc
 
 -- a stream that is not open at once has a start-up
 starts : (o : Opening) (c : Connected) (t : Tale) → Own o c t → (o.role ≡ Preset → ⊥) → (u : StartupState) × Starts o c.stream u
-starts o c t own other = go c.stream.startup refl own.starts own.track.begins.reached
+starts o c t own other = go c.stream.start refl own.starts own.track.begins.reached own.track.begins.fresh
   where
-    go : (z : Option StartupState) → c.stream.startup ≡ z → IsStartOf o z → OnStartup IsReached z → (u : StartupState) × Starts o c.stream u
-    go None e h r = absurd (other h)
-    go (Some u) e h r = (u, record { is = e; begun = h; reached = r })
+    go : (z : StartState) → c.stream.start ≡ z → IsStartOf o z → OnStart IsReached z → IsFresh z → (u : StartupState) × Starts o c.stream u
+    go (AtOnce layout) e h r f = absurd (other h.0)
+    go (Unheard u) e h r f = (u, record { is = subst (λ z. Exchanges z u) (sym e) (unheard_exchanges u f); begun = h; reached = r })
+    go (Heard u) e h r f = (u, record { is = subst (λ z. Exchanges z u) (sym e) (heard_exchanges u); begun = h; reached = r })
 
--- and one that is has none
-no_start : (o : Opening) (c : Connected) (t : Tale) → Own o c t → o.role ≡ Preset → c.stream.startup ≡ None
-no_start o c t own preset = go c.stream.startup refl own.starts
+-- and one that is has the layout that was asked for
+no_start : (o : Opening) (c : Connected) (t : Tale) → Own o c t → o.role ≡ Preset → c.stream.start ≡ AtOnce (record { markers = o.config.markers; crc = o.config.crc })
+no_start o c t own preset = go c.stream.start refl own.starts
   where
-    go : (z : Option StartupState) → c.stream.startup ≡ z → IsStartOf o z → c.stream.startup ≡ None
-    go None e h = e
-    go (Some u) e h = absurd (role_not_preset u.side (h.role ∙ preset))
+    go : (z : StartState) → c.stream.start ≡ z → IsStartOf o z → c.stream.start ≡ AtOnce (record { markers = o.config.markers; crc = o.config.crc })
+    go (AtOnce layout) e h = e ∙ ap AtOnce h.1
+    go (Unheard u) e h = absurd (role_not_preset u.side (h.role ∙ preset))
+    go (Heard u) e h = absurd (role_not_preset u.side (h.role ∙ preset))
 
 -- the octets of the peer's frame are the first of those that it has sent
-read_of : (o : Opening) (c : Connected) (t : Tale) (own : Own o c t) (u : StartupState) (sent : Octets) → c.stream.startup ≡ Some u → IsOf t.story.came sent → (more : Octets) × (u.octets ++ more ≡ sent)
+read_of : (o : Opening) (c : Connected) (t : Tale) (own : Own o c t) (u : StartupState) (sent : Octets) → Exchanges c.stream.start u → IsOf t.story.came sent → (more : Octets) × (u.octets ++ more ≡ sent)
 read_of o c t own u sent is of =
     let k = own.track in
     let r = reaches c.stream t k sent of in
-    let intro : k.intro ≡ u.octets = k.begins.octets ∙ ap (λ z. option_map_or (λ (v : StartupState). v.octets) z []) is in
+    let intro : k.intro ≡ u.octets = k.begins.octets ∙ is.octets in
     (k.before ++ (inbox c.stream ++ r.rest), sym (r.is ∙ ap (λ z. z ++ (k.before ++ (inbox c.stream ++ r.rest))) intro))
 
 -- what an end has sent: nothing, or its start-up frame first
-sent_first : (o : Opening) (c : Connected) (t : Tale) (own : Own o c t) (u : StartupState) → c.stream.startup ≡ Some u
-    → (t.sent ≡ []) ⊎ (t.sent ≡ frame_of u ++ sequence c.stream.sending 0 (map segment_octets own.emits.segments))
+sent_first : (o : Opening) (c : Connected) (t : Tale) (own : Own o c t) (u : StartupState) → Exchanges c.stream.start u
+    → (t.sent ≡ []) ⊎ (t.sent ≡ frame_of u ++ sequence (sending c.stream.start) 0 (map segment_octets own.emits.segments))
 sent_first o c t own u is = go own.emits.framed
   where
-    go : IsFramed c.stream t.sent own.emits.segments → (t.sent ≡ []) ⊎ (t.sent ≡ frame_of u ++ sequence c.stream.sending 0 (map segment_octets own.emits.segments))
-    go (Unspoken a b d) = inl b
-    go (Spoken a b) = inr (b ∙ ap (λ z. option_map_or frame_of z [] ++ sequence c.stream.sending 0 (map segment_octets own.emits.segments)) is)
+    go : IsFramed c.stream.start t.sent own.emits.segments → (t.sent ≡ []) ⊎ (t.sent ≡ frame_of u ++ sequence (sending c.stream.start) 0 (map segment_octets own.emits.segments))
+    go (Unspoken b d) = inl b
+    go (Spoken b) = inr (b ∙ ap (λ z. z ++ sequence (sending c.stream.start) 0 (map segment_octets own.emits.segments)) is.frame)
 
 -- nothing can be read where nothing was sent
 not_read : (u : StartupState) (more : Octets) → HasRead u → u.octets ++ more ≡ [] → ⊥
@@ -95,8 +116,8 @@ not_read u more h e = omega (arith, ap length e, length-append u.octets more, h.
 
 -- where a stream is not open, no frame was read; where it is, the frames that the other end has sent stand behind the start-up frame that was read
 pub data IsHeard (c : Connected) (t : Tale) (d : Connected) (u : Tale) (segments : List (Segment Octets)) (k : Track d.stream u) : Type 0 where
-  Bare : IsBare k.frames k.before d.stream.placed → IsHeard c t d u segments k
-  Clear : t.sent ≡ k.intro ++ sequence d.stream.expecting 0 (map segment_octets segments) → IsHeard c t d u segments k
+  Bare : IsBare k.frames k.before (is_some d.stream.front) → IsHeard c t d u segments k
+  Clear : t.sent ≡ k.intro ++ sequence (expecting d.stream.start) 0 (map segment_octets segments) → IsHeard c t d u segments k
 
 nothing_sent : (l : Layout) (us : List (Segment Octets)) → us ≡ [] → sequence l 0 (map segment_octets us) ≡ []
 unfolding sequence
@@ -107,16 +128,6 @@ same_frames : (l l' : Layout) (first : Octets) (us : List (Segment Octets)) → 
 same_frames l l' first us (inl none) = ap (λ z. first ++ z) (nothing_sent l us none ∙ sym (nothing_sent l' us none))
 same_frames l l' first us (inr same) = ap (λ z. first ++ sequence z 0 (map segment_octets us)) same
 
--- the layouts at an end that has agreed
-agreed_in : (o : Opening) (c : Connected) (t : Tale) (own : Own o c t) (u : StartupState) → c.stream.startup ≡ Some u → c.stream.expecting ≡ option_map_or layout_in (agreed_of u) plain
-agreed_in o c t own u is = own.track.begins.expects ∙ ap (λ z. option_map_or (λ (v : StartupState). option_map_or layout_in (agreed_of v) plain) z t.story.layout) (own.track.begins.startup ∙ is)
-
-agreed_out : (o : Opening) (c : Connected) (t : Tale) (own : Own o c t) (u : StartupState) → c.stream.startup ≡ Some u → c.stream.sending ≡ option_map_or layout_out (agreed_of u) plain
-agreed_out o c t own u is = own.track.begins.sends ∙ ap (λ z. option_map_or (λ (v : StartupState). option_map_or layout_out (agreed_of v) plain) z t.story.layout) (own.track.begins.startup ∙ is)
-
-opened_by : (s : StreamState) (u : StartupState) → s.startup ≡ Some u → is_open s ≡ is_some (agreed_of u)
-opened_by s u is = ap (λ o. option_map_or (λ (v : StartupState). is_some (agreed_of v)) o true) is
-
 initiates : (side : Side) → role_of side ≡ Initiator → side ≡ sides.Initiator
 initiates sides.Initiator e = refl
 initiates (sides.Responder reply) e = cc
@@ -126,8 +137,8 @@ responds sides.Initiator e = cc
 responds (sides.Responder reply) e = (reply, refl)
 
 -- the octets of the peer's frame
-intro_is : (o : Opening) (c : Connected) (t : Tale) (own : Own o c t) (u : StartupState) → c.stream.startup ≡ Some u → own.track.intro ≡ u.octets
-intro_is o c t own u is = own.track.begins.octets ∙ ap (λ z. option_map_or (λ (v : StartupState). v.octets) z []) is
+intro_is : (o : Opening) (c : Connected) (t : Tale) (own : Own o c t) (u : StartupState) → Exchanges c.stream.start u → own.track.intro ≡ u.octets
+intro_is o c t own u is = own.track.begins.octets ∙ is.octets
 
 abbrev IsResponding : Side → Type 0
 IsResponding sides.Initiator = ⊥
@@ -156,11 +167,11 @@ module _ (a : Opening) (c : Connected) (t : Tale) (own : Own a c t) (w : Startup
       let r = read_of b d u other v t.sent sv.is there in
       go r.0 r.1 (sent_first a c t own w sw.is)
     where
-      go : (more : Octets) → v.octets ++ more ≡ t.sent → (t.sent ≡ []) ⊎ (t.sent ≡ frame_of w ++ sequence c.stream.sending 0 (map segment_octets own.emits.segments)) → v.octets ≡ own_frame w.config sides.Initiator
+      go : (more : Octets) → v.octets ++ more ≡ t.sent → (t.sent ≡ []) ⊎ (t.sent ≡ frame_of w ++ sequence (sending c.stream.start) 0 (map segment_octets own.emits.segments)) → v.octets ≡ own_frame w.config sides.Initiator
       go more e (inl none) = absurd (not_read v more h (e ∙ none))
       go more e (inr first) =
-          request_read v reply w.config more (sequence c.stream.sending 0 (map segment_octets own.emits.segments)) side h asked_few
-          (e ∙ first ∙ ap (λ z. z ++ sequence c.stream.sending 0 (map segment_octets own.emits.segments)) frame_is)
+          request_read v reply w.config more (sequence (sending c.stream.start) 0 (map segment_octets own.emits.segments)) side h asked_few
+          (e ∙ first ∙ ap (λ z. z ++ sequence (sending c.stream.start) 0 (map segment_octets own.emits.segments)) frame_is)
 
   -- the initiator has read the Reply
   has_reply : (reply : Reply) → v.side ≡ sides.Responder (Some reply) → HasRead w → w.octets ≡ reply_frame v.config reply
@@ -171,11 +182,11 @@ module _ (a : Opening) (c : Connected) (t : Tale) (own : Own a c t) (w : Startup
       few : length (private_in reply).items ≤ 512
       few = subst IsSmall side sv.begun.small
 
-      go : (more : Octets) → w.octets ++ more ≡ u.sent → (u.sent ≡ []) ⊎ (u.sent ≡ frame_of v ++ sequence d.stream.sending 0 (map segment_octets other.emits.segments)) → w.octets ≡ reply_frame v.config reply
+      go : (more : Octets) → w.octets ++ more ≡ u.sent → (u.sent ≡ []) ⊎ (u.sent ≡ frame_of v ++ sequence (sending d.stream.start) 0 (map segment_octets other.emits.segments)) → w.octets ≡ reply_frame v.config reply
       go more e (inl none) = absurd (not_read w more h (e ∙ none))
       go more e (inr first) =
-          reply_read w v.config reply more (sequence d.stream.sending 0 (map segment_octets other.emits.segments)) asks h few
-          (e ∙ first ∙ ap (λ z. own_frame v.config z ++ sequence d.stream.sending 0 (map segment_octets other.emits.segments)) side)
+          reply_read w v.config reply more (sequence (sending d.stream.start) 0 (map segment_octets other.emits.segments)) asks h few
+          (e ∙ first ∙ ap (λ z. own_frame v.config z ++ sequence (sending d.stream.start) 0 (map segment_octets other.emits.segments)) side)
 
   -- without an answer there is no Reply
   no_reply : v.side ≡ sides.Responder None → HasRead w → ⊥
@@ -184,11 +195,11 @@ module _ (a : Opening) (c : Connected) (t : Tale) (own : Own a c t) (w : Startup
       not_read w r.0 h (r.1 ∙ unsent (sent_first b d u other v sv.is))
     where
       shut : other.emits.segments ≡ []
-      shut = other.emits.shut (opened_by d.stream v sv.is ∙ ap is_some (unanswered_not_agreed v side))
+      shut = other.emits.shut (sv.is.open_is ∙ ap is_some (unanswered_not_agreed v side))
 
-      unsent : (u.sent ≡ []) ⊎ (u.sent ≡ frame_of v ++ sequence d.stream.sending 0 (map segment_octets other.emits.segments)) → u.sent ≡ []
+      unsent : (u.sent ≡ []) ⊎ (u.sent ≡ frame_of v ++ sequence (sending d.stream.start) 0 (map segment_octets other.emits.segments)) → u.sent ≡ []
       unsent (inl none) = none
-      unsent (inr first) = first ∙ (λ i. own_frame v.config (side i) ++ nothing_sent d.stream.sending other.emits.segments shut i)
+      unsent (inr first) = first ∙ (λ i. own_frame v.config (side i) ++ nothing_sent (sending d.stream.start) other.emits.segments shut i)
 
   agree : (private : ArrayVec ℕ) → v.side ≡ sides.Responder (Some (replies.Accept private)) → HasRead w → HasRead v → Agree w v
   agree private side hw hv =
@@ -199,97 +210,93 @@ module _ (a : Opening) (c : Connected) (t : Tale) (own : Own a c t) (w : Startup
   has_answered reply side = has_read v progresses.Asked sv.reached (sv.reached.asked (subst (λ z. IsTrue (is_answered z)) (sym side) refl)) (λ e. cc)
 
   -- behind the Request stand the frames that the initiator has sent
-  responder_hears : is_open d.stream ≡ true → IsResponding v.side → t.sent ≡ other.track.intro ++ sequence d.stream.expecting 0 (map segment_octets own.emits.segments)
-  responder_hears started responding = go (is_agreed v (sym (opened_by d.stream v sv.is) ∙ started))
+  responder_hears : is_open d.stream.start ≡ true → IsResponding v.side → t.sent ≡ other.track.intro ++ sequence (expecting d.stream.start) 0 (map segment_octets own.emits.segments)
+  responder_hears started responding = go (is_agreed v (sym (sv.is.open_is) ∙ started))
     where
       us : List (Segment Octets)
       us = own.emits.segments
 
-      laid : (private : ArrayVec ℕ) → v.side ≡ sides.Responder (Some (replies.Accept private)) → HasRead v → (z : Bool) → is_open c.stream ≡ z → (us ≡ []) ⊎ (c.stream.sending ≡ d.stream.expecting)
+      laid : (private : ArrayVec ℕ) → v.side ≡ sides.Responder (Some (replies.Accept private)) → HasRead v → (z : Bool) → is_open c.stream.start ≡ z → (us ≡ []) ⊎ ((sending c.stream.start) ≡ (expecting d.stream.start))
       laid private side hv false closed = inl (own.emits.shut closed)
-      laid private side hv true closed = inr (agreed (is_agreed w (sym (opened_by c.stream w sw.is) ∙ closed)))
+      laid private side hv true closed = inr (agreed (is_agreed w (sym (sw.is.open_is) ∙ closed)))
         where
-          agreed : IsAgreed w → c.stream.sending ≡ d.stream.expecting
+          agreed : IsAgreed w → (sending c.stream.start) ≡ (expecting d.stream.start)
           agreed (Accepting p s e) = absurd (not_both w.side p asks s)
           agreed (Asking s e) =
               let both = agree private side (has_read w progresses.Agreed sw.reached e (λ x. cc)) hv in
-              agreed_out a c t own w sw.is ∙ ap (λ z. option_map_or layout_out z plain) both.asking ∙ sym (agreed_in b d u other v sv.is ∙ ap (λ z. option_map_or layout_in z plain) both.accepting)
+              sw.is.sends ∙ ap (λ z. option_map_or layout_out z plain) both.asking ∙ sym (sv.is.expects ∙ ap (λ z. option_map_or layout_in z plain) both.accepting)
 
-      said : (private : ArrayVec ℕ) → v.side ≡ sides.Responder (Some (replies.Accept private)) → HasRead v → (t.sent ≡ []) ⊎ (t.sent ≡ frame_of w ++ sequence c.stream.sending 0 (map segment_octets us))
-          → t.sent ≡ other.track.intro ++ sequence d.stream.expecting 0 (map segment_octets us)
+      said : (private : ArrayVec ℕ) → v.side ≡ sides.Responder (Some (replies.Accept private)) → HasRead v → (t.sent ≡ []) ⊎ (t.sent ≡ frame_of w ++ sequence (sending c.stream.start) 0 (map segment_octets us))
+          → t.sent ≡ other.track.intro ++ sequence (expecting d.stream.start) 0 (map segment_octets us)
       said private side hv (inl none) = (let r = read_of b d u other v t.sent sv.is there in absurd (not_read v r.0 hv (r.1 ∙ none)))
       said private side hv (inr first) =
-          first ∙ same_frames c.stream.sending d.stream.expecting (frame_of w) us (laid private side hv (is_open c.stream) refl)
-          ∙ ap (λ z. z ++ sequence d.stream.expecting 0 (map segment_octets us)) (frame_is ∙ sym (has_request (Some (replies.Accept private)) side hv) ∙ sym (intro_is b d u other v sv.is))
+          first ∙ same_frames (sending c.stream.start) (expecting d.stream.start) (frame_of w) us (laid private side hv (is_open c.stream.start) refl)
+          ∙ ap (λ z. z ++ sequence (expecting d.stream.start) 0 (map segment_octets us)) (frame_is ∙ sym (has_request (Some (replies.Accept private)) side hv) ∙ sym (intro_is b d u other v sv.is))
 
-      go : IsAgreed v → t.sent ≡ other.track.intro ++ sequence d.stream.expecting 0 (map segment_octets us)
+      go : IsAgreed v → t.sent ≡ other.track.intro ++ sequence (expecting d.stream.start) 0 (map segment_octets us)
       go (Asking s e) = absurd (not_asking v.side s responding)
       go (Accepting private side e) = said private side (has_read v progresses.Asked sv.reached e (λ x. cc)) (sent_first a c t own w sw.is)
 
   -- behind the Reply stand the frames that the responder has sent
-  initiator_hears : is_open c.stream ≡ true → (reply : Option Reply) → v.side ≡ sides.Responder reply → u.sent ≡ own.track.intro ++ sequence c.stream.expecting 0 (map segment_octets other.emits.segments)
-  initiator_hears started reply side = go (is_agreed w (sym (opened_by c.stream w sw.is) ∙ started))
+  initiator_hears : is_open c.stream.start ≡ true → (reply : Option Reply) → v.side ≡ sides.Responder reply → u.sent ≡ own.track.intro ++ sequence (expecting c.stream.start) 0 (map segment_octets other.emits.segments)
+  initiator_hears started reply side = go (is_agreed w (sym (sw.is.open_is) ∙ started))
     where
       us : List (Segment Octets)
       us = other.emits.segments
 
-      said : (private : ArrayVec ℕ) → v.side ≡ sides.Responder (Some (replies.Accept private)) → HasRead w → (u.sent ≡ []) ⊎ (u.sent ≡ frame_of v ++ sequence d.stream.sending 0 (map segment_octets us))
-          → u.sent ≡ own.track.intro ++ sequence c.stream.expecting 0 (map segment_octets us)
+      said : (private : ArrayVec ℕ) → v.side ≡ sides.Responder (Some (replies.Accept private)) → HasRead w → (u.sent ≡ []) ⊎ (u.sent ≡ frame_of v ++ sequence (sending d.stream.start) 0 (map segment_octets us))
+          → u.sent ≡ own.track.intro ++ sequence (expecting c.stream.start) 0 (map segment_octets us)
       said private side hw (inl none) = (let r = read_of a c t own w u.sent sw.is back in absurd (not_read w r.0 hw (r.1 ∙ none)))
       said private side hw (inr first) =
           let both = agree private side hw (has_answered (replies.Accept private) side) in
-          let laid : d.stream.sending ≡ c.stream.expecting =
-          agreed_out b d u other v sv.is ∙ ap (λ z. option_map_or layout_out z plain) both.accepting ∙ sym (agreed_in a c t own w sw.is ∙ ap (λ z. option_map_or layout_in z plain) both.asking) in
-          first ∙ same_frames d.stream.sending c.stream.expecting (frame_of v) us (inr laid)
-          ∙ ap (λ z. z ++ sequence c.stream.expecting 0 (map segment_octets us)) (ap (own_frame v.config) side ∙ sym (has_reply (replies.Accept private) side hw) ∙ sym (intro_is a c t own w sw.is))
+          let laid : (sending d.stream.start) ≡ (expecting c.stream.start) =
+          sv.is.sends ∙ ap (λ z. option_map_or layout_out z plain) both.accepting ∙ sym (sw.is.expects ∙ ap (λ z. option_map_or layout_in z plain) both.asking) in
+          first ∙ same_frames (sending d.stream.start) (expecting c.stream.start) (frame_of v) us (inr laid)
+          ∙ ap (λ z. z ++ sequence (expecting c.stream.start) 0 (map segment_octets us)) (ap (own_frame v.config) side ∙ sym (has_reply (replies.Accept private) side hw) ∙ sym (intro_is a c t own w sw.is))
 
-      answered_by : (reply : Option Reply) → v.side ≡ sides.Responder reply → HasRead w → u.sent ≡ own.track.intro ++ sequence c.stream.expecting 0 (map segment_octets us)
+      answered_by : (reply : Option Reply) → v.side ≡ sides.Responder reply → HasRead w → u.sent ≡ own.track.intro ++ sequence (expecting c.stream.start) 0 (map segment_octets us)
       answered_by None s hw = absurd (no_reply s hw)
       answered_by (Some (replies.Accept private)) s hw = said private s hw (sent_first b d u other v sv.is)
       answered_by (Some (replies.Reject private)) s hw =
           let none = rejection_read w v.config private asks (subst IsSmall s sv.begun.small) (has_reply (replies.Reject private) s hw) in
-          absurd (false≢true (ap is_some (sym none) ∙ sym (opened_by c.stream w sw.is) ∙ started))
+          absurd (false≢true (ap is_some (sym none) ∙ sym (sw.is.open_is) ∙ started))
 
-      go : IsAgreed w → u.sent ≡ own.track.intro ++ sequence c.stream.expecting 0 (map segment_octets us)
+      go : IsAgreed w → u.sent ≡ own.track.intro ++ sequence (expecting c.stream.start) 0 (map segment_octets us)
       go (Accepting p s e) = absurd (not_both w.side p asks s)
       go (Asking s e) = answered_by reply side (has_read w progresses.Agreed sw.reached e (λ x. cc))
 
 -- ends that are open at once, with the same layout
 preset_hears : (a : Opening) (c : Connected) (t : Tale) (own : Own a c t) (b : Opening) (d : Connected) (u : Tale) (other : Own b d u)
-    → a.role ≡ Preset → b.role ≡ Preset → a.config.markers ≡ b.config.markers → a.config.crc ≡ b.config.crc → t.sent ≡ other.track.intro ++ sequence d.stream.expecting 0 (map segment_octets own.emits.segments)
+    → a.role ≡ Preset → b.role ≡ Preset → a.config.markers ≡ b.config.markers → a.config.crc ≡ b.config.crc → t.sent ≡ other.track.intro ++ sequence (expecting d.stream.start) 0 (map segment_octets own.emits.segments)
 preset_hears a c t own b d u other ra rb markers crc = go own.emits.framed
   where
     us : List (Segment Octets)
     us = own.emits.segments
 
-    none_c : c.stream.startup ≡ None
+    none_c : c.stream.start ≡ AtOnce (record { markers = a.config.markers; crc = a.config.crc })
     none_c = no_start a c t own ra
 
-    none_d : d.stream.startup ≡ None
+    none_d : d.stream.start ≡ AtOnce (record { markers = b.config.markers; crc = b.config.crc })
     none_d = no_start b d u other rb
 
     intro : other.track.intro ≡ []
-    intro = other.track.begins.octets ∙ ap (λ z. option_map_or (λ (v : StartupState). v.octets) z []) none_d
+    intro = other.track.begins.octets ∙ ap start_octets none_d
 
-    sends : c.stream.sending ≡ record { markers = a.config.markers; crc = a.config.crc }
-    sends =
-        own.track.begins.sends ∙ ap (λ z. option_map_or (λ (v : StartupState). option_map_or layout_out (agreed_of v) plain) z t.story.layout) (own.track.begins.startup ∙ none_c)
-        ∙ own.laid ∙ ap (λ r. layout_at_first r a.config) ra
+    sends : sending c.stream.start ≡ record { markers = a.config.markers; crc = a.config.crc }
+    sends = ap sending none_c
 
-    expects : d.stream.expecting ≡ record { markers = b.config.markers; crc = b.config.crc }
-    expects =
-        other.track.begins.expects ∙ ap (λ z. option_map_or (λ (v : StartupState). option_map_or layout_in (agreed_of v) plain) z u.story.layout) (other.track.begins.startup ∙ none_d)
-        ∙ other.laid ∙ ap (λ r. layout_at_first r b.config) rb
+    expects : expecting d.stream.start ≡ record { markers = b.config.markers; crc = b.config.crc }
+    expects = ap expecting none_d
 
-    laid : c.stream.sending ≡ d.stream.expecting
+    laid : (sending c.stream.start) ≡ (expecting d.stream.start)
     laid = sends ∙ (λ i. record { markers = markers i; crc = crc i }) ∙ sym expects
 
-    frames : sequence c.stream.sending 0 (map segment_octets us) ≡ other.track.intro ++ sequence d.stream.expecting 0 (map segment_octets us)
+    frames : sequence (sending c.stream.start) 0 (map segment_octets us) ≡ other.track.intro ++ sequence (expecting d.stream.start) 0 (map segment_octets us)
     frames = (λ i. sym intro i ++ sequence (laid i) 0 (map segment_octets us))
 
-    go : IsFramed c.stream t.sent us → t.sent ≡ other.track.intro ++ sequence d.stream.expecting 0 (map segment_octets us)
-    go (Unspoken x y z) = y ∙ sym (nothing_sent c.stream.sending us z) ∙ frames
-    go (Spoken x y) = y ∙ ap (λ z. option_map_or frame_of z [] ++ sequence c.stream.sending 0 (map segment_octets us)) none_c ∙ frames
+    go : IsFramed c.stream.start t.sent us → t.sent ≡ other.track.intro ++ sequence (expecting d.stream.start) 0 (map segment_octets us)
+    go (Unspoken y z) = y ∙ sym (nothing_sent (sending c.stream.start) us z) ∙ frames
+    go (Spoken y) = y ∙ ap (λ z. starting.own_frame z ++ sequence (sending c.stream.start) 0 (map segment_octets us)) none_c ∙ frames
 
 initiator_not : (o : Opening) → o.role ≡ Initiator → o.role ≡ Preset → ⊥
 initiator_not o e f = let same : Initiator ≡ Preset = sym e ∙ f in cc
@@ -300,9 +307,9 @@ responder_not o e f = let same : Responder ≡ Preset = sym e ∙ f in cc
 -- what an honest end hears of the other
 pub hears_all : (a : Opening) (c : Connected) (t : Tale) (own : Own a c t) (b : Opening) (d : Connected) (u : Tale) (other : Own b d u) → Fits a b → IsOf u.story.came t.sent → IsOf t.story.came u.sent
     → IsHeard c t d u own.emits.segments other.track
-hears_all a c t own b d u other fits there back = go (is_open d.stream) refl fits
+hears_all a c t own b d u other fits there back = go (is_open d.stream.start) refl fits
   where
-    go : (started : Bool) → is_open d.stream ≡ started → Fits a b → IsHeard c t d u own.emits.segments other.track
+    go : (started : Bool) → is_open d.stream.start ≡ started → Fits a b → IsHeard c t d u own.emits.segments other.track
     go false shut f = Bare (other.track.shut shut)
     go true started (inl f) = Clear (preset_hears a c t own b d u other f.0 f.1 f.2 f.3)
     go true started (inr (inl f)) =

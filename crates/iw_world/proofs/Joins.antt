@@ -1,6 +1,6 @@
 -- What the segments that had their turn come to, whoever sent them: the Sends that were received, and the octets that were placed.
 use Rattle.std.proofs.Common.{◌≡◌, ℕ, zero, suc, ◌+◌, ◌≤◌, List, [], ◌∷◌, ◌++◌, length, take, drop, map, Option, Some, None, Bool, true, false, cond, refl, sym, ap, ◌∙◌, subst, arith, length-append, length-take}
-use Rattle.std.specs.Prelude.{slice_get, slice_set, slice_index_or, nat_eq, ◌||◌}
+use Rattle.std.specs.Prelude.{slice_get, slice_set, slice_index_or, nat_eq}
 use Rattle.std.specs.Option.{option_map}
 use Rattle.std.proofs.lemmas.List.{append-nil, map-append, take_at}
 use Rattle.std.proofs.lemmas.Bool.Decides.{nat_tests}

@@ -21,8 +21,9 @@ use Rattle.iw_octets.specs.declared.operation.TaggedOperation.TheVariants as tag
 use Rattle.iw_octets.specs.declared.operation.UntaggedOperation.TheVariants as untagged
 use Rattle.iw_octets.specs.Operation.{control_of, tagged_opcode, untagged_opcode}
 use Rattle.iw_queues.proofs.Sending.{sends_in_order}
-use Rattle.iw_startup.specs.State.{StartupState, awaits_answer, agreement}
-use Rattle.iw_stream.specs.Stream.{StreamState, part_due, own_frame, owes_frame, recv_refusal, recv_refusal_of, post_refusal, post_refusal_of, may_answer, accepted_agreed, delivery_of}
+use Rattle.iw_stream.specs.Starting.{is_asked, sending, own_frame, agreement_in}
+use Rattle.iw_stream.specs.Stream.{StreamState, part_due, owes_frame, recv_refusal, recv_refusal_of, post_refusal, post_refusal_of, may_answer, delivery_of}
+use Rattle.iw_stream.specs.Work as work
 use Rattle.iw_stream.specs.declared.answer.PostRefusal.TheVariants as post_refusals
 use Rattle.iw_stream.specs.declared.answer.RecvRefusal.TheVariants as recv_refusals
 use Rattle.iw_untagged.specs.declared.queue.BufferRefusal.TheVariants as buffer_refusals
@@ -60,21 +61,21 @@ use Rattle.iw_world.specs.Words.{Octets, other, acts, deed, buffers, finished_ki
 use Rattle.iw_world.specs.Safe.{IsHonest, InOrder, requests, CoversWrites, Covered, Fits, Within, WithinStream}
 use Rattle.iw_world.specs.Sends.{AreFirstFrames, Emission, AreAllFrames, HasNothing, Over, Closed, AllSent, NothingShown, NothingStream, NothingOnlyAtRest, FrameSized, SizedStream, Sized, FrameAllowed, SpeaksStream, Speaks, CanFinish, FinishedStream, Finished}
 use Rattle.iw_world.specs.Sends.{Silent as Muted}
-use Rattle.iw_world.specs.Turns.{story, story_of, start_frame, sending, standing, TurnsSeen, TurnsStream, Turns}
+use Rattle.iw_world.specs.Turns.{story, story_of, standing, TurnsSeen, TurnsStream, Turns}
 use Rattle.iw_world.specs.Rest.{IdleStream, IdleOnlyAtRest}
-use Rattle.iw_world.specs.Calls.{deregister_answer, invalidate_refusal, IsNew, open_refusal_by, EndAnswered, ShowsMemory, recv_refusal_by, post_refusal_by, is_asked, Accepted, Rejected, StreamAnswered, AnsweredStream, Answered, delivery_by, KeptStream, KeepsOctets, CarriedStream, CarriesOctets}
+use Rattle.iw_world.specs.Calls.{deregister_answer, invalidate_refusal, IsNew, open_refusal_by, EndAnswered, ShowsMemory, recv_refusal_by, post_refusal_by, may_answer_by, Accepted, Rejected, StreamAnswered, AnsweredStream, Answered, delivery_by, KeptStream, KeepsOctets, CarriedStream, CarriesOctets}
 use Rattle.iw_world.specs.Words.{OnSome, OnStream, AtEach}
 use Rattle.iw_world.specs.Rules.{Connected, EndState, State, end_of, has_stream, stream_at, start, open_refusal, register_answer, accept_answer, answer_refusal, Rule, EndRule, PeerRule, WireRule, StreamRule, state_after, Follows}
 use Rattle.iw_world.specs.Bounds.{LacksStream, AsksTooMuch, AsksOver}
 use Rattle.iw_world.specs.Stops.{NamesNoStream, AsksNotSent, IsUnopened}
 use Rattle.iw_world.proofs.Told.{told, sees}
-use Rattle.iw_world.proofs.Tracks.{Track, point_is, may, accepting, refusing}
-use Rattle.iw_world.proofs.Answers.{standing_of, answers, idles, idle_unfinished}
+use Rattle.iw_world.proofs.Tracks.{Track, sound, silent_is, point_is, accepting, refusing}
+use Rattle.iw_world.proofs.Answers.{answers, idles, idle_unfinished}
 use Rattle.iw_world.proofs.Tales.{Tale, tale_of}
 use Rattle.iw_world.proofs.Sending.{shown_good, FitsRequest, Rests, Ended, Shut, Silent, Sent, rests, none_left, shows, EmitsStart, EmitsPart, emits_frame}
-use Rattle.iw_world.proofs.Owns.{first_fits, Own, Emits, within, WithinTale, IsFramed, Unspoken, Spoken, behind_start, part_fits, and_left, and_right}
+use Rattle.iw_world.proofs.Owns.{first_fits, Own, Emits, within, WithinTale, IsFramed, Unspoken, Spoken, behind_start, before_start, part_fits}
 use Rattle.iw_world.proofs.Counts.{last_of}
-use Rattle.iw_world.proofs.Messages.{start_frame_is, open_is, silent_is, sequence_is, can_finish, cannot_finish}
+use Rattle.iw_world.proofs.Messages.{start_frame_is, open_is, sequence_is, can_finish, cannot_finish}
 use Rattle.iw_world.proofs.Heard.{IsHeard, hears_all}
 use Rattle.iw_world.proofs.Delivered.{received_prefix, writes_covered}
 use Rattle.iw_world.proofs.Ends.{there, EndSeen, unopened}
@@ -154,7 +155,7 @@ each_stream P trace follows one past e future is =
 pub within_all : (trace : List (Entry Octets)) → Follows start trace → Within trace
 within_all trace follows = each_stream WithinStream trace follows (λ done s n act k opened rule own.
     let c : Connected = stream_at s n in
-    within_stream done n c.stream.domain s.table act (k.domain n opened) k.table (within (opening_of n done) s.table c (tale n done) act (told s.table c.stream act rule) own))
+    within_stream done n c.stream.domain s.table act (k.domain n opened) k.table (within (opening_of n done) s.table c (tale n done) act (told s.table c.stream act (sound c.stream (tale n done) own.track) rule) own))
 
 -- ---- what goes out
 
@@ -171,12 +172,12 @@ first_frames past w k x n =
       carry = rest.1;
       framed = framed s t own.track e.segments e.framed;
       closed = λ h. e.shut (sym (open_is s t own.track) ∙ h);
-      silent = λ h. e.silent (sym (silent_is s t own.track) ∙ h);
+      silent = λ h. e.silent (silent_is s t own.track ∙ h);
     }
   where
-    framed : (s : StreamState) (t : Tale) (k : Track s t) (us : List (Segment Octets)) → IsFramed s t.sent us → ((t.sent ≡ []) × (us ≡ [])) ⊎ (t.sent ≡ start_frame t.story ++ sequence (sending t.story) 0 (map segment_octets us))
-    framed s t k us (Unspoken a b c) = inl (b, c)
-    framed s t k us (Spoken a b) = inr (b ∙ sym (sequence_is s t k us))
+    framed : (s : StreamState) (t : Tale) (k : Track s t) (us : List (Segment Octets)) → IsFramed s.start t.sent us → ((t.sent ≡ []) × (us ≡ [])) ⊎ (t.sent ≡ own_frame t.story.start ++ sequence (sending t.story.start) 0 (map segment_octets us))
+    framed s t k us (Unspoken b c) = inl (b, c)
+    framed s t k us (Spoken b) = inr (b ∙ sym (sequence_is s t k us))
 
 pub emission : (trace : List (Entry Octets)) → Follows start trace → Emission trace
 emission trace follows past future is x n = first_frames past (state_after start past) (seen_at past future trace follows is) x n
@@ -189,26 +190,26 @@ all_frames o c t own owes none =
     record {
       segments = e.segments ++ [];
       carry = e.has.goes_on [] (subst (λ ms. AreSpelled c.stream.numbers c.stream.queue.offset ms []) (sym left) refl);
-      framed = behind_start c.stream t e owes ∙ sym (sequence_is c.stream t own.track e.segments) ∙ ap (λ z. start_frame t.story ++ sequence (sending t.story) 0 (map segment_octets z)) (sym (append-nil e.segments));
+      framed = behind_start c.stream t e own.sent owes ∙ sym (sequence_is c.stream t own.track e.segments) ∙ ap (λ z. own_frame t.story.start ++ sequence (sending t.story.start) 0 (map segment_octets z)) (sym (append-nil e.segments));
     }
 
 nothing_stream : (o : Opening) (c : Connected) (done : List (StreamAct Octets)) (table : Table) (act : StreamAct Octets) → StreamRule table c.stream act → Own o c (tale_of o done) → OnSome (NothingShown (story o done) done) (deed act).shown
 nothing_stream o c done table (Emit Nothing) rule own =
     let r = rests c.stream rule in
-    (frame_sent r.0, go r.0 r.1)
+    (frame_sent r.spoken, go r.spoken r.reason)
   where
     t : Tale
     t = tale_of o done
 
-    frame_sent : owes_frame c.stream ≡ false → IsPrefixOf (start_frame (story o done)) (sent done)
+    frame_sent : owes_frame c.stream ≡ false → IsPrefixOf (own_frame (story o done).start) (sent done)
     frame_sent owes =
-        let frames : List ℕ = sequence c.stream.sending 0 (map segment_octets own.emits.segments) in
-        (frames, ap (λ z. z ++ frames) (start_frame_is c.stream t own.track) ∙ sym (behind_start c.stream t own.emits owes))
+        let frames : List ℕ = sequence (sending c.stream.start) 0 (map segment_octets own.emits.segments) in
+        (frames, ap (λ z. z ++ frames) (start_frame_is c.stream t own.track) ∙ sym (behind_start c.stream t own.emits own.sent owes))
 
     go : owes_frame c.stream ≡ false → Rests c.stream → HasNothing (ended done) (story o done) (sent done) (posted done)
     go owes (Ended over) = Over (sym own.ended ∙ over)
     go owes (Shut closed) = Closed (open_is c.stream t own.track ∙ closed)
-    go owes (Silent silent) = Muted (silent_is c.stream t own.track ∙ silent)
+    go owes (Silent silent) = Muted (sym (silent_is c.stream t own.track) ∙ silent)
     go owes (Sent none) = AllSent (all_frames o c t own owes none)
 nothing_stream o c done table (Emit (Frame from octets)) rule own = tt
 nothing_stream o c done table (Post m refused) rule own = tt
@@ -252,33 +253,23 @@ part_within q max part limits e =
     reach zero len room begun = omega arith
     reach (suc k) len room begun = let more : suc k < len = begun (omega arith) in omega (arith, more)
 
-start_unsent : (s : StreamState) (t : Tale) → Emits s t → owes_frame s ≡ true → t.sent ≡ []
-start_unsent s t e owes = go e.framed
-  where
-    quiet : s.spoken ≡ false
-    quiet = and_left s.spoken (nat_lt 0 (length (own_frame s))) owes
-
-    go : IsFramed s t.sent e.segments → t.sent ≡ []
-    go (Unspoken a b c) = b
-    go (Spoken a b) = absurd (false≢true (sym (ap (λ z. nat_lt 0 (length z)) (a quiet)) ∙ and_right s.spoken (nat_lt 0 (length (own_frame s))) owes))
-
 frame_sized : (o : Opening) (c : Connected) (done : List (StreamAct Octets)) (from : ℕ) (octets : Octets) → Own o c (tale_of o done) → EmitsStart c.stream from octets ⊎ EmitsPart c.stream from octets
     → FrameSized (story o done) (size_set done) (sent done) (Frame from octets)
 frame_sized o c done from octets own (inl p) =
     let t : Tale = tale_of o done in
-    (p.from_is ∙ own.sent, inl (start_unsent c.stream t own.emits p.owes, p.octets_are ∙ sym (start_frame_is c.stream t own.track)))
+    (p.from_is ∙ own.sent, inl ((before_start c.stream t own.emits own.sent p.owes).0, p.octets_are ∙ sym (start_frame_is c.stream t own.track)))
 frame_sized o c done from octets own (inr p) =
     let s : StreamState = c.stream in
     let t : Tale = tale_of o done in
     let e = own.emits in
-    let fits = part_fits s p.part p.due e.fit in
-    let filled : IsFilled s.mulpdu p.part = fills s.queue s.mulpdu p.part e.enough e.limits p.due in
-    let size : length (segment_octets (segment_of s.numbers p.part)) ≡ p.part.n + header_len p.part.message = part_size s.numbers p.part fits (part_within s.queue s.mulpdu p.part e.limits p.due) in (
+    let fits = part_fits s p.part p.is_loud.part_is e.fit in
+    let filled : IsFilled s.mulpdu p.part = fills s.queue s.mulpdu p.part e.enough e.limits p.is_loud.part_is in
+    let size : length (segment_octets (segment_of s.numbers p.part)) ≡ p.part.n + header_len p.part.message = part_size s.numbers p.part fits (part_within s.queue s.mulpdu p.part e.limits p.is_loud.part_is) in (
       p.from_is ∙ own.sent,
       inr (record {
         segment = segment_of s.numbers p.part;
-        known = (shown_good s.numbers s.queue s.mulpdu p.part p.due e.limits e.enough e.few e.number (first_fits s.queue e.fit)).fits;
-        is = p.octets_are ∙ (λ i. frame_octets (own.track.begins.sends i) (own.sent i - length (sym (start_frame_is s t own.track) i)) (segment_octets (segment_of s.numbers p.part)));
+        known = (shown_good s.numbers s.queue s.mulpdu p.part p.is_loud.part_is e.limits e.enough e.few e.number (first_fits s.queue e.fit)).fits;
+        is = p.octets_are ∙ (λ i. frame_octets (sending (sym own.track.begins.start i)) (own.sent i - length (own_frame (sym own.track.begins.start i))) (segment_octets (segment_of s.numbers p.part)));
         fits = omega (arith, size, filled.fits, e.size);
         full = λ h. size ∙ filled.full (sym (last_of s.numbers p.part fits) ∙ h) ∙ e.size;
       }),
@@ -309,8 +300,8 @@ shown_allowed o c done table (Emit (Frame from octets)) rule own = go (emits_fra
     t = tale_of o done
 
     go : EmitsStart c.stream from octets ⊎ EmitsPart c.stream from octets → FrameAllowed (ended done) (story o done) (sent done) (Frame from octets)
-    go (inl p) = inl (start_unsent c.stream t own.emits p.owes, p.octets_are ∙ sym (start_frame_is c.stream t own.track))
-    go (inr p) = inr (record { running = sym own.ended ∙ p.running; open_now = open_is c.stream t own.track ∙ p.started; loud = silent_is c.stream t own.track ∙ p.loud })
+    go (inl p) = inl ((before_start c.stream t own.emits own.sent p.owes).0, p.octets_are ∙ sym (start_frame_is c.stream t own.track))
+    go (inr p) = inr (record { running = sym own.ended ∙ p.is_loud.running; open_now = open_is c.stream t own.track ∙ p.is_loud.started; loud = sym (silent_is c.stream t own.track) ∙ p.is_loud.loud })
 shown_allowed o c done table (Emit Nothing) rule own = tt
 shown_allowed o c done table (Post m refused) rule own = tt
 shown_allowed o c done table (Recv len refused) rule own = tt
@@ -326,7 +317,7 @@ speaks_all trace follows = each_stream SpeaksStream trace follows (λ done s n a
 
 -- ---- the turns of frames
 
-same_standing : (done : List (Act Octets)) (n : ℕ) (s : EndState) → EndSeen s done → has_stream s n ≡ true → Track (stream_at s n).stream (tale n done) → standing_of s.table (stream_at s n).stream ≡ standing n done
+same_standing : (done : List (Act Octets)) (n : ℕ) (s : EndState) → EndSeen s done → has_stream s n ≡ true → Track (stream_at s n).stream (tale n done) → work.standing s.table (stream_at s n).stream ≡ standing n done
 same_standing done n s k there track = λ i. record { table = k.table i; domain = k.domain n there i; receiving = sym track.receiving i }
 
 turns_stream : (done : List (Act Octets)) (n : ℕ) (s : EndState) (act : StreamAct Octets) → EndSeen s done → has_stream s n ≡ true → StreamRule s.table (stream_at s n).stream act
@@ -354,7 +345,7 @@ turns_all trace follows = each_stream TurnsStream trace follows turns_at
 finished_stream : (done : List (Act Octets)) (n : ℕ) (s : EndState) (act : StreamAct Octets) → StreamRule s.table (stream_at s n).stream act → Own (opening_of n done) (stream_at s n) (tale n done) → FinishedStream done n act
 finished_stream done n s (Work (seen.Done kind)) rule own =
     let c : Connected = stream_at s n in
-    let d = sees s.table c.stream (seen.Done kind) rule in
+    let d = (sees s.table c.stream (sound c.stream (tale n done) own.track) (seen.Done kind) rule).0 in
     subst (CanFinish (story_of n done) (stream_acts n done)) (sym d.2) (can_finish c.stream (tale n done) own.track own.emits d.0 d.1)
 finished_stream done n s (Work seen.Idle) rule own = tt
 finished_stream done n s (Work (seen.Asked private)) rule own = tt
@@ -382,7 +373,7 @@ finished_all trace follows = each_stream FinishedStream trace follows (λ done s
 idle_stream : (s : EndState) (c : Connected) (done : List (Act Octets)) (n : ℕ) (act : StreamAct Octets) → StreamRule s.table c.stream act → Own (opening_of n done) c (tale n done) → IdleStream done n act
 idle_stream s c done n (Work seen.Idle) rule o = record {
   reason = idles s.table c.stream (tale n done) rule o.track o.ended;
-  unfinished = cannot_finish c.stream (tale n done) o.track o.emits (idle_unfinished s.table c.stream rule);
+  unfinished = cannot_finish c.stream (tale n done) o.track o.emits (idle_unfinished s.table c.stream (tale n done) rule o.track);
 }
 idle_stream s c done n (Work (seen.Asked private)) rule o = tt
 idle_stream s c done n (Work (seen.Opened agreed private)) rule o = tt
@@ -483,21 +474,18 @@ post_refused o c done m own =
     of_queue false false = refl
 
 -- whether the user may answer
-asked_is : (o : Opening) (c : Connected) (done : List (StreamAct Octets)) → Own o c (tale_of o done) → may_answer c.stream ≡ is_asked (story o done) done
-asked_is o c done own = λ i. not (own.ended i) && option_map_or awaits_answer (sym own.track.begins.startup i) false
+asked_is : (o : Opening) (c : Connected) (done : List (StreamAct Octets)) → Own o c (tale_of o done) → may_answer c.stream ≡ may_answer_by (story o done) done
+asked_is o c done own = λ i. not (own.ended i) && is_asked (sym own.track.begins.start i)
 
 accepts_asked : (o : Opening) (c : Connected) (done : List (StreamAct Octets)) (answer : Result Agreed NotAsked) → answer ≡ accept_answer c.stream → Own o c (tale_of o done) → Accepted (story o done) done answer
 accepts_asked o c done (Ok agreed) rule own =
     let e = accepting c.stream agreed rule in
-    let m = may c.stream e in
-    let same : Ok agreed ≡ Ok (accepted_agreed c.stream) = rule ∙ ap (λ b. cond {A = Result Agreed NotAsked} b (Ok (accepted_agreed c.stream)) (Err (record {}))) e in
-    let is : agreed ≡ accepted_agreed c.stream = cc in (
-      sym (asked_is o c done own) ∙ e,
-      record { startup = m.startup; is = own.track.begins.startup ∙ m.is; agreed_is = is ∙ ap (λ u. option_map_or (λ (v : StartupState). agreement v.config v.octets) u (record { send_markers = false; expect_markers = false; crc = false })) m.is },
-    )
+    let same : Ok agreed ≡ Ok (agreement_in c.stream.start) = rule ∙ ap (λ b. cond {A = Result Agreed NotAsked} b (Ok (agreement_in c.stream.start)) (Err (record {}))) e in
+    let is : agreed ≡ agreement_in c.stream.start = cc in
+    (sym (asked_is o c done own) ∙ e, is ∙ ap agreement_in (sym own.track.begins.start))
 accepts_asked o c done (Err refusal) rule own = sym (asked_is o c done own) ∙ go (may_answer c.stream) rule
   where
-    go : (b : Bool) → Err refusal ≡ cond {A = Result Agreed NotAsked} b (Ok (accepted_agreed c.stream)) (Err (record {})) → b ≡ false
+    go : (b : Bool) → Err refusal ≡ cond {A = Result Agreed NotAsked} b (Ok (agreement_in c.stream.start)) (Err (record {})) → b ≡ false
     go true h = cc
     go false h = refl
 

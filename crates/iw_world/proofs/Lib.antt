@@ -1,3 +1,4 @@
+pub mod Nexts
 pub mod Tales
 pub mod Seeing
 pub mod Told

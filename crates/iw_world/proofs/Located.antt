@@ -6,11 +6,12 @@ use Rattle.iw_fpdu.specs.declared.layout.Layout.{Layout}
 use Rattle.iw_fpdu.specs.Sequence.{Carried, first_frame, frames_within, frames_of}
 use Rattle.iw_fpdu.specs.Laws.{IsBetween}
 use Rattle.iw_fpdu.proofs.Sequences.{first_takes}
+use Rattle.iw_stream.proofs.Fronts.{carried_by}
 use Rattle.iw_world.specs.Turns.{Located, located, located_within, located_of, behind_last}
 
 -- without their places they are the frames of the octets
 abbrev pub frames_at : List Located → List Carried
-frames_at fs = map (λ (f : Located). f.frame) fs
+frames_at fs = map (λ (f : Located). carried_by f.frame) fs
 
 within_are : (n : ℕ) (layout : Layout) (at : ℕ) (x : List ℕ) → frames_at (located_within n layout at x) ≡ frames_within n layout at x
 unfolding located_within frames_within

@@ -1,7 +1,5 @@
 -- What was sent of the messages that were posted, and which of them can be finished.
-use Rattle.std.proofs.Common.{◌≡◌, ℕ, ◌+◌, ◌<◌, ◌≤◌, List, [], ◌∷◌, ◌++◌, length, take, map, Some, None, true, false, refl, sym, ap, ◌∙◌, subst, arith, append_assoc, length-append}
-use Rattle.std.specs.Prelude.{is_some, not, nat_eq, Bool, ◌&&◌}
-use Rattle.std.specs.Option.{option_map_or}
+use Rattle.std.proofs.Common.{◌≡◌, ℕ, ◌+◌, ◌<◌, ◌≤◌, List, [], ◌∷◌, ◌++◌, length, take, map, Some, None, refl, sym, ap, ◌∙◌, subst, arith, append_assoc, length-append}
 use Rattle.std.proofs.lemmas.List.{append-nil, map-append, length-map, length-take-le, take-map, append_cancel_left}
 use Rattle.iw_octets.specs.declared.message.Message.{Message}
 use Rattle.iw_octets.specs.declared.segment.Segment.{Segment}
@@ -18,12 +16,11 @@ use Rattle.iw_queues.specs.Segments.{first_numbers, AreSpelled}
 use Rattle.iw_queues.specs.Laws.{kinds_in}
 use Rattle.iw_queues.proofs.Order.{keeps_order}
 use Rattle.iw_queues.proofs.Sending.{sends_in_order}
-use Rattle.iw_startup.specs.State.{StartupState, is_responder, frame_of, agreed_of}
-use Rattle.iw_stream.specs.Stream.{StreamState, own_frame}
-use Rattle.iw_stream.specs.Stream as streams
+use Rattle.iw_stream.specs.Starting.{is_open, sending, own_frame}
+use Rattle.iw_stream.specs.Stream.{StreamState}
 use Rattle.iw_world.specs.Words.{Octets}
 use Rattle.iw_world.specs.Safe.{requests}
-use Rattle.iw_world.specs.Turns.{Story, start_frame, sending, is_open, is_silent}
+use Rattle.iw_world.specs.Turns.{Story}
 use Rattle.iw_world.specs.Sends.{AreSent, IsSentMessage}
 use Rattle.iw_world.proofs.Tales.{Tale}
 use Rattle.iw_world.proofs.Tracks.{Track}
@@ -32,22 +29,15 @@ use Rattle.iw_world.proofs.Counts.{IsTold, count_last, hands, none_sent, first_m
 use Rattle.iw_world.proofs.Owns.{Emits, IsFramed, Unspoken, Spoken}
 
 -- the story of a stream and its state begin alike
-not_not : (b : Bool) → not (not b) ≡ b
-not_not true = refl
-not_not false = refl
-
 module _ (s : StreamState) (t : Tale) (k : Track s t) where
-  pub start_frame_is : start_frame t.story ≡ own_frame s
-  start_frame_is = ap (λ o. option_map_or frame_of o []) k.begins.startup
+  pub start_frame_is : own_frame t.story.start ≡ own_frame s.start
+  start_frame_is = ap own_frame k.begins.start
 
-  pub open_is : is_open t.story ≡ streams.is_open s
-  open_is = ap (λ o. option_map_or (λ (u : StartupState). is_some (agreed_of u)) o true) k.begins.startup
+  pub open_is : is_open t.story.start ≡ is_open s.start
+  open_is = ap is_open k.begins.start
 
-  pub silent_is : is_silent t.story ≡ streams.keeps_silent s
-  silent_is = λ i. option_map_or (λ (u : StartupState). is_responder u.side) (k.begins.startup i) false && (sym (not_not (nat_eq t.story.turns 0)) ∙ ap not (sym k.passed)) i
-
-  pub sequence_is : (us : List (Segment Octets)) → start_frame t.story ++ sequence (sending t.story) 0 (map segment_octets us) ≡ own_frame s ++ sequence s.sending 0 (map segment_octets us)
-  sequence_is us = λ i. start_frame_is i ++ sequence (sym k.begins.sends i) 0 (map segment_octets us)
+  pub sequence_is : (us : List (Segment Octets)) → own_frame t.story.start ++ sequence (sending t.story.start) 0 (map segment_octets us) ≡ own_frame s.start ++ sequence (sending s.start) 0 (map segment_octets us)
+  sequence_is us = λ i. own_frame (k.begins.start i) ++ sequence (sending (k.begins.start i)) 0 (map segment_octets us)
 
 no_frames : (l : Layout) → sequence l 0 [] ≡ []
 unfolding sequence
@@ -58,21 +48,21 @@ sent_first : (s : StreamState) (t : Tale) → Track s t → (e : Emits s t) → 
 sent_first s t k e n some enough =
     let w = sends_in_order.whole (requests t.posted) e.segments s.numbers s.queue e.has in
     let f = first_messages n first_numbers (requests t.posted) (e.segments ++ w.0) e.segments w.0 w.1 refl enough in
-    let layout : Layout = sending t.story in
+    let layout : Layout = sending t.story.start in
     let mine : List Octets = map segment_octets f.mine in
     let others : List Octets = map segment_octets f.others in
-    let front : Octets = start_frame t.story ++ sequence layout 0 mine in
+    let front : Octets = own_frame t.story.start ++ sequence layout 0 mine in
     let rest : Octets = sequence layout (place_behind layout 0 mine) others in
     let joined : sequence layout 0 mine ++ rest ≡ sequence layout 0 (map segment_octets e.segments) =
     sym (sequences_join layout 0 mine others) ∙ ap (sequence layout 0) (sym (map-append segment_octets f.mine f.others)) ∙ ap (λ z. sequence layout 0 (map segment_octets z)) (sym f.is) in (
       front,
       record { segments = f.mine; carry = subst (λ z. AreSpelled first_numbers 0 z f.mine) (take-map Posted n t.posted) f.spelled; framed = refl },
-      (rest, append_assoc (start_frame t.story) (sequence layout 0 mine) rest ∙ ap (λ z. start_frame t.story ++ z) joined ∙ sequence_is s t k e.segments ∙ sym (framed e.framed)),
+      (rest, append_assoc (own_frame t.story.start) (sequence layout 0 mine) rest ∙ ap (λ z. own_frame t.story.start ++ z) joined ∙ sequence_is s t k e.segments ∙ sym (framed e.framed)),
     )
   where
-    framed : IsFramed s t.sent e.segments → t.sent ≡ own_frame s ++ sequence s.sending 0 (map segment_octets e.segments)
-    framed (Spoken a b) = b
-    framed (Unspoken a b c) = absurd (omega (arith, some, enough, ap count_last c))
+    framed : IsFramed s.start t.sent e.segments → t.sent ≡ own_frame s.start ++ sequence (sending s.start) 0 (map segment_octets e.segments)
+    framed (Spoken b) = b
+    framed (Unspoken b c) = absurd (omega (arith, some, enough, ap count_last c))
 
 -- a message that the queue has finished was sent to its end, and is the next of those posted
 pub can_finish : (s : StreamState) (t : Tale) → Track s t → Emits s t → (d : Done) → done_in s.queue ≡ Some d → IsSentMessage t.story t.sent t.posted (length t.finished) d.kind
@@ -86,11 +76,11 @@ no_octets : (xs : Octets) → length xs ≡ 0 → xs ≡ []
 no_octets [] h = refl
 no_octets (x ∷ xs) h = absurd (omega (arith, h))
 
-bare_last : (t : Story) (vs : List (Segment Octets)) (front rest : Octets) → front ≡ start_frame t ++ sequence (sending t) 0 (map segment_octets vs) → front ++ rest ≡ [] → Each IsTold vs → count_last vs ≤ 0
+bare_last : (t : Story) (vs : List (Segment Octets)) (front rest : Octets) → front ≡ own_frame t.start ++ sequence (sending t.start) 0 (map segment_octets vs) → front ++ rest ≡ [] → Each IsTold vs → count_last vs ≤ 0
 bare_last t vs front rest are none told =
-    let frames : Octets = sequence (sending t) 0 (map segment_octets vs) in
-    let nil : length frames ≡ 0 = omega (arith, ap length none, length-append front rest, ap length are, length-append (start_frame t) frames) in
-    front_last (sending t) 0 vs [] [] (frames_follow.first (sending t).markers) told tt (append-nil frames ∙ no_octets frames nil ∙ sym (no_frames (sending t)))
+    let frames : Octets = sequence (sending t.start) 0 (map segment_octets vs) in
+    let nil : length frames ≡ 0 = omega (arith, ap length none, length-append front rest, ap length are, length-append (own_frame t.start) frames) in
+    front_last (sending t.start) 0 vs [] [] (frames_follow.first (sending t.start).markers) told tt (append-nil frames ∙ no_octets frames nil ∙ sym (no_frames (sending t.start)))
 
 -- as many messages as segments that are the last of theirs
 lasts_are : (t : Story) (octets : Octets) (ms : List (Message Octets)) (k : ℕ) (kind : Kind) (c : IsSentMessage t octets ms k kind) → count_last c.sent.1.segments ≡ k + 1
@@ -112,12 +102,12 @@ cannot_finish s t k e none kind c =
     let most : count_last all.segments ≤ count_last e.segments = go c.sent.0 c.sent.2.0 all.segments all.framed c.sent.2.1 (spelled_told first_numbers (take (length t.finished + 1) t.posted) all.segments all.carry) e.framed in
     absurd (omega (arith, few, lasts_are t.story t.sent t.posted (length t.finished) kind c, most))
   where
-    go : (front rest : Octets) (vs : List (Segment Octets)) → front ≡ start_frame t.story ++ sequence (sending t.story) 0 (map segment_octets vs) → front ++ rest ≡ t.sent → Each IsTold vs → IsFramed s t.sent e.segments
+    go : (front rest : Octets) (vs : List (Segment Octets)) → front ≡ own_frame t.story.start ++ sequence (sending t.story.start) 0 (map segment_octets vs) → front ++ rest ≡ t.sent → Each IsTold vs → IsFramed s.start t.sent e.segments
         → count_last vs ≤ count_last e.segments
-    go front rest vs are all told (Unspoken a b c) = let none : count_last vs ≤ 0 = bare_last t.story vs front rest are (all ∙ b) told in omega (arith, none)
-    go front rest vs are all told (Spoken a b) =
-        let start : Octets = start_frame t.story in
-        let frames : Octets = sequence (sending t.story) 0 (map segment_octets vs) in
-        let whole : start ++ (frames ++ rest) ≡ start ++ sequence (sending t.story) 0 (map segment_octets e.segments) =
+    go front rest vs are all told (Unspoken b c) = let none : count_last vs ≤ 0 = bare_last t.story vs front rest are (all ∙ b) told in omega (arith, none)
+    go front rest vs are all told (Spoken b) =
+        let start : Octets = own_frame t.story.start in
+        let frames : Octets = sequence (sending t.story.start) 0 (map segment_octets vs) in
+        let whole : start ++ (frames ++ rest) ≡ start ++ sequence (sending t.story.start) 0 (map segment_octets e.segments) =
         sym (append_assoc start frames rest) ∙ ap (λ z. z ++ rest) (sym are) ∙ all ∙ b ∙ sym (sequence_is s t k e.segments) in
-        front_last (sending t.story) 0 vs e.segments rest (frames_follow.first (sending t.story).markers) told (all_told e.segments e.good) (append_cancel_left start _ _ whole)
+        front_last (sending t.story.start) 0 vs e.segments rest (frames_follow.first (sending t.story.start).markers) told (all_told e.segments e.good) (append_cancel_left start _ _ whole)

@@ -12,7 +12,7 @@ use Rattle.iw_octets.specs.Segment.{segment_octets, FitsSegment}
 use Rattle.iw_memory.specs.Table.{empty}
 use Rattle.iw_memory.specs.declared.refusal.DomainRefusal.TheVariants.{DomainTaken}
 use Rattle.iw_ranges.specs.declared.Delivery.TheVariants.{Kept, Dropped}
-use Rattle.iw_ranges.specs.Arrived.{in_order, taken_in, held}
+use Rattle.iw_ranges.specs.Arrived.{taken_in, held}
 use Rattle.iw_fpdu.specs.Places.{data_place, data_index, in_marker, place_after, span_start}
 use Rattle.iw_fpdu.specs.Frame.{max_sent, frame_octets, frame_size, laid, octet_at, marker_value}
 use Rattle.iw_fpdu.specs.Sequence.{Carried, intact, first_frame, sequence}
@@ -25,8 +25,8 @@ use Rattle.iw_queues.specs.Request.{kind_of}
 use Rattle.iw_queues.specs.Segments.{send_segment}
 use Rattle.iw_startup.specs.declared.progress.Progress.TheVariants as progress
 use Rattle.iw_startup.specs.Peer.{progress_of, frame_end as startup_end, fixed_fault}
-use Rattle.iw_startup.specs.State.{StartupState, agreed_of, pushed}
-use Rattle.iw_stream.specs.Stream.{plain}
+use Rattle.iw_startup.specs.State.{agreed_of, pushed}
+use Rattle.iw_stream.specs.Starting.{plain}
 use Rattle.iw_events.specs.declared.call.End.TheVariants.{A}
 use Rattle.iw_events.specs.declared.act.Act.TheVariants.{Domain}
 use Rattle.iw_events.specs.declared.act.Seen.TheVariants as seen
@@ -53,8 +53,8 @@ pub refuses_rest_with_reply : RefusesRestWithReply
 unfolding acts stream_acts openings ended story agreed_of progress_of startup_end fixed_fault taken_in held
 refuses_rest_with_reply h = elim (h (take 4 rests_with_reply) (a (works seen.Idle)) [] refl).reason [
   | Over e ↦ false≢true e
-  | AwaitsFrame f ↦ let none : progress.Agreed ≡ progress.More = ap (λ o. option_map_or (λ (u : StartupState). progress_of u.side (in_order (story_of 0 (acts A (take 4 rests_with_reply))).came)) o progress.More) f.is ∙ f.comes in cc
-  | AwaitsAnswer o e ↦ false≢true e
+  | AwaitsFrame f ↦ let none : progress.Agreed ≡ progress.More = f.comes in cc
+  | AwaitsAnswer o e ↦ true≢false e
   | NoFrame e o ↦ false≢true e
 ]
 

@@ -20,12 +20,11 @@ use Rattle.iw_queues.specs.Completions.{next_ticket}
 use Rattle.iw_queues.specs.Queue.{Queue, next_part, part_of_first, part_from, IsBegun, IsWithinLimits}
 use Rattle.iw_queues.specs.Queue as queues
 use Rattle.iw_queues.specs.Segments.{Numbers, numbers_after, numbers_behind, segment_with, segment_of}
-use Rattle.iw_octets.specs.declared.operation.TaggedOperation.TheVariants as tagged
 use Rattle.iw_octets.specs.declared.operation.UntaggedOperation.TheVariants as untagged
-use Rattle.iw_octets.specs.Operation.{control_of, tagged_opcode, untagged_opcode}
+use Rattle.iw_octets.specs.Operation.{control_of, untagged_opcode}
 use Rattle.iw_stream.specs.declared.answer.PostRefusal.TheVariants as post_refusals
-use Rattle.iw_stream.specs.declared.answer.Emission.TheVariants as emissions
-use Rattle.iw_stream.specs.Stream.{StreamState, post_refusal, post_refusal_of, is_open, own_frame, owes_frame, keeps_silent, part_due, frame_of_part, emission_of, emitted}
+use Rattle.iw_stream.specs.Starting.{is_open, own_frame}
+use Rattle.iw_stream.specs.Stream.{StreamState, Due, StartUp, NextPart, NoneDue, post_refusal, post_refusal_of, owes_frame, keeps_silent, part_due, due, frame_of_part, octets_due, emission_due, emission_of, emitted}
 use Rattle.iw_events.specs.declared.act.Shown.TheVariants.{Frame, Nothing}
 use Rattle.iw_world.specs.Rules.{FitsMessage, FitsOptional}
 use Rattle.iw_world.specs.Words.{Octets}
@@ -46,13 +45,13 @@ pub record IsSendable (segment : Segment Octets) : Type 0 where
 -- a message that is accepted is posted on an open stream, and not refused by the queue
 pub record IsAccepted (s : StreamState) (m : Message Octets) : Type 0 where
   pub running : s.ended ≡ false
-  pub started : is_open s ≡ true
+  pub started : is_open s.start ≡ true
   pub posted : queues.post_refusal s.queue (Posted m) ≡ None
 
 pub accepted : (s : StreamState) (m : Message Octets) → None ≡ post_refusal s m → IsAccepted s m
-accepted s m e = go s.ended (is_open s) (queues.post_refusal s.queue (Posted m)) refl refl refl e
+accepted s m e = go s.ended (is_open s.start) (queues.post_refusal s.queue (Posted m)) refl refl refl e
   where
-    go : (ended started : Bool) (o : Option Refusal) → s.ended ≡ ended → is_open s ≡ started → queues.post_refusal s.queue (Posted m) ≡ o
+    go : (ended started : Bool) (o : Option Refusal) → s.ended ≡ ended → is_open s.start ≡ started → queues.post_refusal s.queue (Posted m) ≡ o
         → None ≡ cond (ended || not started) (Some post_refusals.NotOpen) (option_map post_refusal_of o) → IsAccepted s m
     go true started o a b c h = absurd (none-some _ h)
     go false false o a b c h = absurd (none-some _ h)
@@ -61,66 +60,78 @@ accepted s m e = go s.ended (is_open s) (queues.post_refusal s.queue (Posted m))
 
 -- ---- emissions
 
--- the start-up frame is emitted
-pub record EmitsStart (s : StreamState) (from : ℕ) (octets : Octets) : Type 0 where
-  pub owes : owes_frame s ≡ true
-  pub from_is : from ≡ s.sent
-  pub octets_are : octets ≡ own_frame s
-
--- a frame is emitted: that of the part that is due, on an open stream that has not ended and need not keep silent
-pub record EmitsPart (s : StreamState) (from : ℕ) (octets : Octets) : Type 0 where
-  pub spoken : owes_frame s ≡ false
-  pub running : s.ended ≡ false
-  pub started : is_open s ≡ true
-  pub loud : keeps_silent s ≡ false
-  pub from_is : from ≡ s.sent
-  pub part : Part (Request Octets)
-  pub due : part_due s ≡ Some part
-  pub octets_are : octets ≡ frame_of_part s part
-
-pub emits_frame : (s : StreamState) (from : ℕ) (octets : Octets) → Frame from octets ≡ shown_of (emission_of s) (emitted s) → EmitsStart s from octets ⊎ EmitsPart s from octets
-emits_frame s from octets e = go (owes_frame s) s.ended (is_open s) (keeps_silent s) (part_due s) refl refl refl refl refl e
-  where
-    go : (owes ended started silent : Bool) (o : Option (Part (Request Octets))) → owes_frame s ≡ owes → s.ended ≡ ended → is_open s ≡ started → keeps_silent s ≡ silent → part_due s ≡ o
-        → Frame from octets
-        ≡ shown_of
-        (cond owes (emissions.Frame s.sent (length (own_frame s)))
-        (cond (ended || (not started || silent)) emissions.Nothing (option_map_or (λ part. emissions.Frame s.sent (length (frame_of_part s part))) o emissions.Nothing)))
-        (cond owes (own_frame s) (cond (ended || (not started || silent)) [] (option_map_or (frame_of_part s) o [])))
-        → EmitsStart s from octets ⊎ EmitsPart s from octets
-    go true ended started silent o a b c d is h = inl (record { owes = a; from_is = let place : from ≡ s.sent = cc in place; octets_are = let same : octets ≡ own_frame s = cc in same })
-    go false true started silent o a b c d is h = cc
-    go false false false silent o a b c d is h = cc
-    go false false true true o a b c d is h = cc
-    go false false true false None a b c d is h = cc
-    go false false true false (Some part) a b c d is h =
-        let same : octets ≡ frame_of_part s part = cc in
-        let place : from ≡ s.sent = cc in
-        inr (record { spoken = a; running = b; started = c; loud = d; from_is = place; part = part; due = is; octets_are = same })
-
--- where nothing is emitted, the start-up frame is not owed, and the stream has ended, is not open, keeps silent, or no part is due
+-- no frame is owed, and the stream has ended, is not open, keeps silent, or no part is due
 pub data Rests (s : StreamState) : Type 0 where
   Ended : s.ended ≡ true → Rests s
-  Shut : is_open s ≡ false → Rests s
+  Shut : is_open s.start ≡ false → Rests s
   Silent : keeps_silent s ≡ true → Rests s
   Sent : part_due s ≡ None → Rests s
 
-pub rests : (s : StreamState) → Nothing ≡ shown_of (emission_of s) (emitted s) → (owes_frame s ≡ false) × Rests s
-rests s e = go (owes_frame s) s.ended (is_open s) (keeps_silent s) (part_due s) refl refl refl refl refl e
+-- the stream has not ended, is open and need not keep silent
+pub record IsLoud (s : StreamState) (part : Part (Request Octets)) : Type 0 where
+  pub spoken : owes_frame s ≡ false
+  pub running : s.ended ≡ false
+  pub started : is_open s.start ≡ true
+  pub loud : keeps_silent s ≡ false
+  pub part_is : part_due s ≡ Some part
+
+-- why this is due
+abbrev IsDue : StreamState → Due → Type 0
+IsDue s StartUp = owes_frame s ≡ true
+IsDue s (NextPart part) = IsLoud s part
+IsDue s NoneDue = (owes_frame s ≡ false) × Rests s
+
+due_told : (s : StreamState) → IsDue s (due s)
+due_told s = go (owes_frame s) s.ended (is_open s.start) (keeps_silent s) (part_due s) refl refl refl refl refl
   where
-    go : (owes ended started silent : Bool) (o : Option (Part (Request Octets))) → owes_frame s ≡ owes → s.ended ≡ ended → is_open s ≡ started → keeps_silent s ≡ silent → part_due s ≡ o
-        → Nothing
-        ≡ shown_of
-        (cond owes (emissions.Frame s.sent (length (own_frame s)))
-        (cond (ended || (not started || silent)) emissions.Nothing (option_map_or (λ part. emissions.Frame s.sent (length (frame_of_part s part))) o emissions.Nothing)))
-        (cond owes (own_frame s) (cond (ended || (not started || silent)) [] (option_map_or (frame_of_part s) o [])))
-        → (owes_frame s ≡ false) × Rests s
-    go true ended started silent o a b c d is h = cc
-    go false true started silent o a b c d is h = (a, Ended b)
-    go false false false silent o a b c d is h = (a, Shut c)
-    go false false true true o a b c d is h = (a, Silent d)
-    go false false true false None a b c d is h = (a, Sent is)
-    go false false true false (Some part) a b c d is h = cc
+    go : (owes ended started silent : Bool) (o : Option (Part (Request Octets))) → owes_frame s ≡ owes → s.ended ≡ ended → is_open s.start ≡ started → keeps_silent s ≡ silent → part_due s ≡ o
+        → IsDue s (cond owes StartUp (cond (ended || (not started || silent)) NoneDue (option_map_or NextPart o NoneDue)))
+    go true ended started silent o a b c d is = a
+    go false true started silent o a b c d is = (a, Ended b)
+    go false false false silent o a b c d is = (a, Shut c)
+    go false false true true o a b c d is = (a, Silent d)
+    go false false true false None a b c d is = (a, Sent is)
+    go false false true false (Some part) a b c d is = record { spoken = a; running = b; started = c; loud = d; part_is = is }
+
+-- the start-up frame is emitted
+pub record EmitsStart (s : StreamState) (from : ℕ) (octets : Octets) : Type 0 where
+  pub owes : owes_frame s ≡ true
+  pub next : due s ≡ StartUp
+  pub from_is : from ≡ s.sent
+  pub octets_are : octets ≡ own_frame s.start
+
+-- a frame is emitted: that of the part that is due, on an open stream that has not ended and need not keep silent
+pub record EmitsPart (s : StreamState) (from : ℕ) (octets : Octets) : Type 0 where
+  pub part : Part (Request Octets)
+  pub is_loud : IsLoud s part
+  pub next : due s ≡ NextPart part
+  pub from_is : from ≡ s.sent
+  pub octets_are : octets ≡ frame_of_part s part
+
+pub emits_frame : (s : StreamState) (from : ℕ) (octets : Octets) → Frame from octets ≡ shown_of (emission_of s) (emitted s) → EmitsStart s from octets ⊎ EmitsPart s from octets
+emits_frame s from octets e = go (due s) refl (due_told s) e
+  where
+    go : (d : Due) → due s ≡ d → IsDue s d → Frame from octets ≡ shown_of (emission_due s d) (octets_due s d) → EmitsStart s from octets ⊎ EmitsPart s from octets
+    go StartUp is t h = inl (record { owes = t; next = is; from_is = let place : from ≡ s.sent = cc in place; octets_are = let same : octets ≡ own_frame s.start = cc in same })
+    go (NextPart part) is t h =
+        let place : from ≡ s.sent = cc in
+        let same : octets ≡ frame_of_part s part = cc in
+        inr (record { part = part; is_loud = t; next = is; from_is = place; octets_are = same })
+    go NoneDue is t h = cc
+
+-- nothing is emitted
+pub record EmitsNothing (s : StreamState) : Type 0 where
+  pub spoken : owes_frame s ≡ false
+  pub next : due s ≡ NoneDue
+  pub reason : Rests s
+
+pub rests : (s : StreamState) → Nothing ≡ shown_of (emission_of s) (emitted s) → EmitsNothing s
+rests s e = go (due s) refl (due_told s) e
+  where
+    go : (d : Due) → due s ≡ d → IsDue s d → Nothing ≡ shown_of (emission_due s d) (octets_due s d) → EmitsNothing s
+    go StartUp is t h = cc
+    go (NextPart part) is t h = cc
+    go NoneDue is t h = record { spoken = t.0; next = is; reason = t.1 }
 
 -- where no part is due, nothing is left to be sent
 pub none_left : (q : Queue) (max : ℕ) → next_part q max ≡ None → q.unsent ≡ []

@@ -1,10 +1,15 @@
 -- How many octets the entries of a trace can have emitted, and how many frames can have had their turn.
-use Rattle.std.proofs.Common.{◌≡◌, ℕ, ◌+◌, ◌*◌, ◌^◌, ◌<◌, ◌≤◌, List, [], ◌∷◌, ◌++◌, length, Some, None, Ok, Err, Bool, true, false, cond, eqb, refl, sym, ap, ◌∙◌, subst, arith, append_assoc, length-append}
-use Rattle.std.specs.Prelude.{fold, Option, is_some, not, ◌&&◌}
-use Rattle.std.specs.Option.{option_map_or}
-use Rattle.iw_startup.specs.State.{StartupState}
+use Rattle.std.proofs.Common.{◌≡◌, ℕ, ◌+◌, ◌*◌, ◌^◌, ◌<◌, ◌≤◌, List, [], ◌∷◌, ◌++◌, length, Some, None, Ok, Err, Bool, true, false, eqb, refl, sym, ap, ◌∙◌, subst, arith, append_assoc, length-append}
+use Rattle.std.specs.Prelude.{fold, take}
+use Rattle.iw_ranges.specs.Arrived.{in_order}
+use Rattle.iw_startup.specs.declared.config.Config.{Config}
+use Rattle.iw_startup.specs.declared.side.Reply.{Reply}
+use Rattle.iw_startup.specs.declared.side.Reply.TheVariants as replies
+use Rattle.iw_stream.specs.declared.answer.Role.{Role}
+use Rattle.iw_stream.specs.declared.answer.Role.TheVariants.{Preset, Initiator, Responder}
+use Rattle.iw_stream.specs.Starting.{StartState, AtOnce, Unheard, Heard, start_at_first, heard, answered_with}
 use Rattle.iw_stream.specs.Stream.{StreamState}
-use Rattle.iw_world.proofs.Tracks.{Track}
+use Rattle.iw_world.proofs.Tracks.{Track, start_octets}
 use Rattle.std.proofs.lemmas.List.{append-nil, length_push}
 use Rattle.iw_events.specs.declared.call.End.{End}
 use Rattle.iw_events.specs.declared.act.Act.{Act}
@@ -80,18 +85,39 @@ turns_in done = fold turn_after 0 done
 turns_on : ℕ → List (Act Octets) → ℕ
 turns_on n done = turns_in (stream_acts n done)
 
+-- the peer's start-up frame, once it was read
+abbrev was_read : StartState → ℕ
+was_read (AtOnce layout) = 0
+was_read (Unheard u) = 0
+was_read (Heard u) = 1
+
+one_read : (start : StartState) (xs : Octets) → was_read (heard start xs) ≤ was_read start + 1
+one_read (AtOnce layout) xs = omega arith
+one_read (Unheard u) xs = omega arith
+one_read (Heard u) xs = omega arith
+
+none_read : (start : StartState) (reply : Reply) → was_read (answered_with start reply) ≡ was_read start
+none_read (AtOnce layout) reply = refl
+none_read (Unheard u) reply = refl
+none_read (Heard u) reply = refl
+
+first_unread : (role : Role) (config : Config) → was_read (start_at_first role config) ≡ 0
+first_unread Preset config = refl
+first_unread Initiator config = refl
+first_unread Responder config = refl
+
 -- how many frames a story has read, the start-up frame among them
 abbrev frames_read : Story → ℕ
-frames_read t = t.turns + cond t.heard 1 0
+frames_read t = t.turns + was_read t.start
 
 -- it counts no more
 counts : (t : Story) (act : StreamAct Octets) (n : ℕ) → frames_read t ≤ n → frames_read (story_after t act) ≤ turn_after n act
 counts t (Work seen.Passed) n h = omega (arith, h)
 counts t (Work (seen.Received octets solicited invalidate)) n h = omega (arith, h)
 counts t (Work (seen.Done kind)) n h = omega (arith, h)
-counts t (Work (seen.Asked private)) n h = omega (arith, h)
-counts t (Work (seen.Opened agreed private)) n h = omega (arith, h)
-counts t (Work (seen.Closed fault)) n h = omega (arith, h)
+counts t (Work (seen.Asked private)) n h = omega (arith, h, one_read t.start (in_order t.came))
+counts t (Work (seen.Opened agreed private)) n h = omega (arith, h, one_read t.start (in_order t.came))
+counts t (Work (seen.Closed fault)) n h = omega (arith, h, one_read t.start (in_order t.came))
 counts t (Work (seen.Placed right stag to octets)) n h = omega (arith, h)
 counts t (Work (seen.Buffered msn mo len)) n h = omega (arith, h)
 counts t (Work (seen.Fault fault)) n h = omega (arith, h)
@@ -99,9 +125,9 @@ counts t (Work seen.Idle) n h = omega (arith, h)
 counts t (Deliver from octets delivery) n h = omega (arith, h)
 counts t (Raw from octets delivery) n h = omega (arith, h)
 counts t (Mulpdu size refused) n h = omega (arith, h)
-counts t (Accept private (Ok agreed)) n h = omega (arith, h)
+counts t (Accept private (Ok agreed)) n h = omega (arith, h, none_read t.start (replies.Accept (record { items = take 512 private })))
 counts t (Accept private (Err refusal)) n h = omega (arith, h)
-counts t (Reject private None) n h = omega (arith, h)
+counts t (Reject private None) n h = omega (arith, h, none_read t.start (replies.Reject (record { items = take 512 private })))
 counts t (Reject private (Some refusal)) n h = omega (arith, h)
 counts t (Recv len None) n h = omega (arith, h)
 counts t (Recv len (Some refusal)) n h = omega (arith, h)
@@ -114,16 +140,16 @@ counts_all t (act ∷ done) n h = counts_all (story_after t act) done (turn_afte
 
 story_turns : (o : Opening) (done : List (StreamAct Octets)) → frames_read (story o done) ≤ turns_in done
 unfolding story turns_in
-story_turns o done = counts_all (untold o) done 0 (omega arith)
+story_turns o done = counts_all (untold o) done 0 (omega (arith, first_unread o.role o.config))
 
 -- the peer's start-up frame is counted once it was read
-intro_few : (s : StreamState) (t : Tale) (k : Track s t) → length k.intro ≤ 262144 * cond t.story.heard 1 0
-intro_few s t k = subst (λ b. length k.intro ≤ 262144 * cond b 1 0) (sym k.begins.heard) (go s.heard s.startup refl refl)
+intro_few : (s : StreamState) (t : Tale) (k : Track s t) → length k.intro ≤ 262144 * was_read t.story.start
+intro_few s t k = subst (λ z. length k.intro ≤ 262144 * was_read z) (sym k.begins.start) (go s.start (ap length k.begins.octets))
   where
-    go : (heard : Bool) (u : Option StartupState) → s.heard ≡ heard → s.startup ≡ u → length k.intro ≤ 262144 * cond heard 1 0
-    go true u h is = omega (arith, k.early)
-    go false None h is = omega (arith, ap length (k.begins.octets ∙ ap (λ o. option_map_or (λ (v : StartupState). v.octets) o []) is))
-    go false (Some u) h is = omega (arith, ap length (k.begins.unheard (λ i. is_some (is i) && not (h i))))
+    go : (start : StartState) → length k.intro ≡ length (start_octets start) → length k.intro ≤ 262144 * was_read start
+    go (AtOnce layout) e = omega (arith, e)
+    go (Unheard u) e = omega (arith, e)
+    go (Heard u) e = omega (arith, k.early)
 
 one_turn : (turns : ℕ) (act : StreamAct Octets) → turn_after turns act ≤ turns + 1
 one_turn turns (Work seen.Passed) = omega arith

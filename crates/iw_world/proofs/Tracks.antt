@@ -11,12 +11,11 @@ use Rattle.iw_octets.specs.declared.segment.Segment.TheVariants.{Tagged, Untagge
 use Rattle.iw_octets.specs.declared.stag.Stag.{Stag}
 use Rattle.iw_octets.specs.declared.message.Message.TheVariants.{Write}
 use Rattle.iw_memory.specs.declared.rights.Right.{Right}
-use Rattle.iw_memory.specs.declared.rights.Right.TheVariants as rights
 use Rattle.iw_memory.specs.Table.{Table}
 use Rattle.iw_ranges.specs.declared.Delivery.TheVariants.{Kept, Dropped}
 use Rattle.iw_ranges.specs.Arrived.{Arrived, in_order, delivery, taken_in, advanced}
-use Rattle.iw_ranges.specs.InOrder.{IsInWindow}
-use Rattle.iw_ranges.proofs.InOrder.{takes, moves, moves_takes, floor_takes, floor_moves, window_takes, window_moves, short}
+use Rattle.iw_ranges.specs.InOrder.{IsHeld, IsInWindow}
+use Rattle.iw_ranges.proofs.InOrder.{takes, moves, moves_takes, floor_takes, floor_moves, held_takes, held_moves, window_takes, window_moves, short}
 use Rattle.iw_fpdu.specs.declared.layout.Layout.{Layout}
 use Rattle.iw_fpdu.specs.Sequence.{Carried, first_frame, frames_of}
 use Rattle.iw_fpdu.specs.Laws.{IsBetween}
@@ -28,33 +27,39 @@ use Rattle.iw_startup.specs.declared.side.Reply.TheVariants as replies
 use Rattle.iw_startup.specs.declared.config.Agreed.{Agreed}
 use Rattle.iw_startup.specs.declared.startup.NotAsked.{NotAsked}
 use Rattle.iw_startup.specs.declared.progress.StartupFault.{StartupFault}
+use Rattle.iw_startup.specs.declared.progress.Progress.{Progress}
 use Rattle.iw_startup.specs.declared.progress.Progress.TheVariants as progresses
-use Rattle.iw_queues.specs.Queue.{part_sent}
-use Rattle.iw_queues.specs.Segments.{numbers_behind}
-use Rattle.iw_startup.specs.Peer.{frame_end, frame_part}
-use Rattle.iw_startup.specs.State.{StartupState, IsReached, pushed, answered, agreement, agreed_of, progress, is_unanswered, is_asked, awaits_answer}
+use Rattle.iw_startup.specs.Peer.{frame_end, frame_part, progress_of}
+use Rattle.iw_startup.specs.State.{StartupState, IsReached, pushed, answered, agreed_of, progress, is_unanswered, is_asked, awaits_answer}
 use Rattle.iw_startup.proofs.Reached.{reached-pushed}
-use Rattle.iw_startup.proofs.Answered.{reached-answered, agreed_of-accepted}
-use Rattle.iw_startup.proofs.Heard.{agreed_of-pushed, side-pushed, octets-pushed}
-use Rattle.iw_startup.proofs.Openings.{nothing_agreed, unanswered_not_agreed, rejected_not_agreed, fault_not_agreed, asking_side, told_whole}
-use Rattle.iw_stream.specs.Stream as streams
-use Rattle.std.proofs.lemmas.Option.{none-some}
+use Rattle.iw_startup.proofs.Answered.{reached-answered}
+use Rattle.iw_startup.proofs.Heard.{octets-pushed}
+use Rattle.iw_startup.proofs.Openings.{unanswered_not_agreed, told_whole}
+use Rattle.std.proofs.lemmas.Option.{none-some, same_Some}
 use Rattle.iw_fpdu.proofs.Sequences.{Alone, first_alone, first_stays, first_takes}
-use Rattle.iw_untagged.specs.Receiving.{Receiving, with_buffer, written, finished, oldest}
-use Rattle.iw_stream.specs.Stream.{StreamState, Front, owes_frame, part_due, may_answer, accepted_agreed, plain, layout_in, layout_out, is_open, awaits_frame, first_place_in, front, inbox, segment_in, segment_at, payload_of, turned_by, place_behind, behind_front, delivery_of}
+use Rattle.iw_untagged.specs.Receiving.{Receiving, with_buffer, written, finished}
+use Rattle.iw_stream.specs.declared.judging.PlacedFrame.{PlacedFrame}
+use Rattle.iw_stream.specs.Frames.{payload_of, standing_at, placed as placed_of}
+use Rattle.iw_stream.specs.Frames as frames
+use Rattle.iw_stream.specs.Judging.{receiving_turned}
+use Rattle.iw_stream.specs.Starting.{StartState, AtOnce, Unheard, Heard, IsFresh, is_open, expecting, first_place_in, is_responder, progress_in, heard, agreement_in, answered_with}
+use Rattle.iw_stream.specs.Starting as starting
+use Rattle.iw_stream.specs.Stream.{StreamState, Due, StartUp, NextPart, NoneDue, due, left_due, may_answer, keeps_silent, delivery_of}
+use Rattle.iw_stream.specs.Work.{inbox}
+use Rattle.iw_stream.proofs.Fronts.{carried_by}
+use Rattle.iw_stream.proofs.Headers.{turned_kept}
 use Rattle.iw_events.specs.declared.act.StreamAct.{StreamAct}
 use Rattle.iw_events.specs.declared.act.StreamAct.TheVariants.{Recv, Post, Emit, Deliver, Raw, Mulpdu, Accept, Reject, Work}
-use Rattle.iw_events.specs.declared.act.Shown.TheVariants.{Frame, Nothing}
+use Rattle.iw_events.specs.declared.act.Shown.{Shown}
 use Rattle.iw_events.specs.declared.act.Seen.TheVariants as seen
-use Rattle.iw_stream.specs.declared.answer.Step.TheVariants as steps
-use Rattle.iw_stream.proofs.Inverse.{Hears, HearsReply, Fronts, PlacesSend, IsPassing}
 use Rattle.iw_world.specs.Words.{Octets, placed_by}
 use Rattle.iw_fpdu.specs.Places.{frame_start}
 use Rattle.iw_world.specs.Turns.{Located, located_of, behind_last}
-use Rattle.iw_world.specs.Turns.{Story, expecting, sending, first_place, hears, next_frame, next_segment, segment_of, in_order_point}
+use Rattle.iw_world.specs.Turns.{Story, is_silent, hears, next_frame, next_payload, next_turned, in_order_point}
 use Rattle.iw_world.proofs.Located.{frames_at, located_are, located_first, located_none, behind_last-push}
-use Rattle.iw_world.specs.Rules.{stream_after, private_data, accept_answer, answer_refusal}
-use Rattle.iw_world.proofs.Told.{SeesWrite, SeesReceive, Told}
+use Rattle.iw_world.specs.Rules.{private_data, accept_answer, answer_refusal}
+use Rattle.iw_world.proofs.Nexts.{Front, fore, place_in, standing, segment_in, segment_at, place_behind, behind_front, turned_by, IsFore, Sound}
+use Rattle.iw_world.proofs.Told.{Fronts, SeesWrite, SeesSend, IsPassing, SeesReceive, Hears, Told, kept_of, after_act}
 use Rattle.iw_world.proofs.Tales.{Tale, tale_after}
 use Rattle.iw_world.proofs.Checks.{checked_buffer, checked_head, checked_write}
 use Rattle.iw_world.proofs.Joins.{Joins, Waits, reshape, joins_same, joins_buffer, joins_front, joins_end, joins_write, joins_send, joins_tagged, joins_part, joins_last}
@@ -62,20 +67,30 @@ use Rattle.iw_world.proofs.Joins.{Joins, Waits, reshape, joins_same, joins_buffe
 -- ---- what a state and the acts of a stream have in common
 
 -- what holds of the start-up, where there is one
-abbrev pub OnStartup : (StartupState → Type 0) → Option StartupState → Type 0
-OnStartup P None = Unit {0}
-OnStartup P (Some u) = P u
+abbrev pub OnStart : (StartupState → Type 0) → StartState → Type 0
+OnStart P (AtOnce layout) = Unit {0}
+OnStart P (Unheard u) = P u
+OnStart P (Heard u) = P u
 
--- its start-up, and the octets of the peer's start-up frame, once that was read
+-- the octets of the peer's start-up frame, once that was read
+abbrev pub start_octets : StartState → Octets
+start_octets (AtOnce layout) = []
+start_octets (Unheard u) = []
+start_octets (Heard u) = u.octets
+
 pub record Begins (s : StreamState) (t : Tale) (intro : Octets) : Type 0 where
-  pub startup : t.story.startup ≡ s.startup
-  pub heard : t.story.heard ≡ s.heard
-  pub expects : s.expecting ≡ expecting t.story
-  pub sends : s.sending ≡ sending t.story
-  pub reached : OnStartup IsReached s.startup
-  pub first : length intro ≡ first_place_in s
-  pub octets : intro ≡ option_map_or (λ (u : StartupState). u.octets) s.startup []
-  pub unheard : awaits_frame s ≡ true → intro ≡ []
+  pub start : t.story.start ≡ s.start
+  pub reached : OnStart IsReached s.start
+  pub fresh : IsFresh s.start
+  pub octets : intro ≡ start_octets s.start
+
+length-start_octets : (z : StartState) → length (start_octets z) ≡ first_place_in z
+length-start_octets (AtOnce layout) = refl
+length-start_octets (Unheard u) = refl
+length-start_octets (Heard u) = refl
+
+pub first_is : (s : StreamState) (t : Tale) (intro : Octets) → Begins s t intro → length intro ≡ first_place_in s.start
+first_is s t intro b = ap length b.octets ∙ length-start_octets s.start
 
 -- no frame was read
 pub record IsBare (fs : List Carried) (octets : Octets) (was_placed : Bool) : Type 0 where
@@ -88,67 +103,82 @@ pub record Track (s : StreamState) (t : Tale) : Type 0 where
   pub begins : Begins s t intro
   pub frames : List Carried  -- those that had their turn
   pub before : Octets  -- their octets
-  pub shut : is_open s ≡ false → IsBare frames before s.placed
+  pub shut : is_open s.start ≡ false → IsBare frames before (is_some s.front)
   pub from_start : t.story.came.floor ≡ 0
   pub came : in_order t.story.came ≡ intro ++ (before ++ inbox s)
   pub arrived : s.arrived ≡ advanced t.story.came (length intro + length before)
   pub point : s.arrived.floor ≡ length intro + length before
-  pub between : IsBetween s.expecting.markers (length before)
+  pub between : IsBetween (expecting s.start).markers (length before)
   pub located : List Located  -- the same with their places
   pub named : frames_at located ≡ frames
-  pub split : (more : Octets) → located_of s.expecting 0 (before ++ more) ≡ located ++ located_of s.expecting (length before) more
+  pub split : (more : Octets) → located_of (expecting s.start) 0 (before ++ more) ≡ located ++ located_of (expecting s.start) (length before) more
   pub ends : behind_last 0 located ≡ length before
   pub turns : t.story.turns ≡ length frames
-  pub passed : s.passed ≡ not (nat_eq t.story.turns 0)
-  pub placed : t.story.placed ≡ s.placed
+  pub placed : t.story.placed ≡ (is_some s.front)
   pub receiving : t.story.receiving ≡ s.receiving
+  pub fore_is : (f : PlacedFrame) → s.front ≡ Some f → IsFore s f
+  pub held : IsHeld s.arrived
   pub window : IsInWindow s.arrived
   pub near : length before ≤ 262144 * length frames
+  pub far : length frames ≤ length before
   pub early : length intro ≤ 262144
   pub segments : List (Segment Octets)  -- what they carried
   pub carried : map segment_in frames ≡ map Some segments
-  pub joins : Joins segments s.receiving s.placed s.ended (segment_at (front s)) t.received t.placements
+  pub joins : Joins segments s.receiving (is_some s.front) s.ended (segment_at (fore s)) t.received t.placements
 
 get_behind : (xs ys : List Located) → slice_get (xs ++ ys) (length xs) ≡ slice_get ys 0
 get_behind [] ys = refl
 get_behind (x ∷ xs) ys = get_behind xs ys
 
+-- the place of the in-order point among the frames
+place_is : (s : StreamState) (t : Tale) (k : Track s t) → place_in s ≡ length k.before
+place_is s t k = omega (arith, k.point, first_is s t k.intro k.begins)
+
 -- the front of the state is the first frame of its octets in order
-pub front_is : (s : StreamState) (t : Tale) (k : Track s t) → front s ≡ first_frame s.expecting (length k.before) (inbox s)
-front_is s t k = ap (λ n. first_frame s.expecting n (inbox s)) (omega (arith, k.point, k.begins.first))
+pub front_is : (s : StreamState) (t : Tale) (k : Track s t) → fore s ≡ first_frame (expecting s.start) (length k.before) (inbox s)
+front_is s t k = ap (λ n. first_frame (expecting s.start) n (inbox s)) (place_is s t k)
+
+pub sound : (s : StreamState) (t : Tale) → Track s t → Sound s
+sound s t k = record {
+  low = omega (arith, k.point, first_is s t k.intro k.begins);
+  between = subst (IsBetween (expecting s.start).markers) (sym (place_is s t k)) k.between;
+  held = k.held;
+  placed_is = k.fore_is;
+}
 
 -- the octets behind the start-up frame
-behind_intro : (s : StreamState) (t : Tale) (k : Track s t) → drop (first_place t.story) (in_order t.story.came) ≡ k.before ++ inbox s
+behind_intro : (s : StreamState) (t : Tale) (k : Track s t) → drop (first_place_in t.story.start) (in_order t.story.came) ≡ k.before ++ inbox s
 behind_intro s t k =
-    let place : first_place t.story ≡ length k.intro = ap (λ o. option_map_or (λ (u : StartupState). length u.octets) o 0) k.begins.startup ∙ sym k.begins.first in
+    let place : first_place_in t.story.start ≡ length k.intro = ap first_place_in k.begins.start ∙ sym (first_is s t k.intro k.begins) in
     (λ i. drop (place i) (k.came i)) ∙ drop_at k.intro (k.before ++ inbox s) (length k.intro) refl
 
 -- as many had their turn as were located
 turns_located : (s : StreamState) (t : Tale) (k : Track s t) → t.story.turns ≡ length k.located
-turns_located s t k = omega (arith, k.turns, ap length k.named, length-map k.located (λ (f : Located). f.frame))
+turns_located s t k = omega (arith, k.turns, ap length k.named, length-map k.located (λ (f : Located). carried_by f.frame))
 
 -- those that came are those, and the others
-located_is : (s : StreamState) (t : Tale) (k : Track s t) → located_of (expecting t.story) 0 (drop (first_place t.story) (in_order t.story.came)) ≡ k.located ++ located_of s.expecting (length k.before) (inbox s)
-located_is s t k = (λ i. located_of (sym k.begins.expects i) 0 (behind_intro s t k i)) ∙ k.split (inbox s)
+located_is : (s : StreamState) (t : Tale) (k : Track s t) → located_of (expecting t.story.start) 0 (drop (first_place_in t.story.start) (in_order t.story.came)) ≡ k.located ++ located_of (expecting s.start) (length k.before) (inbox s)
+located_is s t k = (λ i. located_of (expecting (k.begins.start i)) 0 (behind_intro s t k i)) ∙ k.split (inbox s)
 
 -- the frame whose turn is next is the one at the in-order point
-next_is : (s : StreamState) (t : Tale) (k : Track s t) → next_frame t.story ≡ option_map (λ (f : Located). f.frame) (slice_get (located_of s.expecting (length k.before) (inbox s)) 0)
+next_is : (s : StreamState) (t : Tale) (k : Track s t) → next_frame t.story ≡ option_map (λ (f : Located). f.frame) (slice_get (located_of (expecting s.start) (length k.before) (inbox s)) 0)
 next_is s t k =
     ap (option_map (λ (f : Located). f.frame))
-    ((λ i. slice_get (located_is s t k i) (turns_located s t k i)) ∙ get_behind k.located (located_of s.expecting (length k.before) (inbox s)))
+    ((λ i. slice_get (located_is s t k i) (turns_located s t k i)) ∙ get_behind k.located (located_of (expecting s.start) (length k.before) (inbox s)))
 
-pub next_whole : (s : StreamState) (t : Tale) (frame : Carried) (rest : Octets) → Track s t → front s ≡ Some (frame, rest) → next_frame t.story ≡ Some frame
+pub next_whole : (s : StreamState) (t : Tale) (frame : Carried) (rest : Octets) → Track s t → fore s ≡ Some (frame, rest) → next_frame t.story ≡ Some (standing s frame)
 next_whole s t frame rest k e =
-    next_is s t k ∙ ap (λ z. option_map (λ (f : Located). f.frame) (slice_get z 0)) (located_first s.expecting (length k.before) (inbox s) frame rest k.between (sym (front_is s t k) ∙ e))
+    next_is s t k ∙ ap (λ z. option_map (λ (f : Located). f.frame) (slice_get z 0)) (located_first (expecting s.start) (length k.before) (inbox s) frame rest k.between (sym (front_is s t k) ∙ e))
+    ∙ ap (λ n. Some (standing_at (frame_start (expecting s.start).markers n) frame)) (sym (place_is s t k))
 
-pub next_none : (s : StreamState) (t : Tale) → Track s t → front s ≡ None → next_frame t.story ≡ None
-next_none s t k e = next_is s t k ∙ ap (λ z. option_map (λ (f : Located). f.frame) (slice_get z 0)) (located_none s.expecting (length k.before) (inbox s) (sym (front_is s t k) ∙ e))
+pub next_none : (s : StreamState) (t : Tale) → Track s t → fore s ≡ None → next_frame t.story ≡ None
+next_none s t k e = next_is s t k ∙ ap (λ z. option_map (λ (f : Located). f.frame) (slice_get z 0)) (located_none (expecting s.start) (length k.before) (inbox s) (sym (front_is s t k) ∙ e))
 
 -- the frames by themselves
-pub split_is : (s : StreamState) (t : Tale) (k : Track s t) (more : Octets) → frames_of s.expecting 0 (k.before ++ more) ≡ k.frames ++ frames_of s.expecting (length k.before) more
+pub split_is : (s : StreamState) (t : Tale) (k : Track s t) (more : Octets) → frames_of (expecting s.start) 0 (k.before ++ more) ≡ k.frames ++ frames_of (expecting s.start) (length k.before) more
 split_is s t k more =
-    sym (located_are s.expecting 0 (k.before ++ more)) ∙ ap frames_at (k.split more) ∙ map-append (λ (f : Located). f.frame) k.located (located_of s.expecting (length k.before) more)
-    ∙ (λ i. k.named i ++ located_are s.expecting (length k.before) more i)
+    sym (located_are (expecting s.start) 0 (k.before ++ more)) ∙ ap frames_at (k.split more) ∙ map-append (λ (f : Located). carried_by f.frame) k.located (located_of (expecting s.start) (length k.before) more)
+    ∙ (λ i. k.named i ++ located_are (expecting s.start) (length k.before) more i)
 
 take_behind : (xs ys : List Located) → take (length xs) (xs ++ ys) ≡ xs
 take_behind xs ys = take-append_seam xs ys
@@ -156,18 +186,18 @@ take_behind xs ys = take-append_seam xs ys
 -- the in-order point of the state is that of the acts
 pub point_is : (s : StreamState) (t : Tale) (k : Track s t) → in_order_point t.story ≡ length k.intro + length k.before
 point_is s t k =
-    let place : first_place t.story ≡ length k.intro = ap (λ o. option_map_or (λ (u : StartupState). length u.octets) o 0) k.begins.startup ∙ sym k.begins.first in
-    let behind : behind_last 0 (take t.story.turns (located_of (expecting t.story) 0 (drop (first_place t.story) (in_order t.story.came)))) ≡ length k.before =
-    ap (behind_last 0) ((λ i. take (turns_located s t k i) (located_is s t k i)) ∙ take_behind k.located (located_of s.expecting (length k.before) (inbox s))) ∙ k.ends in
+    let place : first_place_in t.story.start ≡ length k.intro = ap first_place_in k.begins.start ∙ sym (first_is s t k.intro k.begins) in
+    let behind : behind_last 0 (take t.story.turns (located_of (expecting t.story.start) 0 (drop (first_place_in t.story.start) (in_order t.story.came)))) ≡ length k.before =
+    ap (behind_last 0) ((λ i. take (turns_located s t k i) (located_is s t k i)) ∙ take_behind k.located (located_of (expecting s.start) (length k.before) (inbox s))) ∙ k.ends in
     (λ i. place i + behind i)
 
--- the segment whose turn is next
-pub next_carries : (s : StreamState) (t : Tale) → Track s t → next_segment t.story ≡ segment_at (front s)
-next_carries s t k = go (front s) refl
+-- the octets that are next, and what their turn leaves
+pub next_carries : (s : StreamState) (t : Tale) → Track s t → next_payload t.story ≡ payload_of (segment_at (fore s))
+next_carries s t k = go (fore s) refl
   where
-    go : (o : Front) → front s ≡ o → next_segment t.story ≡ segment_at o
-    go None e = ap segment_of (next_none s t k e)
-    go (Some (frame, rest)) e = ap segment_of (next_whole s t frame rest k e)
+    go : (o : Front) → fore s ≡ o → next_payload t.story ≡ payload_of (segment_at o)
+    go None e = ap (λ z. option_map_or (λ f. payload_of (frames.segment_in f)) z []) (next_none s t k e)
+    go (Some (frame, rest)) e = ap (λ z. option_map_or (λ f. payload_of (frames.segment_in f)) z []) (next_whole s t frame rest k e)
 
 -- to move on in two steps is to move on at once
 twice : (a : Arrived) (m n : ℕ) → a.floor ≡ 0 → m ≤ n → advanced (advanced a m) n ≡ advanced a n
@@ -182,39 +212,30 @@ twice a m n zero_is le = λ i. record { floor = floors i; cells = cells i }
 
 -- what a state and a tale keep of their start-up
 pub record SameStart (s s' : StreamState) (t t' : Tale) : Type 0 where
-  pub startup : s'.startup ≡ s.startup
-  pub heard : s'.heard ≡ s.heard
-  pub expecting : s'.expecting ≡ s.expecting
-  pub sending : s'.sending ≡ s.sending
-  pub tale_startup : t'.story.startup ≡ t.story.startup
-  pub tale_heard : t'.story.heard ≡ t.story.heard
-  pub tale_layout : t'.story.layout ≡ t.story.layout
+  pub start : s'.start ≡ s.start
+  pub tale_start : t'.story.start ≡ t.story.start
 
 same_begins : (s s' : StreamState) (t t' : Tale) (intro : Octets) → SameStart s s' t t' → Begins s t intro → Begins s' t' intro
 same_begins s s' t t' intro same b = record {
-  startup = same.tale_startup ∙ b.startup ∙ sym same.startup;
-  heard = same.tale_heard ∙ b.heard ∙ sym same.heard;
-  expects = same.expecting ∙ b.expects ∙ (λ i. option_map_or (λ (u : StartupState). option_map_or layout_in (agreed_of u) plain) (sym same.tale_startup i) (sym same.tale_layout i));
-  sends = same.sending ∙ b.sends ∙ (λ i. option_map_or (λ (u : StartupState). option_map_or layout_out (agreed_of u) plain) (sym same.tale_startup i) (sym same.tale_layout i));
-  reached = subst (OnStartup IsReached) (sym same.startup) b.reached;
-  first = b.first ∙ ap (λ o. option_map_or (λ (u : StartupState). length u.octets) o 0) (sym same.startup);
-  octets = b.octets ∙ ap (λ o. option_map_or (λ (u : StartupState). u.octets) o []) (sym same.startup);
-  unheard = λ h. b.unheard ((λ i. is_some (sym same.startup i) && not (sym same.heard i)) ∙ h);
+  start = same.tale_start ∙ b.start ∙ sym same.start;
+  reached = subst (OnStart IsReached) (sym same.start) b.reached;
+  fresh = subst IsFresh (sym same.start) b.fresh;
+  octets = b.octets ∙ ap start_octets (sym same.start);
 }
 
-same_open : (s s' : StreamState) (t t' : Tale) → SameStart s s' t t' → is_open s' ≡ is_open s
-same_open s s' t t' same = ap (λ o. option_map_or (λ (u : StartupState). is_some (agreed_of u)) o true) same.startup
+same_open : (s s' : StreamState) (t t' : Tale) → SameStart s s' t t' → is_open s'.start ≡ is_open s.start
+same_open s s' t t' same = ap is_open same.start
 
-not_zero : (n : ℕ) → not (nat_eq (n + 1) 0) ≡ true
-not_zero n = grind (arith, nat_tests)
+same_expecting : (s s' : StreamState) (t t' : Tale) → SameStart s s' t t' → expecting s'.start ≡ expecting s.start
+same_expecting s s' t t' same = ap expecting same.start
 
 -- the frame at the in-order point has its turn
-turned : (s s' : StreamState) (t t' : Tale) (frame : Carried) (rest : Octets) (segment : Segment Octets) → front s ≡ Some (frame, rest) → segment_in frame ≡ Some segment → is_open s ≡ true → SameStart s s' t t'
-    → s'.arrived ≡ behind_front s → s'.placed ≡ false → s'.passed ≡ true
+turned : (s s' : StreamState) (t t' : Tale) (frame : Carried) (rest : Octets) (segment : Segment Octets) → fore s ≡ Some (frame, rest) → segment_in frame ≡ Some segment → is_open s.start ≡ true → SameStart s s' t t'
+    → s'.arrived ≡ behind_front s → s'.front ≡ None
     → t'.story.came ≡ t.story.came → t'.story.turns ≡ t.story.turns + 1 → t'.story.placed ≡ false → t'.story.receiving ≡ s'.receiving → (k : Track s t)
-    → Joins (k.segments ++ segment ∷ []) s'.receiving s'.placed s'.ended (segment_at (front s')) t'.received t'.placements → Track s' t'
-turned s s' t t' frame rest segment e carries started same arrived placed passed came turns told receiving k joins =
-    let layout : Layout = s.expecting in
+    → Joins (k.segments ++ segment ∷ []) s'.receiving (is_some s'.front) s'.ended (segment_at (fore s')) t'.received t'.placements → Track s' t'
+turned s s' t t' frame rest segment e carries started same arrived empty came turns told receiving k joins =
+    let layout : Layout = expecting s.start in
     let at : ℕ = length k.before in
     let m : ℕ = length k.intro in
     let first : first_frame layout at (inbox s) ≡ Some (frame, rest) = sym (front_is s t k) ∙ e in
@@ -222,7 +243,7 @@ turned s s' t t' frame rest segment e carries started same arrived placed passed
     let before : Octets = k.before ++ one.one in
     let size : length before ≡ at + length one.one = length-append k.before one.one in
     let all : length one.one + length rest ≡ length (inbox s) = omega (arith, ap length one.split, length-append one.one rest) in
-    let to : place_behind s (front s) ≡ m + length before = ap (place_behind s) e ∙ omega (arith, k.point, size, all) in
+    let to : place_behind s (fore s) ≡ m + length before = ap (place_behind s) e ∙ omega (arith, k.point, size, all) in
     let moved : s'.arrived ≡ advanced t.story.came (m + length before) =
     arrived ∙ (λ i. advanced (k.arrived i) (to i)) ∙ twice t.story.came (m + at) (m + length before) k.from_start (omega (arith, size)) in
     let point : s'.arrived.floor ≡ m + length before = ap (λ (a : Arrived). a.floor) moved ∙ floor_moves t.story.came (m + length before) ∙ omega (arith, k.from_start) in
@@ -235,7 +256,7 @@ turned s s' t t' frame rest segment e carries started same arrived placed passed
     ∙ (λ i. drop (m + length before - k.from_start i) (grouped i))
     ∙ drop_at (k.intro ++ before) rest (m + length before - 0) (omega (arith, length-append k.intro before)) in
     let few : length (inbox s) ≤ 262144 = omega (arith, short s.arrived, k.window) in
-    let here : Located = record { start = frame_start layout.markers at; behind = length before; frame = frame } in
+    let here : Located = record { frame = standing_at (frame_start layout.markers at) frame; behind = length before } in
     record {
       intro = k.intro;
       begins = same_begins s s' t t' k.intro same k.begins;
@@ -246,24 +267,26 @@ turned s s' t t' frame rest segment e carries started same arrived placed passed
       came = ap in_order came ∙ whole ∙ ap (λ z. k.intro ++ (before ++ z)) (sym left);
       arrived = moved ∙ ap (λ a. advanced a (m + length before)) (sym came);
       point = point;
-      between = subst (λ (l : Layout). IsBetween l.markers (length before)) (sym same.expecting) (subst (IsBetween layout.markers) (omega (arith, size, all)) (first_takes layout at (inbox s) frame rest k.between first).next);
+      between = subst (λ (l : Layout). IsBetween l.markers (length before)) (sym (same_expecting s s' t t' same)) (subst (IsBetween layout.markers) (omega (arith, size, all)) (first_takes layout at (inbox s) frame rest k.between first).next);
       located = k.located ++ here ∷ [];
-      named = map-append (λ (f : Located). f.frame) k.located (here ∷ []) ∙ ap (λ z. z ++ frame ∷ []) k.named;
+      named = map-append (λ (f : Located). carried_by f.frame) k.located (here ∷ []) ∙ ap (λ z. z ++ frame ∷ []) k.named;
       ends = behind_last-push 0 k.located here;
       split = λ more.
           let again : first_frame layout at (one.one ++ more) ≡ Some (frame, more) = one.again more in
-          subst (λ (l : Layout). located_of l 0 (before ++ more) ≡ (k.located ++ here ∷ []) ++ located_of l (length before) more) (sym same.expecting)
+          subst (λ (l : Layout). located_of l 0 (before ++ more) ≡ (k.located ++ here ∷ []) ++ located_of l (length before) more) (sym (same_expecting s s' t t' same))
           (ap (located_of layout 0) (append_assoc k.before one.one more)
           ∙ k.split (one.one ++ more)
           ∙ ap (λ z. k.located ++ z) (located_first layout at (one.one ++ more) frame more k.between again)
-          ∙ ap (λ n. k.located ++ record { start = frame_start layout.markers at; behind = n; frame = frame } ∷ located_of layout n more) (omega (arith, size, length-append one.one more))
+          ∙ ap (λ n. k.located ++ record { frame = standing_at (frame_start layout.markers at) frame; behind = n } ∷ located_of layout n more) (omega (arith, size, length-append one.one more))
           ∙ sym (append_assoc k.located (here ∷ []) (located_of layout (length before) more)));
       turns = turns ∙ ap (λ n. n + 1) k.turns ∙ omega (arith, length-append k.frames (frame ∷ []));
-      passed = passed ∙ sym (not_zero t.story.turns) ∙ ap (λ n. not (nat_eq n 0)) (sym turns);
-      placed = told ∙ sym placed;
+      placed = told ∙ sym (ap is_some empty);
+      fore_is = λ f h. absurd (none-some _ (sym empty ∙ h));
+      held = subst IsHeld (sym arrived) (held_moves s.arrived (place_behind s (fore s)) k.held);
       receiving = receiving;
-      window = subst IsInWindow (sym arrived) (window_moves s.arrived (place_behind s (front s)) k.window);
+      window = subst IsInWindow (sym arrived) (window_moves s.arrived (place_behind s (fore s)) k.window);
       near = omega (arith, k.near, few, all, size, length-append k.frames (frame ∷ []));
+      far = omega (arith, k.far, all, size, length-append k.frames (frame ∷ []), (first_takes layout at (inbox s) frame rest k.between first).shorter);
       early = k.early;
       segments = k.segments ++ segment ∷ [];
       carried = map-append segment_in k.frames (frame ∷ []) ∙ (λ i. k.carried i ++ carries i ∷ []) ∙ sym (map-append Some k.segments (segment ∷ []));
@@ -271,29 +294,31 @@ turned s s' t t' frame rest segment e carries started same arrived placed passed
     }
 
 -- nothing of it changes but the buffers
-pub same_track : (s s' : StreamState) (t t' : Tale) → SameStart s s' t t' → s'.arrived ≡ s.arrived → s'.passed ≡ s.passed → t'.story.came ≡ t.story.came → t'.story.turns ≡ t.story.turns → t'.story.placed ≡ s'.placed
-    → t'.story.receiving ≡ s'.receiving → (is_open s ≡ false → s'.placed ≡ s.placed) → (k : Track s t) → Joins k.segments s'.receiving s'.placed s'.ended (segment_at (front s')) t'.received t'.placements → Track s' t'
-same_track s s' t t' same arrived passed came turns placed receiving still k joins = record {
+pub same_track : (s s' : StreamState) (t t' : Tale) → SameStart s s' t t' → s'.arrived ≡ s.arrived → t'.story.came ≡ t.story.came → t'.story.turns ≡ t.story.turns → t'.story.placed ≡ (is_some s'.front)
+    → t'.story.receiving ≡ s'.receiving → (is_open s.start ≡ false → (is_some s'.front) ≡ (is_some s.front)) → ((f : PlacedFrame) → s'.front ≡ Some f → IsFore s' f) → (k : Track s t) → Joins k.segments s'.receiving (is_some s'.front) s'.ended (segment_at (fore s')) t'.received t'.placements → Track s' t'
+same_track s s' t t' same arrived came turns placed receiving still fore_is k joins = record {
   intro = k.intro;
   begins = same_begins s s' t t' k.intro same k.begins;
   frames = k.frames;
   before = k.before;
-  shut = λ h. let none : is_open s ≡ false = sym (same_open s s' t t' same) ∙ h in let bare = k.shut none in record { frames = bare.frames; before = bare.before; placed = still none ∙ bare.placed };
+  shut = λ h. let none : is_open s.start ≡ false = sym (same_open s s' t t' same) ∙ h in let bare = k.shut none in record { frames = bare.frames; before = bare.before; placed = still none ∙ bare.placed };
   from_start = ap (λ (a : Arrived). a.floor) came ∙ k.from_start;
   came = ap in_order came ∙ k.came ∙ ap (λ a. k.intro ++ (k.before ++ in_order a)) (sym arrived);
   arrived = arrived ∙ k.arrived ∙ ap (λ a. advanced a (length k.intro + length k.before)) (sym came);
   point = ap (λ (a : Arrived). a.floor) arrived ∙ k.point;
-  between = subst (λ (l : Layout). IsBetween l.markers (length k.before)) (sym same.expecting) k.between;
+  between = subst (λ (l : Layout). IsBetween l.markers (length k.before)) (sym (same_expecting s s' t t' same)) k.between;
   located = k.located;
   named = k.named;
   ends = k.ends;
-  split = λ more. subst (λ (l : Layout). located_of l 0 (k.before ++ more) ≡ k.located ++ located_of l (length k.before) more) (sym same.expecting) (k.split more);
+  split = λ more. subst (λ (l : Layout). located_of l 0 (k.before ++ more) ≡ k.located ++ located_of l (length k.before) more) (sym (same_expecting s s' t t' same)) (k.split more);
   turns = turns ∙ k.turns;
-  passed = passed ∙ k.passed ∙ ap (λ n. not (nat_eq n 0)) (sym turns);
   placed = placed;
+  fore_is = fore_is;
+  held = subst IsHeld (sym arrived) k.held;
   receiving = receiving;
   window = subst IsInWindow (sym arrived) k.window;
   near = k.near;
+  far = k.far;
   early = k.early;
   segments = k.segments;
   carried = k.carried;
@@ -309,19 +334,19 @@ kept_is s from n e = go s.ended refl e
     go false is h = (is, sym h)
 
 -- more octets leave the frame that waits
-stays : (s s' : StreamState) (t : Tale) (more : Octets) (k : Track s t) → s.ended ≡ false → front s' ≡ first_frame s.expecting (length k.before) (inbox s ++ more) → s.placed ≡ true → segment_at (front s') ≡ segment_at (front s)
-stays s s' t more k running next placed = go (front s) refl (k.joins.waits running placed)
+stays : (s s' : StreamState) (t : Tale) (more : Octets) (k : Track s t) → s.ended ≡ false → fore s' ≡ first_frame (expecting s.start) (length k.before) (inbox s ++ more) → (is_some s.front) ≡ true → segment_at (fore s') ≡ segment_at (fore s)
+stays s s' t more k running next placed = go (fore s) refl (k.joins.waits running placed)
   where
-    go : (o : Front) → front s ≡ o → Waits s.receiving k.segments (segment_at o) → segment_at (front s') ≡ segment_at o
+    go : (o : Front) → fore s ≡ o → Waits s.receiving k.segments (segment_at o) → segment_at (fore s') ≡ segment_at o
     go None e w = absurd w
-    go (Some (frame, rest)) e w = ap segment_at (next ∙ first_stays s.expecting (length k.before) (inbox s) more frame rest k.between (sym (front_is s t k) ∙ e))
+    go (Some (frame, rest)) e w = ap segment_at (next ∙ first_stays (expecting s.start) (length k.before) (inbox s) more frame rest k.between (sym (front_is s t k) ∙ e))
 
 -- octets come
 pub comes : (s s' : StreamState) (t t' : Tale) (from : ℕ) (octets : Octets) → Kept ≡ delivery_of s from (length octets)
-    → SameStart s s' t t' → s'.passed ≡ s.passed → s'.arrived ≡ taken_in s.arrived from octets → s'.placed ≡ s.placed → s'.ended ≡ s.ended → s'.receiving ≡ s.receiving
+    → SameStart s s' t t' → s'.arrived ≡ taken_in s.arrived from octets → s'.front ≡ s.front → s'.ended ≡ s.ended → s'.receiving ≡ s.receiving
     → t'.story.came ≡ taken_in t.story.came from octets → t'.story.turns ≡ t.story.turns → t'.story.placed ≡ t.story.placed → t'.story.receiving ≡ t.story.receiving → t'.received ≡ t.received → t'.placements ≡ t.placements
     → Track s t → Track s' t'
-comes s s' t t' from octets kept same passed arrived placed ended receiving came turns told tale_receiving received placements k =
+comes s s' t t' from octets kept same arrived front ended receiving came turns told tale_receiving received placements k =
     let m : ℕ = length k.intro in
     let at : ℕ = length k.before in
     let new : Arrived = taken_in t.story.came from octets in
@@ -340,8 +365,9 @@ comes s s' t t' from octets kept same passed arrived placed ended receiving came
     ∙ drop_at (k.intro ++ k.before) (inbox s ++ more.0) (m + at - 0) (omega (arith, length-append k.intro k.before)) in
     let point : s'.arrived.floor ≡ m + at = ap (λ (a : Arrived). a.floor) arrived ∙ floor_takes s.arrived from octets ∙ k.point in
     let begins : Begins s' t' k.intro = same_begins s s' t t' k.intro same k.begins in
-    let place : s'.arrived.floor - first_place_in s' ≡ at = omega (arith, point, begins.first) in
-    let next : front s' ≡ first_frame s.expecting at (inbox s ++ more.0) = λ i. first_frame (same.expecting i) (place i) (left i) in
+    let place : place_in s' ≡ at = omega (arith, point, first_is s' t' k.intro begins) in
+    let placed : is_some s'.front ≡ is_some s.front = ap is_some front in
+    let next : fore s' ≡ first_frame (expecting s.start) at (inbox s ++ more.0) = λ i. first_frame (same_expecting s s' t t' same i) (place i) (left i) in
     let ok = kept_is s from (length octets) kept in
     record {
       intro = k.intro;
@@ -353,22 +379,33 @@ comes s s' t t' from octets kept same passed arrived placed ended receiving came
       came = ap in_order came ∙ whole ∙ ap (λ z. k.intro ++ (k.before ++ z)) (sym left);
       arrived = arrived ∙ commutes ∙ ap (λ a. advanced a (m + at)) (sym came);
       point = point;
-      between = subst (λ (l : Layout). IsBetween l.markers at) (sym same.expecting) k.between;
+      between = subst (λ (l : Layout). IsBetween l.markers at) (sym (same_expecting s s' t t' same)) k.between;
       located = k.located;
       named = k.named;
       ends = k.ends;
-      split = λ rest. subst (λ (l : Layout). located_of l 0 (k.before ++ rest) ≡ k.located ++ located_of l at rest) (sym same.expecting) (k.split rest);
+      split = λ rest. subst (λ (l : Layout). located_of l 0 (k.before ++ rest) ≡ k.located ++ located_of l at rest) (sym (same_expecting s s' t t' same)) (k.split rest);
       turns = turns ∙ k.turns;
-      passed = passed ∙ k.passed ∙ ap (λ n. not (nat_eq n 0)) (sym turns);
       placed = told ∙ k.placed ∙ sym placed;
+      fore_is = λ f h.
+          let w = k.fore_is f (sym front ∙ h) in
+          record {
+            frame = w.frame;
+            rest = w.rest ++ more.0;
+            whole = next ∙ first_stays (expecting s.start) at (inbox s) more.0 w.frame w.rest k.between (sym (front_is s t k) ∙ w.whole);
+            is = w.is ∙ (λ i. placed_of (standing_at (frame_start (sym (same_expecting s s' t t' same) i).markers ((place_is s t k ∙ sym place) i)) w.frame));
+            segment = w.segment;
+            carries = w.carries;
+          };
+      held = subst IsHeld (sym arrived) (held_takes s.arrived from octets k.held);
       receiving = tale_receiving ∙ k.receiving ∙ sym receiving;
       window = subst IsInWindow (sym arrived) (window_takes s.arrived from octets ok.1 k.window);
       near = k.near;
+      far = k.far;
       early = k.early;
       segments = k.segments;
       carried = k.carried;
       joins = reshape (sym receiving) (sym placed) (sym ended) refl (sym received) (sym placements)
-          (joins_front k.segments s.receiving s.placed s.ended (segment_at (front s)) (segment_at (front s')) t.received t.placements (stays s s' t more.0 k ok.0 next) k.joins);
+          (joins_front k.segments s.receiving (is_some s.front) s.ended (segment_at (fore s)) (segment_at (fore s')) t.received t.placements (stays s s' t more.0 k ok.0 next) k.joins);
     }
 
 -- ---- start-up
@@ -394,16 +431,14 @@ bare_split frames before placed fs named l b more =
 pub record IsUnread (s : StreamState) (t : Tale) (u : StartupState) (k : Track s t) : Type 0 where
   pub intro : k.intro ≡ []
   pub octets : u.octets ≡ []
-  pub none : agreed_of u ≡ None
-  pub bare : IsBare k.frames k.before s.placed
+  pub bare : IsBare k.frames k.before (is_some s.front)
 
-pub unread : (s : StreamState) (t : Tale) (u : StartupState) (k : Track s t) → s.startup ≡ Some u → s.heard ≡ false → IsUnread s t u k
-unread s t u k is heard =
-    let intro : k.intro ≡ [] = k.begins.unheard (λ i. is_some (is i) && not (heard i)) in
-    let size : length u.octets ≡ 0 = ap (λ o. option_map_or (λ (v : StartupState). length v.octets) o 0) (sym is) ∙ sym k.begins.first ∙ ap length intro in
-    let octets : u.octets ≡ [] = no_octets u.octets size in
-    let none : agreed_of u ≡ None = nothing_agreed u octets in
-    record { intro = intro; octets = octets; none = none; bare = k.shut ((λ i. option_map_or (λ (v : StartupState). is_some (agreed_of v)) (is i) true) ∙ ap is_some none) }
+pub unread : (s : StreamState) (t : Tale) (u : StartupState) (k : Track s t) → s.start ≡ Unheard u → IsUnread s t u k
+unread s t u k is = record {
+  intro = k.begins.octets ∙ ap start_octets is;
+  octets = subst IsFresh is k.begins.fresh;
+  bare = k.shut (ap is_open is);
+}
 
 part_of : (side : Side) (xs : Octets) → frame_end side xs ≤ length xs → (length (frame_part side xs) ≡ frame_end side xs) × (frame_part side xs ++ drop (frame_end side xs) xs ≡ xs)
 unfolding frame_part
@@ -411,54 +446,46 @@ part_of side xs whole = (omega (arith, length-take (frame_end side xs) xs, whole
 
 -- the peer's start-up frame is read
 record Reads (s s' : StreamState) (t t' : Tale) (u : StartupState) : Type 0 where
-  pub is : s.startup ≡ Some u
-  pub unheard : s.heard ≡ false
+  pub is : s.start ≡ Unheard u
   pub whole : frame_end u.side (inbox s) ≤ length (inbox s)
-  pub startup : s'.startup ≡ Some (pushed u (inbox s))
-  pub heard : s'.heard ≡ true
-  pub arrived : s'.arrived ≡ advanced s.arrived (s.arrived.floor + length (frame_part u.side (inbox s)))
-  pub placed : s'.placed ≡ s.placed
-  pub passed : s'.passed ≡ s.passed
+  pub start : s'.start ≡ heard s.start (inbox s)
+  pub arrived : s'.arrived ≡ advanced s.arrived (first_place_in (heard s.start (inbox s)))
+  pub front : s'.front ≡ s.front
   pub receiving : s'.receiving ≡ s.receiving
-  pub expecting : s'.expecting ≡ option_map_or layout_in (agreed_of (pushed u (inbox s))) plain
-  pub sending : s'.sending ≡ option_map_or layout_out (agreed_of (pushed u (inbox s))) plain
   pub story : t'.story ≡ hears t.story
 
 reads : (s s' : StreamState) (t t' : Tale) (u : StartupState) → Reads s s' t t' u → (k : Track s t)
-    → Joins k.segments s'.receiving s'.placed s'.ended (segment_at (front s)) t'.received t'.placements → Track s' t'
+    → Joins k.segments s'.receiving (is_some s'.front) s'.ended (segment_at (fore s)) t'.received t'.placements → Track s' t'
 reads s s' t t' u r k joins =
-    let n = unread s t u k r.is r.unheard in
+    let n = unread s t u k r.is in
     let part : Octets = frame_part u.side (inbox s) in
     let split = part_of u.side (inbox s) r.whole in
     let rest : Octets = drop (frame_end u.side (inbox s)) (inbox s) in
     let came : in_order t.story.came ≡ inbox s = k.came ∙ (λ i. n.intro i ++ (n.bare.before i ++ inbox s)) in
     let here : s.arrived ≡ advanced t.story.came 0 = k.arrived ∙ (λ i. advanced t.story.came (length (n.intro i) + length (n.bare.before i))) in
-    let floor : s.arrived.floor ≡ 0 = k.point ∙ (λ i. length (n.intro i) + length (n.bare.before i)) in
-    let moved : s'.arrived ≡ advanced t.story.came (length part) = r.arrived ∙ (λ i. advanced (here i) ((let to : s.arrived.floor + length part ≡ length part = omega (arith, floor) in to) i)) ∙ twice t.story.came 0 (length part) k.from_start (omega arith) in
+    let start : s'.start ≡ Heard (pushed u (inbox s)) = r.start ∙ ap (λ z. heard z (inbox s)) r.is in
+    let octets : (pushed u (inbox s)).octets ≡ part = octets-pushed u (inbox s) n.octets in
+    let to : first_place_in (heard s.start (inbox s)) ≡ length part = ap (λ z. first_place_in (heard z (inbox s))) r.is ∙ ap length octets in
+    let moved : s'.arrived ≡ advanced t.story.came (length part) = r.arrived ∙ (λ i. advanced (here i) (to i)) ∙ twice t.story.came 0 (length part) k.from_start (omega arith) in
     let whole : in_order t.story.came ≡ part ++ rest = came ∙ sym split.1 in
     let left : inbox s' ≡ rest =
     ap in_order moved
     ∙ moves t.story.came (length part) (omega (arith, k.from_start)) (omega (arith, ap length whole, length-append part rest, k.from_start))
     ∙ (λ i. drop (length part - k.from_start i) (whole i))
     ∙ drop_at part rest (length part - 0) (omega arith) in
-    let told : t'.story.startup ≡ Some (pushed u (inbox s)) =
-    ap (λ (z : Story). z.startup) r.story ∙ (λ i. option_map (λ v. pushed v (came i)) ((k.begins.startup ∙ r.is) i)) in
-    let octets : (pushed u (inbox s)).octets ≡ part = octets-pushed u (inbox s) n.octets in
+    let told : t'.story.start ≡ Heard (pushed u (inbox s)) =
+    ap (λ (z : Story). z.start) r.story ∙ (λ i. heard ((k.begins.start ∙ r.is) i) (came i)) in
     let same_came : t'.story.came ≡ t.story.came = ap (λ (z : Story). z.came) r.story in
-    let bare : IsBare k.frames k.before s'.placed = record { frames = n.bare.frames; before = n.bare.before; placed = r.placed ∙ n.bare.placed } in
+    let bare : IsBare k.frames k.before (is_some s'.front) = record { frames = n.bare.frames; before = n.bare.before; placed = ap is_some r.front ∙ n.bare.placed } in
     let few : length (inbox s) ≤ 262144 = omega (arith, short s.arrived, k.window) in
     let zero : length k.before ≡ 0 = ap length n.bare.before in
     record {
       intro = part;
       begins = record {
-        startup = told ∙ sym r.startup;
-        heard = ap (λ (z : Story). z.heard) r.story ∙ sym r.heard;
-        expects = r.expecting ∙ ap (λ o. option_map_or (λ (v : StartupState). option_map_or layout_in (agreed_of v) plain) o t'.story.layout) (sym told);
-        sends = r.sending ∙ ap (λ o. option_map_or (λ (v : StartupState). option_map_or layout_out (agreed_of v) plain) o t'.story.layout) (sym told);
-        reached = subst (OnStartup IsReached) (sym r.startup) (reached-pushed u (inbox s) (subst (OnStartup IsReached) r.is k.begins.reached));
-        first = ap length (sym octets) ∙ ap (λ o. option_map_or (λ (v : StartupState). length v.octets) o 0) (sym r.startup);
-        octets = sym octets ∙ ap (λ o. option_map_or (λ (v : StartupState). v.octets) o []) (sym r.startup);
-        unheard = λ h. absurd (false≢true ((λ i. is_some (sym r.startup i) && not (sym r.heard i)) ∙ h));
+        start = told ∙ sym start;
+        reached = subst (OnStart IsReached) (sym start) (reached-pushed u (inbox s) (subst (OnStart IsReached) r.is k.begins.reached));
+        fresh = subst IsFresh (sym start) tt;
+        octets = sym octets ∙ ap start_octets (sym start);
       };
       frames = k.frames;
       before = k.before;
@@ -467,26 +494,28 @@ reads s s' t t' u r k joins =
       came = ap in_order same_came ∙ whole ∙ (λ i. part ++ (sym n.bare.before i ++ sym left i));
       arrived = moved ∙ ap (advanced t.story.came) (omega (arith, zero)) ∙ ap (λ a. advanced a (length part + length k.before)) (sym same_came);
       point = ap (λ (a : Arrived). a.floor) moved ∙ floor_moves t.story.came (length part) ∙ omega (arith, k.from_start, zero);
-      between = bare_between k.frames k.before s'.placed s'.expecting bare;
+      between = bare_between k.frames k.before (is_some s'.front) (expecting s'.start) bare;
       located = k.located;
       named = k.named;
       ends = k.ends;
-      split = bare_split k.frames k.before s'.placed k.located k.named s'.expecting bare;
+      split = bare_split k.frames k.before (is_some s'.front) k.located k.named (expecting s'.start) bare;
       turns = ap (λ (z : Story). z.turns) r.story ∙ k.turns;
-      passed = r.passed ∙ k.passed ∙ ap (λ (z : Story). not (nat_eq z.turns 0)) (sym r.story);
-      placed = ap (λ (z : Story). z.placed) r.story ∙ k.placed ∙ sym r.placed;
+      placed = ap (λ (z : Story). z.placed) r.story ∙ k.placed ∙ sym (ap is_some r.front);
+      fore_is = λ f h. absurd (true≢false (sym (ap is_some h) ∙ bare.placed));
+      held = subst IsHeld (sym r.arrived) (held_moves s.arrived (first_place_in (heard s.start (inbox s))) k.held);
       receiving = ap (λ (z : Story). z.receiving) r.story ∙ k.receiving ∙ sym r.receiving;
-      window = subst IsInWindow (sym r.arrived) (window_moves s.arrived (s.arrived.floor + length part) k.window);
+      window = subst IsInWindow (sym r.arrived) (window_moves s.arrived (first_place_in (heard s.start (inbox s))) k.window);
       near = k.near;
+      far = k.far;
       early = omega (arith, few, ap length split.1, length-append part rest);
       segments = k.segments;
       carried = k.carried;
-      joins = joins_front k.segments s'.receiving s'.placed s'.ended (segment_at (front s)) (segment_at (front s')) t'.received t'.placements (λ p. absurd (false≢true (sym bare.placed ∙ p))) joins;
+      joins = joins_front k.segments s'.receiving (is_some s'.front) s'.ended (segment_at (fore s)) (segment_at (fore s')) t'.received t'.placements (λ p. absurd (false≢true (sym bare.placed ∙ p))) joins;
     }
 
 -- nothing is received, and nothing placed: what is joined stays
-quiet : (s : StreamState) (t : Tale) (k : Track s t) → Joins k.segments s.receiving s.placed s.ended (segment_at (front s)) (t.received ++ []) (t.placements ++ [])
-quiet s t k = joins_same k.segments s.receiving s.placed s.ended (segment_at (front s)) t.received t.placements k.joins
+quiet : (s : StreamState) (t : Tale) (k : Track s t) → Joins k.segments s.receiving (is_some s.front) s.ended (segment_at (fore s)) (t.received ++ []) (t.placements ++ [])
+quiet s t k = joins_same k.segments s.receiving (is_some s.front) s.ended (segment_at (fore s)) t.received t.placements k.joins
 
 -- a frame that stands at the in-order point, with its segment
 fronted : (s : StreamState) (t : Tale) (k : Track s t) (was : Bool) (segment : Segment Octets) → Fronts s was segment → Joins k.segments s.receiving was false (Some segment) t.received t.placements
@@ -494,32 +523,24 @@ fronted s t k was segment f = reshape refl f.placed f.running (ap segment_at f.w
 
 -- a Write's segment is placed
 places : (table : Table) (s : StreamState) (t : Tale) (right : Right) (stag : Stag) (to : ℕ) (octets : Octets) → SeesWrite table s right stag to octets → (k : Track s t)
-    → Joins k.segments s.receiving true s.ended (segment_at (front s)) (t.received ++ []) (t.placements ++ placed_by (Work (seen.Placed right stag to octets)))
-places table s t right stag to octets rule k =
-    let p = rule.places.1 in
-    let len : ℕ = rule.places.0 in
-    let right_is : right ≡ rights.Write = let is = p.is in cc in
-    let stag_is : stag ≡ p.head.stag = let is = p.is in cc in
-    let to_is : to ≡ p.head.to = let is = p.is in cc in
-    let at : segment_at (front s) ≡ Some (Tagged p.head p.payload) = ap segment_at p.fronts.whole ∙ p.fronts.carries in
-    let same : octets ≡ p.payload = rule.is ∙ ap payload_of at in
-    let shown : Write p.head.stag p.head.to p.payload ∷ [] ≡ placed_by (Work (seen.Placed right stag to octets)) = λ i. placed_by (Work (seen.Placed (sym right_is i) (sym stag_is i) (sym to_is i) (sym same i))) in
+    → Joins k.segments s.receiving true s.ended (segment_at (fore s)) (t.received ++ []) (t.placements ++ placed_by (Work (seen.Placed right stag to octets)))
+places table s t right stag to octets p k =
+    let at : segment_at (fore s) ≡ Some (Tagged p.head octets) = ap segment_at p.fronts.whole ∙ p.fronts.carries in
+    let shown : Write p.head.stag p.head.to octets ∷ [] ≡ placed_by (Work (seen.Placed right stag to octets)) = λ i. placed_by (Work (seen.Placed (sym p.right_is i) (sym p.stag_is i) (sym p.to_is i) octets)) in
     reshape refl refl (sym p.fronts.running) (sym at) (sym (append-nil t.received)) (ap (λ z. t.placements ++ z) shown)
-    (joins_write k.segments s.receiving p.head p.payload t.received t.placements (checked_write table s.domain p.head (length p.payload) p.checked) (fronted s t k false (Tagged p.head p.payload) p.fronts))
+    (joins_write k.segments s.receiving p.head octets t.received t.placements (checked_write table s.domain p.head (length octets) p.checked) (fronted s t k false (Tagged p.head octets) p.fronts))
 
 -- a Send's segment is placed
-buffers : (s : StreamState) (t : Tale) (msn mo len : ℕ) → PlacesSend s (steps.Buffered msn mo len) → (k : Track s t)
-    → Joins k.segments (written s.receiving msn mo (payload_of (segment_at (front s)))) true s.ended (segment_at (front s)) (t.received ++ []) (t.placements ++ [])
+buffers : (s : StreamState) (t : Tale) (msn mo len : ℕ) → SeesSend s msn mo len → (k : Track s t)
+    → Joins k.segments (written s.receiving msn mo (payload_of (segment_at (fore s)))) true s.ended (segment_at (fore s)) (t.received ++ []) (t.placements ++ [])
 buffers s t msn mo len p k =
-    let number : msn ≡ p.head.msn = let is = p.is in cc in
-    let place : mo ≡ p.head.mo = let is = p.is in cc in
-    let at : segment_at (front s) ≡ Some (Untagged p.head p.payload) = ap segment_at p.fronts.whole ∙ p.fronts.carries in
-    reshape (λ i. written s.receiving (sym number i) (sym place i) (payload_of (sym at i))) refl (sym p.fronts.running) (sym at) (sym (append-nil t.received)) (sym (append-nil t.placements))
+    let at : segment_at (fore s) ≡ Some (Untagged p.head p.payload) = ap segment_at p.fronts.whole ∙ p.fronts.carries in
+    reshape (λ i. written s.receiving (sym p.msn_is i) (sym p.mo_is i) (payload_of (sym at i))) refl (sym p.fronts.running) (sym at) (sym (append-nil t.received)) (sym (append-nil t.placements))
     (joins_send k.segments s.receiving p.head p.payload t.received t.placements (checked_head s.receiving p.head (length p.payload) p.checked) (checked_buffer s.receiving p.head (length p.payload) p.checked) (fronted s t k false (Untagged p.head p.payload) p.fronts))
 
 -- a segment has its turn that completes nothing
 passes : (s : StreamState) (t : Tale) (segment : Segment Octets) (o' : Option (Segment Octets)) → Fronts s true segment → IsPassing s segment → (k : Track s t)
-    → Joins (k.segments ++ segment ∷ []) (turned_by s.receiving (segment_at (front s))) false s.ended o' (t.received ++ []) (t.placements ++ [])
+    → Joins (k.segments ++ segment ∷ []) (turned_by s.receiving (segment_at (fore s))) false s.ended o' (t.received ++ []) (t.placements ++ [])
 passes s t (Tagged head payload) o' f passing k =
     reshape (ap (turned_by s.receiving) (sym (ap segment_at f.whole ∙ f.carries))) refl (sym f.running) refl (sym (append-nil t.received)) (sym (append-nil t.placements))
     (joins_tagged k.segments s.receiving head payload o' t.received t.placements (fronted s t k true (Tagged head payload) f))
@@ -528,41 +549,43 @@ passes s t (Untagged head payload) o' f passing k =
     (joins_part k.segments s.receiving head payload o' t.received t.placements passing.0 passing.1 (fronted s t k true (Untagged head payload) f))
 
 -- a Send is complete
-receives : (s : StreamState) (t : Tale) (octets : Octets) (solicited : Bool) (invalidate : Option Stag) (o' : Option (Segment Octets)) → (rule : SeesReceive s octets) → solicited ≡ false → invalidate ≡ None → (k : Track s t)
-    → Joins (k.segments ++ Untagged rule.completes.head rule.completes.payload ∷ []) (finished s.receiving) false s.ended o' (t.received ++ record { octets = octets; solicited = solicited; invalidate = invalidate } ∷ []) (t.placements ++ [])
-receives s t octets solicited invalidate o' rule plain none k =
-    let c = rule.completes in
-    let buffer_is : rule.buffer ≡ oldest s.receiving = let is = c.is in cc in
-    let len_is : rule.len ≡ s.receiving.turned + length c.payload = let is = c.is in cc in
-    let octets_are : octets ≡ take (s.receiving.turned + length c.payload) (oldest s.receiving) = rule.is ∙ (λ i. take (len_is i) (buffer_is i)) in
-    reshape refl refl (sym c.fronts.running) refl (λ i. t.received ++ record { octets = sym octets_are i; solicited = sym plain i; invalidate = sym none i } ∷ []) (sym (append-nil t.placements))
+receives : (s : StreamState) (t : Tale) (octets : Octets) (solicited : Bool) (invalidate : Option Stag) (o' : Option (Segment Octets)) → (c : SeesReceive s octets solicited invalidate) → (k : Track s t)
+    → Joins (k.segments ++ Untagged c.head c.payload ∷ []) (finished s.receiving) false s.ended o' (t.received ++ record { octets = octets; solicited = solicited; invalidate = invalidate } ∷ []) (t.placements ++ [])
+receives s t octets solicited invalidate o' c k =
+    reshape refl refl (sym c.fronts.running) refl (λ i. t.received ++ record { octets = sym c.is i; solicited = sym c.plain i; invalidate = sym c.none i } ∷ []) (sym (append-nil t.placements))
     (joins_last k.segments s.receiving c.head c.payload o' t.received t.placements c.turn c.last (fronted s t k true (Untagged c.head c.payload) c.fronts))
 
-kept_start : (s s' : StreamState) (t t' : Tale) → s'.startup ≡ s.startup → s'.heard ≡ s.heard → s'.expecting ≡ s.expecting → s'.sending ≡ s.sending → t'.story.startup ≡ t.story.startup → t'.story.heard ≡ t.story.heard → t'.story.layout ≡ t.story.layout
-    → SameStart s s' t t'
-kept_start s s' t t' a b c d e f g = record { startup = a; heard = b; expecting = c; sending = d; tale_startup = e; tale_heard = f; tale_layout = g }
+kept_start : (s s' : StreamState) (t t' : Tale) → s'.start ≡ s.start → t'.story.start ≡ t.story.start → SameStart s s' t t'
+kept_start s s' t t' a b = record { start = a; tale_start = b }
 
-same : (s s' : StreamState) (t t' : Tale) → s'.startup ≡ s.startup → s'.heard ≡ s.heard → s'.expecting ≡ s.expecting → s'.sending ≡ s.sending → s'.arrived ≡ s.arrived → s'.passed ≡ s.passed → s'.placed ≡ s.placed → s'.receiving ≡ s.receiving
-    → t'.story ≡ t.story → (k : Track s t) → Joins k.segments s'.receiving s'.placed s'.ended (segment_at (front s')) t'.received t'.placements → Track s' t'
-same s s' t t' a b c d arrived passed placed receiving story k joins =
-    same_track s s' t t' (kept_start s s' t t' a b c d (ap (λ (z : Story). z.startup) story) (ap (λ (z : Story). z.heard) story) (ap (λ (z : Story). z.layout) story)) arrived passed
-    (ap (λ (z : Story). z.came) story) (ap (λ (z : Story). z.turns) story) (ap (λ (z : Story). z.placed) story ∙ k.placed ∙ sym placed) (ap (λ (z : Story). z.receiving) story ∙ k.receiving ∙ sym receiving) (λ h. placed) k joins
+same_fore : (s s' : StreamState) → s'.start ≡ s.start → s'.arrived ≡ s.arrived → (f : PlacedFrame) → IsFore s f → IsFore s' f
+same_fore s s' start arrived f w = record {
+  frame = w.frame;
+  rest = w.rest;
+  whole = (λ i. first_frame (expecting (start i)) ((arrived i).floor - first_place_in (start i)) (in_order (arrived i))) ∙ w.whole;
+  is = w.is ∙ (λ i. placed_of (standing_at (frame_start (expecting (sym start i)).markers ((sym arrived i).floor - first_place_in (sym start i))) w.frame));
+  segment = w.segment;
+  carries = w.carries;
+}
+
+same : (s s' : StreamState) (t t' : Tale) → s'.start ≡ s.start → s'.arrived ≡ s.arrived → s'.front ≡ s.front → s'.receiving ≡ s.receiving
+    → t'.story ≡ t.story → (k : Track s t) → Joins k.segments s'.receiving (is_some s'.front) s'.ended (segment_at (fore s')) t'.received t'.placements → Track s' t'
+same s s' t t' start arrived front receiving story k joins =
+    same_track s s' t t' (kept_start s s' t t' start (ap (λ (z : Story). z.start) story)) arrived
+    (ap (λ (z : Story). z.came) story) (ap (λ (z : Story). z.turns) story) (ap (λ (z : Story). z.placed) story ∙ k.placed ∙ sym (ap is_some front)) (ap (λ (z : Story). z.receiving) story ∙ k.receiving ∙ sym receiving) (λ h. ap is_some front)
+    (λ f h. same_fore s s' start arrived f (k.fore_is f (sym front ∙ h))) k joins
 
 abbrev answers_with : Story → Reply → Story
-answers_with t reply = record t { startup = option_map (λ u. answered u reply) t.startup }
+answers_with t reply = record t { start = answered_with t.start reply }
 
 -- a responder's user answers: no frame was read before
 record Answers (s s' : StreamState) (t t' : Tale) (u : StartupState) (reply : Reply) : Type 0 where
-  pub is : s.startup ≡ Some u
+  pub is : s.start ≡ Heard u
   pub asked : awaits_answer u ≡ true
-  pub startup : s'.startup ≡ Some (answered u reply)
-  pub heard : s'.heard ≡ s.heard
+  pub start : s'.start ≡ Heard (answered u reply)
   pub arrived : s'.arrived ≡ s.arrived
-  pub placed : s'.placed ≡ s.placed
-  pub passed : s'.passed ≡ s.passed
+  pub front : s'.front ≡ s.front
   pub receiving : s'.receiving ≡ s.receiving
-  pub expecting : s'.expecting ≡ option_map_or layout_in (agreed_of (answered u reply)) plain
-  pub sending : s'.sending ≡ option_map_or layout_out (agreed_of (answered u reply)) plain
   pub story : t'.story ≡ answers_with t.story reply
 
 pub unanswered : (u : StartupState) → awaits_answer u ≡ true → u.side ≡ Responder None
@@ -574,24 +597,20 @@ unanswered u h = go u.side refl h
     go (Responder (Some reply)) is e = absurd (false≢true e)
 
 answers : (s s' : StreamState) (t t' : Tale) (u : StartupState) (reply : Reply) → Answers s s' t t' u reply → (k : Track s t)
-    → Joins k.segments s'.receiving s'.placed s'.ended (segment_at (front s)) t'.received t'.placements → Track s' t'
+    → Joins k.segments s'.receiving (is_some s'.front) s'.ended (segment_at (fore s)) t'.received t'.placements → Track s' t'
 answers s s' t t' u reply r k joins =
     let none : agreed_of u ≡ None = unanswered_not_agreed u (unanswered u r.asked) in
-    let bare : IsBare k.frames k.before s.placed = k.shut ((λ i. option_map_or (λ (v : StartupState). is_some (agreed_of v)) (r.is i) true) ∙ ap is_some none) in
-    let still : IsBare k.frames k.before s'.placed = record { frames = bare.frames; before = bare.before; placed = r.placed ∙ bare.placed } in
-    let told : t'.story.startup ≡ Some (answered u reply) = ap (λ (z : Story). z.startup) r.story ∙ ap (option_map (λ v. answered v reply)) (k.begins.startup ∙ r.is) in
+    let bare : IsBare k.frames k.before (is_some s.front) = k.shut (ap is_open r.is ∙ ap is_some none) in
+    let still : IsBare k.frames k.before (is_some s'.front) = record { frames = bare.frames; before = bare.before; placed = ap is_some r.front ∙ bare.placed } in
+    let told : t'.story.start ≡ Heard (answered u reply) = ap (λ (z : Story). z.start) r.story ∙ ap (λ z. answered_with z reply) (k.begins.start ∙ r.is) in
     let same_came : t'.story.came ≡ t.story.came = ap (λ (z : Story). z.came) r.story in
     record {
       intro = k.intro;
       begins = record {
-        startup = told ∙ sym r.startup;
-        heard = ap (λ (z : Story). z.heard) r.story ∙ k.begins.heard ∙ sym r.heard;
-        expects = r.expecting ∙ ap (λ o. option_map_or (λ (v : StartupState). option_map_or layout_in (agreed_of v) plain) o t'.story.layout) (sym told);
-        sends = r.sending ∙ ap (λ o. option_map_or (λ (v : StartupState). option_map_or layout_out (agreed_of v) plain) o t'.story.layout) (sym told);
-        reached = subst (OnStartup IsReached) (sym r.startup) (reached-answered u reply r.asked (subst (OnStartup IsReached) r.is k.begins.reached));
-        first = k.begins.first ∙ ap (λ o. option_map_or (λ (v : StartupState). length v.octets) o 0) r.is ∙ ap (λ o. option_map_or (λ (v : StartupState). length v.octets) o 0) (sym r.startup);
-        octets = k.begins.octets ∙ ap (λ o. option_map_or (λ (v : StartupState). v.octets) o []) r.is ∙ ap (λ o. option_map_or (λ (v : StartupState). v.octets) o []) (sym r.startup);
-        unheard = λ h. k.begins.unheard ((λ i. is_some (r.is i) && not (sym r.heard i)) ∙ (λ i. is_some (sym r.startup i) && not s'.heard) ∙ h);
+        start = told ∙ sym r.start;
+        reached = subst (OnStart IsReached) (sym r.start) (reached-answered u reply r.asked (subst (OnStart IsReached) r.is k.begins.reached));
+        fresh = subst IsFresh (sym r.start) tt;
+        octets = k.begins.octets ∙ ap start_octets r.is ∙ ap start_octets (sym r.start);
       };
       frames = k.frames;
       before = k.before;
@@ -600,121 +619,67 @@ answers s s' t t' u reply r k joins =
       came = ap in_order same_came ∙ k.came ∙ ap (λ a. k.intro ++ (k.before ++ in_order a)) (sym r.arrived);
       arrived = r.arrived ∙ k.arrived ∙ ap (λ a. advanced a (length k.intro + length k.before)) (sym same_came);
       point = ap (λ (a : Arrived). a.floor) r.arrived ∙ k.point;
-      between = bare_between k.frames k.before s'.placed s'.expecting still;
+      between = bare_between k.frames k.before (is_some s'.front) (expecting s'.start) still;
       located = k.located;
       named = k.named;
       ends = k.ends;
-      split = bare_split k.frames k.before s'.placed k.located k.named s'.expecting still;
+      split = bare_split k.frames k.before (is_some s'.front) k.located k.named (expecting s'.start) still;
       turns = ap (λ (z : Story). z.turns) r.story ∙ k.turns;
-      passed = r.passed ∙ k.passed ∙ ap (λ (z : Story). not (nat_eq z.turns 0)) (sym r.story);
-      placed = ap (λ (z : Story). z.placed) r.story ∙ k.placed ∙ sym r.placed;
+      placed = ap (λ (z : Story). z.placed) r.story ∙ k.placed ∙ sym (ap is_some r.front);
+      fore_is = λ f h. absurd (true≢false (sym (ap is_some h) ∙ still.placed));
+      held = subst IsHeld (sym r.arrived) k.held;
       receiving = ap (λ (z : Story). z.receiving) r.story ∙ k.receiving ∙ sym r.receiving;
       window = subst IsInWindow (sym r.arrived) k.window;
       near = k.near;
+      far = k.far;
       early = k.early;
       segments = k.segments;
       carried = k.carried;
-      joins = joins_front k.segments s'.receiving s'.placed s'.ended (segment_at (front s)) (segment_at (front s')) t'.received t'.placements (λ p. absurd (false≢true (sym still.placed ∙ p))) joins;
+      joins = joins_front k.segments s'.receiving (is_some s'.front) s'.ended (segment_at (fore s)) (segment_at (fore s')) t'.received t'.placements (λ p. absurd (false≢true (sym still.placed ∙ p))) joins;
     }
 
--- the layouts of a stream that has not read the peer's start-up frame
-plain_in : (s : StreamState) (t : Tale) (u : StartupState) (k : Track s t) → s.startup ≡ Some u → agreed_of u ≡ None → s.expecting ≡ plain
-plain_in s t u k is none = k.begins.expects ∙ (λ i. option_map_or (λ (v : StartupState). option_map_or layout_in (agreed_of v) plain) ((k.begins.startup ∙ is) i) t.story.layout) ∙ ap (λ o. option_map_or layout_in o plain) none
+-- what the peer's start-up frame comes to, by its side
+pub comes_to : (s : StreamState) (p : Progress) (h : Hears s p) → progress_of h.startup.side (inbox s) ≡ p
+comes_to s p h = sym (ap (λ z. progress_in z (inbox s)) h.is) ∙ h.comes
 
-plain_out : (s : StreamState) (t : Tale) (u : StartupState) (k : Track s t) → s.startup ≡ Some u → agreed_of u ≡ None → s.sending ≡ plain
-plain_out s t u k is none = k.begins.sends ∙ (λ i. option_map_or (λ (v : StartupState). option_map_or layout_out (agreed_of v) plain) ((k.begins.startup ∙ is) i) t.story.layout) ∙ ap (λ o. option_map_or layout_out o plain) none
-
--- what is heard is no agreement: nothing of the layouts changes
-heard_plain : (s : StreamState) (t : Tale) (u : StartupState) (k : Track s t) (rule : s.startup ≡ Some u) → s.heard ≡ false → frame_end u.side (inbox s) ≤ length (inbox s) → agreed_of (pushed u (inbox s)) ≡ None
-    → (s' : StreamState) (t' : Tale) → s'.startup ≡ Some (pushed u (inbox s)) → s'.heard ≡ true → s'.arrived ≡ advanced s.arrived (s.arrived.floor + length (frame_part u.side (inbox s)))
-    → s'.placed ≡ s.placed → s'.passed ≡ s.passed → s'.receiving ≡ s.receiving → s'.expecting ≡ s.expecting → s'.sending ≡ s.sending → t'.story ≡ hears t.story → Reads s s' t t' u
-heard_plain s t u k is unheard whole none s' t' startup heard arrived placed passed receiving expecting sending story =
-    let n = unread s t u k is unheard in
-    record {
-      is = is;
-      unheard = unheard;
-      whole = whole;
-      startup = startup;
-      heard = heard;
-      arrived = arrived;
-      placed = placed;
-      passed = passed;
-      receiving = receiving;
-      expecting = expecting ∙ plain_in s t u k is n.none ∙ ap (λ o. option_map_or layout_in o plain) (sym none);
-      sending = sending ∙ plain_out s t u k is n.none ∙ ap (λ o. option_map_or layout_out o plain) (sym none);
-      story = story;
-    }
-
-asks : (s : StreamState) (t : Tale) (private : Octets) → Hears s progresses.Asked → Track s t → Track (stream_after s (Work (seen.Asked private))) (tale_after t (Work (seen.Asked private)))
+asks : (s : StreamState) (t : Tale) (private : Octets) → Hears s progresses.Asked → Track s t → Track (after_act s (Work (seen.Asked private))) (tale_after t (Work (seen.Asked private)))
 asks s t private h k =
-    let u : StartupState = h.startup in
-    let s' : StreamState = streams.hears s u in
-    let t' : Tale = tale_after t (Work (seen.Asked private)) in
-    let n = unread s t u k h.is h.unheard in
-    let side : u.side ≡ Responder None = asking_side u (inbox s) (subst (OnStartup IsReached) h.is k.begins.reached) n.octets h.comes in
-    let none : agreed_of (pushed u (inbox s)) ≡ None = unanswered_not_agreed (pushed u (inbox s)) (side-pushed u (inbox s) ∙ side) in
-    let whole : frame_end u.side (inbox s) ≤ length (inbox s) = told_whole u.side (inbox s) progresses.Asked h.comes (λ e. cc) in
-    subst (λ z. Track z t') (ap (streams.after_hearing s) (sym h.is))
-    (reads s s' t t' u (heard_plain s t u k h.is h.unheard whole none s' t' refl refl refl refl refl refl refl refl refl) k (quiet s t k))
+    reads s (after_act s (Work (seen.Asked private))) t (tale_after t (Work (seen.Asked private))) h.startup
+    (record { is = h.is; whole = told_whole h.startup.side (inbox s) progresses.Asked (comes_to s progresses.Asked h) (λ e. cc); start = refl; arrived = refl; front = refl; receiving = refl; story = refl })
+    k (quiet s t k)
 
-closes : (s : StreamState) (t : Tale) (fault : StartupFault) → Hears s (progresses.Faulted fault) → Track s t → Track (stream_after s (Work (seen.Closed fault))) (tale_after t (Work (seen.Closed fault)))
+closes : (s : StreamState) (t : Tale) (fault : StartupFault) → Hears s (progresses.Faulted fault) → Track s t → Track (after_act s (Work (seen.Closed fault))) (tale_after t (Work (seen.Closed fault)))
 closes s t fault h k =
-    let u : StartupState = h.startup in
-    let s' : StreamState = record (streams.hears s u) { ended = true } in
-    let t' : Tale = tale_after t (Work (seen.Closed fault)) in
-    let n = unread s t u k h.is h.unheard in
-    let none : agreed_of (pushed u (inbox s)) ≡ None = fault_not_agreed u (inbox s) fault n.octets h.comes in
-    let whole : frame_end u.side (inbox s) ≤ length (inbox s) = told_whole u.side (inbox s) (progresses.Faulted fault) h.comes (λ e. cc) in
-    subst (λ z. Track z t') (ap (λ o. record (streams.after_hearing s o) { ended = true }) (sym h.is))
-    (reads s s' t t' u (heard_plain s t u k h.is h.unheard whole none s' t' refl refl refl refl refl refl refl refl refl) k
-    (joins_end k.segments s.receiving s.placed s.ended (segment_at (front s)) (t.received ++ []) (t.placements ++ []) (quiet s t k)))
+    reads s (after_act s (Work (seen.Closed fault))) t (tale_after t (Work (seen.Closed fault))) h.startup
+    (record { is = h.is; whole = told_whole h.startup.side (inbox s) (progresses.Faulted fault) (comes_to s (progresses.Faulted fault) h) (λ e. cc); start = refl; arrived = refl; front = refl; receiving = refl; story = refl })
+    k (joins_end k.segments s.receiving (is_some s.front) s.ended (segment_at (fore s)) (t.received ++ []) (t.placements ++ []) (quiet s t k))
 
-opens : (s : StreamState) (t : Tale) (agreed : Agreed) (private : Octets) → HearsReply s agreed → Track s t → Track (stream_after s (Work (seen.Opened agreed private))) (tale_after t (Work (seen.Opened agreed private)))
-opens s t agreed private r k =
-    let h = r.hears in
-    let u : StartupState = h.startup in
-    let s' : StreamState = streams.with_agreed (streams.hears s u) agreed in
-    let t' : Tale = tale_after t (Work (seen.Opened agreed private)) in
-    let n = unread s t u k h.is h.unheard in
-    let some : agreed_of (pushed u (inbox s)) ≡ Some agreed = agreed_of-pushed u (inbox s) n.octets h.comes ∙ ap Some (sym r.agreed_is) in
-    let whole : frame_end u.side (inbox s) ≤ length (inbox s) = told_whole u.side (inbox s) progresses.Agreed h.comes (λ e. cc) in
-    subst (λ z. Track z t') (ap (λ o. streams.with_agreed (streams.after_hearing s o) agreed) (sym h.is))
-    (reads s s' t t' u
-    (record {
-      is = h.is;
-      unheard = h.unheard;
-      whole = whole;
-      startup = refl;
-      heard = refl;
-      arrived = refl;
-      placed = refl;
-      passed = refl;
-      receiving = refl;
-      expecting = ap (λ o. option_map_or layout_in o plain) (sym some);
-      sending = ap (λ o. option_map_or layout_out o plain) (sym some);
-      story = refl;
-    })
-    k (quiet s t k))
+opens : (s : StreamState) (t : Tale) (agreed : Agreed) (private : Octets) → Hears s progresses.Agreed → Track s t → Track (after_act s (Work (seen.Opened agreed private))) (tale_after t (Work (seen.Opened agreed private)))
+opens s t agreed private h k =
+    reads s (after_act s (Work (seen.Opened agreed private))) t (tale_after t (Work (seen.Opened agreed private))) h.startup
+    (record { is = h.is; whole = told_whole h.startup.side (inbox s) progresses.Agreed (comes_to s progresses.Agreed h) (λ e. cc); start = refl; arrived = refl; front = refl; receiving = refl; story = refl })
+    k (quiet s t k)
 
 -- the user may answer
 pub record MayAnswer (s : StreamState) : Type 0 where
   pub running : s.ended ≡ false
   pub startup : StartupState
-  pub is : s.startup ≡ Some startup
+  pub is : s.start ≡ Heard startup
   pub asked : awaits_answer startup ≡ true
 
 pub may : (s : StreamState) → may_answer s ≡ true → MayAnswer s
-may s e = go s.ended s.startup refl refl e
+may s e = go s.ended s.start refl refl e
   where
-    go : (ended : Bool) (o : Option StartupState) → s.ended ≡ ended → s.startup ≡ o → (not ended && option_map_or awaits_answer o false) ≡ true → MayAnswer s
-    go true o a b h = absurd (false≢true h)
-    go false None a b h = absurd (false≢true h)
-    go false (Some u) a b h = record { running = a; startup = u; is = b; asked = h }
+    go : (ended : Bool) (start : StartState) → s.ended ≡ ended → s.start ≡ start → (not ended && starting.is_asked start) ≡ true → MayAnswer s
+    go true start a b h = absurd (false≢true h)
+    go false (AtOnce layout) a b h = absurd (false≢true h)
+    go false (Unheard u) a b h = absurd (false≢true h)
+    go false (Heard u) a b h = record { running = a; startup = u; is = b; asked = h }
 
 pub accepting : (s : StreamState) (agreed : Agreed) → Ok agreed ≡ accept_answer s → may_answer s ≡ true
 accepting s agreed e = go (may_answer s) e
   where
-    go : (b : Bool) → Ok agreed ≡ cond {A = Result Agreed NotAsked} b (Ok (accepted_agreed s)) (Err (record {})) → b ≡ true
+    go : (b : Bool) → Ok agreed ≡ cond {A = Result Agreed NotAsked} b (Ok (agreement_in s.start)) (Err (record {})) → b ≡ true
     go true h = refl
     go false h = cc
 
@@ -725,107 +690,127 @@ refusing s e = go (may_answer s) e
     go true h = refl
     go false h = absurd (none-some _ h)
 
-accepts : (s : StreamState) (t : Tale) (private : Octets) (agreed : Agreed) → may_answer s ≡ true → Track s t → Track (stream_after s (Accept private (Ok agreed))) (tale_after t (Accept private (Ok agreed)))
+accepts : (s : StreamState) (t : Tale) (private : Octets) (agreed : Agreed) → may_answer s ≡ true → Track s t → Track (after_act s (Accept private (Ok agreed))) (tale_after t (Accept private (Ok agreed)))
 accepts s t private agreed e k =
     let m = may s e in
-    let u : StartupState = m.startup in
     let reply : Reply = replies.Accept (private_data private) in
-    let some : agreed_of (answered u reply) ≡ Some (accepted_agreed s) = agreed_of-accepted u (private_data private) m.asked ∙ ap (λ o. Some (option_map_or (λ (v : StartupState). agreement v.config v.octets) o (record { send_markers = false; expect_markers = false; crc = false }))) (sym m.is) in
-    answers s (stream_after s (Accept private (Ok agreed))) t (tale_after t (Accept private (Ok agreed))) u reply
-    (record {
-      is = m.is;
-      asked = m.asked;
-      startup = ap (option_map (λ v. answered v reply)) m.is;
-      heard = refl;
-      arrived = refl;
-      placed = refl;
-      passed = refl;
-      receiving = refl;
-      expecting = ap (λ o. option_map_or layout_in o plain) (sym some);
-      sending = ap (λ o. option_map_or layout_out o plain) (sym some);
-      story = refl;
-    })
+    answers s (after_act s (Accept private (Ok agreed))) t (tale_after t (Accept private (Ok agreed))) m.startup reply
+    (record { is = m.is; asked = m.asked; start = ap (λ z. answered_with z reply) m.is; arrived = refl; front = refl; receiving = refl; story = refl })
     k (quiet s t k)
 
-rejects : (s : StreamState) (t : Tale) (private : Octets) → may_answer s ≡ true → Track s t → Track (stream_after s (Reject private None)) (tale_after t (Reject private None))
+rejects : (s : StreamState) (t : Tale) (private : Octets) → may_answer s ≡ true → Track s t → Track (after_act s (Reject private None)) (tale_after t (Reject private None))
 rejects s t private e k =
     let m = may s e in
-    let u : StartupState = m.startup in
     let reply : Reply = replies.Reject (private_data private) in
-    let before : agreed_of u ≡ None = unanswered_not_agreed u (unanswered u m.asked) in
-    let none : agreed_of (answered u reply) ≡ None = rejected_not_agreed u (private_data private) in
-    answers s (stream_after s (Reject private None)) t (tale_after t (Reject private None)) u reply
-    (record {
-      is = m.is;
-      asked = m.asked;
-      startup = ap (option_map (λ v. answered v reply)) m.is;
-      heard = refl;
-      arrived = refl;
-      placed = refl;
-      passed = refl;
-      receiving = refl;
-      expecting = plain_in s t u k m.is before ∙ ap (λ o. option_map_or layout_in o plain) (sym none);
-      sending = plain_out s t u k m.is before ∙ ap (λ o. option_map_or layout_out o plain) (sym none);
-      story = refl;
-    })
-    k (joins_end k.segments s.receiving s.placed s.ended (segment_at (front s)) (t.received ++ []) (t.placements ++ []) (quiet s t k))
+    answers s (after_act s (Reject private None)) t (tale_after t (Reject private None)) m.startup reply
+    (record { is = m.is; asked = m.asked; start = ap (λ z. answered_with z reply) m.is; arrived = refl; front = refl; receiving = refl; story = refl })
+    k (joins_end k.segments s.receiving (is_some s.front) s.ended (segment_at (fore s)) (t.received ++ []) (t.placements ++ []) (quiet s t k))
 
--- an emission changes nothing of what came: whether it is the start-up frame or another
-emits_any : (s : StreamState) (t : Tale) (from : ℕ) (octets : Octets) → Track s t → Track (stream_after s (Emit (Frame from octets))) (tale_after t (Emit (Frame from octets)))
-emits_any s t from octets k = go (owes_frame s)
+-- an emission changes nothing of what came
+emits_any : (s : StreamState) (t : Tale) (shown : Shown Octets) → Track s t → Track (after_act s (Emit shown)) (tale_after t (Emit shown))
+emits_any s t shown k = go (due s)
   where
-    t' : Tale
-    t' = tale_after t (Emit (Frame from octets))
+    go : (d : Due) → Track (left_due s d) (tale_after t (Emit shown))
+    go StartUp = same s (left_due s StartUp) t (tale_after t (Emit shown)) refl refl refl refl refl k (quiet s t k)
+    go (NextPart part) = same s (left_due s (NextPart part)) t (tale_after t (Emit shown)) refl refl refl refl refl k (quiet s t k)
+    go NoneDue = same s s t (tale_after t (Emit shown)) refl refl refl refl refl k (quiet s t k)
 
-    one : StreamState
-    one = record s { spoken = true; sent = s.sent + length octets }
+-- what is kept of the frame that is placed
+kept_whole : (s : StreamState) (was : Bool) (segment : Segment Octets) (w : Fronts s was segment) → kept_of s ≡ Some (placed_of (standing s w.frame))
+kept_whole s was segment w = ap (option_map (λ (x : Carried × Octets). placed_of (standing s x.0))) w.whole
 
-    two : StreamState
-    two = record s { queue = part_sent s.queue (part_due s); numbers = option_map_or (numbers_behind s.numbers) (part_due s) s.numbers; sent = s.sent + length octets }
+kept_fore : (s s' : StreamState) (was : Bool) (segment : Segment Octets) → Fronts s was segment → s'.start ≡ s.start → s'.arrived ≡ s.arrived → (f : PlacedFrame) → kept_of s ≡ Some f → IsFore s' f
+kept_fore s s' was segment w start arrived f e =
+    same_fore s s' start arrived f
+    (record { frame = w.frame; rest = w.rest; whole = w.whole; is = same_Some _ _ (sym e ∙ kept_whole s was segment w); segment = segment; carries = w.carries })
 
-    go : (b : Bool) → Track (cond b one two) t'
-    go true = same s one t t' refl refl refl refl refl refl refl refl refl k (quiet s t k)
-    go false = same s two t t' refl refl refl refl refl refl refl refl refl k (quiet s t k)
+-- what the turn of the frame that is next leaves of the message that is due
+next_turns : (s : StreamState) (t : Tale) (was : Bool) (segment : Segment Octets) → Fronts s was segment → Track s t → next_turned t.story ≡ turned_by s.receiving (segment_at (fore s))
+next_turns s t was segment f k =
+    ap (λ z. option_map_or (λ x. receiving_turned t.story.receiving (placed_of x)) z t.story.receiving) (next_whole s t f.frame f.rest k f.whole)
+    ∙ ap (λ r. receiving_turned r (placed_of (standing s f.frame))) k.receiving
+    ∙ turned_kept s.receiving (standing s f.frame) segment f.carries
+    ∙ ap (turned_by s.receiving) (sym (ap segment_at f.whole ∙ f.carries))
 
-pub tracking : (table : Table) (s : StreamState) (t : Tale) (act : StreamAct Octets) → Told table s act → Track s t → Track (stream_after s act) (tale_after t act)
+-- a responder keeps silent as long as no frame had its turn
+same_test : (floor place turns : ℕ) → (floor ≡ place → turns ≡ 0) → (turns ≡ 0 → floor ≡ place) → nat_eq floor place ≡ nat_eq turns 0
+same_test floor place turns to from = go (nat_eq floor place) (nat_eq turns 0) refl refl
+  where
+    go : (a b : Bool) → nat_eq floor place ≡ a → nat_eq turns 0 ≡ b → nat_eq floor place ≡ nat_eq turns 0
+    go true true e h = e ∙ sym h
+    go false false e h = e ∙ sym h
+    go true false e h =
+        let same : floor ≡ place = grind (arith, nat_tests) in
+        let none : turns ≡ 0 = to same in
+        absurd (let no : ⊥ = grind (arith, nat_tests) in no)
+    go false true e h =
+        let none : turns ≡ 0 = grind (arith, nat_tests) in
+        let same : floor ≡ place = from none in
+        absurd (let no : ⊥ = grind (arith, nat_tests) in no)
+
+pub silent_is : (s : StreamState) (t : Tale) → Track s t → keeps_silent s ≡ is_silent t.story
+silent_is s t k =
+    let first = first_is s t k.intro k.begins in
+    let at_first : nat_eq s.arrived.floor (first_place_in s.start) ≡ nat_eq t.story.turns 0 =
+    same_test s.arrived.floor (first_place_in s.start) t.story.turns
+    (λ e. let none : length k.frames ≤ 0 = omega (arith, e, first, k.point, k.far) in omega (arith, none, k.turns))
+    (λ e. let none : length k.before ≤ 0 = omega (arith, e, k.turns, k.near) in omega (arith, none, k.point, first)) in
+    (λ i. is_responder (sym k.begins.start i) && at_first i)
+
+pub tracking : (table : Table) (s : StreamState) (t : Tale) (act : StreamAct Octets) → Told table s act → Track s t → Track (after_act s act) (tale_after t act)
 tracking table s t (Deliver from octets Kept) rule k =
-    comes s (stream_after s (Deliver from octets Kept)) t (tale_after t (Deliver from octets Kept)) from octets rule (kept_start s (stream_after s (Deliver from octets Kept)) t (tale_after t (Deliver from octets Kept)) refl refl refl refl refl refl refl) refl refl refl refl refl refl refl refl refl (append-nil t.received) (append-nil t.placements) k
+    comes s (after_act s (Deliver from octets Kept)) t (tale_after t (Deliver from octets Kept)) from octets rule (kept_start s (after_act s (Deliver from octets Kept)) t (tale_after t (Deliver from octets Kept)) refl refl) refl refl refl refl refl refl refl refl (append-nil t.received) (append-nil t.placements) k
 tracking table s t (Raw from octets Kept) rule k =
-    comes s (stream_after s (Raw from octets Kept)) t (tale_after t (Raw from octets Kept)) from octets rule (kept_start s (stream_after s (Raw from octets Kept)) t (tale_after t (Raw from octets Kept)) refl refl refl refl refl refl refl) refl refl refl refl refl refl refl refl refl (append-nil t.received) (append-nil t.placements) k
-tracking table s t (Deliver from octets Dropped) rule k = same s s t (tale_after t (Deliver from octets Dropped)) refl refl refl refl refl refl refl refl refl k (quiet s t k)
-tracking table s t (Raw from octets Dropped) rule k = same s s t (tale_after t (Raw from octets Dropped)) refl refl refl refl refl refl refl refl refl k (quiet s t k)
-tracking table s t (Mulpdu size (Some refusal)) rule k = same s s t (tale_after t (Mulpdu size (Some refusal))) refl refl refl refl refl refl refl refl refl k (quiet s t k)
-tracking table s t (Accept private (Err refusal)) rule k = same s s t (tale_after t (Accept private (Err refusal))) refl refl refl refl refl refl refl refl refl k (quiet s t k)
-tracking table s t (Reject private (Some refusal)) rule k = same s s t (tale_after t (Reject private (Some refusal))) refl refl refl refl refl refl refl refl refl k (quiet s t k)
-tracking table s t (Recv len (Some refusal)) rule k = same s s t (tale_after t (Recv len (Some refusal))) refl refl refl refl refl refl refl refl refl k (quiet s t k)
-tracking table s t (Post m (Some refusal)) rule k = same s s t (tale_after t (Post m (Some refusal))) refl refl refl refl refl refl refl refl refl k (quiet s t k)
-tracking table s t (Emit Nothing) rule k = same s s t (tale_after t (Emit Nothing)) refl refl refl refl refl refl refl refl refl k (quiet s t k)
-tracking table s t (Work seen.Idle) rule k = same s s t (tale_after t (Work seen.Idle)) refl refl refl refl refl refl refl refl refl k (quiet s t k)
-tracking table s t (Mulpdu size None) rule k = same s (stream_after s (Mulpdu size None)) t (tale_after t (Mulpdu size None)) refl refl refl refl refl refl refl refl refl k (quiet s t k)
-tracking table s t (Post m None) rule k = same s (stream_after s (Post m None)) t (tale_after t (Post m None)) refl refl refl refl refl refl refl refl refl k (quiet s t k)
-tracking table s t (Work (seen.Done kind)) rule k = same s (stream_after s (Work (seen.Done kind))) t (tale_after t (Work (seen.Done kind))) refl refl refl refl refl refl refl refl refl k (quiet s t k)
-tracking table s t (Emit (Frame from octets)) rule k = emits_any s t from octets k
+    comes s (after_act s (Raw from octets Kept)) t (tale_after t (Raw from octets Kept)) from octets rule (kept_start s (after_act s (Raw from octets Kept)) t (tale_after t (Raw from octets Kept)) refl refl) refl refl refl refl refl refl refl refl (append-nil t.received) (append-nil t.placements) k
+tracking table s t (Deliver from octets Dropped) rule k = same s s t (tale_after t (Deliver from octets Dropped)) refl refl refl refl refl k (quiet s t k)
+tracking table s t (Raw from octets Dropped) rule k = same s s t (tale_after t (Raw from octets Dropped)) refl refl refl refl refl k (quiet s t k)
+tracking table s t (Mulpdu size (Some refusal)) rule k = same s s t (tale_after t (Mulpdu size (Some refusal))) refl refl refl refl refl k (quiet s t k)
+tracking table s t (Accept private (Err refusal)) rule k = same s s t (tale_after t (Accept private (Err refusal))) refl refl refl refl refl k (quiet s t k)
+tracking table s t (Reject private (Some refusal)) rule k = same s s t (tale_after t (Reject private (Some refusal))) refl refl refl refl refl k (quiet s t k)
+tracking table s t (Recv len (Some refusal)) rule k = same s s t (tale_after t (Recv len (Some refusal))) refl refl refl refl refl k (quiet s t k)
+tracking table s t (Post m (Some refusal)) rule k = same s s t (tale_after t (Post m (Some refusal))) refl refl refl refl refl k (quiet s t k)
+tracking table s t (Work seen.Idle) rule k = same s s t (tale_after t (Work seen.Idle)) refl refl refl refl refl k (quiet s t k)
+tracking table s t (Mulpdu size None) rule k = same s (after_act s (Mulpdu size None)) t (tale_after t (Mulpdu size None)) refl refl refl refl refl k (quiet s t k)
+tracking table s t (Post m None) rule k = same s (after_act s (Post m None)) t (tale_after t (Post m None)) refl refl refl refl refl k (quiet s t k)
+tracking table s t (Work (seen.Done kind)) rule k = same s (after_act s (Work (seen.Done kind))) t (tale_after t (Work (seen.Done kind))) refl refl refl refl refl k (quiet s t k)
+tracking table s t (Emit shown) rule k = emits_any s t shown k
 tracking table s t (Accept private (Ok agreed)) rule k = accepts s t private agreed (accepting s agreed rule) k
 tracking table s t (Reject private None) rule k = rejects s t private (refusing s rule) k
 tracking table s t (Work (seen.Asked private)) rule k = asks s t private rule.0 k
 tracking table s t (Work (seen.Opened agreed private)) rule k = opens s t agreed private rule.0 k
 tracking table s t (Work (seen.Closed fault)) rule k = closes s t fault rule k
 tracking table s t (Recv len None) rule k =
-    same_track s (stream_after s (Recv len None)) t (tale_after t (Recv len None)) (kept_start s (stream_after s (Recv len None)) t (tale_after t (Recv len None)) refl refl refl refl refl refl refl) refl refl refl refl k.placed (ap (λ (r : Receiving). with_buffer r (replicate len 0)) k.receiving) (λ h. refl) k
-    (joins_buffer k.segments s.receiving s.placed s.ended (segment_at (front s)) (t.received ++ []) (t.placements ++ []) (replicate len 0) (quiet s t k))
+    let s' : StreamState = after_act s (Recv len None) in
+    let t' : Tale = tale_after t (Recv len None) in
+    same_track s s' t t' (kept_start s s' t t' refl refl) refl refl refl k.placed (ap (λ (r : Receiving). with_buffer r (replicate len 0)) k.receiving) (λ h. refl) (λ f h. same_fore s s' refl refl f (k.fore_is f h)) k
+    (joins_buffer k.segments s.receiving (is_some s.front) s.ended (segment_at (fore s)) (t.received ++ []) (t.placements ++ []) (replicate len 0) (quiet s t k))
 tracking table s t (Work (seen.Placed right stag to octets)) rule k =
-    same_track s (stream_after s (Work (seen.Placed right stag to octets))) t (tale_after t (Work (seen.Placed right stag to octets))) (kept_start s (stream_after s (Work (seen.Placed right stag to octets))) t (tale_after t (Work (seen.Placed right stag to octets))) refl refl refl refl refl refl refl) refl refl refl refl refl k.receiving (λ h. absurd (false≢true (sym h ∙ rule.places.1.fronts.started))) k (places table s t right stag to octets rule k)
+    let w = rule.1 in
+    let s' : StreamState = after_act s (Work (seen.Placed right stag to octets)) in
+    let t' : Tale = tale_after t (Work (seen.Placed right stag to octets)) in
+    let some : is_some (kept_of s) ≡ true = ap is_some (kept_whole s false (Tagged w.head octets) w.fronts) in
+    same_track s s' t t' (kept_start s s' t t' refl refl) refl refl refl (sym some) k.receiving (λ h. absurd (false≢true (sym h ∙ w.fronts.started))) (λ f h. kept_fore s s' false (Tagged w.head octets) w.fronts refl refl f h) k
+    (reshape refl (sym some) refl refl refl refl (places table s t right stag to octets w k))
 tracking table s t (Work (seen.Buffered msn mo len)) rule k =
-    same_track s (stream_after s (Work (seen.Buffered msn mo len))) t (tale_after t (Work (seen.Buffered msn mo len))) (kept_start s (stream_after s (Work (seen.Buffered msn mo len))) t (tale_after t (Work (seen.Buffered msn mo len))) refl refl refl refl refl refl refl) refl refl refl refl refl (λ i. written (k.receiving i) msn mo (payload_of (next_carries s t k i))) (λ h. absurd (false≢true (sym h ∙ rule.fronts.started))) k
-    (buffers s t msn mo len rule k)
+    let w = rule.1 in
+    let s' : StreamState = after_act s (Work (seen.Buffered msn mo len)) in
+    let t' : Tale = tale_after t (Work (seen.Buffered msn mo len)) in
+    let some : is_some (kept_of s) ≡ true = ap is_some (kept_whole s false (Untagged w.head w.payload) w.fronts) in
+    same_track s s' t t' (kept_start s s' t t' refl refl) refl refl refl (sym some) (λ i. written (k.receiving i) msn mo (next_carries s t k i)) (λ h. absurd (false≢true (sym h ∙ w.fronts.started)))
+    (λ f h. kept_fore s s' false (Untagged w.head w.payload) w.fronts refl refl f h) k
+    (reshape refl (sym some) refl refl refl refl (buffers s t msn mo len w k))
 tracking table s t (Work seen.Passed) rule k =
-    turned s (stream_after s (Work seen.Passed)) t (tale_after t (Work seen.Passed)) rule.fronts.frame rule.fronts.rest rule.segment rule.fronts.whole rule.fronts.carries rule.fronts.started (kept_start s (stream_after s (Work seen.Passed)) t (tale_after t (Work seen.Passed)) refl refl refl refl refl refl refl) refl refl refl refl refl refl
-    (λ i. turned_by (k.receiving i) (next_carries s t k i)) k (passes s t rule.segment (segment_at (front (stream_after s (Work seen.Passed)))) rule.fronts rule.passing k)
+    let w = rule.1 in
+    let s' : StreamState = after_act s (Work seen.Passed) in
+    let t' : Tale = tale_after t (Work seen.Passed) in
+    turned s s' t t' w.fronts.frame w.fronts.rest w.segment w.fronts.whole w.fronts.carries w.fronts.started (kept_start s s' t t' refl refl) refl refl refl refl refl
+    (next_turns s t true w.segment w.fronts k) k (passes s t w.segment (segment_at (fore s')) w.fronts w.passing k)
 tracking table s t (Work (seen.Received octets solicited invalidate)) rule k =
-    let c = rule.0.completes in
-    let s' : StreamState = stream_after s (Work (seen.Received octets solicited invalidate)) in
-    turned s s' t (tale_after t (Work (seen.Received octets solicited invalidate))) c.fronts.frame c.fronts.rest (Untagged c.head c.payload) c.fronts.whole c.fronts.carries c.fronts.started (kept_start s (stream_after s (Work (seen.Received octets solicited invalidate))) t (tale_after t (Work (seen.Received octets solicited invalidate))) refl refl refl refl refl refl refl) refl refl refl refl refl refl
-    (ap finished k.receiving) k (receives s t octets solicited invalidate (segment_at (front s')) rule.0 rule.1 rule.2 k)
+    let c = rule.1 in
+    let s' : StreamState = after_act s (Work (seen.Received octets solicited invalidate)) in
+    let t' : Tale = tale_after t (Work (seen.Received octets solicited invalidate)) in
+    turned s s' t t' c.fronts.frame c.fronts.rest (Untagged c.head c.payload) c.fronts.whole c.fronts.carries c.fronts.started (kept_start s s' t t' refl refl) refl refl refl refl refl
+    (ap finished k.receiving) k (receives s t octets solicited invalidate (segment_at (fore s')) c k)
 tracking table s t (Work (seen.Fault fault)) rule k =
-    same s (stream_after s (Work (seen.Fault fault))) t (tale_after t (Work (seen.Fault fault))) refl refl refl refl refl refl refl refl refl k
-    (joins_end k.segments s.receiving s.placed s.ended (segment_at (front s)) (t.received ++ []) (t.placements ++ []) (quiet s t k))
+    same s (after_act s (Work (seen.Fault fault))) t (tale_after t (Work (seen.Fault fault))) refl refl refl refl refl k
+    (joins_end k.segments s.receiving (is_some s.front) s.ended (segment_at (fore s)) (t.received ++ []) (t.placements ++ []) (quiet s t k))

@@ -8,21 +8,22 @@ use Rattle.iw_memory.specs.Table.{Table}
 use Rattle.iw_ranges.specs.declared.Delivery.TheVariants.{Kept, Dropped}
 use Rattle.iw_ranges.specs.Arrived.{nothing, taken_in, advanced}
 use Rattle.iw_ranges.specs.InOrder.{IsOf}
-use Rattle.iw_ranges.proofs.InOrder.{window_nothing, of_nothing, of_takes, of_more}
-use Rattle.std.specs.Option.{option_map_or}
+use Rattle.iw_ranges.proofs.InOrder.{held_nothing, window_nothing, of_nothing, of_takes, of_more}
+use Rattle.std.proofs.lemmas.Option.{none-some}
 use Rattle.iw_startup.specs.declared.config.Config.{Config}
 use Rattle.iw_startup.specs.declared.side.Side.{Side}
 use Rattle.iw_startup.specs.declared.side.Side.TheVariants as sides
 use Rattle.iw_startup.specs.declared.side.Reply.TheVariants as replies
 use Rattle.iw_startup.specs.Frame.{flags}
-use Rattle.iw_startup.specs.State.{StartupState, IsReached, begun, own_frame, frame_of, agreed_of}
-use Rattle.iw_startup.proofs.Openings.{nothing_agreed}
+use Rattle.iw_startup.specs.State.{IsReached, own_frame}
 use Rattle.iw_startup.proofs.Reached.{reached-initiator, reached-responder}
 use Rattle.iw_startup.proofs.Handshake.{length-written}
 use Rattle.iw_stream.specs.declared.answer.Role.{Role}
 use Rattle.iw_stream.specs.declared.answer.Role.TheVariants.{Preset, Initiator, Responder}
-use Rattle.iw_stream.specs.Stream.{StreamState, plain, layout_in, layout_out, layout_at_first, startup_at_first}
-use Rattle.iw_stream.specs.Stream as streams
+use Rattle.iw_stream.specs.Starting.{StartState, AtOnce, Unheard, Heard, IsFresh, start_at_first, sending, expecting}
+use Rattle.iw_stream.specs.Starting as starting
+use Rattle.iw_stream.specs.Stream.{StreamState}
+use Rattle.iw_fpdu.specs.declared.layout.Layout.{Layout}
 use Rattle.iw_fpdu.specs.Sequence.{sequence, place_behind}
 use Rattle.iw_fpdu.specs.Laws.{IsBetween}
 use Rattle.iw_fpdu.proofs.Follows.{frames_follow}
@@ -42,10 +43,9 @@ use Rattle.iw_events.specs.declared.act.Seen.TheVariants as seen
 use Rattle.iw_world.specs.Turns.{story}
 use Rattle.iw_world.specs.Words.{Octets, other, acts, stream_acts, stream_acts_by, Opening, no_opening, opening_in, opening_of, openings, openings_by, posted, finished_kinds, size_set, received, ended, sent, sent_by, placements, table_after, buffers}
 use Rattle.iw_world.specs.Rules.{opening_by, Connected, connected, unconnected, EndState, State, end_of, with_end, has_stream, stream_at, no_streams, fresh, start, Rule, WireRule, StreamRule, connected_after, streams_after, end_after, after_entry, state_after, Follows}
-use Rattle.iw_world.proofs.Told.{told}
 use Rattle.iw_world.proofs.Tales.{Tale, tale_of, tale_after, tale-push, stream_acts-push, openings-push, acts_mine, acts_other}
 use Rattle.iw_world.proofs.Sending.{shown_good, EmitsStart, EmitsPart, emits_frame}
-use Rattle.iw_world.proofs.Tracks.{OnStartup, Track}
+use Rattle.iw_world.proofs.Tracks.{OnStart, start_octets, Track}
 use Rattle.iw_world.proofs.Owns.{Own, owning, first_fits, Emits, Unspoken, IsSmall, IsStartOf, behind_start}
 use Rattle.iw_world.proofs.Ends.{EndSeen, end_step, opens, opens_same, at_same, at_other, number_there, unopened, opening_none, opening_one}
 
@@ -95,9 +95,9 @@ still_of t u (Work seen.Idle) rule h raw = h raw
 
 -- an act of the stream
 streamed : (table : Table) (l : Opening) (c : Connected) (t : Tale) (m : Opening) (d : Connected) (u : Tale) (act : StreamAct Octets) → StreamRule table c.stream act → WireRule d.wire act → Pair l c t m d u
-    → Pair l (connected_after c act) (tale_after t act) m d u
+    → Pair l (connected_after table c act) (tale_after t act) m d u
 streamed table l c t m d u act rule wire p = record {
-  own = owning l table c t act (told table c.stream act rule) p.own;
+  own = owning l table c t act rule p.own;
   own_peer = p.own_peer;
   out = λ raw. of_more u.story.came t.sent (sent_by act) (p.out raw);
   back = still_of t u act (subst (λ z. WireRule z act) p.own_peer.wire wire) p.back;
@@ -110,36 +110,26 @@ unfolding advanced
 nothing_moves = refl
 
 -- how a stream begins
-expects_at_first : (role : Role) (config : Config) → layout_at_first role config ≡ option_map_or (λ (u : StartupState). option_map_or layout_in (agreed_of u) plain) (startup_at_first role config) (layout_at_first role config)
-expects_at_first Preset config = refl
-expects_at_first Initiator config = ap (λ o. option_map_or layout_in o plain) (sym (nothing_agreed (begun sides.Initiator config) refl))
-expects_at_first Responder config = ap (λ o. option_map_or layout_in o plain) (sym (nothing_agreed (begun (sides.Responder None) config) refl))
-
-sends_at_first : (role : Role) (config : Config) → layout_at_first role config ≡ option_map_or (λ (u : StartupState). option_map_or layout_out (agreed_of u) plain) (startup_at_first role config) (layout_at_first role config)
-sends_at_first Preset config = refl
-sends_at_first Initiator config = ap (λ o. option_map_or layout_out o plain) (sym (nothing_agreed (begun sides.Initiator config) refl))
-sends_at_first Responder config = ap (λ o. option_map_or layout_out o plain) (sym (nothing_agreed (begun (sides.Responder None) config) refl))
-
-reached_at_first : (role : Role) (config : Config) → OnStartup IsReached (startup_at_first role config)
+reached_at_first : (role : Role) (config : Config) → OnStart IsReached (start_at_first role config)
 reached_at_first Preset config = tt
 reached_at_first Initiator config = reached-initiator config
 reached_at_first Responder config = reached-responder config
 
-first_place : (role : Role) (config : Config) → 0 ≡ option_map_or (λ (u : StartupState). length u.octets) (startup_at_first role config) 0
-first_place Preset config = refl
-first_place Initiator config = refl
-first_place Responder config = refl
+fresh_at_first : (role : Role) (config : Config) → IsFresh (start_at_first role config)
+fresh_at_first Preset config = tt
+fresh_at_first Initiator config = refl
+fresh_at_first Responder config = refl
 
-first_octets : (role : Role) (config : Config) → [] ≡ option_map_or (λ (u : StartupState). u.octets) (startup_at_first role config) []
+first_octets : (role : Role) (config : Config) → [] ≡ start_octets (start_at_first role config)
 first_octets Preset config = refl
 first_octets Initiator config = refl
 first_octets Responder config = refl
 
-starts_at_first : (o : Opening) → IsStartOf o (startup_at_first o.role o.config)
+starts_at_first : (o : Opening) → IsStartOf o (start_at_first o.role o.config)
 starts_at_first o = go o.role refl
   where
-    go : (r : Role) → o.role ≡ r → IsStartOf o (startup_at_first r o.config)
-    go Preset e = e
+    go : (r : Role) → o.role ≡ r → IsStartOf o (start_at_first r o.config)
+    go Preset e = (e, refl)
     go Initiator e = record { config = refl; role = sym e; small = tt }
     go Responder e = record { config = refl; role = sym e; small = tt }
 
@@ -150,8 +140,7 @@ no_emits o = record {
   segments = [];
   has = sends_in_order.start;
   good = tt;
-  framed = Unspoken refl refl refl;
-  spoke = λ h. absurd (false≢true h);
+  framed = Unspoken refl refl;
   shut = λ h. refl;
   silent = λ h. refl;
   limits = limits_start;
@@ -168,14 +157,10 @@ unfolding received placements story
 no_track o = record {
   intro = [];
   begins = record {
-    startup = refl;
-    heard = refl;
-    expects = expects_at_first o.role o.config;
-    sends = sends_at_first o.role o.config;
+    start = refl;
     reached = reached_at_first o.role o.config;
-    first = first_place o.role o.config;
+    fresh = fresh_at_first o.role o.config;
     octets = first_octets o.role o.config;
-    unheard = λ h. refl;
   };
   frames = [];
   before = [];
@@ -184,17 +169,19 @@ no_track o = record {
   came = refl;
   arrived = nothing_moves;
   point = refl;
-  between = frames_follow.first (layout_at_first o.role o.config).markers;
+  between = frames_follow.first (expecting (start_at_first o.role o.config)).markers;
   located = [];
   named = refl;
   split = λ more. refl;
   ends = refl;
   turns = refl;
-  passed = refl;
   placed = refl;
   receiving = refl;
+  fore_is = λ f h. absurd (none-some _ h);
+  held = held_nothing;
   window = window_nothing;
   near = omega arith;
+  far = omega arith;
   early = omega arith;
   segments = [];
   carried = refl;
@@ -216,7 +203,6 @@ no_own o small = record {
   due = refl;
   starts = starts_at_first o;
   small = small;
-  laid = refl;
   emits = no_emits o;
   track = no_track o;
   ended = refl;
@@ -237,7 +223,7 @@ reopened o l m c done d u small none p = record {
 }
 
 -- an act that neither opens the stream nor is one of it
-same_stream : (s : EndState) (act : Act Octets) (n : ℕ) (done : List (Act Octets)) (m : Opening) (d : Connected) (u : Tale) → slice_index_or (streams_after s.streams act) n None ≡ slice_index_or s.streams n None → openings_by n act ≡ []
+same_stream : (s : EndState) (act : Act Octets) (n : ℕ) (done : List (Act Octets)) (m : Opening) (d : Connected) (u : Tale) → slice_index_or (streams_after s.table s.streams act) n None ≡ slice_index_or s.streams n None → openings_by n act ≡ []
     → stream_acts_by n act ≡ [] → Pair (opening_of n done) (stream_at s n) (tale n done) m d u → Pair (opening_of n (done ++ act ∷ [])) (stream_at (end_after s act) n) (tale n (done ++ act ∷ [])) m d u
 same_stream s act n done m d u same closed none p =
     let same_opening : opening_of n (done ++ act ∷ []) ≡ opening_of n done = ap opening_in (opens_same n done act closed) in
@@ -278,7 +264,7 @@ acted s peer done (Open m pd role options private None) n l u k rule p = go (eqb
         let same : m ≡ n = eqb-true m n e in
         let c : Connected = connected (opening_by pd role options private) in
         let room : m < length s.streams = omega (arith, o.number, k.numbers) in
-        let here : slice_index_or (streams_after s.streams act) n None ≡ Some c = subst (λ j. slice_index_or (streams_after s.streams act) j None ≡ Some c) same (at_same s m c room) in
+        let here : slice_index_or (streams_after s.table s.streams act) n None ≡ Some c = subst (λ j. slice_index_or (streams_after s.table s.streams act) j None ≡ Some c) same (at_same s m c room) in
         let closed : has_stream s n ≡ false = subst (λ j. has_stream s j ≡ false) same o.fresh in
         let before : openings n done ≡ [] = unopened (openings n done) (sym (k.opened n) ∙ closed) in
         let now : opening_of n (done ++ act ∷ []) ≡ opening_by pd role options private =
@@ -289,14 +275,14 @@ acted s peer done (Open m pd role options private None) n l u k rule p = go (eqb
 acted s peer done (Stream m act) n l u k rule p = go (eqb m n) refl
   where
     go : (b : Bool) → eqb m n ≡ b → Pair (opening_of n (done ++ Stream m act ∷ [])) (stream_at (end_after s (Stream m act)) n) (tale n (done ++ Stream m act ∷ [])) l (stream_at peer n) u
-    go false e = same_stream s (Stream m act) n done l (stream_at peer n) u (at_other s m n (Some (connected_after (stream_at s m) act)) e) refl (acts_none m n act e) p
+    go false e = same_stream s (Stream m act) n done l (stream_at peer n) u (at_other s m n (Some (connected_after s.table (stream_at s m) act)) e) refl (acts_none m n act e) p
     go true e =
         let same : m ≡ n = eqb-true m n e in
-        let c : Connected = connected_after (stream_at s m) act in
-        let here : slice_index_or (streams_after s.streams (Stream m act)) n None ≡ Some c =
-        subst (λ j. slice_index_or (streams_after s.streams (Stream m act)) j None ≡ Some c) same (at_same s m c (number_there s m rule.0.0)) in
-        let is : connected_after (stream_at s n) act ≡ stream_at (end_after s (Stream m act)) n =
-        ap (λ j. connected_after (stream_at s j) act) (sym same) ∙ ap (λ z. unwrap_or z unconnected) (sym here) in
+        let c : Connected = connected_after s.table (stream_at s m) act in
+        let here : slice_index_or (streams_after s.table s.streams (Stream m act)) n None ≡ Some c =
+        subst (λ j. slice_index_or (streams_after s.table s.streams (Stream m act)) j None ≡ Some c) same (at_same s m c (number_there s m rule.0.0)) in
+        let is : connected_after s.table (stream_at s n) act ≡ stream_at (end_after s (Stream m act)) n =
+        ap (λ j. connected_after s.table (stream_at s j) act) (sym same) ∙ ap (λ z. unwrap_or z unconnected) (sym here) in
         let own_rule : StreamRule s.table (stream_at s n).stream act =
         subst (λ j. StreamRule s.table (stream_at s j).stream act) same rule.0.1 in
         moved l (stream_at peer n) u (ap opening_in (sym (opens_same n done (Stream m act) refl))) is (sym (tale_next n done m act e))
@@ -311,9 +297,10 @@ few_side config (sides.Responder None) few small = omega arith
 few_side config (sides.Responder (Some (replies.Accept private))) few small = omega (arith, length-written sides.Initiator (flags config.markers config.crc false) private.items, small)
 few_side config (sides.Responder (Some (replies.Reject private))) few small = omega (arith, length-written sides.Initiator (flags config.markers config.crc true) private.items, small)
 
-few_start : (o : Opening) (u : Option StartupState) → length o.config.private.items ≤ 512 → IsStartOf o u → length (option_map_or frame_of u []) ≤ 532
-few_start o None few h = omega arith
-few_start o (Some u) few h = few_side u.config u.side (subst (λ (z : Config). length z.private.items ≤ 512) (sym h.config) few) h.small
+few_start : (o : Opening) (start : StartState) → length o.config.private.items ≤ 512 → IsStartOf o start → length (starting.own_frame start) ≤ 532
+few_start o (AtOnce layout) few h = omega arith
+few_start o (Unheard u) few h = few_side u.config u.side (subst (λ (z : Config). length z.private.items ≤ 512) (sym h.config) few) h.small
+few_start o (Heard u) few h = few_side u.config u.side (subst (λ (z : Config). length z.private.items ≤ 512) (sym h.config) few) h.small
 
 pub emits_few : (opening : Opening) (table : Table) (c : Connected) (t : Tale) (act : StreamAct Octets) → StreamRule table c.stream act → Own opening c t → length (sent_by act) ≤ 2 ^ 17
 emits_few opening table c t (Emit (Frame from octets)) rule o = go (emits_frame c.stream from octets rule)
@@ -321,17 +308,18 @@ emits_few opening table c t (Emit (Frame from octets)) rule o = go (emits_frame 
     part : EmitsPart c.stream from octets → length octets ≤ 2 ^ 17
     part p =
         let s : StreamState = c.stream in
-        let own : Octets = streams.own_frame s in
-        let good = shown_good s.numbers s.queue s.mulpdu p.part p.due o.emits.limits o.emits.enough o.emits.few o.emits.number (first_fits s.queue o.emits.fit) in
+        let own : Octets = starting.own_frame s.start in
+        let layout : Layout = sending s.start in
+        let good = shown_good s.numbers s.queue s.mulpdu p.part p.is_loud.part_is o.emits.limits o.emits.enough o.emits.few o.emits.number (first_fits s.queue o.emits.fit) in
         let us : List (List ℕ) = map segment_octets o.emits.segments in
-        let framed : t.sent ≡ own ++ sequence s.sending 0 us = behind_start s t o.emits p.spoken in
-        let between : IsBetween s.sending.markers (place_behind s.sending 0 us) = between_behind s.sending 0 us (frames_follow.first s.sending.markers) in
-        let place : place_behind s.sending 0 us ≡ s.sent - length own =
-        place_is s.sending 0 us (frames_follow.first s.sending.markers) ∙ omega (arith, ap length framed, length-append own (sequence s.sending 0 us), o.sent) in
-        subst (λ z. length z ≤ 2 ^ 17) (sym p.octets_are) (written_few s.sending (s.sent - length own) (segment_octets (segment_of s.numbers p.part)) (omega (arith, between.aligned, place)) good.small)
+        let framed : t.sent ≡ own ++ sequence layout 0 us = behind_start s t o.emits o.sent p.is_loud.spoken in
+        let between : IsBetween layout.markers (place_behind layout 0 us) = between_behind layout 0 us (frames_follow.first layout.markers) in
+        let place : place_behind layout 0 us ≡ s.sent - length own =
+        place_is layout 0 us (frames_follow.first layout.markers) ∙ omega (arith, ap length framed, length-append own (sequence layout 0 us), o.sent) in
+        subst (λ z. length z ≤ 2 ^ 17) (sym p.octets_are) (written_few layout (s.sent - length own) (segment_octets (segment_of s.numbers p.part)) (omega (arith, between.aligned, place)) good.small)
 
     go : EmitsStart c.stream from octets ⊎ EmitsPart c.stream from octets → length octets ≤ 2 ^ 17
-    go (inl p) = omega (arith, ap length p.octets_are, few_start opening c.stream.startup o.small o.starts)
+    go (inl p) = omega (arith, ap length p.octets_are, few_start opening c.stream.start o.small o.starts)
     go (inr p) = part p
 emits_few opening table c t (Emit Nothing) rule o = omega arith
 emits_few opening table c t (Recv len refused) rule o = omega arith

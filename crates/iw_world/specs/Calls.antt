@@ -13,11 +13,11 @@ use Rattle.iw_queues.specs.declared.request.Request.TheVariants.{Message as Post
 use Rattle.iw_queues.specs.Request.{size_of}
 use Rattle.iw_startup.specs.declared.config.Agreed.{Agreed}
 use Rattle.iw_startup.specs.declared.startup.NotAsked.{NotAsked}
-use Rattle.iw_startup.specs.State.{StartupState, awaits_answer, agreement}
 use Rattle.iw_stream.specs.declared.answer.PostRefusal.{PostRefusal}
 use Rattle.iw_stream.specs.declared.answer.PostRefusal.TheVariants as posting
 use Rattle.iw_stream.specs.declared.answer.RecvRefusal.{RecvRefusal}
 use Rattle.iw_stream.specs.declared.answer.RecvRefusal.TheVariants as receiving
+use Rattle.iw_stream.specs.Starting.{is_open, is_asked, agreement_in}
 use Rattle.iw_stream.specs.Stream.{size_refusal}
 use Rattle.iw_events.specs.declared.act.OpenRefusal.{OpenRefusal}
 use Rattle.iw_events.specs.declared.act.OpenRefusal.TheVariants.{NumberTaken, BadNumber, NoDomain}
@@ -27,7 +27,7 @@ use Rattle.iw_events.specs.declared.act.StreamAct.{StreamAct}
 use Rattle.iw_events.specs.declared.act.StreamAct.TheVariants.{Recv, Post, Emit, Deliver, Raw, Mulpdu, Accept, Reject, Work}
 use Rattle.iw_events.specs.declared.act.Entry.{Entry}
 use Rattle.iw_world.specs.Words.{Octets, other, acts, deed, stream_acts, openings, was_opened, stream_numbers, posted, finished_kinds, ended, sent, table_after, buffers}
-use Rattle.iw_world.specs.Turns.{Story, story_of, is_open, in_order_point}
+use Rattle.iw_world.specs.Turns.{Story, story_of, in_order_point}
 use Rattle.iw_world.specs.Words.{OnSome, OnStream, AtEach}
 
 -- ---- the calls of an end
@@ -74,28 +74,23 @@ recv_refusal_by before =
 
 abbrev pub post_refusal_by : Story → List (StreamAct Octets) → Message Octets → Option PostRefusal
 post_refusal_by t before message =
-    if ended before || not (is_open t) then Some posting.NotOpen
+    if ended before || not (is_open t.start) then Some posting.NotOpen
     else if nat_le 256 (length (posted before) - length (finished_kinds before)) then Some posting.Full
     else if nat_lt 16777216 (size_of (Posted message)) then Some posting.TooLong
     else None
 
 -- the peer's Request was read, and is not answered
-abbrev pub is_asked : Story → List (StreamAct Octets) → Bool
-is_asked t before = not (ended before) && option_map_or awaits_answer t.startup false
+abbrev pub may_answer_by : Story → List (StreamAct Octets) → Bool
+may_answer_by t before = not (ended before) && is_asked t.start
 
--- what was asked for at both ends is agreed on
-pub record Agrees (t : Story) (agreed : Agreed) : Type 0 where
-  pub startup : StartupState
-  pub is : t.startup ≡ Some startup
-  pub agreed_is : agreed ≡ agreement startup.config startup.octets
-
+-- what both ends asked for is agreed on
 abbrev pub Accepted : Story → List (StreamAct Octets) → Result Agreed NotAsked → Type 0
-Accepted t before (Ok agreed) = (is_asked t before ≡ true) × Agrees t agreed
-Accepted t before (Err refusal) = is_asked t before ≡ false
+Accepted t before (Ok agreed) = (may_answer_by t before ≡ true) × (agreed ≡ agreement_in t.start)
+Accepted t before (Err refusal) = may_answer_by t before ≡ false
 
 abbrev pub Rejected : Story → List (StreamAct Octets) → Option NotAsked → Type 0
-Rejected t before None = is_asked t before ≡ true
-Rejected t before (Some refusal) = is_asked t before ≡ false
+Rejected t before None = may_answer_by t before ≡ true
+Rejected t before (Some refusal) = may_answer_by t before ≡ false
 
 -- by what was done on the stream before
 abbrev pub StreamAnswered : Story → List (StreamAct Octets) → StreamAct Octets → Type 0

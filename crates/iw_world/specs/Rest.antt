@@ -8,7 +8,8 @@ use Rattle.iw_events.specs.declared.act.Seen.{Seen}
 use Rattle.iw_events.specs.declared.act.Seen.TheVariants as seen
 use Rattle.iw_events.specs.declared.act.Entry.{Entry}
 use Rattle.iw_world.specs.Words.{Octets, deed, stream_acts, ended}
-use Rattle.iw_world.specs.Turns.{Story, story_of, is_open, next_frame, HearsFrame}
+use Rattle.iw_stream.specs.Starting.{is_open, awaits_frame}
+use Rattle.iw_world.specs.Turns.{Story, story_of, next_frame, HearsFrame}
 use Rattle.iw_world.specs.Sends.{CanFinish}
 use Rattle.iw_world.specs.Words.{OnSome, OnStream, AtEach}
 
@@ -17,8 +18,8 @@ use Rattle.iw_world.specs.Words.{OnSome, OnStream, AtEach}
 pub data HasRest (over : Bool) (t : Story) : Type 0 where
   Over : over ≡ true → HasRest over t
   AwaitsFrame : HearsFrame over t progress.More → HasRest over t
-  AwaitsAnswer : is_open t ≡ false → t.heard ≡ true → HasRest over t
-  NoFrame : is_open t ≡ true → next_frame t ≡ None → HasRest over t
+  AwaitsAnswer : is_open t.start ≡ false → awaits_frame t.start ≡ false → HasRest over t
+  NoFrame : is_open t.start ≡ true → next_frame t ≡ None → HasRest over t
 
 -- there is a reason, and no message can be finished
 pub record IsAtRest (over : Bool) (t : Story) (before : List (StreamAct Octets)) : Type 0 where

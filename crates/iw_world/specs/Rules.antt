@@ -15,8 +15,9 @@ use Rattle.iw_stream.specs.declared.answer.Step.{Step}
 use Rattle.iw_stream.specs.declared.answer.Step.TheVariants as steps
 use Rattle.iw_stream.specs.declared.answer.Emission.{Emission}
 use Rattle.iw_stream.specs.declared.answer.Emission.TheVariants as emissions
-use Rattle.iw_stream.specs.Stream.{StreamState, opened, with_buffer, with_message, with_mulpdu, recv_refusal, post_refusal, size_refusal, emission_of, emitted, after_emit, delivery_of, after_deliver, may_answer, accepted_agreed, accepted, rejected, private_of, worked}
-use Rattle.iw_stream.specs.Judging.{work_step, table_worked}
+use Rattle.iw_stream.specs.Starting.{private_in, agreement_in}
+use Rattle.iw_stream.specs.Stream.{StreamState, opened, with_buffer, with_message, with_mulpdu, recv_refusal, post_refusal, size_refusal, emission_of, emitted, after_emit, delivery_of, after_deliver, may_answer, accepted, rejected}
+use Rattle.iw_stream.specs.Work.{work_step, worked, table_worked}
 use Rattle.iw_events.specs.declared.call.End.{End}
 use Rattle.iw_events.specs.declared.call.End.TheVariants.{A, B}
 use Rattle.iw_events.specs.declared.call.Options.{Options}
@@ -122,7 +123,7 @@ abbrev pub answer_refusal : StreamState → Option NotAsked
 answer_refusal s = if may_answer s then None else Some (record {})
 
 abbrev pub accept_answer : StreamState → Result Agreed NotAsked
-accept_answer s = if may_answer s then Ok (accepted_agreed s) else Err (record {})
+accept_answer s = if may_answer s then Ok (agreement_in s.start) else Err (record {})
 
 -- private data as a start-up frame has it
 abbrev pub private_data : Octets → ArrayVec ℕ
@@ -139,7 +140,7 @@ StreamRule table s (Mulpdu size refused) = refused ≡ size_refusal size
 StreamRule table s (Accept private answer) = answer ≡ accept_answer s
 StreamRule table s (Reject private refused) = refused ≡ answer_refusal s
 StreamRule table s (Work step) =
-    step ≡ seen_of (table_worked table s (work_step table s)) (private_of (worked s (work_step table s))) (work_step table s)
+    step ≡ seen_of (table_worked table s) (private_in (worked table s).start) (work_step table s)
 
 -- octets that are delivered are those that the other end sent on the stream
 abbrev pub WireRule : Octets → StreamAct Octets → Type 0
@@ -189,51 +190,37 @@ Rule s peer act = EndRule s act × PeerRule peer act
 
 -- ---- what an entry leaves
 
--- a step that would be seen so
-abbrev pub step_of : Seen Octets → Step Octets
-step_of (seen.Done kind) = steps.Done kind
-step_of (seen.Asked private) = steps.Asked
-step_of (seen.Opened agreed private) = steps.Opened agreed
-step_of (seen.Closed fault) = steps.Closed fault
-step_of (seen.Placed right stag to octets) = steps.Placed right stag to (length octets)
-step_of (seen.Buffered msn mo len) = steps.Buffered msn mo len
-step_of seen.Passed = steps.Passed
-step_of (seen.Received octets solicited invalidate) = steps.Received octets (length octets) solicited invalidate
-step_of (seen.Fault fault) = steps.Fault fault
-step_of seen.Idle = steps.Idle
+abbrev pub stream_after : Table → StreamState → StreamAct Octets → StreamState
+stream_after table s (Recv len None) = with_buffer s (replicate len 0)
+stream_after table s (Recv len (Some refusal)) = s
+stream_after table s (Post message None) = with_message s message
+stream_after table s (Post message (Some refusal)) = s
+stream_after table s (Emit shown) = after_emit s
+stream_after table s (Deliver from octets delivery) = after_deliver s from octets delivery
+stream_after table s (Raw from octets delivery) = after_deliver s from octets delivery
+stream_after table s (Mulpdu size None) = with_mulpdu s size
+stream_after table s (Mulpdu size (Some refusal)) = s
+stream_after table s (Accept private (Ok agreed)) = accepted s (private_data private)
+stream_after table s (Accept private (Err refusal)) = s
+stream_after table s (Reject private None) = rejected s (private_data private)
+stream_after table s (Reject private (Some refusal)) = s
+stream_after table s (Work step) = worked table s
 
-abbrev pub stream_after : StreamState → StreamAct Octets → StreamState
-stream_after s (Recv len None) = with_buffer s (replicate len 0)
-stream_after s (Recv len (Some refusal)) = s
-stream_after s (Post message None) = with_message s message
-stream_after s (Post message (Some refusal)) = s
-stream_after s (Emit (Frame from octets)) = after_emit s (emissions.Frame from (length octets))
-stream_after s (Emit Nothing) = s
-stream_after s (Deliver from octets delivery) = after_deliver s from octets delivery
-stream_after s (Raw from octets delivery) = after_deliver s from octets delivery
-stream_after s (Mulpdu size None) = with_mulpdu s size
-stream_after s (Mulpdu size (Some refusal)) = s
-stream_after s (Accept private (Ok agreed)) = accepted s (private_data private)
-stream_after s (Accept private (Err refusal)) = s
-stream_after s (Reject private None) = rejected s (private_data private)
-stream_after s (Reject private (Some refusal)) = s
-stream_after s (Work step) = worked s (step_of step)
-
-abbrev pub connected_after : Connected → StreamAct Octets → Connected
-connected_after c act = record { stream = stream_after c.stream act; wire = c.wire ++ sent_by act }
+abbrev pub connected_after : Table → Connected → StreamAct Octets → Connected
+connected_after table c act = record { stream = stream_after table c.stream act; wire = c.wire ++ sent_by act }
 
 abbrev pub opening_by : ℕ → Role → Options → Octets → Opening
 opening_by pd role options private = record { domain = pd; role = role; config = config_for options private }
 
-abbrev pub streams_after : List (Option Connected) → Act Octets → List (Option Connected)
-streams_after streams (Open n pd role options private None) = slice_set streams n (Some (connected (opening_by pd role options private)))
-streams_after streams (Open n pd role options private (Some refusal)) = streams
-streams_after streams (Stream n act) = slice_set streams n (Some (connected_after (unwrap_or (slice_index_or streams n None) unconnected) act))
-streams_after streams (Domain pd refused) = streams
-streams_after streams (Register pd base rights octets answer) = streams
-streams_after streams (Deregister stag answer) = streams
-streams_after streams (Invalidate stag refused) = streams
-streams_after streams (Store stag to octets refused) = streams
+abbrev pub streams_after : Table → List (Option Connected) → Act Octets → List (Option Connected)
+streams_after table streams (Open n pd role options private None) = slice_set streams n (Some (connected (opening_by pd role options private)))
+streams_after table streams (Open n pd role options private (Some refusal)) = streams
+streams_after table streams (Stream n act) = slice_set streams n (Some (connected_after table (unwrap_or (slice_index_or streams n None) unconnected) act))
+streams_after table streams (Domain pd refused) = streams
+streams_after table streams (Register pd base rights octets answer) = streams
+streams_after table streams (Deregister stag answer) = streams
+streams_after table streams (Invalidate stag refused) = streams
+streams_after table streams (Store stag to octets refused) = streams
 
 -- the end behind an opening
 abbrev pub opened_end : EndState → ℕ → Opening → Option OpenRefusal → EndState
@@ -241,7 +228,7 @@ opened_end s n opening None = record s { streams = slice_set s.streams n (Some (
 opened_end s n opening (Some refusal) = s
 
 abbrev pub end_after : EndState → Act Octets → EndState
-end_after s act = record { table = table_by s.table act; streams = streams_after s.streams act }
+end_after s act = record { table = table_by s.table act; streams = streams_after s.table s.streams act }
 
 abbrev pub after_entry : State → Entry Octets → State
 after_entry w e = with_end e.end (end_after (end_of e.end w) e.act) w

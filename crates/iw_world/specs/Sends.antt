@@ -18,7 +18,8 @@ use Rattle.iw_events.specs.declared.act.Shown.{Shown}
 use Rattle.iw_events.specs.declared.act.Shown.TheVariants.{Frame, Nothing}
 use Rattle.iw_events.specs.declared.act.Entry.{Entry}
 use Rattle.iw_world.specs.Words.{Octets, acts, deed, stream_acts, posted, finished_kinds, ended, sent, size_set}
-use Rattle.iw_world.specs.Turns.{Story, story_of, start_frame, sending, is_open, is_silent}
+use Rattle.iw_stream.specs.Starting.{is_open, sending, own_frame}
+use Rattle.iw_world.specs.Turns.{Story, story_of, is_silent}
 use Rattle.iw_world.specs.Safe.{requests}
 use Rattle.iw_world.specs.Words.{OnSome, OnStream, AtEach}
 
@@ -30,8 +31,8 @@ pub record AreFirstFrames (t : Story) (octets : Octets) (messages : List (Messag
   pub begun : List (Segment Octets)
   pub later : List (Segment Octets)
   pub carry : AreSpelled first_numbers 0 (requests messages) (begun ++ later)
-  pub framed : ((octets ≡ []) × (begun ≡ [])) ⊎ (octets ≡ start_frame t ++ sequence (sending t) 0 (map segment_octets begun))
-  pub closed : is_open t ≡ false → begun ≡ []
+  pub framed : ((octets ≡ []) × (begun ≡ [])) ⊎ (octets ≡ own_frame t.start ++ sequence (sending t.start) 0 (map segment_octets begun))
+  pub closed : is_open t.start ≡ false → begun ≡ []
   pub silent : is_silent t ≡ true → begun ≡ []
 
 -- at every moment, what an end has sent on a stream
@@ -44,7 +45,7 @@ Emission trace =
 pub record AreAllFrames (t : Story) (octets : Octets) (messages : List (Message Octets)) : Type 0 where
   pub segments : List (Segment Octets)
   pub carry : AreSpelled first_numbers 0 (requests messages) segments
-  pub framed : octets ≡ start_frame t ++ sequence (sending t) 0 (map segment_octets segments)
+  pub framed : octets ≡ own_frame t.start ++ sequence (sending t.start) 0 (map segment_octets segments)
 
 -- ---- one frame
 
@@ -57,13 +58,13 @@ is_last (Untagged head payload) = head.last
 pub record IsFrameOf (t : Story) (size : ℕ) (before octets : Octets) : Type 0 where
   pub segment : Segment Octets
   pub known : FitsSegment segment
-  pub is : octets ≡ frame_octets (sending t) (length before - length (start_frame t)) (segment_octets segment)
+  pub is : octets ≡ frame_octets (sending t.start) (length before - length (own_frame t.start)) (segment_octets segment)
   pub fits : length (segment_octets segment) ≤ size
   pub full : is_last segment ≡ false → length (segment_octets segment) ≡ size
 
 -- they are the start-up frame, and nothing went out before
 abbrev pub IsStartFrame : Story → Octets → Octets → Type 0
-IsStartFrame t before octets = (before ≡ []) × (octets ≡ start_frame t)
+IsStartFrame t before octets = (before ≡ []) × (octets ≡ own_frame t.start)
 
 abbrev pub FrameSized : Story → ℕ → Octets → Shown Octets → Type 0
 FrameSized t size before (Frame from octets) =
@@ -81,7 +82,7 @@ Sized = AtEach (OnStream SizedStream)
 -- frames may be sent: the stream has not ended, is open, and need not keep silent
 pub record MaySend (over : Bool) (t : Story) : Type 0 where
   pub running : over ≡ false
-  pub open_now : is_open t ≡ true
+  pub open_now : is_open t.start ≡ true
   pub loud : is_silent t ≡ false
 
 abbrev pub FrameAllowed : Bool → Story → Octets → Shown Octets → Type 0
@@ -101,14 +102,14 @@ Speaks = AtEach (OnStream SpeaksStream)
 -- why nothing is emitted: the stream has ended, or is not open, or keeps silent; or all that was posted has been sent
 pub data HasNothing (over : Bool) (t : Story) (octets : Octets) (messages : List (Message Octets)) : Type 0 where
   Over : over ≡ true → HasNothing over t octets messages
-  Closed : is_open t ≡ false → HasNothing over t octets messages
+  Closed : is_open t.start ≡ false → HasNothing over t octets messages
   Silent : is_silent t ≡ true → HasNothing over t octets messages
   AllSent : AreAllFrames t octets messages → HasNothing over t octets messages
 
 -- where nothing is emitted, the start-up frame, if there is one, has been sent, and there is a reason
 abbrev pub NothingShown : Story → List (StreamAct Octets) → Shown Octets → Type 0
 NothingShown t before (Frame from octets) = Unit {0}
-NothingShown t before Nothing = IsPrefixOf (start_frame t) (sent before) × HasNothing (ended before) t (sent before) (posted before)
+NothingShown t before Nothing = IsPrefixOf (own_frame t.start) (sent before) × HasNothing (ended before) t (sent before) (posted before)
 
 abbrev pub NothingStream : List (Act Octets) → ℕ → StreamAct Octets → Type 0
 NothingStream before n act = OnSome (NothingShown (story_of n before) (stream_acts n before)) (deed act).shown

@@ -1,24 +1,24 @@
 -- What became of each frame that came, in words of the trace alone.
-use Rattle.std.specs.Prelude.{◌≡◌, ◌⊎◌, ℕ, zero, suc, ◌+◌, ◌-◌, [], ◌∷◌, ◌==◌, ◌&&◌, List, length, take, drop, replicate, is_some, slice_get, fold, Bool, true, false, if◌then◌else◌, Option, Some, None}
+use Rattle.std.specs.Prelude.{◌≡◌, ◌⊎◌, ℕ, zero, suc, ◌+◌, ◌-◌, ◌==◌, ◌&&◌, List, [], ◌∷◌, length, take, drop, replicate, slice_get, fold, Bool, true, false, Option, Some, None, Result, Ok, Err}
 use Rattle.std.specs.Option.{option_map, option_map_or}
 use Rattle.iw_octets.specs.declared.fault.Fault.{Fault}
-use Rattle.iw_octets.specs.declared.fault.TheConstants.Fault as faults
-use Rattle.iw_octets.specs.declared.segment.Segment.{Segment}
-use Rattle.iw_octets.specs.declared.segment.Segment.TheVariants.{Tagged, Untagged}
-use Rattle.iw_memory.specs.declared.rights.Right.TheVariants.{Write}
-use Rattle.iw_memory.specs.Table.{Table}
+use Rattle.iw_memory.specs.declared.rights.Right.TheVariants as rights
 use Rattle.iw_ranges.specs.Arrived.{Arrived, nothing, in_order}
 use Rattle.iw_fpdu.specs.declared.layout.Layout.{Layout}
 use Rattle.iw_fpdu.specs.Places.{frame_start}
 use Rattle.iw_fpdu.specs.Sequence.{Carried, first_frame}
-use Rattle.iw_untagged.specs.Receiving.{Receiving, nothing_received, with_buffer, written, finished, oldest, turn_fault}
+use Rattle.iw_untagged.specs.Receiving.{Receiving, nothing_received, with_buffer, written, finished, oldest}
 use Rattle.iw_startup.specs.declared.config.Agreed.{Agreed}
 use Rattle.iw_startup.specs.declared.progress.Progress.{Progress}
 use Rattle.iw_startup.specs.declared.progress.Progress.TheVariants as progress
-use Rattle.iw_startup.specs.Peer.{frame_part, progress_of}
-use Rattle.iw_startup.specs.State.{StartupState, is_responder, pushed, answered, frame_of, agreed_of, agreement, private_of}
-use Rattle.iw_stream.specs.Stream.{plain, layout_in, layout_out, layout_at_first, startup_at_first, segment_in, payload_of, turned_by}
-use Rattle.iw_stream.specs.Judging.{mismatch_fault, tagged_fault, untagged_fault}
+use Rattle.iw_stream.specs.declared.judging.Landing.{Landing}
+use Rattle.iw_stream.specs.declared.judging.Landing.TheVariants as landing
+use Rattle.iw_stream.specs.declared.judging.PlacedFrame.{PlacedFrame}
+use Rattle.iw_stream.specs.declared.judging.Turning.{Turning}
+use Rattle.iw_stream.specs.declared.judging.Turning.TheVariants as turning
+use Rattle.iw_stream.specs.Frames.{Frame, standing_at, segment_in, payload_of, placed, payload_len}
+use Rattle.iw_stream.specs.Judging.{Standing, verdict, turn_of, receiving_turned}
+use Rattle.iw_stream.specs.Starting.{StartState, start_at_first, is_open, expecting, first_place_in, is_responder, awaits_frame, progress_in, heard, private_in, agreement_in, answered_with}
 use Rattle.iw_events.specs.declared.act.Act.{Act}
 use Rattle.iw_events.specs.declared.act.StreamAct.{StreamAct}
 use Rattle.iw_events.specs.declared.act.Seen.{Seen}
@@ -29,16 +29,15 @@ use Rattle.iw_world.specs.Words.{OnSome, OnStream, AtEach}
 
 -- ---- frames, each with its places
 
--- a frame, the frame place of its first octet, and the place behind it
+-- a frame at its place, and the place behind it
 pub record Located : Type 0 where
-  pub start : ℕ
+  pub frame : Frame
   pub behind : ℕ
-  pub frame : Carried
 
 -- the first frame of octets that stand at place `at`, where these are behind it
 abbrev pub located : Layout → ℕ → List ℕ → Carried → List ℕ → Located
 located layout at octets frame rest =
-    record { start = frame_start layout.markers at; behind = at + (length octets - length rest); frame = frame }
+    record { frame = standing_at (frame_start layout.markers at) frame; behind = at + (length octets - length rest) }
 
 -- at most n frames that are whole, one behind another
 unfoldable pub located_within : ℕ → Layout → ℕ → List ℕ → List Located
@@ -61,67 +60,45 @@ behind_last at (frame ∷ frames) = behind_last frame.behind frames
 
 pub record Story : Type 0 where
   pub came : Arrived  -- the octets that came, each at its place
-  pub startup : Option StartupState  -- what this end asked for and answered, and the peer's start-up frame once it was read; none where the stream has none
-  pub heard : Bool  -- the peer's start-up frame was read
-  pub layout : Layout  -- of a stream that has no start-up
+  pub start : StartState  -- what the start-up has come to: what both ends asked for and answered, as far as it was read
   pub turns : ℕ  -- how many frames had their turn
   pub placed : Bool  -- the frame whose turn is next has been placed
   pub receiving : Receiving  -- the receive buffers, with what was placed in them
 
--- frames go both ways: at once, or once both ends agree
-abbrev pub is_open : Story → Bool
-is_open t = option_map_or (λ u. is_some (agreed_of u)) t.startup true
-
--- how the frames of the peer are laid out, and those of this end
-abbrev pub expecting : Story → Layout
-expecting t = option_map_or (λ u. option_map_or layout_in (agreed_of u) plain) t.startup t.layout
-
-abbrev pub sending : Story → Layout
-sending t = option_map_or (λ u. option_map_or layout_out (agreed_of u) plain) t.startup t.layout
-
--- this end's start-up frame
-abbrev pub start_frame : Story → Octets
-start_frame t = option_map_or frame_of t.startup []
-
--- the place behind the peer's start-up frame
-abbrev pub first_place : Story → ℕ
-first_place t = option_map_or (λ u. length u.octets) t.startup 0
-
 -- a responder at which no frame had its turn
 abbrev pub is_silent : Story → Bool
-is_silent t = option_map_or (λ u. is_responder u.side) t.startup false && (t.turns == 0)
+is_silent t = is_responder t.start && (t.turns == 0)
 
 -- the frames that lie whole in the octets that came without a gap behind the start-up frame, one behind the other
 abbrev pub frames_in : Story → List Located
-frames_in t = located_of (expecting t) 0 (drop (first_place t) (in_order t.came))
+frames_in t = located_of (expecting t.start) 0 (drop (first_place_in t.start) (in_order t.came))
 
 -- the frame whose turn is next, where it is whole
-abbrev pub next_frame : Story → Option Carried
+abbrev pub next_frame : Story → Option Frame
 next_frame t = option_map (λ f. f.frame) (slice_get (frames_in t) t.turns)
 
 -- the in-order point: the place in the stream behind the start-up frame and the frames that had their turn
 abbrev pub in_order_point : Story → ℕ
-in_order_point t = first_place t + behind_last 0 (take t.turns (frames_in t))
+in_order_point t = first_place_in t.start + behind_last 0 (take t.turns (frames_in t))
 
-abbrev pub segment_of : Option Carried → Option (Segment Octets)
-segment_of None = None
-segment_of (Some frame) = segment_in frame
+-- the octets that it carries, and what its turn leaves of the message that is due
+abbrev pub next_payload : Story → Octets
+next_payload t = option_map_or (λ f. payload_of (segment_in f)) (next_frame t) []
 
--- the segment of that frame
-abbrev pub next_segment : Story → Option (Segment Octets)
-next_segment t = segment_of (next_frame t)
+abbrev pub next_turned : Story → Receiving
+next_turned t = option_map_or (λ f. receiving_turned t.receiving (placed f)) (next_frame t) t.receiving
 
 -- the peer's start-up frame is read off the octets that came
 abbrev pub hears : Story → Story
-hears t = record t { startup = option_map (λ u. pushed u (in_order t.came)) t.startup; heard = true }
+hears t = record t { start = heard t.start (in_order t.came) }
 
 abbrev pub story_seen : Story → Seen Octets → Story
 story_seen t (seen.Asked private) = hears t
 story_seen t (seen.Opened agreed private) = hears t
 story_seen t (seen.Closed fault) = hears t
 story_seen t (seen.Placed right stag to octets) = record t { placed = true }
-story_seen t (seen.Buffered msn mo len) = record t { placed = true; receiving = written t.receiving msn mo (payload_of (next_segment t)) }
-story_seen t seen.Passed = record t { turns = t.turns + 1; placed = false; receiving = turned_by t.receiving (next_segment t) }
+story_seen t (seen.Buffered msn mo len) = record t { placed = true; receiving = written t.receiving msn mo (next_payload t) }
+story_seen t seen.Passed = record t { turns = t.turns + 1; placed = false; receiving = next_turned t }
 story_seen t (seen.Received octets solicited invalidate) = record t { turns = t.turns + 1; placed = false; receiving = finished t.receiving }
 story_seen t (seen.Done kind) = t
 story_seen t (seen.Fault fault) = t
@@ -131,7 +108,7 @@ story_seen t seen.Idle = t
 abbrev pub story_called : Story → StreamAct Octets → Story
 story_called t act = record t {
   came = came_after t.came act;
-  startup = option_map_or (λ reply. option_map (λ u. answered u reply) t.startup) (deed act).reply t.startup;
+  start = option_map_or (answered_with t.start) (deed act).reply t.start;
   receiving = option_map_or (λ len. with_buffer t.receiving (replicate len 0)) (deed act).buffer t.receiving;
 }
 
@@ -142,9 +119,7 @@ story_after t act = option_map_or (story_seen t) (deed act).step (story_called t
 abbrev pub untold : Opening → Story
 untold o = record {
   came = nothing;
-  startup = startup_at_first o.role o.config;
-  heard = false;
-  layout = layout_at_first o.role o.config;
+  start = start_at_first o.role o.config;
   turns = 0;
   placed = false;
   receiving = nothing_received;
@@ -155,75 +130,51 @@ story o done = fold story_after (untold o) done
 
 -- ---- how a frame is answered
 
--- what the checks of a frame look at: the regions, the stream's domain, and the receive buffers
-pub record Standing : Type 0 where
-  pub table : Table
-  pub domain : ℕ
-  pub receiving : Receiving
+-- what is seen of a frame that is judged: its placement, or the first check that fails
+abbrev pub seen_judged : Frame → Result Landing Fault → Seen Octets
+seen_judged frame (Ok (landing.Write at)) = seen.Placed rights.Write at.stag at.to (payload_of (segment_in frame))
+seen_judged frame (Ok (landing.Send msn mo len)) = seen.Buffered msn mo len
+seen_judged frame (Err fault) = seen.Fault fault
 
-abbrev pub fault_or : Option Fault → Seen Octets → Seen Octets
-fault_or None step = step
-fault_or (Some fault) step = seen.Fault fault
-
--- a segment is judged: its placement, or the first check that fails
-abbrev pub placement : Standing → Option (Segment Octets) → Seen Octets
-placement s None = seen.Fault faults.SEGMENT_SHORT
-placement s (Some (Tagged head payload)) = fault_or (tagged_fault s.table s.domain head (length payload)) (seen.Placed Write head.stag head.to payload)
-placement s (Some (Untagged head payload)) = fault_or (untagged_fault s.receiving head (length payload)) (seen.Buffered head.msn head.mo (length payload))
-
--- a frame is judged: what is wrong with the frame, or else its segment
-abbrev pub verdict : Standing → Carried → Seen Octets
-verdict s frame = option_map_or (λ m. seen.Fault (mismatch_fault m)) frame.mismatch (placement s (segment_in frame))
-
--- the Send that ends with a segment of n octets
-abbrev pub completed : Receiving → ℕ → Seen Octets
-completed r n = seen.Received (take (r.turned + n) (oldest r)) false None
-
--- given its turn, by the checks of a turn alone: no check of a frame or a region is made again
-abbrev pub turn_by : Standing → Option (Segment Octets) → Seen Octets
-turn_by s None = seen.Fault faults.SEGMENT_SHORT
-turn_by s (Some (Tagged head payload)) = seen.Passed
-turn_by s (Some (Untagged head payload)) =
-    fault_or (turn_fault s.receiving head.msn head.mo) (if head.last then completed s.receiving (length payload) else seen.Passed)
-
-abbrev pub turn_of : Standing → Carried → Seen Octets
-turn_of s frame = turn_by s (segment_in frame)
+-- and of its turn, by the checks of a turn alone
+abbrev pub seen_turned : Receiving → PlacedFrame → Result Turning Fault → Seen Octets
+seen_turned r frame (Ok turning.Passed) = seen.Passed
+seen_turned r frame (Ok turning.Completed) = seen.Received (take (r.turned + payload_len frame) (oldest r)) false None
+seen_turned r frame (Err fault) = seen.Fault fault
 
 -- the frame whose turn is next is whole and was not placed: it is judged
 pub record IsJudged (t : Story) (s : Standing) (step : Seen Octets) : Type 0 where
-  pub frame : Carried
+  pub frame : Frame
   pub is_next : next_frame t ≡ Some frame
   pub unplaced : t.placed ≡ false
-  pub answer : step ≡ verdict s frame
+  pub answer : step ≡ seen_judged frame (verdict s frame)
 
 -- the frame whose turn is next is whole and was placed: it has its turn
 pub record HasTurn (t : Story) (s : Standing) (step : Seen Octets) : Type 0 where
-  pub frame : Carried
+  pub frame : Frame
   pub is_next : next_frame t ≡ Some frame
-  pub placed : t.placed ≡ true
-  pub answer : step ≡ turn_of s frame
+  pub was_placed : t.placed ≡ true
+  pub answer : step ≡ seen_turned s.receiving (placed frame) (turn_of s (placed frame))
 
 -- frames are read: the stream has not ended, and is open
 pub record ReadsFrames (over : Bool) (t : Story) : Type 0 where
   pub running : over ≡ false
-  pub open_now : is_open t ≡ true
+  pub open_now : is_open t.start ≡ true
 
 -- the stream had not ended, the peer's start-up frame was awaited, and comes to this by the octets that came
 pub record HearsFrame (over : Bool) (t : Story) (outcome : Progress) : Type 0 where
   pub running : over ≡ false
-  pub startup : StartupState
-  pub is : t.startup ≡ Some startup
-  pub awaited : t.heard ≡ false
-  pub comes : progress_of startup.side (in_order t.came) ≡ outcome
+  pub awaited : awaits_frame t.start ≡ true
+  pub comes : progress_in t.start (in_order t.came) ≡ outcome
 
 -- so an initiator learns what was agreed
 pub record HearsReply (over : Bool) (t : Story) (agreed : Agreed) : Type 0 where
-  pub hears : HearsFrame over t progress.Agreed
-  pub agreed_is : agreed ≡ agreement hears.startup.config (frame_part hears.startup.side (in_order t.came))
+  pub hears_it : HearsFrame over t progress.Agreed
+  pub agreed_is : agreed ≡ agreement_in (hears t).start
 
 -- the private data of the peer's frame, once that is read
 abbrev pub private_heard : Story → Octets
-private_heard t = option_map_or private_of (hears t).startup []
+private_heard t = private_in (hears t).start
 
 -- ---- the law
 

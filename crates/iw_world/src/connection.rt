@@ -29,7 +29,8 @@ impl<A: Allocator> Model for Connection<A> {
 
 impl<A: Allocator + Copy> Connection<A> {
     ghost use Rattle.iw_world.specs.Words.{table_by_stream};
-    ghost use Rattle.iw_stream.specs.Stream.{post_refusal, private_of};
+    ghost use Rattle.iw_stream.specs.Starting.{private_in};
+    ghost use Rattle.iw_stream.specs.Stream.{post_refusal};
     ghost use Rattle.iw_world.specs.Rules.{connected, connected_after, StreamRule, WireRule, seen_of, accept_answer, answer_refusal};
     ghost use Rattle.iw_world.specs.Bounds.{IsShort, AsksOver};
 
@@ -68,7 +69,7 @@ impl<A: Allocator + Copy> Connection<A> {
         ensures rule { IfOk result (λ act. StreamRule memory.old self.old.stream act) }
         ensures wire { IfOk result (λ act. WireRule peer.now act) }
         ensures call { IfOk result (λ act. stream_call_of act ≡ call.now) }
-        ensures state { IfOk result (λ act. self.new ≡ connected_after self.old act) }
+        ensures state { IfOk result (λ act. self.new ≡ connected_after memory.old self.old act) }
         ensures memory { IfOk result (λ act. memory.new ≡ table_by_stream memory.old act) }
         ensures not_sent { result ≡ Err Failure.NotSent → AsksOver peer.now call.now }
         ensures stream { result ≢ Err Failure.NoSuchStream }
@@ -89,7 +90,7 @@ impl<A: Allocator + Copy> Connection<A> {
     fn recv(&mut self, alloc: A, len: u32) -> Result<StreamAct<Bytes<A>>, Failure>
         ensures rule { IfOk result (λ act. (table : Table) → StreamRule table self.old.stream act) }
         ensures call { IfOk result (λ act. stream_call_of act ≡ StreamCall.Recv len) }
-        ensures state { IfOk result (λ act. self.new ≡ connected_after self.old act) }
+        ensures state { IfOk result (λ act. (table : Table) → self.new ≡ connected_after table self.old act) }
         ensures memory { IfOk result (λ act. (table : Table) → table_by_stream table act ≡ table) }
         ensures failure { IfErr result (λ failure. failure ≡ Failure.NoMemory) }
     {
@@ -107,7 +108,7 @@ impl<A: Allocator + Copy> Connection<A> {
     fn post(&mut self, message: &Message<Bytes<A>>) -> Result<StreamAct<Bytes<A>>, Failure>
         ensures rule { IfOk result (λ act. (table : Table) → StreamRule table self.old.stream act) }
         ensures call { IfOk result (λ act. stream_call_of act ≡ StreamCall.Post message.now) }
-        ensures state { IfOk result (λ act. self.new ≡ connected_after self.old act) }
+        ensures state { IfOk result (λ act. (table : Table) → self.new ≡ connected_after table self.old act) }
         ensures memory { IfOk result (λ act. (table : Table) → table_by_stream table act ≡ table) }
         ensures failure { IfErr result (λ failure. failure ≡ Failure.NoMemory) }
     {
@@ -122,7 +123,7 @@ impl<A: Allocator + Copy> Connection<A> {
     // Posts a message, and tells why it was refused, if it was.
     fn try_post(&mut self, message: Message<Bytes<A>>) -> Result<Option<PostRefusal>, Failure>
         ensures rule { IfOk result (λ refused. refused ≡ post_refusal self.old.stream message) }
-        ensures state { IfOk result (λ refused. self.new ≡ connected_after self.old (StreamAct.Post message refused)) }
+        ensures state { IfOk result (λ refused. (table : Table) → self.new ≡ connected_after table self.old (StreamAct.Post message refused)) }
         ensures failure { IfErr result (λ failure. failure ≡ Failure.NoMemory) }
     {
         match self.stream.post(message) {
@@ -136,7 +137,7 @@ impl<A: Allocator + Copy> Connection<A> {
         requires { IsShort self.old.stream }
         ensures rule { IfOk result (λ act. (table : Table) → StreamRule table self.old.stream act) }
         ensures call { IfOk result (λ act. stream_call_of act ≡ StreamCall.Emit) }
-        ensures state { IfOk result (λ act. self.new ≡ connected_after self.old act) }
+        ensures state { IfOk result (λ act. (table : Table) → self.new ≡ connected_after table self.old act) }
         ensures memory { IfOk result (λ act. (table : Table) → table_by_stream table act ≡ table) }
         ensures failure { IfErr result (λ failure. failure ≡ Failure.NoMemory) }
     {
@@ -162,7 +163,7 @@ impl<A: Allocator + Copy> Connection<A> {
         ensures rule { IfOk result (λ act. (table : Table) → StreamRule table self.old.stream act) }
         ensures wire { IfOk result (λ act. WireRule peer.now act) }
         ensures call { IfOk result (λ act. stream_call_of act ≡ StreamCall.Deliver from len) }
-        ensures state { IfOk result (λ act. self.new ≡ connected_after self.old act) }
+        ensures state { IfOk result (λ act. (table : Table) → self.new ≡ connected_after table self.old act) }
         ensures memory { IfOk result (λ act. (table : Table) → table_by_stream table act ≡ table) }
         ensures not_sent { result ≡ Err Failure.NotSent → length peer.now < from + len }
         ensures stream { result ≢ Err Failure.NoSuchStream }
@@ -186,7 +187,7 @@ impl<A: Allocator + Copy> Connection<A> {
         requires { IsShort self.old.stream }
         ensures rule { IfOk result (λ act. (table : Table) → StreamRule table self.old.stream act) }
         ensures call { IfOk result (λ act. stream_call_of act ≡ StreamCall.Raw from octets.now) }
-        ensures state { IfOk result (λ act. self.new ≡ connected_after self.old act) }
+        ensures state { IfOk result (λ act. (table : Table) → self.new ≡ connected_after table self.old act) }
         ensures memory { IfOk result (λ act. (table : Table) → table_by_stream table act ≡ table) }
         ensures failure { IfErr result (λ failure. failure ≡ Failure.NoMemory) }
     {
@@ -202,7 +203,7 @@ impl<A: Allocator + Copy> Connection<A> {
     fn mulpdu(&mut self, size: u32) -> StreamAct<Bytes<A>>
         ensures rule { (table : Table) → StreamRule table self.old.stream result }
         ensures call { stream_call_of result ≡ StreamCall.Mulpdu size }
-        ensures state { self.new ≡ connected_after self.old result }
+        ensures state { (table : Table) → self.new ≡ connected_after table self.old result }
         ensures memory { (table : Table) → table_by_stream table result ≡ table }
     {
         let refused = self.stream.set_mulpdu(size).err();
@@ -212,7 +213,7 @@ impl<A: Allocator + Copy> Connection<A> {
     fn accept(&mut self, private: &Bytes<A>) -> Result<StreamAct<Bytes<A>>, Failure>
         ensures rule { IfOk result (λ act. (table : Table) → StreamRule table self.old.stream act) }
         ensures call { IfOk result (λ act. stream_call_of act ≡ StreamCall.Accept private.now) }
-        ensures state { IfOk result (λ act. self.new ≡ connected_after self.old act) }
+        ensures state { IfOk result (λ act. (table : Table) → self.new ≡ connected_after table self.old act) }
         ensures memory { IfOk result (λ act. (table : Table) → table_by_stream table act ≡ table) }
         ensures failure { IfErr result (λ failure. failure ≡ Failure.NoMemory) }
     {
@@ -227,7 +228,7 @@ impl<A: Allocator + Copy> Connection<A> {
     // Accepts the Request that came: what was agreed, or that there is none to answer.
     fn try_accept(&mut self, private: &[u8]) -> Result<Agreed, NotAsked>
         ensures rule { result ≡ accept_answer self.old.stream }
-        ensures state { self.new ≡ connected_after self.old (StreamAct.Accept private.now result) }
+        ensures state { (table : Table) → self.new ≡ connected_after table self.old (StreamAct.Accept private.now result) }
     {
         self.stream.accept(private_data(private))
     }
@@ -235,7 +236,7 @@ impl<A: Allocator + Copy> Connection<A> {
     fn reject(&mut self, private: &Bytes<A>) -> Result<StreamAct<Bytes<A>>, Failure>
         ensures rule { IfOk result (λ act. (table : Table) → StreamRule table self.old.stream act) }
         ensures call { IfOk result (λ act. stream_call_of act ≡ StreamCall.Reject private.now) }
-        ensures state { IfOk result (λ act. self.new ≡ connected_after self.old act) }
+        ensures state { IfOk result (λ act. (table : Table) → self.new ≡ connected_after table self.old act) }
         ensures memory { IfOk result (λ act. (table : Table) → table_by_stream table act ≡ table) }
         ensures failure { IfErr result (λ failure. failure ≡ Failure.NoMemory) }
     {
@@ -250,17 +251,17 @@ impl<A: Allocator + Copy> Connection<A> {
     // Rejects the Request that came, or tells that there is none to answer.
     fn try_reject(&mut self, private: &[u8]) -> Option<NotAsked>
         ensures rule { result ≡ answer_refusal self.old.stream }
-        ensures state { self.new ≡ connected_after self.old (StreamAct.Reject private.now result) }
+        ensures state { (table : Table) → self.new ≡ connected_after table self.old (StreamAct.Reject private.now result) }
     {
         self.stream.reject(private_data(private)).err()
     }
 
-    #[tactic(auto, using(crate::proofs::Seeing::table_of_seen, crate::proofs::Seeing::worked_seen))]
+    #[tactic(auto, using(crate::proofs::Seeing::table_of_seen))]
     fn work(&mut self, alloc: A, memory: &mut Memory<A>) -> Result<StreamAct<Bytes<A>>, Failure>
         requires { IsShort self.old.stream }
         ensures rule { IfOk result (λ act. StreamRule memory.old self.old.stream act) }
         ensures call { IfOk result (λ act. stream_call_of act ≡ StreamCall.Work) }
-        ensures state { IfOk result (λ act. self.new ≡ connected_after self.old act) }
+        ensures state { IfOk result (λ act. self.new ≡ connected_after memory.old self.old act) }
         ensures memory { IfOk result (λ act. memory.new ≡ table_by_stream memory.old act) }
         ensures failure { IfErr result (λ failure. failure ≡ Failure.NoMemory) }
     {
@@ -276,7 +277,7 @@ impl<A: Allocator + Copy> Connection<A> {
         memory: &Memory<A>,
         step: Step<Octets<A>>,
     ) -> Result<Seen<Bytes<A>>, AllocError>
-        ensures { IfOk result (λ seen. seen ≡ seen_of memory.now (private_of self.now.stream) step) }
+        ensures { IfOk result (λ seen. seen ≡ seen_of memory.now (private_in self.now.stream.start) step) }
     {
         match step {
             Step::Done(kind) => Ok(Seen::Done(kind)),
@@ -318,7 +319,7 @@ impl<A: Allocator + Copy> Connection<A> {
 
     // The private data of the peer's start-up frame, once that was read.
     fn private(&self, alloc: A) -> Result<Bytes<A>, AllocError>
-        ensures { IfOk result (λ private. private ≡ private_of self.now.stream) }
+        ensures { IfOk result (λ private. private ≡ private_in self.now.stream.start) }
     {
         Bytes::copy_from_slice(alloc, self.stream.private())
     }

@@ -342,7 +342,7 @@ fn act_at<A: Allocator + Copy>(
     ensures rule { IfOk result (λ act. StreamRule memory.old (unwrap_or place.old unconnected).stream act) }
     ensures wire { IfOk result (λ act. WireRule wire.now act) }
     ensures call { IfOk result (λ act. stream_call_of act ≡ call.now) }
-    ensures state { IfOk result (λ act. place.new ≡ Some (connected_after (unwrap_or place.old unconnected) act)) }
+    ensures state { IfOk result (λ act. place.new ≡ Some (connected_after memory.old (unwrap_or place.old unconnected) act)) }
     ensures memory { IfOk result (λ act. memory.new ≡ table_by_stream memory.old act) }
     ensures no_stream { result ≡ Err Failure.NoSuchStream → is_some place.old ≡ false }
     ensures not_sent { result ≡ Err Failure.NotSent → (is_some place.old ≡ true) × AsksOver wire.now call.now }
