@@ -3,15 +3,11 @@ use iw_memory::{Memory, Rights, Stag};
 use iw_octets::{Message, Octets};
 use iw_stream::{Config, Delivery, Emission, PrivateData, Role, Step, Stream};
 use std::alloc::{AllocError, Global};
-use std::marker::Model;
 
 const DOMAIN: u8 = 1;
 
-// How many steps of work an end does at most.
-const MAX_STEPS: u64 = 1 << 40;
-
-// How many octets an end emits at most before its last frame.
-const MAX_SENT: u64 = 1 << 62;
+// How many octets an end emits at most before its last frame, and takes at most before its last step.
+const MAX_PLACE: u64 = 1 << 62;
 
 // How many steps are done at most for one frame.
 const STEPS_A_FRAME: u32 = 100;
@@ -31,21 +27,6 @@ impl From<AllocError> for Stop {
 pub(crate) struct End {
     stream: Stream,
     memory: Memory,
-    // How many steps of work were done.
-    steps: u64,
-    // The stream place behind what was emitted.
-    sent: u64,
-}
-
-impl Model for End {
-    ghost use Rattle.iw_stream.specs.Stream.{StreamState};
-    ghost use Rattle.stream_bench.specs.Short.{IsShort};
-
-    ghost Value = { StreamState };
-
-    ghost view = { λ e. e.stream };
-
-    ghost invariant = { λ e. IsShort e.stream e.steps e.sent };
 }
 
 impl End {
@@ -63,8 +44,6 @@ impl End {
         Ok(End {
             stream: Stream::new(alloc, DOMAIN, Role::Preset, config)?,
             memory,
-            steps: 0,
-            sent: 0,
         })
     }
 
@@ -106,14 +85,10 @@ impl End {
 
     // Appends what is to be emitted next.
     fn emit(&mut self, out: &mut Vec<u8>) -> Result<Emission, Stop> {
-        if self.sent > MAX_SENT {
+        if self.stream.sent() > MAX_PLACE {
             return Err(Stop);
         }
-        let emission = self.stream.emit(out)?;
-        if let Emission::Frame { from, len } = emission {
-            self.sent = from.saturating_add(len as u64);
-        }
-        Ok(emission)
+        Ok(self.stream.emit(out)?)
     }
 
     /// Emits the next frame into `frame` alone, and tells its place, if one is due.
@@ -135,12 +110,10 @@ impl End {
 
     // Does one step.
     fn work(&mut self) -> Result<Step<Octets>, Stop> {
-        if self.steps >= MAX_STEPS {
+        if self.stream.in_order_point() > MAX_PLACE {
             return Err(Stop);
         }
-        let step = self.stream.work(&mut self.memory);
-        self.steps += 1;
-        Ok(step)
+        Ok(self.stream.work(&mut self.memory))
     }
 
     /// Does all that there is to do, and tells how many octets were placed.
