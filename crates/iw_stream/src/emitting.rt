@@ -8,12 +8,10 @@ ghost use Rattle.iw_stream.specs.Emitting.{numbers_of, write_head, send_head, re
 
 use bytes::Bytes;
 use iw_fpdu::{Layout, WriteRefusal, write_fpdu};
-use iw_octets::{Message, Stag, TaggedHead, UntaggedHead};
+use iw_octets::{DDP_VERSION, Message, Stag, TaggedHead, UntaggedHead};
 use iw_queues::{Part, Request};
 use iw_rdmap::{TaggedOperation, UntaggedOperation};
 use std::alloc::{AllocError, Allocator};
-
-const DDP_VERSION: u8 = 1;
 
 /// The message sequence numbers of the next Send and of the next Read: each queue counts its own (RFC 5041 4.3).
 #[derive(Clone, Copy, Debug, PartialEq, Eq)]

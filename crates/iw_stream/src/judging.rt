@@ -12,17 +12,13 @@ ghost use Rattle.iw_stream.specs.Kept.{HasBuffer};
 use arrayvec::ArrayVec;
 use iw_fpdu::{Fpdu, Mismatch};
 use iw_memory::{Memory, Right};
-use iw_octets::{Fault, Segment, Short, TaggedHead, UntaggedHead, is_tagged};
+use iw_octets::{
+    Fault, Segment, Short, TAGGED_HEADER, TaggedHead, UNTAGGED_HEADER, UntaggedHead, is_tagged,
+};
 use iw_rdmap::{FIRST_OCTETS, Head, judge_first_path};
 use iw_tagged::Placed;
 use iw_untagged::RecvQueue;
 use std::alloc::Allocator;
-
-// DDP's header of a tagged segment, with RDMAP's octet in it (RFC 5041 4.2).
-const TAGGED_HEADER: usize = 14;
-
-// DDP's header of an untagged segment, with RDMAP's octets in it (RFC 5041 4.3).
-const UNTAGGED_HEADER: usize = 18;
 
 /// Where the payload of a segment was placed.
 #[derive(Clone, Copy, Debug, PartialEq, Eq)]
