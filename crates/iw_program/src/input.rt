@@ -7,10 +7,10 @@ use std::alloc::Allocator;
 use std::io::{ErrorKind, Read};
 
 /// The most reads of one input.
-const MOST_READS: u32 = 1_000_000;
+const MAX_READS: u32 = 1_000_000;
 
 /// The most octets of one read: an input without end is at fault after some 4 GB.
-const MOST_OCTETS: usize = 4_096;
+const MAX_READ_OCTETS: usize = 4_096;
 
 // Reads once, and appends what was read. Returns whether the input may go on.
 fn read_once<R: Read, A: Allocator>(
@@ -45,8 +45,8 @@ pub(crate) fn read_text<R: Read, A: Allocator>(
     ensures fault { IfErr result IsReadFault }
 {
     let mut text = Vec::new(alloc);
-    let mut buffer = [0; MOST_OCTETS];
-    'reads: for _ in 0..MOST_READS {
+    let mut buffer = [0; MAX_READ_OCTETS];
+    'reads: for _ in 0..MAX_READS {
         if !read_once(input, &mut buffer, &mut text)? {
             return Ok(text);
         }

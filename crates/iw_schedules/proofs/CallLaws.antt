@@ -9,7 +9,7 @@ use Rattle.iw_events.specs.declared.call.Call.TheVariants.{Domain, Register, Der
 use Rattle.iw_octets.specs.declared.message.Message.TheVariants as messages
 use Rattle.iw_events.specs.declared.call.StreamCall.TheVariants.{Recv, Post, Emit, Deliver, Raw, Mulpdu, Accept, Reject, Work}
 use Rattle.iw_schedules.specs.declared.fault.FaultName.{FaultName}
-use Rattle.iw_schedules.specs.declared.kinds.TheConstants.{MOST_OCTETS}
+use Rattle.iw_schedules.specs.declared.kinds.TheConstants.{MAX_WORD_OCTETS}
 use Rattle.iw_schedules.specs.declared.words.CallWord.{CallWord}
 use Rattle.iw_schedules.specs.declared.words.CallWord.TheVariants as named
 use Rattle.iw_schedules.specs.declared.calls.Step.TheVariants as steps
@@ -169,12 +169,12 @@ pub recv_is : (words : List Word) (calls : Calls) → recv_at words ≡ Ok (call
 unfolding recv_at
 recv_is words calls e =
     let a = bind_ok (field octet_number words) _ (calls, []) e in
-    let b = bind_ok (field (number_word MOST_OCTETS) a.0.1) _ (calls, []) a.2 in
+    let b = bind_ok (field (number_word MAX_WORD_OCTETS) a.0.1) _ (calls, []) a.2 in
     let end = ended calls (one (Stream a.0.0 (Recv b.0.0))) b.0.1 b.2 in
     let f = field_is octet_number words a.0 a.1 in
-    let g = field_is (number_word MOST_OCTETS) a.0.1 b.0 b.1 in
+    let g = field_is (number_word MAX_WORD_OCTETS) a.0.1 b.0 b.1 in
     stands_for _ (codes "recv" ∷ f.word ∷ g.word ∷ []) calls _ (cc (f.words_are, g.words_are, end.1)) end.0
-    (recv (number_is 255 f.word a.0.0 f.value) (number_is MOST_OCTETS g.word b.0.0 g.value))
+    (recv (number_is 255 f.word a.0.0 f.value) (number_is MAX_WORD_OCTETS g.word b.0.0 g.value))
 
 pub send_is : (words : List Word) (calls : Calls) → send_at words ≡ Ok (calls, []) → IsCall (codes "send" ∷ words) calls
 unfolding send_at
@@ -325,7 +325,7 @@ calls_again words calls (store {a} {b} {c} {stag} {to} {octets} p q r) = rw (sta
 calls_again words calls (opening {a} {b} {d} {e} {stream} {pd} {role} {options} {private} p q r s) = rw (number_again 255 a stream p, number_again 255 b pd q, role_again role, options_again d options r, private_again e private s) refl
 calls_again words calls (accept {a} {b} {stream} {private} p q) = rw (number_again 255 a stream p, private_again b private q) refl
 calls_again words calls (reject {a} {b} {stream} {private} p q) = rw (number_again 255 a stream p, private_again b private q) refl
-calls_again words calls (recv {a} {b} {stream} {len} p q) = rw (number_again 255 a stream p, number_again MOST_OCTETS b len q) refl
+calls_again words calls (recv {a} {b} {stream} {len} p q) = rw (number_again 255 a stream p, number_again MAX_WORD_OCTETS b len q) refl
 calls_again words calls (send {a} {b} {c} {d} {stream} {solicited} {invalidate} {octets} p plain r) = rw (number_again 255 a stream p, octets_again d octets r) refl
 calls_again words calls (write {a} {b} {c} {d} {stream} {to} {stag} {octets} p q r s) = rw (number_again 255 a stream p, stag_again b stag q, number_again (2 ^ 64 - 1) c to r, octets_again d octets s) refl
 calls_again words calls (emit {a} {stream} p) = rw (number_again 255 a stream p) refl

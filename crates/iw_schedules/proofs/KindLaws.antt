@@ -12,6 +12,7 @@ use Rattle.std.proofs.lemmas.Slice.Eq.{bytes_eq-Decides}
 use Rattle.hex.specs.declared.error.FromHexError.{FromHexError}
 use Rattle.hex.specs.Hex.{decode_of, decode_sized, is_hex_digit}
 use Rattle.hex.proofs.HexLemmas.{decode_of-ok, decode_sized-ok, decode_sized-twice}
+use Rattle.iw_octets.specs.declared.constants.TheConstants.{MAX_PRIVATE}
 use Rattle.iw_octets.specs.declared.stag.Stag.{Stag}
 use Rattle.iw_octets.specs.Stag.{stag_at}
 use Rattle.iw_memory.specs.declared.rights.Rights.{Rights}
@@ -20,7 +21,7 @@ use Rattle.iw_schedules.specs.declared.first_path.SendKind.{SendKind}
 use Rattle.iw_schedules.specs.declared.first_path.SendKind.TheVariants.{Plain}
 use Rattle.iw_schedules.specs.declared.fault.FaultName.{FaultName}
 use Rattle.iw_schedules.specs.declared.fault.FaultName.TheVariants.{BadWord, BadNumber, BadOctets}
-use Rattle.iw_schedules.specs.declared.kinds.TheConstants.{MOST_OCTETS, MOST_PRIVATE, MOST_TIMES}
+use Rattle.iw_schedules.specs.declared.kinds.TheConstants.{MAX_WORD_OCTETS, MAX_TIMES}
 use Rattle.iw_schedules.specs.Reading.{◌>>=◌, or_fault}
 use Rattle.iw_schedules.specs.Pieces.{split_at_first}
 use Rattle.iw_schedules.specs.Kinds.{is_decimal, number_word, times_word, stag_word, hex_word, count_word, octets_word, private_word}
@@ -73,13 +74,13 @@ number_again most word n is = rw (is.digits, is.value, le-leb n most is.bound) r
 pub times_is : (word : Word) (n : ℕ) → times_word word ≡ Ok n → IsTimes word n
 unfolding times_word
 times_is word n e =
-    let a = bind_ok (number_word MOST_TIMES word) _ n e in
+    let a = bind_ok (number_word MAX_TIMES word) _ n e in
     let t = if_ok (ltb 0 a.0) BadNumber a.0 n a.2 in
-    record { number = number_is MOST_TIMES word n (rw t.1 at a.1); some = rw (← t.1) (ltb-true _ _ t.0) }
+    record { number = number_is MAX_TIMES word n (rw t.1 at a.1); some = rw (← t.1) (ltb-true _ _ t.0) }
 
 pub times_again : (word : Word) (n : ℕ) → IsTimes word n → times_word word ≡ Ok n
 unfolding times_word
-times_again word n is = rw (number_again MOST_TIMES word n is.number, lt-ltb 0 n is.some) refl
+times_again word n is = rw (number_again MAX_TIMES word n is.number, lt-ltb 0 n is.some) refl
 
 -- ---- octets
 
@@ -158,14 +159,14 @@ too_long : (word : Word) → 1 < length word → bytes_eq word (codes "-") ≡ f
 too_long word lt = no_dash word (bytes_eq word (codes "-")) refl lt
 
 octets_counted : (word front octets out : List ℕ) (n : ℕ) (behind : Option (List ℕ)) → Joins 42 word front behind → IsHex front octets → count_word behind ≡ Ok n
-    → n * length octets ≤ MOST_OCTETS → repeat n octets ≡ out → IsOctets word out
+    → n * length octets ≤ MAX_WORD_OCTETS → repeat n octets ≡ out → IsOctets word out
 octets_counted word front octets out n None joins hex counted few made =
     let one : 1 ≡ n = cc in
     let same : octets ≡ out = sym (append-nil octets) ∙ (ap (λ k. repeat k octets) one ∙ made) in
-    let len : length octets ≤ MOST_OCTETS = omega (arith, subst (λ k. k * length octets ≤ MOST_OCTETS) (sym one) few) in
+    let len : length octets ≤ MAX_WORD_OCTETS = omega (arith, subst (λ k. k * length octets ≤ MAX_WORD_OCTETS) (sym one) few) in
     subst (λ w. IsOctets w out) (sym joins) (subst (λ o. IsOctets front o) same (once hex len))
 octets_counted word front octets out n (Some count) joins hex counted few made =
-    let number = number_is MOST_OCTETS count n (or_fault_ok BadOctets (number_word MOST_OCTETS count) n counted) in
+    let number = number_is MAX_WORD_OCTETS count n (or_fault_ok BadOctets (number_word MAX_WORD_OCTETS count) n counted) in
     subst (λ w. IsOctets w out) (sym joins) (subst (λ o. IsOctets (front ++ 42 ∷ count) o) made (repeated hex number few))
 
 octets_told : (word octets : List ℕ) (b : Bool) → bytes_eq word (codes "-") ≡ b → octets_word word ≡ Ok octets → IsOctets word octets
@@ -179,7 +180,7 @@ octets_told word octets false dash e =
     let split = split_at_first 42 word in
     let hex = bind_ok (hex_word split.0) _ octets read in
     let count = bind_ok (count_word split.1) _ octets hex.2 in
-    let few = if_ok (leb (count.0 * length hex.0) MOST_OCTETS) BadOctets (repeat count.0 hex.0) octets count.2 in
+    let few = if_ok (leb (count.0 * length hex.0) MAX_WORD_OCTETS) BadOctets (repeat count.0 hex.0) octets count.2 in
     octets_counted word split.0 hex.0 octets count.0 split.1 (split_joins 42 word) (hex_is split.0 hex.0 hex.1) count.1 (leb-true _ _ few.0) few.1
 
 pub octets_is : (word octets : List ℕ) → octets_word word ≡ Ok octets → IsOctets word octets
@@ -191,22 +192,22 @@ octets_again word octets none = refl
 octets_again word octets (once hex few) =
     let ok = decode_of-ok word octets hex.digits in
     let long : 1 < length word = omega (arith, hex.some, ok.2) in
-    rw (too_long word long, digits_alone word ok.1, hex_again word octets hex, le-leb (1 * length octets) MOST_OCTETS (omega arith)) (ap (okay FaultName) (append-nil octets))
+    rw (too_long word long, digits_alone word ok.1, hex_again word octets hex, le-leb (1 * length octets) MAX_WORD_OCTETS (omega arith)) (ap (okay FaultName) (append-nil octets))
 octets_again word out (repeated {word = digits} {count} {octets} {n} hex number few) =
     let ok = decode_of-ok digits octets hex.digits in
     let long : 1 < length (digits ++ 42 ∷ count) = omega (arith, hex.some, ok.2, length-append digits (42 ∷ count)) in
-    rw (too_long (digits ++ 42 ∷ count) long, digits_then digits count ok.1, hex_again digits octets hex, number_again MOST_OCTETS count n number, le-leb (n * length octets) MOST_OCTETS few) refl
+    rw (too_long (digits ++ 42 ∷ count) long, digits_then digits count ok.1, hex_again digits octets hex, number_again MAX_WORD_OCTETS count n number, le-leb (n * length octets) MAX_WORD_OCTETS few) refl
 
 pub private_is : (word octets : List ℕ) → private_word word ≡ Ok octets → IsPrivate word octets
 unfolding private_word
 private_is word octets e =
     let a = bind_ok (octets_word word) _ octets e in
-    let t = if_ok (leb (length a.0) MOST_PRIVATE) BadOctets a.0 octets a.2 in
+    let t = if_ok (leb (length a.0) MAX_PRIVATE) BadOctets a.0 octets a.2 in
     record { digits = octets_is word octets (rw t.1 at a.1); few = rw (← t.1) (leb-true _ _ t.0) }
 
 pub private_again : (word octets : List ℕ) → IsPrivate word octets → private_word word ≡ Ok octets
 unfolding private_word
-private_again word octets is = rw (octets_again word octets is.digits, le-leb (length octets) MOST_PRIVATE is.few) refl
+private_again word octets is = rw (octets_again word octets is.digits, le-leb (length octets) MAX_PRIVATE is.few) refl
 
 -- ---- letters
 

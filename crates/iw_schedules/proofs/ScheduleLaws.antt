@@ -10,7 +10,7 @@ use Rattle.iw_schedules.specs.declared.fault.FaultName.{FaultName}
 use Rattle.iw_schedules.specs.declared.fault.FaultName.TheVariants.{TooMany}
 use Rattle.iw_schedules.specs.declared.fault.ScheduleFault.{ScheduleFault}
 use Rattle.iw_schedules.specs.declared.fault.ScheduleFault.TheVariants as faults
-use Rattle.iw_schedules.specs.declared.schedule.TheConstants.{MOST_EVENTS}
+use Rattle.iw_schedules.specs.declared.schedule.TheConstants.{MAX_EVENTS}
 use Rattle.iw_schedules.specs.Pieces.{split_at_first, lines, words}
 use Rattle.iw_schedules.specs.Words.{end_text, ends, end_word}
 use Rattle.iw_schedules.specs.Calls.{field, calls_at}
@@ -98,15 +98,15 @@ if_err_ok false fault x y e = (refl, cc)
 
 -- what a line added
 abbrev Added : Events → List ℕ → Events → Type 0
-Added before line after = ((is_skipped line ≡ true) × (before ≡ after)) ⊎ ((events : Events) × IsLine line events × (before ++ events ≡ after) × (length after ≤ MOST_EVENTS))
+Added before line after = ((is_skipped line ≡ true) × (before ≡ after)) ⊎ ((events : Events) × IsLine line events × (before ++ events ≡ after) × (length after ≤ MAX_EVENTS))
 
 added_told : (before after : Events) (line : List ℕ) (b : Bool) → is_skipped line ≡ b → with_line before line ≡ Ok after → Added before line after
 unfolding with_line
 added_told before after line true skip e = let same : before ≡ after = cc (rw skip at e) in inl (skip, same)
 added_told before after line false skip e =
     let a = bind_ok (events_of (words line)) _ after (rw skip at e) in
-    let t = if_err_ok (ltb MOST_EVENTS (length before + length a.0)) TooMany (before ++ a.0) after a.2 in
-    let few : length before + length a.0 ≤ MOST_EVENTS = ltb-false _ _ t.0 in
+    let t = if_err_ok (ltb MAX_EVENTS (length before + length a.0)) TooMany (before ++ a.0) after a.2 in
+    let few : length before + length a.0 ≤ MAX_EVENTS = ltb-false _ _ t.0 in
     inr (a.0, line_is line a.0 a.1, t.1, rw (← t.1, length-append before a.0) few)
 
 added_is : (before after : Events) (line : List ℕ) → with_line before line ≡ Ok after → Added before line after
@@ -116,10 +116,10 @@ with_line-skipped : (before : Events) (line : List ℕ) → is_skipped line ≡ 
 unfolding with_line
 with_line-skipped before line skip = rw skip refl
 
-with_line-spoken : (before events : Events) (line : List ℕ) → IsLine line events → length before + length events ≤ MOST_EVENTS → with_line before line ≡ Ok (before ++ events)
+with_line-spoken : (before events : Events) (line : List ℕ) → IsLine line events → length before + length events ≤ MAX_EVENTS → with_line before line ≡ Ok (before ++ events)
 unfolding with_line
 with_line-spoken before events line is few =
-    rw (is_spoken line events is, line_again line events is, le-ltb MOST_EVENTS (length before + length events) few) refl
+    rw (is_spoken line events is, line_again line events is, le-ltb MAX_EVENTS (length before + length events) few) refl
 
 -- ---- all lines
 
@@ -132,7 +132,7 @@ record Adds (before after : Events) (lines : List (List ℕ)) : Type 0 where
   events : Events
   each : AreLines lines events
   after_is : before ++ events ≡ after
-  few : length after ≤ MOST_EVENTS
+  few : length after ≤ MAX_EVENTS
 
 adds_more : (before mid after : Events) (line : List ℕ) (others : List (List ℕ)) → Added before line mid → Adds mid after others → Adds before after (line ∷ others)
 adds_more before mid after line others (inl skip) more =
@@ -145,11 +145,11 @@ adds_more before mid after line others (inr told) more =
       few = more.few;
     }
 
-still_few : (before after : Events) (line : List ℕ) → length before ≤ MOST_EVENTS → Added before line after → length after ≤ MOST_EVENTS
+still_few : (before after : Events) (line : List ℕ) → length before ≤ MAX_EVENTS → Added before line after → length after ≤ MAX_EVENTS
 still_few before after line few (inl skip) = rw (← skip.1) few
 still_few before after line few (inr told) = told.3
 
-lines_are : (number : ℕ) (before after : Events) (lines : List (List ℕ)) → length before ≤ MOST_EVENTS → with_lines number before lines ≡ Ok after → Adds before after lines
+lines_are : (number : ℕ) (before after : Events) (lines : List (List ℕ)) → length before ≤ MAX_EVENTS → with_lines number before lines ≡ Ok after → Adds before after lines
 unfolding with_lines
 lines_are number before after [] few e =
     let same : before ≡ after = cc in
@@ -159,13 +159,13 @@ lines_are number before after (line ∷ lines) few e =
     let added = added_is before a.0 line a.1 in
     adds_more before a.0 after line lines added (lines_are (number + 1) a.0 after lines (still_few before a.0 line few added) a.2)
 
-lines_again : (number : ℕ) (before events : Events) (lines : List (List ℕ)) → AreLines lines events → length before + length events ≤ MOST_EVENTS → with_lines number before lines ≡ Ok (before ++ events)
+lines_again : (number : ℕ) (before events : Events) (lines : List (List ℕ)) → AreLines lines events → length before + length events ≤ MAX_EVENTS → with_lines number before lines ≡ Ok (before ++ events)
 unfolding with_lines
 lines_again number before events lines no_lines few = ap okay_events (sym (append-nil before))
 lines_again number before events lines (skipped {line} {others} skip each) few =
     rw (with_line-skipped before line skip) (lines_again (number + 1) before events others each few)
 lines_again number before out lines (spoken {line} {others} {events} {more} is each) few =
-    let total : length before + length events + length more ≤ MOST_EVENTS = omega (arith, few, length-append events more) in
+    let total : length before + length events + length more ≤ MAX_EVENTS = omega (arith, few, length-append events more) in
     rw (with_line-spoken before events line is (omega arith)) (lines_again (number + 1) (before ++ events) more others each (omega (arith, total, length-append before events)) ∙ ap okay_events (append_assoc before events more))
 
 pub schedule_is : (text : List ℕ) (events : Events) → schedule_of text ≡ Ok events → IsSchedule text events
@@ -203,7 +203,7 @@ record Faulty (number n : ℕ) (name : FaultName) (before : Events) (lines : Lis
   lines_are : lines ≡ good ++ bad ∷ behind
   number_is : number + length good ≡ n
   each : AreLines good events
-  few : length (before ++ events) ≤ MOST_EVENTS
+  few : length (before ++ events) ≤ MAX_EVENTS
   fault : with_line (before ++ events) bad ≡ Err name
 
 faulty_later : (number n : ℕ) (name : FaultName) (before mid : Events) (line : List ℕ) (others : List (List ℕ)) → Added before line mid → Faulty (number + 1) n name mid others → Faulty number n name before (line ∷ others)
@@ -234,7 +234,7 @@ faulty_later number n name before mid line others (inr told) later =
       fault = rw (← same) later.fault;
     }
 
-lines_fault : (number n : ℕ) (name : FaultName) (before : Events) (lines : List (List ℕ)) → length before ≤ MOST_EVENTS → with_lines number before lines ≡ Err (faults.Line n name) → Faulty number n name before lines
+lines_fault : (number n : ℕ) (name : FaultName) (before : Events) (lines : List (List ℕ)) → length before ≤ MAX_EVENTS → with_lines number before lines ≡ Err (faults.Line n name) → Faulty number n name before lines
 unfolding with_lines
 lines_fault number n name before [] few e = absurd cc
 lines_fault number n name before (line ∷ lines) few e =

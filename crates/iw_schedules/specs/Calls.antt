@@ -7,7 +7,7 @@ use Rattle.iw_events.specs.declared.call.StreamCall.{StreamCall}
 use Rattle.iw_events.specs.declared.call.StreamCall.TheVariants.{Recv, Post, Emit, Deliver, Raw, Mulpdu, Accept, Reject, Work}
 use Rattle.iw_schedules.specs.declared.fault.FaultName.{FaultName}
 use Rattle.iw_schedules.specs.declared.fault.FaultName.TheVariants.{BadWord}
-use Rattle.iw_schedules.specs.declared.kinds.TheConstants.{MOST_OCTETS}
+use Rattle.iw_schedules.specs.declared.kinds.TheConstants.{MAX_WORD_OCTETS}
 use Rattle.iw_schedules.specs.declared.words.CallWord.{CallWord}
 use Rattle.iw_schedules.specs.declared.words.CallWord.TheVariants as named
 use Rattle.iw_schedules.specs.declared.calls.Calls.{Calls}
@@ -105,7 +105,7 @@ reject_at words = do
 unfoldable pub recv_at : List (List ℕ) → Taken (List (Call (List ℕ)))
 recv_at words = do
   stream ← field octet_number words
-  len ← field (number_word MOST_OCTETS) stream.1
+  len ← field (number_word MAX_WORD_OCTETS) stream.1
   Ok (one (Stream stream.0 (Recv len.0)), len.1)
 
 unfoldable pub send_at : List (List ℕ) → Taken (List (Call (List ℕ)))

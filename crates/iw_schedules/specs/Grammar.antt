@@ -3,6 +3,7 @@ use Rattle.std.specs.Prelude.{◌≡◌, ℕ, ◌+◌, ◌*◌, ◌-◌, ◌^◌
 use Rattle.std.specs.List.{repeat}
 use Rattle.std.specs.Str.Parse.{digits_value}
 use Rattle.hex.specs.Hex.{decode_of}
+use Rattle.iw_octets.specs.declared.constants.TheConstants.{MAX_PRIVATE}
 use Rattle.iw_octets.specs.declared.stag.Stag.{Stag}
 use Rattle.iw_octets.specs.Stag.{stag_at}
 use Rattle.iw_octets.specs.declared.message.Message.TheVariants as messages
@@ -16,8 +17,8 @@ use Rattle.iw_events.specs.declared.call.StreamCall.TheVariants.{Recv, Post, Emi
 use Rattle.iw_schedules.specs.declared.fault.FaultName.{FaultName}
 use Rattle.iw_schedules.specs.declared.fault.ScheduleFault.{ScheduleFault}
 use Rattle.iw_schedules.specs.declared.fault.ScheduleFault.TheVariants.{Line, NoMemory}
-use Rattle.iw_schedules.specs.declared.kinds.TheConstants.{MOST_OCTETS, MOST_PRIVATE, MOST_TIMES}
-use Rattle.iw_schedules.specs.declared.schedule.TheConstants.{MOST_EVENTS}
+use Rattle.iw_schedules.specs.declared.kinds.TheConstants.{MAX_WORD_OCTETS, MAX_TIMES}
+use Rattle.iw_schedules.specs.declared.schedule.TheConstants.{MAX_EVENTS}
 use Rattle.iw_schedules.specs.Pieces.{lines, words}
 use Rattle.iw_schedules.specs.Kinds.{is_decimal}
 use Rattle.iw_schedules.specs.FirstPath.{IsKind}
@@ -51,7 +52,7 @@ IsSize word n = IsNumber (2 ^ 32 - 1) word n
 
 -- how often an event happens
 pub record IsTimes (word : Word) (n : ℕ) : Type 0 where
-  pub number : IsNumber MOST_TIMES word n
+  pub number : IsNumber MAX_TIMES word n
   pub some : 0 < n
 
 -- hexadecimal digits, two for each of these octets, of either case
@@ -67,12 +68,12 @@ pub record IsStag (word : Word) (stag : Stag) : Type 0 where
 
 pub data IsOctets : Word → List ℕ → Type 0 where
   none : IsOctets (codes "-") []
-  once : {word : Word} {octets : List ℕ} → IsHex word octets → length octets ≤ MOST_OCTETS → IsOctets word octets
-  repeated : {word count : Word} {octets : List ℕ} {n : ℕ} → IsHex word octets → IsNumber MOST_OCTETS count n → n * length octets ≤ MOST_OCTETS → IsOctets (word ++ 42 ∷ count) (repeat n octets)
+  once : {word : Word} {octets : List ℕ} → IsHex word octets → length octets ≤ MAX_WORD_OCTETS → IsOctets word octets
+  repeated : {word count : Word} {octets : List ℕ} {n : ℕ} → IsHex word octets → IsNumber MAX_WORD_OCTETS count n → n * length octets ≤ MAX_WORD_OCTETS → IsOctets (word ++ 42 ∷ count) (repeat n octets)
 
 pub record IsPrivate (word : Word) (octets : List ℕ) : Type 0 where
   pub digits : IsOctets word octets
-  pub few : length octets ≤ MOST_PRIVATE
+  pub few : length octets ≤ MAX_PRIVATE
 
 -- ---- lines
 
@@ -89,7 +90,7 @@ pub data IsCall : List Word → List (Call (List ℕ)) → Type 0 where
       → IsCall (codes "open" ∷ a ∷ b ∷ role_text role ∷ d ∷ e ∷ []) (one (Open stream pd role options private))
   accept : {a b : Word} {stream : ℕ} {private : List ℕ} → IsOctetNumber a stream → IsPrivate b private → IsCall (codes "accept" ∷ a ∷ b ∷ []) (one (Stream stream (Accept private)))
   reject : {a b : Word} {stream : ℕ} {private : List ℕ} → IsOctetNumber a stream → IsPrivate b private → IsCall (codes "reject" ∷ a ∷ b ∷ []) (one (Stream stream (Reject private)))
-  recv : {a b : Word} {stream len : ℕ} → IsOctetNumber a stream → IsNumber MOST_OCTETS b len → IsCall (codes "recv" ∷ a ∷ b ∷ []) (one (Stream stream (Recv len)))
+  recv : {a b : Word} {stream len : ℕ} → IsOctetNumber a stream → IsNumber MAX_WORD_OCTETS b len → IsCall (codes "recv" ∷ a ∷ b ∷ []) (one (Stream stream (Recv len)))
   send : {a b c d : Word} {stream : ℕ} {solicited : Bool} {invalidate : Option Stag} {octets : List ℕ} → IsOctetNumber a stream → IsKind b c solicited invalidate → IsOctets d octets
       → IsCall (codes "send" ∷ a ∷ b ∷ c ∷ d ∷ []) (one (Stream stream (Post (messages.Send octets solicited invalidate))))
   write : {a b c d : Word} {stream to : ℕ} {stag : Stag} {octets : List ℕ} → IsOctetNumber a stream → IsStag b stag → IsLongNumber c to → IsOctets d octets
@@ -121,7 +122,7 @@ pub data AreLines : List (List ℕ) → Events → Type 0 where
 
 pub record IsSchedule (text : List ℕ) (events : Events) : Type 0 where
   pub each : AreLines (lines text) events
-  pub few : length events ≤ MOST_EVENTS
+  pub few : length events ≤ MAX_EVENTS
 
 -- ---- faults
 
@@ -134,7 +135,7 @@ pub record IsFirstFault (text : List ℕ) (number : ℕ) (name : FaultName) : Ty
   pub lines_are : lines text ≡ good ++ bad ∷ behind
   pub number_is : length good + 1 ≡ number
   pub each : AreLines good events
-  pub few : length events ≤ MOST_EVENTS
+  pub few : length events ≤ MAX_EVENTS
   pub fault : with_line events bad ≡ Err name
 
 abbrev pub FirstFault : List ℕ → ScheduleFault → Type 0

@@ -5,9 +5,10 @@ use Rattle.std.specs.Char.{is_ascii_digit}
 use Rattle.std.specs.Str.{bytes_eq}
 use Rattle.std.specs.Str.Parse.{digits_value}
 use Rattle.hex.specs.Hex.{decode_of, decode_sized}
+use Rattle.iw_octets.specs.declared.constants.TheConstants.{MAX_PRIVATE}
 use Rattle.iw_octets.specs.declared.stag.Stag.{Stag}
 use Rattle.iw_octets.specs.Stag.{stag_at}
-use Rattle.iw_schedules.specs.declared.kinds.TheConstants.{MOST_OCTETS, MOST_PRIVATE, MOST_TIMES}
+use Rattle.iw_schedules.specs.declared.kinds.TheConstants.{MAX_WORD_OCTETS, MAX_TIMES}
 use Rattle.iw_schedules.specs.declared.fault.FaultName.{FaultName}
 use Rattle.iw_schedules.specs.declared.fault.FaultName.TheVariants.{BadNumber, BadOctets}
 use Rattle.iw_schedules.specs.Reading.{◌>>=◌, or_fault}
@@ -29,7 +30,7 @@ number_word most word =
 -- how often an event happens
 unfoldable pub times_word : List ℕ → Result ℕ FaultName
 times_word word = do
-  n ← number_word MOST_TIMES word
+  n ← number_word MAX_TIMES word
   if nat_lt 0 n then Ok n else Err BadNumber
 
 -- eight hexadecimal digits
@@ -47,7 +48,7 @@ hex_word word = do
 -- how often the octets are repeated: once where no count is written
 abbrev pub count_word : Option (List ℕ) → Result ℕ FaultName
 count_word None = Ok 1
-count_word (Some word) = or_fault BadOctets (number_word MOST_OCTETS word)
+count_word (Some word) = or_fault BadOctets (number_word MAX_WORD_OCTETS word)
 
 -- none, or digits that may be repeated
 unfoldable pub octets_word : List ℕ → Result (List ℕ) FaultName
@@ -55,9 +56,9 @@ octets_word word =
     if bytes_eq word (codes "-") then Ok [] else do
       octets ← hex_word (split_at_first 42 word).0
       count ← count_word (split_at_first 42 word).1
-      if nat_le (count * length octets) MOST_OCTETS then Ok (repeat count octets) else Err BadOctets
+      if nat_le (count * length octets) MAX_WORD_OCTETS then Ok (repeat count octets) else Err BadOctets
 
 unfoldable pub private_word : List ℕ → Result (List ℕ) FaultName
 private_word word = do
   octets ← octets_word word
-  if nat_le (length octets) MOST_PRIVATE then Ok octets else Err BadOctets
+  if nat_le (length octets) MAX_PRIVATE then Ok octets else Err BadOctets

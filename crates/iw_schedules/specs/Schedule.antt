@@ -7,7 +7,7 @@ use Rattle.iw_schedules.specs.declared.fault.FaultName.{FaultName}
 use Rattle.iw_schedules.specs.declared.fault.FaultName.TheVariants.{BadWord, TooMany}
 use Rattle.iw_schedules.specs.declared.fault.ScheduleFault.{ScheduleFault}
 use Rattle.iw_schedules.specs.declared.fault.ScheduleFault.TheVariants as faults
-use Rattle.iw_schedules.specs.declared.schedule.TheConstants.{MOST_EVENTS}
+use Rattle.iw_schedules.specs.declared.schedule.TheConstants.{MAX_EVENTS}
 use Rattle.iw_schedules.specs.Reading.{◌>>=◌}
 use Rattle.iw_schedules.specs.Pieces.{lines, words}
 use Rattle.iw_schedules.specs.Words.{end_word}
@@ -41,7 +41,7 @@ unfoldable pub with_line : Events → List ℕ → Result Events FaultName
 with_line before line =
     if is_skipped line then Ok before else do
       events ← events_of (words line)
-      if nat_lt MOST_EVENTS (length before + length events) then Err TooMany else Ok (before ++ events)
+      if nat_lt MAX_EVENTS (length before + length events) then Err TooMany else Ok (before ++ events)
 
 abbrev pub and_then : ℕ → Result Events FaultName → (Events → Result Events ScheduleFault) → Result Events ScheduleFault
 and_then number (Ok events) f = f events

@@ -218,7 +218,7 @@ fn recv<A: Allocator>(words: &mut Pieces<'_>) -> Result<Calls<Bytes<A>>, ReadErr
     ensures { Gives (λ calls. (calls_of calls, words.new)) result (recv_at words.old) }
 {
     let stream = octet_number_in(words)?;
-    let len = kinds::number(next(words)?, kinds::MOST_OCTETS)? as u32;
+    let len = kinds::number(next(words)?, kinds::MAX_WORD_OCTETS)? as u32;
     let call = StreamCall::Recv { len };
     Ok(Calls::One(Call::Stream { stream, call }))
 }

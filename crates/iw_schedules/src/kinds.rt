@@ -11,17 +11,14 @@ use crate::fault::{FaultName, ReadError};
 use crate::pieces::split_at;
 use bytes::Bytes;
 use hex::FromHexError;
-use iw_octets::Stag;
+use iw_octets::{MAX_PRIVATE, Stag};
 use std::alloc::{AllocError, Allocator};
 
 /// The most octets that a word stands for.
-pub(crate) const MOST_OCTETS: u64 = 20_000_000;
-
-/// The most octets of private data.
-pub(crate) const MOST_PRIVATE: usize = 512;
+pub(crate) const MAX_WORD_OCTETS: u64 = 20_000_000;
 
 /// The most events that a line stands for.
-pub(crate) const MOST_TIMES: u64 = 100_000;
+pub(crate) const MAX_TIMES: u64 = 100_000;
 
 /// The number that decimal digits write, where it fits.
 fn decimal(word: &[u8]) -> Option<u64>
@@ -69,7 +66,7 @@ pub(crate) fn number(word: &[u8], most: u64) -> Result<u64, FaultName>
 pub(crate) fn times(word: &[u8]) -> Result<u64, FaultName>
     ensures { result ≡ times_word word.now }
 {
-    let times = number(word, MOST_TIMES)?;
+    let times = number(word, MAX_TIMES)?;
     if times == 0 {
         return Err(FaultName::BadNumber);
     }
@@ -110,7 +107,7 @@ fn count(word: Option<&[u8]>) -> Result<u64, FaultName>
 {
     match word {
         None => Ok(1),
-        Some(word) => number(word, MOST_OCTETS).map_err(|_| FaultName::BadOctets),
+        Some(word) => number(word, MAX_WORD_OCTETS).map_err(|_| FaultName::BadOctets),
     }
 }
 
@@ -150,7 +147,7 @@ pub(crate) fn octets<A: Allocator + Copy>(alloc: A, word: &[u8]) -> Result<Bytes
     let octets = from_hex(alloc, digits)?;
     let times = count(times)?;
     match times.checked_mul(octets.len() as u64) {
-        Some(all) if all <= MOST_OCTETS => {
+        Some(all) if all <= MAX_WORD_OCTETS => {
             Ok(Bytes::from_vec(repeated(octets, times as usize)?)?)
         }
         _ => Err(ReadError::Fault(FaultName::BadOctets)),
@@ -163,7 +160,7 @@ pub(crate) fn private<A: Allocator + Copy>(alloc: A, word: &[u8]) -> Result<Byte
     ensures { Gives (λ octets. octets) result (private_word word.now) }
 {
     let octets = octets(alloc, word)?;
-    if octets.len() > MOST_PRIVATE {
+    if octets.len() > MAX_PRIVATE {
         return Err(ReadError::Fault(FaultName::BadOctets));
     }
     Ok(octets)

@@ -14,7 +14,7 @@ use iw_events::{Call, End, Event};
 use std::alloc::{AllocError, Allocator};
 
 /// The most events of a schedule.
-pub(crate) const MOST_EVENTS: u64 = 1_000_000;
+pub(crate) const MAX_EVENTS: u64 = 1_000_000;
 
 // Whether a line is empty or a comment.
 fn is_skipped_line(line: &[u8]) -> bool
@@ -88,7 +88,7 @@ fn add_line<A: Allocator + Copy>(
     }
     let (end, calls) = read_line(alloc, line)?;
     match (events.len() as u64).checked_add(calls.len()) {
-        Some(all) if all <= MOST_EVENTS => Ok(push(events, end, calls)?),
+        Some(all) if all <= MAX_EVENTS => Ok(push(events, end, calls)?),
         _ => Err(ReadError::Fault(FaultName::TooMany)),
     }
 }
