@@ -12,6 +12,7 @@ use Rattle.iw_schedules.specs.declared.fault.FaultName.{FaultName}
 use Rattle.iw_schedules.specs.declared.kinds.TheConstants.{MAX_WORD_OCTETS}
 use Rattle.iw_schedules.specs.declared.words.CallWord.{CallWord}
 use Rattle.iw_schedules.specs.declared.words.CallWord.TheVariants as named
+use Rattle.iw_schedules.specs.declared.calls.Step.{Step}
 use Rattle.iw_schedules.specs.declared.calls.Step.TheVariants as steps
 use Rattle.iw_schedules.specs.Reading.{◌>>=◌}
 use Rattle.iw_schedules.specs.Kinds.{number_word, times_word, stag_word, octets_word, private_word}
@@ -20,8 +21,8 @@ use Rattle.iw_schedules.specs.FirstPath.IsKind.{plain}
 use Rattle.iw_schedules.specs.Rights.{rights_word}
 use Rattle.iw_schedules.specs.Options.{options_word}
 use Rattle.iw_schedules.specs.Words.{one_of, role_text, roles, role_word, call_text, call_words, call_word}
-use Rattle.iw_schedules.specs.Calls.{field, octet_number, long_number, size_number, times_at, one, domain_at, register_at, deregister_at, invalidate_at, store_at, open_at, accept_at, reject_at, recv_at, send_at, write_at, steps_at, deliver_at, raw_at, mulpdu_at, behind, calls_at}
-use Rattle.iw_schedules.specs.Grammar.{Word, IsTimes, IsCall}
+use Rattle.iw_schedules.specs.Calls.{field, octet_number, long_number, size_number, times_at, step_call, one, domain_at, register_at, deregister_at, invalidate_at, store_at, open_at, accept_at, reject_at, recv_at, send_at, write_at, steps_at, deliver_at, raw_at, mulpdu_at, behind, calls_at}
+use Rattle.iw_schedules.specs.Grammar.{Word, IsOctetNumber, IsTimes, IsCall}
 use Rattle.iw_schedules.specs.Grammar.IsCall.{domain, register, deregister, invalidate, store, opening, accept, reject, recv, send, write, emit, emit_times, work, work_times, deliver, raw, mulpdu}
 use Rattle.iw_schedules.proofs.KindLaws.{bind_ok, okay, number_is, number_again, times_is, times_again, stag_is, stag_again, octets_is, octets_again, private_is, private_again, rights_is, rights_again, options_are, options_again, kind_is}
 
@@ -47,15 +48,24 @@ field_is kind (word ∷ words) y e =
     let made = field_made (kind word) words y e in
     record { word = word; words_are = ap (λ ws. word ∷ ws) made.1; value = made.0 }
 
+-- words that begin with one of this kind, and go on so
+reads : {X Y : Type 0} (kind : Word → Result X FaultName) (words : List Word) (k : X × List Word → Result Y FaultName) (y : Y) (P : List Word → Type 0) → (field kind words >>= k) ≡ Ok y
+    → ((word : Word) (x : X) (others : List Word) → kind word ≡ Ok x → k (x, others) ≡ Ok y → P (word ∷ others)) → P words
+reads kind words k y P e so =
+    let a = bind_ok (field kind words) k y e in
+    let f = field_is kind words a.0 a.1 in
+    subst P (sym f.words_are) (so f.word a.0.0 a.0.1 f.value a.2)
+
 abbrev both : Calls → List Word → Calls × List Word
 both calls others = (calls, others)
 
 -- the last step: nothing is left
-ended : (calls made : Calls) (others : List Word) → okay FaultName (both made others) ≡ okay FaultName (both calls []) → (made ≡ calls) × (others ≡ [])
-ended calls made others e = let pair : both made others ≡ both calls [] = cc in (ap (λ (p : Calls × List Word). p.0) pair, ap (λ (p : Calls × List Word). p.1) pair)
-
-stands_for : (words made_of : List Word) (calls made : Calls) → words ≡ made_of → made ≡ calls → IsCall made_of made → IsCall words calls
-stands_for words made_of calls made w c is = subst (λ ws. IsCall ws calls) (sym w) (subst (λ cs. IsCall made_of cs) c is)
+finishes : (P : List Word → Calls → Type 0) (calls made : Calls) (others : List Word) → okay FaultName (both made others) ≡ okay FaultName (both calls []) → P [] made → P others calls
+finishes P calls made others e is =
+    let pair : both made others ≡ both calls [] = cc in
+    let same : made ≡ calls = ap (λ (p : Calls × List Word). p.0) pair in
+    let none : others ≡ [] = ap (λ (p : Calls × List Word). p.1) pair in
+    subst (λ ws. P ws calls) (sym none) (subst (P []) same is)
 
 -- ---- fixed words
 
@@ -73,175 +83,112 @@ one_of_is text (x ∷ xs) word y e = one_of_told text x xs word y (bytes_eq word
 pub domain_is : (words : List Word) (calls : Calls) → domain_at words ≡ Ok (calls, []) → IsCall (codes "domain" ∷ words) calls
 unfolding domain_at
 domain_is words calls e =
-    let a = bind_ok (field octet_number words) _ (calls, []) e in
-    let end = ended calls (one (Domain a.0.0)) a.0.1 a.2 in
-    let f = field_is octet_number words a.0 a.1 in
-    stands_for _ (codes "domain" ∷ f.word ∷ []) calls _ (cc (f.words_are, end.1)) end.0 (domain (number_is 255 f.word a.0.0 f.value))
+    reads octet_number words _ (calls, []) (λ ws. IsCall (codes "domain" ∷ ws) calls) e (λ a pd others is_a then_a.
+    finishes (λ ws made. IsCall (codes "domain" ∷ a ∷ ws) made) calls (one (Domain pd)) others then_a (domain (number_is 255 a pd is_a)))
 
 pub register_is : (words : List Word) (calls : Calls) → register_at words ≡ Ok (calls, []) → IsCall (codes "register" ∷ words) calls
 unfolding register_at
 register_is words calls e =
-    let a = bind_ok (field octet_number words) _ (calls, []) e in
-    let b = bind_ok (field long_number a.0.1) _ (calls, []) a.2 in
-    let c = bind_ok (field rights_word b.0.1) _ (calls, []) b.2 in
-    let d = bind_ok (field octets_word c.0.1) _ (calls, []) c.2 in
-    let end = ended calls (one (Register a.0.0 b.0.0 c.0.0 d.0.0)) d.0.1 d.2 in
-    let f = field_is octet_number words a.0 a.1 in
-    let g = field_is long_number a.0.1 b.0 b.1 in
-    let h = field_is rights_word b.0.1 c.0 c.1 in
-    let i = field_is octets_word c.0.1 d.0 d.1 in
-    stands_for _ (codes "register" ∷ f.word ∷ g.word ∷ h.word ∷ i.word ∷ []) calls _ (cc (f.words_are, g.words_are, h.words_are, i.words_are, end.1)) end.0
-    (register (number_is 255 f.word a.0.0 f.value) (number_is (2 ^ 64 - 1) g.word b.0.0 g.value) (rights_is h.word c.0.0 h.value) (octets_is i.word d.0.0 i.value))
+    reads octet_number words _ (calls, []) (λ ws. IsCall (codes "register" ∷ ws) calls) e (λ a pd behind_a is_a then_a.
+    reads long_number behind_a _ (calls, []) (λ ws. IsCall (codes "register" ∷ a ∷ ws) calls) then_a (λ b base behind_b is_b then_b.
+    reads rights_word behind_b _ (calls, []) (λ ws. IsCall (codes "register" ∷ a ∷ b ∷ ws) calls) then_b (λ c rights behind_c is_c then_c.
+    reads octets_word behind_c _ (calls, []) (λ ws. IsCall (codes "register" ∷ a ∷ b ∷ c ∷ ws) calls) then_c (λ d octets others is_d then_d.
+    finishes (λ ws made. IsCall (codes "register" ∷ a ∷ b ∷ c ∷ d ∷ ws) made) calls (one (Register pd base rights octets)) others then_d (register (number_is 255 a pd is_a) (number_is (2 ^ 64 - 1) b base is_b) (rights_is c rights is_c) (octets_is d octets is_d))))))
 
 pub deregister_is : (words : List Word) (calls : Calls) → deregister_at words ≡ Ok (calls, []) → IsCall (codes "deregister" ∷ words) calls
 unfolding deregister_at
 deregister_is words calls e =
-    let a = bind_ok (field stag_word words) _ (calls, []) e in
-    let end = ended calls (one (Deregister a.0.0)) a.0.1 a.2 in
-    let f = field_is stag_word words a.0 a.1 in
-    stands_for _ (codes "deregister" ∷ f.word ∷ []) calls _ (cc (f.words_are, end.1)) end.0 (deregister (stag_is f.word a.0.0 f.value))
+    reads stag_word words _ (calls, []) (λ ws. IsCall (codes "deregister" ∷ ws) calls) e (λ a stag others is_a then_a.
+    finishes (λ ws made. IsCall (codes "deregister" ∷ a ∷ ws) made) calls (one (Deregister stag)) others then_a (deregister (stag_is a stag is_a)))
 
 pub invalidate_is : (words : List Word) (calls : Calls) → invalidate_at words ≡ Ok (calls, []) → IsCall (codes "invalidate" ∷ words) calls
 unfolding invalidate_at
 invalidate_is words calls e =
-    let a = bind_ok (field stag_word words) _ (calls, []) e in
-    let end = ended calls (one (Invalidate a.0.0)) a.0.1 a.2 in
-    let f = field_is stag_word words a.0 a.1 in
-    stands_for _ (codes "invalidate" ∷ f.word ∷ []) calls _ (cc (f.words_are, end.1)) end.0 (invalidate (stag_is f.word a.0.0 f.value))
+    reads stag_word words _ (calls, []) (λ ws. IsCall (codes "invalidate" ∷ ws) calls) e (λ a stag others is_a then_a.
+    finishes (λ ws made. IsCall (codes "invalidate" ∷ a ∷ ws) made) calls (one (Invalidate stag)) others then_a (invalidate (stag_is a stag is_a)))
 
 pub store_is : (words : List Word) (calls : Calls) → store_at words ≡ Ok (calls, []) → IsCall (codes "store" ∷ words) calls
 unfolding store_at
 store_is words calls e =
-    let a = bind_ok (field stag_word words) _ (calls, []) e in
-    let b = bind_ok (field long_number a.0.1) _ (calls, []) a.2 in
-    let c = bind_ok (field octets_word b.0.1) _ (calls, []) b.2 in
-    let end = ended calls (one (Store a.0.0 b.0.0 c.0.0)) c.0.1 c.2 in
-    let f = field_is stag_word words a.0 a.1 in
-    let g = field_is long_number a.0.1 b.0 b.1 in
-    let h = field_is octets_word b.0.1 c.0 c.1 in
-    stands_for _ (codes "store" ∷ f.word ∷ g.word ∷ h.word ∷ []) calls _ (cc (f.words_are, g.words_are, h.words_are, end.1)) end.0
-    (store (stag_is f.word a.0.0 f.value) (number_is (2 ^ 64 - 1) g.word b.0.0 g.value) (octets_is h.word c.0.0 h.value))
+    reads stag_word words _ (calls, []) (λ ws. IsCall (codes "store" ∷ ws) calls) e (λ a stag behind_a is_a then_a.
+    reads long_number behind_a _ (calls, []) (λ ws. IsCall (codes "store" ∷ a ∷ ws) calls) then_a (λ b to behind_b is_b then_b.
+    reads octets_word behind_b _ (calls, []) (λ ws. IsCall (codes "store" ∷ a ∷ b ∷ ws) calls) then_b (λ c octets others is_c then_c.
+    finishes (λ ws made. IsCall (codes "store" ∷ a ∷ b ∷ c ∷ ws) made) calls (one (Store stag to octets)) others then_c (store (stag_is a stag is_a) (number_is (2 ^ 64 - 1) b to is_b) (octets_is c octets is_c)))))
 
 pub open_is : (words : List Word) (calls : Calls) → open_at words ≡ Ok (calls, []) → IsCall (codes "open" ∷ words) calls
 unfolding open_at
 open_is words calls e =
-    let a = bind_ok (field octet_number words) _ (calls, []) e in
-    let b = bind_ok (field octet_number a.0.1) _ (calls, []) a.2 in
-    let c = bind_ok (field role_word b.0.1) _ (calls, []) b.2 in
-    let d = bind_ok (field options_word c.0.1) _ (calls, []) c.2 in
-    let o = bind_ok (field private_word d.0.1) _ (calls, []) d.2 in
-    let end = ended calls (one (Open a.0.0 b.0.0 c.0.0 d.0.0 o.0.0)) o.0.1 o.2 in
-    let f = field_is octet_number words a.0 a.1 in
-    let g = field_is octet_number a.0.1 b.0 b.1 in
-    let h = field_is role_word b.0.1 c.0 c.1 in
-    let i = field_is options_word c.0.1 d.0 d.1 in
-    let j = field_is private_word d.0.1 o.0 o.1 in
-    let last : d.0.1 ≡ j.word ∷ [] = cc (j.words_are, end.1) in
-    let spelled : words ≡ f.word ∷ g.word ∷ h.word ∷ i.word ∷ j.word ∷ [] =
-    f.words_are ∙ ap (λ ws. f.word ∷ ws) (g.words_are ∙ ap (λ ws. g.word ∷ ws) (h.words_are ∙ ap (λ ws. h.word ∷ ws) (i.words_are ∙ ap (λ ws. i.word ∷ ws) last))) in
-    let named_so = one_of_is role_text roles h.word c.0.0 h.value in
-    stands_for _ (codes "open" ∷ f.word ∷ g.word ∷ role_text c.0.0 ∷ i.word ∷ j.word ∷ []) calls _ (ap (λ ws. codes "open" ∷ ws) spelled ∙ ap (λ w. codes "open" ∷ f.word ∷ g.word ∷ w ∷ i.word ∷ j.word ∷ []) named_so) end.0
-    (opening (number_is 255 f.word a.0.0 f.value) (number_is 255 g.word b.0.0 g.value) (options_are i.word d.0.0 i.value) (private_is j.word o.0.0 j.value))
+    reads octet_number words _ (calls, []) (λ ws. IsCall (codes "open" ∷ ws) calls) e (λ a stream behind_a is_a then_a.
+    reads octet_number behind_a _ (calls, []) (λ ws. IsCall (codes "open" ∷ a ∷ ws) calls) then_a (λ b pd behind_b is_b then_b.
+    reads role_word behind_b _ (calls, []) (λ ws. IsCall (codes "open" ∷ a ∷ b ∷ ws) calls) then_b (λ c role behind_c is_c then_c.
+    reads options_word behind_c _ (calls, []) (λ ws. IsCall (codes "open" ∷ a ∷ b ∷ c ∷ ws) calls) then_c (λ d options behind_d is_d then_d.
+    reads private_word behind_d _ (calls, []) (λ ws. IsCall (codes "open" ∷ a ∷ b ∷ c ∷ d ∷ ws) calls) then_d (λ f private others is_f then_f.
+    finishes (λ ws made. IsCall (codes "open" ∷ a ∷ b ∷ c ∷ d ∷ f ∷ ws) made) calls (one (Open stream pd role options private)) others then_f
+    (subst (λ w. IsCall (codes "open" ∷ a ∷ b ∷ w ∷ d ∷ f ∷ []) (one (Open stream pd role options private))) (sym (one_of_is role_text roles c role is_c))
+    (opening (number_is 255 a stream is_a) (number_is 255 b pd is_b) (options_are d options is_d) (private_is f private is_f))))))))
 
 pub accept_is : (words : List Word) (calls : Calls) → accept_at words ≡ Ok (calls, []) → IsCall (codes "accept" ∷ words) calls
 unfolding accept_at
 accept_is words calls e =
-    let a = bind_ok (field octet_number words) _ (calls, []) e in
-    let b = bind_ok (field private_word a.0.1) _ (calls, []) a.2 in
-    let end = ended calls (one (Stream a.0.0 (Accept b.0.0))) b.0.1 b.2 in
-    let f = field_is octet_number words a.0 a.1 in
-    let g = field_is private_word a.0.1 b.0 b.1 in
-    stands_for _ (codes "accept" ∷ f.word ∷ g.word ∷ []) calls _ (cc (f.words_are, g.words_are, end.1)) end.0
-    (accept (number_is 255 f.word a.0.0 f.value) (private_is g.word b.0.0 g.value))
+    reads octet_number words _ (calls, []) (λ ws. IsCall (codes "accept" ∷ ws) calls) e (λ a stream behind_a is_a then_a.
+    reads private_word behind_a _ (calls, []) (λ ws. IsCall (codes "accept" ∷ a ∷ ws) calls) then_a (λ b private others is_b then_b.
+    finishes (λ ws made. IsCall (codes "accept" ∷ a ∷ b ∷ ws) made) calls (one (Stream stream (Accept private))) others then_b (accept (number_is 255 a stream is_a) (private_is b private is_b))))
 
 pub reject_is : (words : List Word) (calls : Calls) → reject_at words ≡ Ok (calls, []) → IsCall (codes "reject" ∷ words) calls
 unfolding reject_at
 reject_is words calls e =
-    let a = bind_ok (field octet_number words) _ (calls, []) e in
-    let b = bind_ok (field private_word a.0.1) _ (calls, []) a.2 in
-    let end = ended calls (one (Stream a.0.0 (Reject b.0.0))) b.0.1 b.2 in
-    let f = field_is octet_number words a.0 a.1 in
-    let g = field_is private_word a.0.1 b.0 b.1 in
-    stands_for _ (codes "reject" ∷ f.word ∷ g.word ∷ []) calls _ (cc (f.words_are, g.words_are, end.1)) end.0
-    (reject (number_is 255 f.word a.0.0 f.value) (private_is g.word b.0.0 g.value))
+    reads octet_number words _ (calls, []) (λ ws. IsCall (codes "reject" ∷ ws) calls) e (λ a stream behind_a is_a then_a.
+    reads private_word behind_a _ (calls, []) (λ ws. IsCall (codes "reject" ∷ a ∷ ws) calls) then_a (λ b private others is_b then_b.
+    finishes (λ ws made. IsCall (codes "reject" ∷ a ∷ b ∷ ws) made) calls (one (Stream stream (Reject private))) others then_b (reject (number_is 255 a stream is_a) (private_is b private is_b))))
 
 pub recv_is : (words : List Word) (calls : Calls) → recv_at words ≡ Ok (calls, []) → IsCall (codes "recv" ∷ words) calls
 unfolding recv_at
 recv_is words calls e =
-    let a = bind_ok (field octet_number words) _ (calls, []) e in
-    let b = bind_ok (field (number_word MAX_WORD_OCTETS) a.0.1) _ (calls, []) a.2 in
-    let end = ended calls (one (Stream a.0.0 (Recv b.0.0))) b.0.1 b.2 in
-    let f = field_is octet_number words a.0 a.1 in
-    let g = field_is (number_word MAX_WORD_OCTETS) a.0.1 b.0 b.1 in
-    stands_for _ (codes "recv" ∷ f.word ∷ g.word ∷ []) calls _ (cc (f.words_are, g.words_are, end.1)) end.0
-    (recv (number_is 255 f.word a.0.0 f.value) (number_is MAX_WORD_OCTETS g.word b.0.0 g.value))
+    reads octet_number words _ (calls, []) (λ ws. IsCall (codes "recv" ∷ ws) calls) e (λ a stream behind_a is_a then_a.
+    reads (number_word MAX_WORD_OCTETS) behind_a _ (calls, []) (λ ws. IsCall (codes "recv" ∷ a ∷ ws) calls) then_a (λ b len others is_b then_b.
+    finishes (λ ws made. IsCall (codes "recv" ∷ a ∷ b ∷ ws) made) calls (one (Stream stream (Recv len))) others then_b (recv (number_is 255 a stream is_a) (number_is MAX_WORD_OCTETS b len is_b))))
 
 pub send_is : (words : List Word) (calls : Calls) → send_at words ≡ Ok (calls, []) → IsCall (codes "send" ∷ words) calls
 unfolding send_at
 send_is words calls e =
-    let a = bind_ok (field octet_number words) _ (calls, []) e in
-    let b = bind_ok (field kind_word a.0.1) _ (calls, []) a.2 in
-    let c = bind_ok (field (invalidated_word b.0.0) b.0.1) _ (calls, []) b.2 in
-    let d = bind_ok (field octets_word c.0.1) _ (calls, []) c.2 in
-    let end = ended calls (one (Stream a.0.0 (Post (messages.Send d.0.0 (is_solicited b.0.0) c.0.0)))) d.0.1 d.2 in
-    let f = field_is octet_number words a.0 a.1 in
-    let g = field_is kind_word a.0.1 b.0 b.1 in
-    let h = field_is (invalidated_word b.0.0) b.0.1 c.0 c.1 in
-    let i = field_is octets_word c.0.1 d.0 d.1 in
-    stands_for _ (codes "send" ∷ f.word ∷ g.word ∷ h.word ∷ i.word ∷ []) calls _ (cc (f.words_are, g.words_are, h.words_are, i.words_are, end.1)) end.0
-    (send (number_is 255 f.word a.0.0 f.value) (kind_is g.word h.word b.0.0 c.0.0 g.value h.value) (octets_is i.word d.0.0 i.value))
+    reads octet_number words _ (calls, []) (λ ws. IsCall (codes "send" ∷ ws) calls) e (λ a stream behind_a is_a then_a.
+    reads kind_word behind_a _ (calls, []) (λ ws. IsCall (codes "send" ∷ a ∷ ws) calls) then_a (λ b kind behind_b is_b then_b.
+    reads (invalidated_word kind) behind_b _ (calls, []) (λ ws. IsCall (codes "send" ∷ a ∷ b ∷ ws) calls) then_b (λ c stag behind_c is_c then_c.
+    reads octets_word behind_c _ (calls, []) (λ ws. IsCall (codes "send" ∷ a ∷ b ∷ c ∷ ws) calls) then_c (λ d octets others is_d then_d.
+    finishes (λ ws made. IsCall (codes "send" ∷ a ∷ b ∷ c ∷ d ∷ ws) made) calls (one (Stream stream (Post (messages.Send octets (is_solicited kind) stag)))) others then_d
+    (send (number_is 255 a stream is_a) (kind_is b c kind stag is_b is_c) (octets_is d octets is_d))))))
 
 pub write_is : (words : List Word) (calls : Calls) → write_at words ≡ Ok (calls, []) → IsCall (codes "write" ∷ words) calls
 unfolding write_at
 write_is words calls e =
-    let a = bind_ok (field octet_number words) _ (calls, []) e in
-    let b = bind_ok (field stag_word a.0.1) _ (calls, []) a.2 in
-    let c = bind_ok (field long_number b.0.1) _ (calls, []) b.2 in
-    let d = bind_ok (field octets_word c.0.1) _ (calls, []) c.2 in
-    let end = ended calls (one (Stream a.0.0 (Post (messages.Write b.0.0 c.0.0 d.0.0)))) d.0.1 d.2 in
-    let f = field_is octet_number words a.0 a.1 in
-    let g = field_is stag_word a.0.1 b.0 b.1 in
-    let h = field_is long_number b.0.1 c.0 c.1 in
-    let i = field_is octets_word c.0.1 d.0 d.1 in
-    stands_for _ (codes "write" ∷ f.word ∷ g.word ∷ h.word ∷ i.word ∷ []) calls _ (cc (f.words_are, g.words_are, h.words_are, i.words_are, end.1)) end.0
-    (write (number_is 255 f.word a.0.0 f.value) (stag_is g.word b.0.0 g.value) (number_is (2 ^ 64 - 1) h.word c.0.0 h.value) (octets_is i.word d.0.0 i.value))
+    reads octet_number words _ (calls, []) (λ ws. IsCall (codes "write" ∷ ws) calls) e (λ a stream behind_a is_a then_a.
+    reads stag_word behind_a _ (calls, []) (λ ws. IsCall (codes "write" ∷ a ∷ ws) calls) then_a (λ b stag behind_b is_b then_b.
+    reads long_number behind_b _ (calls, []) (λ ws. IsCall (codes "write" ∷ a ∷ b ∷ ws) calls) then_b (λ c to behind_c is_c then_c.
+    reads octets_word behind_c _ (calls, []) (λ ws. IsCall (codes "write" ∷ a ∷ b ∷ c ∷ ws) calls) then_c (λ d octets others is_d then_d.
+    finishes (λ ws made. IsCall (codes "write" ∷ a ∷ b ∷ c ∷ d ∷ ws) made) calls (one (Stream stream (Post (messages.Write stag to octets)))) others then_d (write (number_is 255 a stream is_a) (stag_is b stag is_b) (number_is (2 ^ 64 - 1) c to is_c) (octets_is d octets is_d))))))
 
 pub deliver_is : (words : List Word) (calls : Calls) → deliver_at words ≡ Ok (calls, []) → IsCall (codes "deliver" ∷ words) calls
 unfolding deliver_at
 deliver_is words calls e =
-    let a = bind_ok (field octet_number words) _ (calls, []) e in
-    let b = bind_ok (field long_number a.0.1) _ (calls, []) a.2 in
-    let c = bind_ok (field long_number b.0.1) _ (calls, []) b.2 in
-    let end = ended calls (one (Stream a.0.0 (Deliver b.0.0 c.0.0))) c.0.1 c.2 in
-    let f = field_is octet_number words a.0 a.1 in
-    let g = field_is long_number a.0.1 b.0 b.1 in
-    let h = field_is long_number b.0.1 c.0 c.1 in
-    stands_for _ (codes "deliver" ∷ f.word ∷ g.word ∷ h.word ∷ []) calls _ (cc (f.words_are, g.words_are, h.words_are, end.1)) end.0
-    (deliver (number_is 255 f.word a.0.0 f.value) (number_is (2 ^ 64 - 1) g.word b.0.0 g.value) (number_is (2 ^ 64 - 1) h.word c.0.0 h.value))
+    reads octet_number words _ (calls, []) (λ ws. IsCall (codes "deliver" ∷ ws) calls) e (λ a stream behind_a is_a then_a.
+    reads long_number behind_a _ (calls, []) (λ ws. IsCall (codes "deliver" ∷ a ∷ ws) calls) then_a (λ b from behind_b is_b then_b.
+    reads long_number behind_b _ (calls, []) (λ ws. IsCall (codes "deliver" ∷ a ∷ b ∷ ws) calls) then_b (λ c len others is_c then_c.
+    finishes (λ ws made. IsCall (codes "deliver" ∷ a ∷ b ∷ c ∷ ws) made) calls (one (Stream stream (Deliver from len))) others then_c (deliver (number_is 255 a stream is_a) (number_is (2 ^ 64 - 1) b from is_b) (number_is (2 ^ 64 - 1) c len is_c)))))
 
 pub raw_is : (words : List Word) (calls : Calls) → raw_at words ≡ Ok (calls, []) → IsCall (codes "raw" ∷ words) calls
 unfolding raw_at
 raw_is words calls e =
-    let a = bind_ok (field octet_number words) _ (calls, []) e in
-    let b = bind_ok (field long_number a.0.1) _ (calls, []) a.2 in
-    let c = bind_ok (field octets_word b.0.1) _ (calls, []) b.2 in
-    let end = ended calls (one (Stream a.0.0 (Raw b.0.0 c.0.0))) c.0.1 c.2 in
-    let f = field_is octet_number words a.0 a.1 in
-    let g = field_is long_number a.0.1 b.0 b.1 in
-    let h = field_is octets_word b.0.1 c.0 c.1 in
-    stands_for _ (codes "raw" ∷ f.word ∷ g.word ∷ h.word ∷ []) calls _ (cc (f.words_are, g.words_are, h.words_are, end.1)) end.0
-    (raw (number_is 255 f.word a.0.0 f.value) (number_is (2 ^ 64 - 1) g.word b.0.0 g.value) (octets_is h.word c.0.0 h.value))
+    reads octet_number words _ (calls, []) (λ ws. IsCall (codes "raw" ∷ ws) calls) e (λ a stream behind_a is_a then_a.
+    reads long_number behind_a _ (calls, []) (λ ws. IsCall (codes "raw" ∷ a ∷ ws) calls) then_a (λ b from behind_b is_b then_b.
+    reads octets_word behind_b _ (calls, []) (λ ws. IsCall (codes "raw" ∷ a ∷ b ∷ ws) calls) then_b (λ c octets others is_c then_c.
+    finishes (λ ws made. IsCall (codes "raw" ∷ a ∷ b ∷ c ∷ ws) made) calls (one (Stream stream (Raw from octets))) others then_c (raw (number_is 255 a stream is_a) (number_is (2 ^ 64 - 1) b from is_b) (octets_is c octets is_c)))))
 
 pub mulpdu_is : (words : List Word) (calls : Calls) → mulpdu_at words ≡ Ok (calls, []) → IsCall (codes "mulpdu" ∷ words) calls
 unfolding mulpdu_at
 mulpdu_is words calls e =
-    let a = bind_ok (field octet_number words) _ (calls, []) e in
-    let b = bind_ok (field size_number a.0.1) _ (calls, []) a.2 in
-    let end = ended calls (one (Stream a.0.0 (Mulpdu b.0.0))) b.0.1 b.2 in
-    let f = field_is octet_number words a.0 a.1 in
-    let g = field_is size_number a.0.1 b.0 b.1 in
-    stands_for _ (codes "mulpdu" ∷ f.word ∷ g.word ∷ []) calls _ (cc (f.words_are, g.words_are, end.1)) end.0
-    (mulpdu (number_is 255 f.word a.0.0 f.value) (number_is (2 ^ 32 - 1) g.word b.0.0 g.value))
+    reads octet_number words _ (calls, []) (λ ws. IsCall (codes "mulpdu" ∷ ws) calls) e (λ a stream behind_a is_a then_a.
+    reads size_number behind_a _ (calls, []) (λ ws. IsCall (codes "mulpdu" ∷ a ∷ ws) calls) then_a (λ b size others is_b then_b.
+    finishes (λ ws made. IsCall (codes "mulpdu" ∷ a ∷ b ∷ ws) made) calls (one (Stream stream (Mulpdu size))) others then_b (mulpdu (number_is 255 a stream is_a) (number_is (2 ^ 32 - 1) b size is_b))))
 
 -- ---- equal calls
 
@@ -254,29 +201,31 @@ times_told (word ∷ words) y e =
     let made = field_made (times_word word) words y e in
     inr (word, ap (λ ws. word ∷ ws) made.1, times_is word y.0 made.0)
 
-emit_is : (words : List Word) (calls : Calls) → steps_at steps.Emit words ≡ Ok (calls, []) → IsCall (codes "emit" ∷ words) calls
+-- a call of this name, once or as often as the line says
+steps_are : (step : Step) (name : Word) (words : List Word) (calls : Calls) → steps_at step words ≡ Ok (calls, [])
+    → ((a : Word) (stream : ℕ) → IsOctetNumber a stream → IsCall (name ∷ a ∷ []) (one (Stream stream (step_call step))))
+    → ((a b : Word) (stream n : ℕ) → IsOctetNumber a stream → IsTimes b n → IsCall (name ∷ a ∷ b ∷ []) (replicate n (Stream stream (step_call step))))
+    → IsCall (name ∷ words) calls
 unfolding steps_at
-emit_is words calls e =
-    let a = bind_ok (field octet_number words) _ (calls, []) e in
-    let b = bind_ok (times_at a.0.1) _ (calls, []) a.2 in
-    let end = ended calls (replicate b.0.0 (Stream a.0.0 Emit)) b.0.1 b.2 in
-    let f = field_is octet_number words a.0 a.1 in
-    elim (times_told a.0.1 b.0 b.1) [
-      | inl none ↦ stands_for _ (codes "emit" ∷ f.word ∷ []) calls _ (cc (f.words_are, none.0)) (ap (λ n. replicate n (Stream a.0.0 Emit)) none.2 ∙ end.0) (emit (number_is 255 f.word a.0.0 f.value))
-      | inr some ↦ stands_for _ (codes "emit" ∷ f.word ∷ some.0 ∷ []) calls _ (cc (f.words_are, some.1, end.1)) end.0 (emit_times (number_is 255 f.word a.0.0 f.value) some.2)
-    ]
+steps_are step name words calls e once often =
+    reads octet_number words _ (calls, []) (λ ws. IsCall (name ∷ ws) calls) e (λ a stream behind_a is_a then_a.
+    let number = number_is 255 a stream is_a in
+    let t = bind_ok (times_at behind_a) _ (calls, []) then_a in
+    let made = replicate t.0.0 (Stream stream (step_call step)) in
+    elim (times_told behind_a t.0 t.1) [
+      | inl none ↦
+          let last = finishes (λ ws made. IsCall (name ∷ a ∷ ws) made) calls made t.0.1 t.2 (subst (λ n. IsCall (name ∷ a ∷ []) (replicate n (Stream stream (step_call step)))) none.2 (once a stream number)) in
+          subst (λ ws. IsCall (name ∷ a ∷ ws) calls) (none.1 ∙ sym none.0) last
+      | inr some ↦
+          let last = finishes (λ ws made. IsCall (name ∷ a ∷ some.0 ∷ ws) made) calls made t.0.1 t.2 (often a some.0 stream t.0.0 number some.2) in
+          subst (λ ws. IsCall (name ∷ a ∷ ws) calls) (sym some.1) last
+    ])
+
+emit_is : (words : List Word) (calls : Calls) → steps_at steps.Emit words ≡ Ok (calls, []) → IsCall (codes "emit" ∷ words) calls
+emit_is words calls e = steps_are steps.Emit (codes "emit") words calls e (λ a stream p. emit p) (λ a b stream n p q. emit_times p q)
 
 work_is : (words : List Word) (calls : Calls) → steps_at steps.Work words ≡ Ok (calls, []) → IsCall (codes "work" ∷ words) calls
-unfolding steps_at
-work_is words calls e =
-    let a = bind_ok (field octet_number words) _ (calls, []) e in
-    let b = bind_ok (times_at a.0.1) _ (calls, []) a.2 in
-    let end = ended calls (replicate b.0.0 (Stream a.0.0 Work)) b.0.1 b.2 in
-    let f = field_is octet_number words a.0 a.1 in
-    elim (times_told a.0.1 b.0 b.1) [
-      | inl none ↦ stands_for _ (codes "work" ∷ f.word ∷ []) calls _ (cc (f.words_are, none.0)) (ap (λ n. replicate n (Stream a.0.0 Work)) none.2 ∙ end.0) (work (number_is 255 f.word a.0.0 f.value))
-      | inr some ↦ stands_for _ (codes "work" ∷ f.word ∷ some.0 ∷ []) calls _ (cc (f.words_are, some.1, end.1)) end.0 (work_times (number_is 255 f.word a.0.0 f.value) some.2)
-    ]
+work_is words calls e = steps_are steps.Work (codes "work") words calls e (λ a stream p. work p) (λ a b stream n p q. work_times p q)
 
 -- ---- all calls
 

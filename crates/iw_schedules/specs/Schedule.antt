@@ -36,12 +36,13 @@ events_of words = do
   calls ← calls_at end.1
   ended (map (event_at end.0) calls.0) calls.1
 
+-- more events behind others
+abbrev pub with_events : Events → Events → Result Events FaultName
+with_events before events = if nat_lt MAX_EVENTS (length before + length events) then Err TooMany else Ok (before ++ events)
+
 -- the events before a line and those of the line
 unfoldable pub with_line : Events → List ℕ → Result Events FaultName
-with_line before line =
-    if is_skipped line then Ok before else do
-      events ← events_of (words line)
-      if nat_lt MAX_EVENTS (length before + length events) then Err TooMany else Ok (before ++ events)
+with_line before line = if is_skipped line then Ok before else events_of (words line) >>= with_events before
 
 abbrev pub and_then : ℕ → Result Events FaultName → (Events → Result Events ScheduleFault) → Result Events ScheduleFault
 and_then number (Ok events) f = f events

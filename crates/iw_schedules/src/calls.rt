@@ -3,7 +3,11 @@
 ghost use Rattle.std.specs.Prelude.{◌≡◌, length};
 ghost use Rattle.iw_schedules.specs.Reading.{Gives};
 ghost use Rattle.iw_schedules.specs.Kinds.{number_word, stag_word, octets_word, private_word};
-ghost use Rattle.iw_schedules.specs.Calls.{step_call, calls_of, next_word, field, octet_number, long_number, size_number, times_at, domain_at, register_at, deregister_at, invalidate_at, store_at, open_at, accept_at, reject_at, recv_at, send_at, write_at, steps_at, deliver_at, raw_at, mulpdu_at, calls_at};
+ghost use Rattle.iw_schedules.specs.FirstPath.{kind_word, invalidated_word};
+ghost use Rattle.iw_schedules.specs.Rights.{rights_word};
+ghost use Rattle.iw_schedules.specs.Options.{options_word};
+ghost use Rattle.iw_schedules.specs.Words.{role_word, call_word};
+ghost use Rattle.iw_schedules.specs.Calls.{step_call, calls_of, next_word, field, octet_number, long_number, size_number, times_at, domain_at, register_at, deregister_at, invalidate_at, store_at, open_at, accept_at, reject_at, recv_at, send_at, write_at, steps_at, deliver_at, raw_at, mulpdu_at, behind, calls_at};
 
 use crate::fault::{FaultName, ReadError};
 use crate::first_path::SendKind;
@@ -13,7 +17,8 @@ use crate::rights::read_rights;
 use crate::words::CallWord;
 use crate::{kinds, words};
 use bytes::Bytes;
-use iw_events::{Call, StreamCall};
+use iw_events::{Call, Options, Role, StreamCall};
+use iw_memory::Rights;
 use iw_octets::{Message, Stag};
 use std::alloc::Allocator;
 
@@ -103,6 +108,37 @@ fn private_in<A: Allocator + Copy>(alloc: A, words: &mut Pieces<'_>) -> Result<B
     kinds::private(alloc, next(words)?)
 }
 
+fn rights_in(words: &mut Pieces<'_>) -> Result<Rights, ReadError>
+    ensures { Gives (λ rights. (rights, words.new)) result (field rights_word words.old) }
+{
+    Ok(read_rights(next(words)?)?)
+}
+
+fn role_in(words: &mut Pieces<'_>) -> Result<Role, ReadError>
+    ensures { Gives (λ role. (role, words.new)) result (field role_word words.old) }
+{
+    Ok(words::role(next(words)?)?)
+}
+
+fn options_in(words: &mut Pieces<'_>) -> Result<Options, ReadError>
+    ensures { Gives (λ options. (options, words.new)) result (field options_word words.old) }
+{
+    Ok(read_options(next(words)?)?)
+}
+
+fn kind_in(words: &mut Pieces<'_>) -> Result<SendKind, ReadError>
+    ensures { Gives (λ kind. (kind, words.new)) result (field kind_word words.old) }
+{
+    Ok(SendKind::read(next(words)?)?)
+}
+
+// The STag that a Send of this kind invalidates.
+fn invalidated_in(kind: SendKind, words: &mut Pieces<'_>) -> Result<Option<Stag>, ReadError>
+    ensures { Gives (λ stag. (stag, words.new)) result (field (invalidated_word kind) words.old) }
+{
+    Ok(kind.invalidated(next(words)?)?)
+}
+
 // How often, and once where the word is left out.
 fn times_in(words: &mut Pieces<'_>) -> Result<u64, ReadError>
     ensures { Gives (λ n. (n, words.new)) result (times_at words.old) }
@@ -130,7 +166,7 @@ fn register<A: Allocator + Copy>(
 {
     let pd = octet_number_in(words)?;
     let base = long_number_in(words)?;
-    let rights = read_rights(next(words)?)?;
+    let rights = rights_in(words)?;
     let octets = octets_in(alloc, words)?;
     Ok(Calls::One(Call::Register {
         pd,
@@ -175,8 +211,8 @@ fn open<A: Allocator + Copy>(alloc: A, words: &mut Pieces<'_>) -> Result<Calls<B
 {
     let stream = octet_number_in(words)?;
     let pd = octet_number_in(words)?;
-    let role = words::role(next(words)?)?;
-    let options = read_options(next(words)?)?;
+    let role = role_in(words)?;
+    let options = options_in(words)?;
     let private = private_in(alloc, words)?;
     Ok(Calls::One(Call::Open {
         stream,
@@ -228,8 +264,8 @@ fn send<A: Allocator + Copy>(alloc: A, words: &mut Pieces<'_>) -> Result<Calls<B
     ensures { Gives (λ calls. (calls_of calls, words.new)) result (send_at words.old) }
 {
     let stream = octet_number_in(words)?;
-    let kind = SendKind::read(next(words)?)?;
-    let invalidate = kind.invalidated(next(words)?)?;
+    let kind = kind_in(words)?;
+    let invalidate = invalidated_in(kind, words)?;
     let message = Message::Send {
         octets: octets_in(alloc, words)?,
         solicited: kind.is_solicited(),
@@ -300,15 +336,15 @@ fn mulpdu<A: Allocator>(words: &mut Pieces<'_>) -> Result<Calls<Bytes<A>>, ReadE
     Ok(Calls::One(Call::Stream { stream, call }))
 }
 
-/// The calls that the next words stand for, the first of which names them.
-#[tactic(auto, unfolding(crate::specs::Calls::calls_at))]
-pub(crate) fn read_calls<A: Allocator + Copy>(
+// The calls that the words behind this one stand for.
+fn calls_behind<A: Allocator + Copy>(
     alloc: A,
+    call: CallWord,
     words: &mut Pieces<'_>,
 ) -> Result<Calls<Bytes<A>>, ReadError>
-    ensures { Gives (λ calls. (calls_of calls, words.new)) result (calls_at words.old) }
+    ensures { Gives (λ calls. (calls_of calls, words.new)) result (behind call words.old) }
 {
-    match CallWord::read(next(words)?)? {
+    match call {
         CallWord::Domain => domain(words),
         CallWord::Register => register(alloc, words),
         CallWord::Deregister => deregister(words),
@@ -326,4 +362,22 @@ pub(crate) fn read_calls<A: Allocator + Copy>(
         CallWord::Raw => raw(alloc, words),
         CallWord::Mulpdu => mulpdu(words),
     }
+}
+
+fn call_in(words: &mut Pieces<'_>) -> Result<CallWord, ReadError>
+    ensures { Gives (λ call. (call, words.new)) result (field call_word words.old) }
+{
+    Ok(CallWord::read(next(words)?)?)
+}
+
+/// The calls that the next words stand for, the first of which names them.
+#[tactic(auto, unfolding(crate::specs::Calls::calls_at))]
+pub(crate) fn read_calls<A: Allocator + Copy>(
+    alloc: A,
+    words: &mut Pieces<'_>,
+) -> Result<Calls<Bytes<A>>, ReadError>
+    ensures { Gives (λ calls. (calls_of calls, words.new)) result (calls_at words.old) }
+{
+    let call = call_in(words)?;
+    calls_behind(alloc, call, words)
 }

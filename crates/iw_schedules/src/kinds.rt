@@ -135,6 +135,12 @@ fn patterns<A: Allocator>(alloc: A, pattern: &[u8], count: usize) -> Result<Vec<
     pattern.repeat(alloc, count)
 }
 
+fn shared<A: Allocator + Copy>(octets: Vec<u8, A>) -> Result<Bytes<A>, ReadError>
+    ensures { Gives (λ shared. shared) result (Ok octets.items) }
+{
+    Ok(Bytes::from_vec(octets)?)
+}
+
 /// Octets: `-` for none, or hexadecimal digits, which may be repeated.
 #[tactic(auto, unfolding(crate::specs::Kinds::octets_word))]
 pub(crate) fn octets<A: Allocator + Copy>(alloc: A, word: &[u8]) -> Result<Bytes<A>, ReadError>
@@ -147,9 +153,7 @@ pub(crate) fn octets<A: Allocator + Copy>(alloc: A, word: &[u8]) -> Result<Bytes
     let octets = from_hex(alloc, digits)?;
     let times = count(times)?;
     match times.checked_mul(octets.len() as u64) {
-        Some(all) if all <= MAX_WORD_OCTETS => {
-            Ok(Bytes::from_vec(repeated(octets, times as usize)?)?)
-        }
+        Some(all) if all <= MAX_WORD_OCTETS => shared(repeated(octets, times as usize)?),
         _ => Err(ReadError::Fault(FaultName::BadOctets)),
     }
 }

@@ -2,7 +2,7 @@ ghost use Rattle.std.specs.Prelude.{◌≡◌, ◌<◌, ◌++◌, map, length, O
 ghost use Rattle.iw_schedules.specs.Reading.{Gives};
 ghost use Rattle.iw_schedules.specs.Pieces.{words};
 ghost use Rattle.iw_schedules.specs.Calls.{calls_of};
-ghost use Rattle.iw_schedules.specs.Schedule.{is_skipped, event_at, events_of, with_line, schedule_of, Events, Reads};
+ghost use Rattle.iw_schedules.specs.Schedule.{is_skipped, ended, event_at, events_of, with_events, with_line, schedule_of, Events, Reads};
 ghost use Rattle.iw_schedules.specs.Grammar.{IsSchedule, FirstFault};
 
 use crate::calls::{Calls, read_calls};
@@ -40,8 +40,15 @@ fn read_line<A: Allocator + Copy>(
     };
     let end = words::end(first)?;
     let calls = read_calls(alloc, &mut words)?;
+    ended((end, calls), &mut words)
+}
+
+// What was read, unless a word is left.
+fn ended<X: Drop>(read: X, words: &mut Pieces<'_>) -> Result<X, ReadError>
+    ensures { Gives (λ read. read) result (ended read words.old) }
+{
     match words.next() {
-        None => Ok((end, calls)),
+        None => Ok(read),
         Some(_) => Err(ReadError::Fault(FaultName::BadWord)),
     }
 }
@@ -73,6 +80,20 @@ fn push<A: Allocator>(
     Ok(())
 }
 
+// Appends the events of a line, if a schedule may have so many.
+fn add_events<A: Allocator>(
+    events: &mut Vec<Event<Bytes<A>>, A>,
+    end: End,
+    calls: Calls<Bytes<A>>,
+) -> Result<(), ReadError>
+    ensures { Gives (λ _. events.new.items) result (with_events events.old.items (map (event_at end) (calls_of calls))) }
+{
+    match (events.len() as u64).checked_add(calls.len()) {
+        Some(all) if all <= MAX_EVENTS => Ok(push(events, end, calls)?),
+        _ => Err(ReadError::Fault(FaultName::TooMany)),
+    }
+}
+
 // Appends the events that a line stands for.
 #[tactic(auto, unfolding(crate::specs::Schedule::with_line))]
 fn add_line<A: Allocator + Copy>(
@@ -87,10 +108,7 @@ fn add_line<A: Allocator + Copy>(
         return Ok(());
     }
     let (end, calls) = read_line(alloc, line)?;
-    match (events.len() as u64).checked_add(calls.len()) {
-        Some(all) if all <= MAX_EVENTS => Ok(push(events, end, calls)?),
-        _ => Err(ReadError::Fault(FaultName::TooMany)),
-    }
+    add_events(events, end, calls)
 }
 
 // The events of all lines, or the first fault.
