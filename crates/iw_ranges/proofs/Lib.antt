@@ -8,3 +8,4 @@ pub mod Keeps
 pub mod Moves
 pub mod ByPlace
 pub mod InOrder
+pub mod Blocks

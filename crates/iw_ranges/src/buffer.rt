@@ -225,16 +225,43 @@ pub(crate) fn let_go<A: Allocator>(octets: &mut Vec<u8, A>, base: &mut u64, to: 
     }
 }
 
+/// Copies the `m` octets at index `at + n` to index `at`. They don't overlap.
+fn copy_block(octets: &mut [u8], at: usize, n: usize, m: usize)
+    requires apart { m ≤ n }
+    requires within { at + n + m ≤ length octets.old }
+    ensures { (i : ℕ) → i < length octets.old → slice_index octets.new i
+        ≡ (if nat_le at i && nat_lt i (at + m) then slice_index octets.old (i + n) else slice_index octets.old i) }
+{
+    let (front, back) = octets.split_at_mut(at + n);
+    write_at(front, at, &back[..m]);
+}
+
+/// Copies the octets from index `n` on to the front, `n` at a time.
+fn move_to_front(octets: &mut [u8], n: usize)
+    requires some { 0 < n }
+    requires within { n ≤ length octets.old }
+    ensures { take (length octets.old - n) octets.new ≡ drop n octets.old }
+{
+    let kept = octets.len() - n;
+    let mut at = 0;
+    'copies: while at < kept {
+        let m = n.min(kept - at);
+        copy_block(octets, at, n, m);
+        at += m;
+    }
+}
+
 /// Lets the first `n` octets go, however many stand behind them.
 #[inline(never)]
 fn drop_few<A: Allocator>(octets: &mut Vec<u8, A>, n: usize)
-    requires { n ≤ vec_len octets.old }
+    requires some { 0 < n }
+    requires within { n ≤ vec_len octets.old }
     ensures items { octets.new.items ≡ drop n octets.old.items }
     ensures len { vec_len octets.new + n ≡ vec_len octets.old }
 {
-    let len = octets.len();
-    octets.as_mut_slice().copy_within(n..len, 0);
-    octets.truncate(len - n);
+    let kept = octets.len() - n;
+    move_to_front(octets, n);
+    octets.truncate(kept);
 }
 
 /// Lets the octets before the in-order point `floor` go, if the buffer, which begins at place `base`, would have to hold
