@@ -49,6 +49,7 @@ impl<'a, A: Allocator> Model for Fpdu<'a, A> {
 }
 
 /// Whether all octets at the frame places from `from` up to `to` came, where frame place 0 is place `base` of the stream.
+#[inline(always)]
 fn all_came<A: Allocator>(islands: &Islands<A>, base: u64, from: u64, to: u64) -> bool
     requires { from < to }
     ensures came { MatchBool result ((p : ℕ) → from ≤ p → p < to → has_come islands.now.arrived (base + p) ≡ true)
@@ -66,6 +67,7 @@ fn all_came<A: Allocator>(islands: &Islands<A>, base: u64, from: u64, to: u64) -
 impl<'a, A: Allocator> Fpdu<'a, A> {
     /// The frame that begins at frame place `start`, where frame place 0 is place `base` of the stream that came into
     /// `islands`; `None` where an octet of it, of its markers or of the marker directly before it hasn't come.
+    #[inline(always)]
     pub fn read(
         layout: Layout,
         base: u64,
@@ -117,6 +119,7 @@ impl<'a, A: Allocator> Fpdu<'a, A> {
     /// The octets of the ULPDU from its octet `k` on, lent piece by piece, between the markers.
     ///
     /// None of the frame's octets was given up.
+    #[inline(always)]
     pub fn pieces(&self, k: usize) -> Pieces<'a>
         requires { HoldsSpan self.now }
         ensures { result ≡ drop k (ulpdu self.now) }

@@ -318,6 +318,7 @@ impl<A: Allocator> Memory<A> {
 
     /// Whether a peer in domain `pd` may use the `n` octets of the region from tagged offset `to` on so.
     /// With `n` = 0 nothing is checked. It takes constant time.
+    #[inline(always)]
     pub fn check(&self, pd: u8, stag: Stag, to: u64, n: usize, right: Right) -> Result<(), Deny>
         ensures { result_err result ≡ denial self.now pd stag to n right }
     {
@@ -328,6 +329,7 @@ impl<A: Allocator> Memory<A> {
     }
 
     // The stored region, and where the octets from `to` on stand in it, where a peer may use them so.
+    #[inline(always)]
     fn admit(
         &self,
         pd: u8,
@@ -354,6 +356,7 @@ impl<A: Allocator> Memory<A> {
 
     /// The `n` octets of the region from tagged offset `to` on for writing. `check` must have answered `Ok` to the same
     /// arguments, as it does to any with `n` = 0. What is left in the part is put there. It takes constant time.
+    #[inline(always)]
     pub fn part_mut(&mut self, pd: u8, stag: Stag, to: u64, n: usize, right: Right) -> &mut [u8]
         requires { denial self.old pd stag to n right ≡ None }
         ensures* lends { sem 𝓛 (LendsPart A.row A.Allocator self.entry stag to n result) }

@@ -110,6 +110,7 @@ pub(crate) fn read_stag(octets: &[u8], at: usize) -> Stag
 impl TaggedHead {
     /// The header at the front, and what stands behind it. `Short` where there are fewer than 14 octets.
     #[tactic(auto, unfolding(crate::specs::Head::read_tagged))]
+    #[inline(always)]
     pub fn read(octets: &[u8]) -> Result<(TaggedHead, &[u8]), Short>
         ensures read { shown result ≡ read_tagged octets.now }
         ensures fits { IfOk result (λ read. FitsTagged read.0) }
@@ -129,6 +130,7 @@ impl TaggedHead {
 
     /// The header's 14 octets.
     #[tactic(auto, unfolding(crate::specs::Head::tagged_octets))]
+    #[inline(always)]
     pub fn write(&self) -> ArrayVec<u8, 28>
         requires { self.now.ddp_version < 4 }
         ensures { result.items ≡ tagged_octets self.now }
@@ -145,6 +147,7 @@ impl TaggedHead {
 impl UntaggedHead {
     /// The header at the front, and what stands behind it. `Short` where there are fewer than 18 octets.
     #[tactic(auto, unfolding(crate::specs::Head::read_untagged))]
+    #[inline(never)]
     pub fn read(octets: &[u8]) -> Result<(UntaggedHead, &[u8]), Short>
         ensures read { shown result ≡ read_untagged octets.now }
         ensures fits { IfOk result (λ read. FitsUntagged read.0) }

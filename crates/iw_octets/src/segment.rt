@@ -15,6 +15,7 @@ impl<'a> Segment<&'a [u8]> {
     /// The segment that these octets are; its payload is lent.
     /// `Short` where there are none, fewer than 14 with the tagged flag set, or fewer than 18 without it.
     #[tactic(auto, unfolding(crate::specs::Segment::read_segment))]
+    #[inline(always)]
     pub fn read(octets: &'a [u8]) -> Result<Segment<&'a [u8]>, Short>
         ensures { shown_segment result ≡ read_segment octets.now }
     {

@@ -36,6 +36,7 @@ fn is_later_untagged(head: &UntaggedHead) -> bool
 /// solicited, with no STag to invalidate) is [`Fault::OPERATION_UNEXPECTED`], where the checks come to the opcode.
 ///
 /// `first` are the first [`FIRST_OCTETS`] octets of the ULPDU, or all where it has fewer.
+#[inline(always)]
 pub fn judge_first_path(first: &[u8], len: u16) -> Result<Head, Fault>
     requires { IsFront FIRST_OCTETS first.now len }
     ensures judged { result ≡ judged_first_path first.now len }

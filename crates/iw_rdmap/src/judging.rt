@@ -21,6 +21,7 @@ const LAST_QUEUE: u32 = 2;
 const MAX_UNANSWERED: usize = 16;
 
 /// The checks of a tagged header up to that of its opcode: the operation, or the first fault.
+#[inline(always)]
 pub(crate) fn tagged_operation(head: &TaggedHead) -> Result<TaggedOperation, Fault>
     ensures { result ≡ tagged_checked head.now }
 {
@@ -34,6 +35,7 @@ pub(crate) fn tagged_operation(head: &TaggedHead) -> Result<TaggedOperation, Fau
 }
 
 /// The checks of an untagged header up to that of its opcode: the operation, or the first fault.
+#[inline(never)]
 pub(crate) fn untagged_operation(head: &UntaggedHead) -> Result<UntaggedOperation, Fault>
     ensures { result ≡ untagged_checked head.now }
 {
@@ -54,6 +56,7 @@ pub(crate) fn untagged_operation(head: &UntaggedHead) -> Result<UntaggedOperatio
 
 // A Read Request behind the check of its opcode, with `n` octets of payload, of which these are the first.
 #[tactic(auto, unfolding(iw_octets::specs::Payload::read_request))]
+#[inline(never)]
 fn judge_request(
     head: UntaggedHead,
     payload: &[u8],
@@ -84,6 +87,7 @@ fn judge_request(
 
 // A Terminate behind the check of its opcode, with `n` octets of payload, of which these are the first.
 #[tactic(auto, unfolding(iw_octets::specs::Payload::read_word))]
+#[inline(never)]
 fn judge_terminate(head: UntaggedHead, payload: &[u8], n: usize) -> Result<Head, Fault>
     requires { IsFront READ_REQUEST_HEADER payload.now n }
     ensures { result ≡ judged_terminate head payload.now n }
@@ -123,6 +127,7 @@ fn judge_terminate(head: UntaggedHead, payload: &[u8], n: usize) -> Result<Head,
 ///
 /// What [`terminate`](crate::terminate) takes of the ULPDU is in `first`: with the fault, and with any that is found later
 /// of a segment that passes, also the 28 octets of a Read Request's header where it is one.
+#[inline(always)]
 pub fn judge(first: &[u8], len: u16, next: u32, unanswered: usize) -> Result<Head, Fault>
     requires { IsFront FIRST_OCTETS first.now len }
     ensures judged { result ≡ judged first.now len next unanswered }
@@ -134,6 +139,7 @@ pub fn judge(first: &[u8], len: u16, next: u32, unanswered: usize) -> Result<Hea
     judge_segment(first, len, next, unanswered)
 }
 
+#[inline(always)]
 fn judge_segment(first: &[u8], len: u16, next: u32, unanswered: usize) -> Result<Head, Fault>
     requires { IsFront FIRST_OCTETS first.now len }
     ensures { result ≡ judged first.now len next unanswered }

@@ -327,6 +327,7 @@ impl<A: Allocator> Stream<A> {
 
     /// Does one step: hands out a finished message, or reads the peer's start-up frame, or gives the frame at the in-order
     /// point, where it was placed, its turn, or judges and places it.
+    #[inline(always)]
     pub fn work(&mut self, memory: &mut Memory<A>) -> Step<Octets<A>>
         requires { self.old.arrived.floor + 2 ^ 18 ≤ 2 ^ 63 }
         ensures step { result ≡ work_step memory.old self.old }

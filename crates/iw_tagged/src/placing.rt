@@ -21,6 +21,7 @@ pub struct Placed {
 /// right `Write` for an RDMA Write, `Sink` for a Read Response. The fault is the first that applies: the STag is another
 /// domain's, it names no valid region, the offsets wrap, they leave the region, or the region does not grant the right
 /// (RFC 5041 7.1, RFC 5040 4.8). With no octets nothing is checked.
+#[inline(always)]
 pub fn check<A: Allocator>(
     head: TaggedHead,
     n: usize,
@@ -38,6 +39,7 @@ pub fn check<A: Allocator>(
 
 /// Places a segment's payload, `n` octets in pieces, in the region that its header names, where `check` answers `Ok`:
 /// the octets of the pieces, joined, and nothing else changes. An `Err` is that of `check`, and changes nothing.
+#[inline(always)]
 pub fn place<'a, A: Allocator, I: Iterator<Item = &'a [u8]>>(
     head: TaggedHead,
     n: usize,
