@@ -7,7 +7,7 @@ use Rattle.iw_stream.specs.declared.answer.Role.TheVariants.{Preset, Initiator, 
 use Rattle.iw_events.specs.declared.call.Call.{Call}
 use Rattle.iw_events.specs.declared.call.Call.TheVariants.{Domain, Register, Deregister, Invalidate, Store, Open, Stream}
 use Rattle.iw_octets.specs.declared.message.Message.TheVariants as messages
-use Rattle.iw_events.specs.declared.call.StreamCall.TheVariants.{Recv, Post, Emit, Deliver, Raw, Mulpdu, Accept, Reject, Work}
+use Rattle.iw_events.specs.declared.call.StreamCall.TheVariants.{Recv, Post, Deliver, Raw, Mulpdu, Accept, Reject}
 use Rattle.iw_schedules.specs.declared.fault.FaultName.{FaultName}
 use Rattle.iw_schedules.specs.declared.kinds.TheConstants.{MAX_WORD_OCTETS}
 use Rattle.iw_schedules.specs.declared.words.CallWord.{CallWord}
