@@ -1,5 +1,5 @@
+pub mod Built
 pub mod Causes
 pub mod Fronts
-pub mod Plain
 pub mod Told
 pub mod Whole

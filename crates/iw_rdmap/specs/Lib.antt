@@ -1,5 +1,5 @@
-pub mod FirstPath
 pub mod Head
 pub mod Judging
 pub mod Laws
 pub mod Terminate
+pub mod Unbuilt

@@ -1,4 +1,4 @@
-ghost use Rattle.iw_rdmap.specs.Laws.{FirstPathIsJudge, FrontWillDo, TerminatesAreTold};
+ghost use Rattle.iw_rdmap.specs.Laws.{BuiltIsJudged, FrontWillDo, TerminatesAreTold};
 
 /// A ULPDU's first 46 octets, or all of fewer, are judged as the whole ULPDU is.
 pub fn front_will_do()
@@ -10,8 +10,8 @@ pub fn terminates_are_told()
     ensures { TerminatesAreTold }
 {}
 
-/// What the stream has is judged on the first path as ever, by the checks of one list for each kind of header, and a
-/// ULPDU's first octets as the whole of it.
-pub fn first_path_is_judge()
-    ensures { FirstPathIsJudge }
+/// What the stream has is judged as ever, by the checks of one list for each kind of header, and a ULPDU's first octets
+/// as the whole of it.
+pub fn built_is_judged()
+    ensures { BuiltIsJudged }
 {}

@@ -3,17 +3,17 @@
 //! It takes no memory.
 #![tactic(auto)]
 
-mod first_path;
 mod head;
 mod judging;
 mod laws;
 mod sizes;
 mod terminating;
+mod unbuilt;
 
-pub use first_path::judge_first_path;
 pub use head::{Head, early};
 pub use iw_octets::{TaggedOperation, UntaggedOperation};
 pub use judging::judge;
-pub use laws::{first_path_is_judge, front_will_do, terminates_are_told};
+pub use laws::{built_is_judged, front_will_do, terminates_are_told};
 pub use sizes::{FIRST_OCTETS, MAX_TERMINATE};
 pub use terminating::terminate;
+pub use unbuilt::judge_built;

@@ -1,0 +1,20 @@
+//! What a stream keeps of Reads (RFC 5040 4.4, 4.5, 5.2): at the end that asked the Reads that are outstanding, and at
+//! the end that was asked the Read Requests that wait for their responses, with how each response is cut and fetched.
+//!
+//! No call takes memory.
+#![tactic(auto)]
+
+mod laws;
+mod reads;
+mod requests;
+mod response;
+mod source;
+
+pub use laws::{
+    answers_are_asked_for, answers_in_order, checks_tell, known_responses, parts_may_be_fetched,
+    responses_are_whole,
+};
+pub use reads::{MAX_READS, Outstanding, Reads};
+pub use requests::{Asked, MAX_UNANSWERED, Requests};
+pub use response::{ResponsePart, fetch};
+pub use source::check_source;

@@ -1,0 +1,202 @@
+ghost use Rattle.std.specs.Prelude.{◌≡◌, ◌↔◌, ◌+◌, ◌<◌, ◌≤◌, ◌^◌, ◌==◌, ◌&&◌, ◌||◌, not, [], length, nat_le, IsTrue, IfOk, OnOk, OnErr};
+ghost use Rattle.std.specs.Result.{result_err};
+ghost use Rattle.iw_reads.specs.Outstanding.{most_reads, same_stag, is_inside, asks_for, is_asked, goes_on, response_turn_fault, sink_fault, reads_turned, finished_read, asked_for, HoldsLimits};
+
+use arrayvec::ArrayVec;
+use iw_octets::{Fault, ReadRequest, Stag, TaggedHead};
+use std::marker::Model;
+
+/// How many Reads may be outstanding at one end of a stream.
+pub const MAX_READS: usize = 16;
+
+const NO_STAG: Stag = Stag {
+    domain: 0,
+    slot: 0,
+    key: 0,
+};
+
+pub(crate) const NO_REQUEST: ReadRequest = ReadRequest {
+    sink: NO_STAG,
+    sink_to: 0,
+    size: 0,
+    source: NO_STAG,
+    source_to: 0,
+};
+
+/// A Read whose request was sent, and the last segment of whose response had no turn yet.
+#[derive(Clone, Copy, Debug, PartialEq, Eq)]
+pub struct Outstanding {
+    /// The number that it was given when it was posted.
+    pub ticket: u64,
+    pub request: ReadRequest,
+    /// How many octets of its response had their turn.
+    pub turned: u32,
+}
+
+impl Default for Outstanding {
+    fn default() -> Outstanding {
+        Outstanding {
+            ticket: 0,
+            request: NO_REQUEST,
+            turned: 0,
+        }
+    }
+}
+
+/// The outstanding Reads of one end of a stream, oldest first, at most [`MAX_READS`].
+#[derive(Drop)]
+pub struct Reads {
+    reads: ArrayVec<Outstanding, MAX_READS>,
+}
+
+impl Model for Reads {
+    ghost use Rattle.std.specs.Prelude.{List};
+    ghost use Rattle.iw_reads.specs.declared.reads.Outstanding.{Outstanding};
+    ghost use Rattle.iw_reads.specs.Outstanding.{HoldsLimits};
+
+    ghost Value = { List Outstanding };
+
+    ghost view = { λ s. s.reads.items };
+
+    ghost invariant = { λ s. HoldsLimits s.reads.items };
+}
+
+impl Reads {
+    /// No Read is outstanding.
+    pub fn new() -> Reads
+        ensures { result ≡ [] }
+    {
+        Reads {
+            reads: ArrayVec::new(),
+        }
+    }
+
+    /// How many Reads are outstanding.
+    pub fn len(&self) -> usize
+        ensures len { result ≡ length self.now }
+        ensures limits { HoldsLimits self.now }
+    {
+        self.reads.len()
+    }
+
+    pub fn is_empty(&self) -> bool
+        ensures { IsTrue result ↔ (self.now ≡ []) }
+    {
+        self.reads.is_empty()
+    }
+
+    /// Whether as many Reads are outstanding as may be: no request may be sent.
+    pub fn is_full(&self) -> bool
+        ensures { result ≡ nat_le most_reads (length self.now) }
+    {
+        self.reads.len() >= MAX_READS
+    }
+
+    /// The request of the Read with this ticket was sent. There must be room for it.
+    pub fn add(&mut self, ticket: u64, request: ReadRequest)
+        requires { length self.old < most_reads }
+        ensures { self.new ≡ asked_for self.old ticket request }
+    {
+        self.reads.push(Outstanding {
+            ticket,
+            request,
+            turned: 0,
+        });
+    }
+
+    /// Whether a segment of a Read Response with this header and `n` octets of payload was asked for: a Read is
+    /// outstanding with the header's STag as its sink, and the octets lie inside the sink, whose tagged offsets count
+    /// modulo 2^64; with no octets any tagged offset will do. Otherwise it is [`Fault::OPERATION_UNEXPECTED`]. It only
+    /// looks, and says nothing of the region (RFC 5040 4.8, 5.2.2).
+    pub fn check(&self, head: TaggedHead, n: usize) -> Result<(), Fault>
+        ensures { result_err result ≡ sink_fault self.now head n }
+    {
+        if is_asked(self.reads.as_slice(), head, n) {
+            return Ok(());
+        }
+        Err(Fault::OPERATION_UNEXPECTED)
+    }
+
+    /// Gives a segment of a Read Response with this header and `n` octets of payload, which was placed, its turn. It
+    /// tells the ticket of the Read that the segment ends, if it is the last of its response.
+    ///
+    /// Responses come in the order of the requests (RFC 5040 5.2.2): the segment must go on with the response of the
+    /// oldest Read, at the tagged offset behind the octets that had their turn. It may not run past the Read's size,
+    /// and is its response's last only where the size is reached; without octets, it may come behind it. Otherwise, and
+    /// where no Read is outstanding, it is [`Fault::PROTECTION_BOUNDS`], which changes nothing.
+    pub fn turn(&mut self, head: TaggedHead, n: usize) -> Result<Option<u64>, Fault>
+        ensures refused { result_err result ≡ response_turn_fault self.old head n }
+        ensures finished { IfOk result (λ finished. finished ≡ finished_read self.old head) }
+        ensures ok { OnOk result (self.new ≡ reads_turned self.old head n) }
+        ensures err { OnErr result (self.new ≡ self.old) }
+    {
+        let Some(&read) = self.reads.as_slice().first() else {
+            return Err(Fault::PROTECTION_BOUNDS);
+        };
+        if !goes_on(read, head, n) {
+            return Err(Fault::PROTECTION_BOUNDS);
+        }
+        if head.last {
+            let _ = self.reads.remove(0);
+            return Ok(Some(read.ticket));
+        }
+        self.reads[0] = Outstanding {
+            turned: read.turned + n as u32,
+            ..read
+        };
+        Ok(None)
+    }
+}
+
+fn same_stag(a: Stag, b: Stag) -> bool
+    ensures { result ≡ same_stag a b }
+{
+    a.domain == b.domain && a.slot == b.slot && a.key == b.key
+}
+
+// The `n` octets from tagged offset `to` on lie inside the sink.
+fn is_inside(request: ReadRequest, to: u64, n: usize) -> bool
+    ensures { result ≡ is_inside request to n }
+{
+    let size = request.size as u64;
+    let offset = to.wrapping_sub(request.sink_to);
+    n == 0 || (offset <= size && n as u64 <= size - offset)
+}
+
+// The response of the Read goes on with this segment.
+fn goes_on(read: Outstanding, head: TaggedHead, n: usize) -> bool
+    requires { read.turned ≤ read.request.size }
+    ensures goes_on { result ≡ goes_on read head n }
+    ensures small { IsTrue result → n < 2 ^ 32 }
+{
+    let next = read.request.sink_to.wrapping_add(read.turned as u64);
+    same_stag(read.request.sink, head.stag) && head.to == next && fits(read, head.last, n)
+}
+
+// The `n` octets are not past the size of the Read, and reach it where they are the last.
+fn fits(read: Outstanding, last: bool, n: usize) -> bool
+    requires { read.turned ≤ read.request.size }
+    ensures small { IsTrue result → n < 2 ^ 32 }
+    ensures fits { result ≡ (nat_le (read.turned + n) read.request.size && (not last || (read.turned + n == read.request.size))) }
+{
+    let left = (read.request.size - read.turned) as usize;
+    n <= left && (!last || n == left)
+}
+
+// The Read asked for what the segment brings.
+fn asks_for(head: TaggedHead, n: usize, read: Outstanding) -> bool
+    ensures { result ≡ asks_for head n read }
+{
+    same_stag(read.request.sink, head.stag) && is_inside(read.request, head.to, n)
+}
+
+fn is_asked(reads: &[Outstanding], head: TaggedHead, n: usize) -> bool
+    ensures { result ≡ is_asked reads.now head n }
+{
+    for read in reads {
+        if asks_for(head, n, *read) {
+            return true;
+        }
+    }
+    false
+}

@@ -1,0 +1,153 @@
+ghost use Rattle.std.specs.Prelude.{◌≡◌, ◌↔◌, ◌+◌, ◌<◌, ◌≤◌, [], length, IsTrue, IsSome, IfSome};
+ghost use Rattle.iw_octets.specs.Head.{FitsTagged};
+ghost use Rattle.iw_octets.specs.Parts.{part_at};
+ghost use Rattle.iw_reads.specs.Requests.{most_unanswered, nothing_asked, taken_up, response_part, part_fetched, HoldsLimits};
+ghost use Rattle.iw_reads.specs.Source.{IsInRange};
+
+use crate::reads::NO_REQUEST;
+use crate::response::{ResponsePart, part_of_response};
+use arrayvec::ArrayVec;
+use iw_octets::{Part, ReadRequest, TAGGED_HEADER};
+use std::marker::Model;
+
+/// How many Read Requests may wait for their responses at one end of a stream.
+pub const MAX_UNANSWERED: usize = 16;
+
+/// A Read Request of the peer that was taken: its DDP header as it came, 18 octets, which a later Terminate takes along,
+/// and the request behind it.
+#[derive(Debug, Drop)]
+pub struct Asked {
+    pub header: ArrayVec<u8, 18>,
+    pub request: ReadRequest,
+}
+
+impl Default for Asked {
+    fn default() -> Asked {
+        Asked {
+            header: ArrayVec::new(),
+            request: NO_REQUEST,
+        }
+    }
+}
+
+/// The Read Requests of a stream's peer: the number of the one that is due, and those that wait for their responses,
+/// oldest first, at most [`MAX_UNANSWERED`]. A request waits until the last part of its response was fetched.
+#[derive(Drop)]
+pub struct Requests {
+    // The message sequence number that is due on queue number 1.
+    next: u32,
+    unanswered: ArrayVec<Asked, MAX_UNANSWERED>,
+    // How many octets were fetched for the oldest.
+    fetched: usize,
+}
+
+impl Model for Requests {
+    ghost use Rattle.iw_reads.specs.Requests.{Requested, HoldsLimits};
+
+    ghost Value = { Requested };
+
+    ghost view = { λ s. record { next = s.next; unanswered = s.unanswered.items; fetched = s.fetched } };
+
+    ghost invariant = { λ s. HoldsLimits (record { next = s.next; unanswered = s.unanswered.items; fetched = s.fetched }) };
+}
+
+impl Requests {
+    /// No request was taken. The first has the message sequence number 1 (RFC 5041 4.3).
+    pub fn new() -> Requests
+        ensures { result ≡ nothing_asked }
+    {
+        Requests {
+            next: 1,
+            unanswered: ArrayVec::new(),
+            fetched: 0,
+        }
+    }
+
+    /// The message sequence number of the request that is due.
+    pub fn next_msn(&self) -> u32
+        ensures { result ≡ self.now.next }
+    {
+        self.next
+    }
+
+    /// How many requests wait for their responses.
+    pub fn len(&self) -> usize
+        ensures len { result ≡ length self.now.unanswered }
+        ensures limits { HoldsLimits self.now }
+    {
+        self.unanswered.len()
+    }
+
+    pub fn is_empty(&self) -> bool
+        ensures { IsTrue result ↔ (self.now.unanswered ≡ []) }
+    {
+        self.unanswered.is_empty()
+    }
+
+    /// Takes the request that is due: it waits behind the others, and the next number is due. There must be room for it,
+    /// and the offsets of its source may not wrap, as [`check_source`](crate::check_source) tells.
+    pub fn take(&mut self, asked: Asked)
+        requires room { length self.old.unanswered < most_unanswered }
+        requires range { IsInRange asked.request }
+        ensures { self.new ≡ taken_up self.old asked }
+    {
+        self.next = self.next.wrapping_add(1);
+        self.unanswered.push(asked);
+    }
+
+    /// The part that is to be fetched next, of the response to the oldest request, if one waits. It only looks.
+    ///
+    /// `max` is the largest ULPDU that may be sent, in octets. A part is as long as the ULPDU allows behind the header,
+    /// and the last one what is left: none is empty but that of a Read of no octets.
+    pub fn next_part(&self, max: usize) -> Option<ResponsePart>
+        requires { 14 < max }
+        ensures part { result ≡ response_part self.now max }
+        ensures short { IfSome result (λ part. TAGGED_HEADER + part.n ≤ max) }
+        ensures fits { IfSome result (λ part. FitsTagged part.head) }
+    {
+        let asked = self.unanswered.as_slice().first()?;
+        Some(part_of_response(
+            asked.request,
+            part_at(
+                asked.request.size as usize,
+                max - TAGGED_HEADER,
+                self.fetched,
+            ),
+        ))
+    }
+
+    /// Says that the part that `next_part(max)` shows was fetched and sent. The last part answers the oldest request.
+    pub fn part_fetched(&mut self, max: usize)
+        requires max { 14 < max }
+        requires part { IsSome (response_part self.old max) }
+        ensures { self.new ≡ part_fetched self.old (response_part self.old max) }
+    {
+        let Some(asked) = self.unanswered.as_slice().first() else {
+            return;
+        };
+        let part = part_at(
+            asked.request.size as usize,
+            max - TAGGED_HEADER,
+            self.fetched,
+        );
+        if part.last {
+            let _ = self.unanswered.remove(0);
+            self.fetched = 0;
+            return;
+        }
+        self.fetched += part.n;
+    }
+}
+
+// The part from an offset on of so many octets, where a part has at most `size`.
+fn part_at(len: usize, size: usize, offset: usize) -> Part
+    requires { offset ≤ len }
+    ensures { result ≡ part_at len size offset }
+{
+    let left = len - offset;
+    Part {
+        offset,
+        n: left.min(size),
+        last: left <= size,
+    }
+}

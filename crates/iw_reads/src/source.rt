@@ -1,0 +1,63 @@
+ghost use Rattle.std.specs.Prelude.{◌≡◌, OnOk, IfOk, length};
+ghost use Rattle.std.specs.Result.{result_err};
+ghost use Rattle.iw_memory.specs.Table.{octets_at};
+ghost use Rattle.iw_reads.specs.Source.{denial_fault, reading_fault, source_fault, IsInRange};
+
+use iw_memory::{Deny, Memory, Right};
+use iw_octets::{Fault, ReadRequest, Stag};
+use std::alloc::Allocator;
+
+/// Whether a peer in domain `pd` may read all octets that a Read asks for. The fault is the first that applies, of
+/// RDMAP's protection errors: the STag is another domain's, it names no valid region, the offsets wrap, they leave the
+/// region, or the region does not grant the right to read (RFC 5040 5.2.1, 7.2). Of a Read of no octets nothing is
+/// checked, and the STag may name nothing.
+pub fn check_source<A: Allocator>(
+    request: ReadRequest,
+    memory: &Memory<A>,
+    pd: u8,
+) -> Result<(), Fault>
+    ensures fault { result_err result ≡ source_fault memory.now pd request }
+    ensures range { OnOk result (IsInRange request) }
+{
+    match memory.check(
+        pd,
+        request.source,
+        request.source_to,
+        request.size as usize,
+        Right::Read,
+    ) {
+        Ok(()) => Ok(()),
+        Err(deny) => Err(fault_of(deny)),
+    }
+}
+
+/// The `n` octets from tagged offset `to` on, where a peer in domain `pd` may read them.
+pub(crate) fn readable<'a, A: Allocator>(
+    memory: &'a Memory<A>,
+    pd: u8,
+    stag: Stag,
+    to: u64,
+    n: usize,
+) -> Result<&'a [u8], Fault>
+    ensures denied { result_err result ≡ reading_fault memory.now pd stag to n }
+    ensures octets { IfOk result (λ octets. octets.now ≡ octets_at memory.now stag to n) }
+    ensures len { IfOk result (λ octets. length octets.now ≡ n) }
+{
+    match memory.part(pd, stag, to, n, Right::Read) {
+        Ok(octets) => Ok(octets),
+        Err(deny) => Err(fault_of(deny)),
+    }
+}
+
+// What a denial is reported as.
+fn fault_of(deny: Deny) -> Fault
+    ensures { result ≡ denial_fault deny }
+{
+    match deny {
+        Deny::NotAssociated => Fault::PROTECTION_NOT_ASSOCIATED,
+        Deny::Invalid => Fault::PROTECTION_INVALID_STAG,
+        Deny::ToWrap => Fault::PROTECTION_OFFSET_WRAP,
+        Deny::Bounds => Fault::PROTECTION_BOUNDS,
+        Deny::Rights => Fault::PROTECTION_RIGHTS,
+    }
+}
