@@ -17,12 +17,12 @@ use Rattle.iw_queues.specs.Laws.{HasSent, SendsInOrder}
 
 -- ---- a part in front of the others
 -- the part that ends its message
-last_front : (most n : ℕ) (segment : ℕ → Bool → List ℕ → Segment (List ℕ)) (offset : ℕ) (octets : List ℕ) → length (drop offset octets) ≤ n → length (drop offset octets) ≤ most
+pub last_front : (most n : ℕ) (segment : ℕ → Bool → List ℕ → Segment (List ℕ)) (offset : ℕ) (octets : List ℕ) → length (drop offset octets) ≤ n → length (drop offset octets) ≤ most
     → IsCut most segment offset (drop offset octets) (segment offset true (take n (drop offset octets)) ∷ [])
 last_front most n segment offset octets whole fits = (fits, ap (segment offset true) (take_all n (drop offset octets) whole))
 
 -- n octets in front of others
-joined_cut : (most n : ℕ) (segment : ℕ → Bool → List ℕ → Segment (List ℕ)) (offset : ℕ) (octets : List ℕ) (ss : List (Segment (List ℕ))) → 0 < n → n ≤ most → n < length octets
+pub joined_cut : (most n : ℕ) (segment : ℕ → Bool → List ℕ → Segment (List ℕ)) (offset : ℕ) (octets : List ℕ) (ss : List (Segment (List ℕ))) → 0 < n → n ≤ most → n < length octets
     → IsCut most segment (offset + n) (drop n octets) ss → IsCut most segment offset octets (segment offset false (take n octets) ∷ ss)
 joined_cut most n segment offset octets [] some fits more cut = absurd cut
 joined_cut most n segment offset octets (s ∷ ss) some fits more cut =
@@ -33,22 +33,22 @@ joined_cut most n segment offset octets (s ∷ ss) some fits more cut =
       subst (λ k. IsCut most segment (offset + k) (drop n octets) (s ∷ ss)) (sym len) cut,
     )
 
-more_front : (most n : ℕ) (segment : ℕ → Bool → List ℕ → Segment (List ℕ)) (offset : ℕ) (octets : List ℕ) (ss : List (Segment (List ℕ))) → 0 < n → n ≤ most → n < length (drop offset octets)
+pub more_front : (most n : ℕ) (segment : ℕ → Bool → List ℕ → Segment (List ℕ)) (offset : ℕ) (octets : List ℕ) (ss : List (Segment (List ℕ))) → 0 < n → n ≤ most → n < length (drop offset octets)
     → IsCut most segment (offset + n) (drop (offset + n) octets) ss → IsCut most segment offset (drop offset octets) (segment offset false (take n (drop offset octets)) ∷ ss)
 more_front most n segment offset octets ss some fits more cut =
     joined_cut most n segment offset (drop offset octets) ss some fits more (subst (λ x. IsCut most segment (offset + n) x ss) (sym (drop-drop n offset octets)) cut)
 
-abbrev part_with : ℕ → Request (List ℕ) → ℕ → ℕ → Bool → Part (Request (List ℕ))
+abbrev pub part_with : ℕ → Request (List ℕ) → ℕ → ℕ → Bool → Part (Request (List ℕ))
 part_with ticket message offset max last =
     record { ticket = ticket; message = message; offset = offset; n = min (length (payload message) - offset) (max - header_len message); last = last }
 
 -- what goes on behind the part goes on with the part in front of it
-abbrev GoesOn : Numbers → Outstanding → Request (List ℕ) → List (Request (List ℕ)) → ℕ → Part (Request (List ℕ)) → Type 0
+abbrev pub GoesOn : Numbers → Outstanding → Request (List ℕ) → List (Request (List ℕ)) → ℕ → Part (Request (List ℕ)) → Type 0
 GoesOn numbers sent message messages offset part =
     let q = part_sent (record { sent = sent; unsent = message ∷ messages; offset = offset }) (Some part) in
     (ss : List (Segment (List ℕ))) → AreSpelled (numbers_behind numbers part) q.offset q.unsent ss → AreSpelled numbers offset (message ∷ messages) (segment_of numbers part ∷ ss)
 
-goes_on_with : (numbers : Numbers) (sent : Outstanding) (message : Request (List ℕ)) (messages : List (Request (List ℕ))) (ticket offset max : ℕ) → 128 ≤ max → max ≤ 64512 → (last : Bool)
+pub goes_on_with : (numbers : Numbers) (sent : Outstanding) (message : Request (List ℕ)) (messages : List (Request (List ℕ))) (ticket offset max : ℕ) → 128 ≤ max → max ≤ 64512 → (last : Bool)
     → (((last ≡ true) × (length (payload message) - offset ≤ max - header_len message)) ⊎ ((last ≡ false) × (max - header_len message < length (payload message) - offset)))
     → GoesOn numbers sent message messages offset (part_with ticket message offset max last)
 goes_on_with numbers sent (Message (Write stag to octets)) messages ticket offset max low high true (inl h) ss rest =
@@ -135,7 +135,7 @@ post_goes_on ms gone numbers q message limits h = record {
 }
 
 -- ---- what is left can be sent
-some_cut : (fuel room : ℕ) (segment : ℕ → Bool → List ℕ → Segment (List ℕ)) (offset : ℕ) (octets : List ℕ) → 0 < room → length octets ≤ fuel
+pub some_cut : (fuel room : ℕ) (segment : ℕ → Bool → List ℕ → Segment (List ℕ)) (offset : ℕ) (octets : List ℕ) → 0 < room → length octets ≤ fuel
     → (ss : List (Segment (List ℕ))) × IsCut room segment offset octets ss
 some_cut zero room segment offset octets wide few = (segment offset true octets ∷ [], (omega arith, refl))
 some_cut (suc fuel) room segment offset octets wide few =
@@ -147,7 +147,7 @@ some_cut (suc fuel) room segment offset octets wide few =
       | inr whole ↦ (segment offset true octets ∷ [], (whole, refl))
     ]
 
-some_segments : (numbers : Numbers) (message : Request (List ℕ)) (offset : ℕ) → (ss : List (Segment (List ℕ))) × AreSegments numbers message offset ss
+pub some_segments : (numbers : Numbers) (message : Request (List ℕ)) (offset : ℕ) → (ss : List (Segment (List ℕ))) × AreSegments numbers message offset ss
 some_segments numbers (Message (Write stag to octets)) offset = some_cut (length (drop offset octets)) (64512 - 14) (write_segment stag to) offset (drop offset octets) (lit< tt) (omega arith)
 some_segments numbers (Message (Send octets solicited invalidate)) offset =
     some_cut (length (drop offset octets)) (64512 - 18) (send_segment numbers.send solicited invalidate) offset (drop offset octets) (lit< tt) (omega arith)

@@ -1,4 +1,4 @@
-ghost use Rattle.std.specs.Prelude.{◌≡◌, ◌+◌, ◌<◌, ◌≤◌, ◌^◌, length, take, drop, OnOk, OnErr, IfOk, IfErr, IsErr, IsSome, IfSome, IfNone, IsTrue, MatchBool, ◌↔◌, slice_get};
+ghost use Rattle.std.specs.Prelude.{◌≡◌, ◌+◌, ◌<◌, ◌≤◌, ◌^◌, nat_lt, length, take, drop, OnOk, OnErr, IfOk, IfErr, IsErr, IsSome, IfSome, IfNone, IsTrue, MatchBool, ◌↔◌, slice_get};
 ghost use Rattle.std.specs.Option.{option_map};
 ghost use Rattle.iw_queues.specs.Request.{kind_of, payload};
 
@@ -93,6 +93,13 @@ impl<A: Allocator> SendQueue<A> {
         ensures { IsTrue result ↔ (length self.now.sent.messages + length self.now.unsent ≡ 0) }
     {
         self.len() == 0
+    }
+
+    /// Whether a part of the message that is next was sent, and not its last.
+    pub fn is_begun(&self) -> bool
+        ensures { result ≡ nat_lt 0 self.now.offset }
+    {
+        self.offset > 0
     }
 
     /// Posts a message behind the others, and tells its ticket. `NoMemory` comes only where no other refusal applies.

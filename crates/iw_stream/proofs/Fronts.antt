@@ -1,5 +1,5 @@
 -- The frame at the in-order point: whether it is whole, and that it is the first of the octets that came without a gap.
-use Rattle.std.proofs.Common.{◌≡◌, ◌⊎◌, ℕ, zero, suc, ◌+◌, ◌-◌, ◌<◌, ◌≤◌, ◌^◌, Bool, true, false, List, length, drop, if◌then◌else◌, Option, Some, None, refl, sym, ap, ◌∙◌, subst, arith, inl, inr}
+use Rattle.std.proofs.Common.{◌≡◌, ◌⊎◌, ℕ, zero, suc, ◌+◌, ◌-◌, ◌<◌, ◌≤◌, Bool, true, false, length, drop, if◌then◌else◌, Option, Some, None, refl, sym, ap, ◌∙◌, subst, arith, inl, inr}
 use Rattle.std.specs.Prelude.{not, MatchOption, IfSome}
 use Rattle.std.specs.Option.{option_map}
 use Rattle.std.proofs.lemmas.Bool.{cases_lt, true≢false}
@@ -12,7 +12,7 @@ use Rattle.iw_fpdu.specs.declared.layout.Layout.{Layout}
 use Rattle.iw_fpdu.specs.Frame.{frame_end}
 use Rattle.iw_fpdu.specs.Places.{frame_start, span_start}
 use Rattle.iw_fpdu.specs.Reading.{end_at}
-use Rattle.iw_fpdu.specs.Found.{Found, IsKept, IsWhole, LacksOctet, is_whole, octet_in, ulpdu, ulpdu_len}
+use Rattle.iw_fpdu.specs.Found.{Found, IsKept, IsWhole, LacksOctet, is_whole, octet_in, ulpdu_len}
 use Rattle.iw_fpdu.specs.Laws.{IsBetween, StandFrom, found_at}
 use Rattle.iw_fpdu.specs.Sequence.{Carried, first_frame}
 use Rattle.iw_fpdu.proofs.Came.{tells_whole}

@@ -1,5 +1,5 @@
 -- The header that is kept of a frame is its segment's.
-use Rattle.std.proofs.Common.{◌≡◌, ℕ, ◌+◌, ◌-◌, ◌≤◌, Bool, true, false, List, [], ◌∷◌, ◌++◌, length, drop, take, get_or, if◌then◌else◌, Option, Some, None, refl, sym, ap, ◌∙◌, subst, arith, inl, inr, length-drop}
+use Rattle.std.proofs.Common.{◌≡◌, ℕ, ◌-◌, ◌≤◌, Bool, true, false, List, [], ◌∷◌, length, drop, take, get_or, if◌then◌else◌, Option, Some, None, refl, sym, ap, ◌∙◌, subst, arith, inl, inr, length-drop}
 use Rattle.std.proofs.lemmas.Bool.{cases_lt}
 use Rattle.std.proofs.lemmas.Option.{none-some, same_Some}
 use Rattle.std.proofs.lemmas.List.{get_or-take, length-take, take-append-drop}
@@ -10,7 +10,8 @@ use Rattle.iw_octets.specs.Segment.{read_segment}
 use Rattle.iw_octets.proofs.Front.{tagged_fields-append, untagged_fields-append, read_segment-long_tagged, read_segment-long_untagged, read_segment-short_tagged, read_segment-short_untagged}
 use Rattle.iw_untagged.specs.Receiving.{Receiving}
 use Rattle.iw_stream.specs.Frames.{Frame, header_in, payload_len, payload_of, placed, segment_in}
-use Rattle.iw_stream.specs.Judging.{Standing, segment_turn, turn_of, turned_by, receiving_turned}
+use Rattle.iw_reads.specs.declared.reads.Outstanding.{Outstanding}
+use Rattle.iw_stream.specs.Judging.{Standing, segment_turn, turn_of, turned_by, receiving_turned, left_by_turn, reads_left}
 use Rattle.iw_stream.specs.Kept.{HasBuffer}
 
 -- the header alone
@@ -80,12 +81,13 @@ kept_buffer r u has = go (read_segment u) refl has
 pub payload_kept : (frame : Frame) (segment : Segment (List ℕ)) → segment_in frame ≡ Some segment → payload_len (placed frame) ≡ length (payload_of (Some segment))
 payload_kept frame segment e = (header_read frame.ulpdu segment e).rest
 
-bare_turn : (r : Receiving) (segment : Segment (List ℕ)) → segment_turn r (Some (bare segment)) ≡ segment_turn r (Some segment)
-bare_turn r (Tagged head payload) = refl
-bare_turn r (Untagged head payload) = refl
+bare_turn : (r : Receiving) (reads : List Outstanding) (n : ℕ) (segment : Segment (List ℕ)) → segment_turn r reads n (Some (bare segment)) ≡ segment_turn r reads n (Some segment)
+bare_turn r reads n (Tagged head payload) = refl
+bare_turn r reads n (Untagged head payload) = refl
 
-pub turn_kept : (at : Standing) (frame : Frame) (segment : Segment (List ℕ)) → segment_in frame ≡ Some segment → turn_of at (placed frame) ≡ segment_turn at.receiving (Some segment)
-turn_kept at frame segment e = ap (segment_turn at.receiving) (header_read frame.ulpdu segment e).read ∙ bare_turn at.receiving segment
+pub turn_kept : (at : Standing) (frame : Frame) (segment : Segment (List ℕ)) → segment_in frame ≡ Some segment → turn_of at (placed frame) ≡ segment_turn at.receiving at.reads (length (payload_of (Some segment))) (Some segment)
+turn_kept at frame segment e =
+    (λ i. segment_turn at.receiving at.reads (payload_kept frame segment e i) ((header_read frame.ulpdu segment e).read i)) ∙ bare_turn at.receiving at.reads (length (payload_of (Some segment))) segment
 
 bare_turned : (r : Receiving) (n : ℕ) (segment : Segment (List ℕ)) → turned_by r n (Some (bare segment)) ≡ turned_by r n (Some segment)
 bare_turned r n (Tagged head payload) = refl
@@ -94,3 +96,11 @@ bare_turned r n (Untagged head payload) = refl
 pub turned_kept : (r : Receiving) (frame : Frame) (segment : Segment (List ℕ)) → segment_in frame ≡ Some segment → receiving_turned r (placed frame) ≡ turned_by r (length (payload_of (Some segment))) (Some segment)
 turned_kept r frame segment e =
     (λ i. turned_by r (payload_kept frame segment e i) ((header_read frame.ulpdu segment e).read i)) ∙ bare_turned r (length (payload_of (Some segment))) segment
+
+bare_left : (reads : List Outstanding) (n : ℕ) (segment : Segment (List ℕ)) → left_by_turn reads n (Some (bare segment)) ≡ left_by_turn reads n (Some segment)
+bare_left reads n (Tagged head payload) = refl
+bare_left reads n (Untagged head payload) = refl
+
+pub left_kept : (reads : List Outstanding) (frame : Frame) (segment : Segment (List ℕ)) → segment_in frame ≡ Some segment → reads_left reads (placed frame) ≡ left_by_turn reads (length (payload_of (Some segment))) (Some segment)
+left_kept reads frame segment e =
+    (λ i. left_by_turn reads (payload_kept frame segment e i) ((header_read frame.ulpdu segment e).read i)) ∙ bare_left reads (length (payload_of (Some segment))) segment

@@ -1,6 +1,5 @@
 -- A header is read, and judged, off the octets at the front of a ULPDU.
-use Rattle.std.proofs.Common.{◌≡◌, ℕ, ◌+◌, ◌-◌, ◌≤◌, Bool, true, false, min, List, [], ◌∷◌, ◌++◌, length, drop, take, get_or, if◌then◌else◌, Option, Some, None, Ok, Err, refl, sym, ap, ◌∙◌, subst, arith, inl, inr, Bor, length-append, length-drop}
-use Rattle.std.specs.Prelude.{Result}
+use Rattle.std.proofs.Common.{◌≡◌, ℕ, ◌+◌, ◌≤◌, Bool, true, false, min, List, [], ◌∷◌, ◌++◌, length, drop, take, get_or, if◌then◌else◌, Some, refl, sym, ap, ◌∙◌, subst, arith, inl, inr, length-append}
 use Rattle.std.proofs.lemmas.Bool.{cases_lt}
 use Rattle.std.proofs.lemmas.Option.{none-some, same_Some}
 use Rattle.std.proofs.lemmas.List.{append-nil, length-take, take-append-drop, take-append-le, take_all}
@@ -8,12 +7,12 @@ use Rattle.std.proofs.Math.Seq.{take-append-add}
 use Rattle.iw_octets.specs.declared.segment.Segment.{Segment}
 use Rattle.iw_octets.specs.declared.segment.Segment.TheVariants.{Tagged, Untagged}
 use Rattle.iw_octets.specs.Head.{is_tagged}
-use Rattle.iw_octets.specs.Segment.{read_segment, with_behind}
-use Rattle.iw_octets.proofs.Front.{read_segment-append, read_segment-long_tagged, read_segment-long_untagged, read_segment-short_tagged, read_segment-short_untagged}
-use Rattle.iw_rdmap.specs.FirstPath.{judged_first_path}
-use Rattle.iw_rdmap.proofs.Plain.{said, said-tagged, said-untagged}
+use Rattle.iw_octets.specs.Segment.{read_segment}
+use Rattle.iw_octets.proofs.Front.{read_segment-long_tagged, read_segment-long_untagged, read_segment-short_tagged, read_segment-short_untagged}
+use Rattle.iw_rdmap.specs.Unbuilt.{judged_built}
+use Rattle.iw_rdmap.proofs.Whole.{front_built}
 use Rattle.iw_stream.specs.Frames.{header_in}
-use Rattle.iw_stream.specs.Judging.{IsFirst, judged_head}
+use Rattle.iw_stream.specs.Judging.{IsFirst}
 
 -- the octets of a segment's header, and its payload
 abbrev pub header_of : Segment (List ℕ) → ℕ
@@ -58,28 +57,14 @@ all_first u first f few =
     let long : length u ≡ length first + length f.behind = ap length f.whole ∙ length-append first f.behind in
     f.whole ∙ ap (λ xs. first ++ xs) (no_octets f.behind (omega (arith, long, few))) ∙ append-nil first
 
--- they are no segment where all are none
-none_whole : (u first : List ℕ) → IsFirst u first → read_segment first ≡ None → read_segment u ≡ None
-none_whole u first f e = elim (cases_lt (length first) 46) [
-  | inl few ↦ ap read_segment (all_first u first f (omega (arith, f.enough, few))) ∙ e
-  | inr enough ↦ absurd (go (is_tagged (get_or first 0 0)) refl enough)
-]
-  where
-    go : (tagged : Bool) → is_tagged (get_or first 0 0) ≡ tagged → 46 ≤ length first → ⊥
-    go true tagged long = none-some _ (sym e ∙ read_segment-long_tagged first (omega arith) tagged)
-    go false untagged long = none-some _ (sym e ∙ read_segment-long_untagged first (omega arith) untagged)
-
--- otherwise they have its header
-some_whole : (u first : List ℕ) (f : IsFirst u first) (segment : Segment (List ℕ)) → read_segment first ≡ Some segment → read_segment u ≡ Some (with_behind segment f.behind)
-some_whole u first f segment e = ap read_segment f.whole ∙ read_segment-append first f.behind segment e
-
-pub judged_front : (u first : List ℕ) (len : ℕ) → IsFirst u first → judged_first_path first len ≡ judged_head (read_segment u)
-judged_front u first len f = go (read_segment first) refl
-  where
-    go : (o : Option (Segment (List ℕ))) → read_segment first ≡ o → judged_first_path first len ≡ judged_head (read_segment u)
-    go None e = ap (λ s. said s len) e ∙ ap judged_head (sym (none_whole u first f e))
-    go (Some (Tagged head payload)) e = ap (λ s. said s len) e ∙ said-tagged head payload len ∙ ap judged_head (sym (some_whole u first f (Tagged head payload) e))
-    go (Some (Untagged head payload)) e = ap (λ s. said s len) e ∙ said-untagged head payload len ∙ ap judged_head (sym (some_whole u first f (Untagged head payload) e))
+-- a header is judged by them as by all
+pub judged_front : (u first : List ℕ) (len next unanswered : ℕ) → IsFirst u first → len ≡ length u → judged_built first len next unanswered ≡ judged_built u (length u) next unanswered
+judged_front u first len next unanswered f same =
+    let all : length u ≡ length first + length f.behind = ap length f.whole ∙ length-append first f.behind in
+    let whole : length (first ++ f.behind) ≡ length u = sym (ap length f.whole) in
+    (λ i. judged_built first ((same ∙ sym whole) i) next unanswered)
+    ∙ front_built first f.behind next unanswered (record { enough = omega (arith, f.enough, whole); within = omega (arith, whole, all) })
+    ∙ (λ i. judged_built (sym f.whole i) (whole i) next unanswered)
 
 -- ---- the header as it came
 front_octet : (xs ys : List ℕ) → 1 ≤ length xs → get_or (xs ++ ys) 0 0 ≡ get_or xs 0 0

@@ -1,19 +1,17 @@
 -- What a stream keeps of its fields stays so from call to call.
-use Rattle.std.proofs.Common.{◌≡◌, ℕ, ◌+◌, ◌-◌, ◌<◌, ◌≤◌, ◌%◌, ◌^◌, Bool, true, false, max, nat_le, nat_lt, if◌then◌else◌, List, [], ◌++◌, length, take, Option, Some, None, Ok, Err, refl, sym, ap, ◌∙◌, subst, arith, inl, inr}
+use Rattle.std.proofs.Common.{◌≡◌, ℕ, ◌+◌, ◌-◌, ◌<◌, ◌≤◌, ◌%◌, ◌^◌, Bool, true, false, max, nat_le, nat_lt, if◌then◌else◌, List, [], length, Option, Some, None, Ok, Err, refl, sym, ap, ◌∙◌, subst, arith}
 use Rattle.std.specs.Prelude.{Result, OnOk, OnErr, IfSome, not}
 use Rattle.std.specs.Option.{option_map_or}
 use Rattle.iw_fpdu.specs.declared.fpdu.Mismatch.{Mismatch}
-use Rattle.std.proofs.lemmas.Bool.{cases_lt, true≢false}
+use Rattle.std.proofs.lemmas.Bool.{true≢false}
 use Rattle.std.proofs.lemmas.Bool.Decides.{nat_tests}
-use Rattle.std.proofs.lemmas.List.{get_or-set_same, length-set, length-take}
+use Rattle.std.proofs.lemmas.List.{get_or-set_same, length-set}
 use Rattle.iw_octets.specs.declared.fault.Fault.{Fault}
 use Rattle.iw_octets.specs.declared.fault.TheConstants.Fault as faults
-use Rattle.iw_octets.specs.declared.segment.Segment.{Segment}
-use Rattle.iw_octets.specs.declared.segment.Segment.TheVariants.{Tagged, Untagged}
 use Rattle.iw_octets.specs.Octets.{splice}
 use Rattle.iw_octets.specs.Segment.{read_segment}
 use Rattle.iw_memory.specs.Table.{Table}
-use Rattle.iw_ranges.specs.Arrived.{Arrived, delivered, taken_in, advanced, cell_at, has_come, first_copy, is_missing, is_dropped, in_segment, Cell, Missing, Here, Gone}
+use Rattle.iw_ranges.specs.Arrived.{Arrived, delivered, taken_in, advanced, cell_at, has_come, first_copy, is_missing, is_dropped, Cell, Missing, Here, Gone}
 use Rattle.iw_ranges.specs.InOrder.{IsHeld}
 use Rattle.iw_ranges.proofs.ByPlace.{cell_at-taken_in}
 use Rattle.iw_ranges.proofs.InOrder.{floor_moves, floor_takes, held_moves, held_takes}
@@ -24,6 +22,12 @@ use Rattle.iw_fpdu.specs.Found.{Found, ulpdu, ulpdu_len}
 use Rattle.iw_fpdu.specs.Laws.{IsBetween}
 use Rattle.iw_fpdu.proofs.Follows.{ends, frames_follow, starts}
 use Rattle.iw_fpdu.proofs.Sequences.{length_written}
+use Rattle.iw_rdmap.specs.declared.head.Head.{Head}
+use Rattle.iw_rdmap.specs.declared.head.Head.TheVariants as heads
+use Rattle.iw_reads.specs.declared.reads.Outstanding.{Outstanding}
+use Rattle.iw_reads.specs.Requests.{Requested}
+use Rattle.iw_reads.specs.Source.{IsInRange}
+use Rattle.iw_octets.specs.declared.payload.ReadRequest.{ReadRequest}
 use Rattle.iw_queues.specs.Queue.{Queue}
 use Rattle.iw_queues.specs.Segments.{Numbers}
 use Rattle.iw_untagged.specs.Receiving.{Receiving, ahead_of, buffer_of, buffer_fault, written}
@@ -31,14 +35,15 @@ use Rattle.iw_untagged.proofs.Splices.{length-splice}
 use Rattle.iw_stream.specs.declared.judging.Landing.{Landing}
 use Rattle.iw_stream.specs.declared.judging.Landing.TheVariants as landings
 use Rattle.iw_stream.specs.declared.judging.PlacedFrame.{PlacedFrame}
-use Rattle.iw_stream.specs.Frames.{Frame, IsNext, frame_by, segment_in, payload_of, header_in, placed, head_in, payload_len}
-use Rattle.iw_stream.specs.Judging.{Standing, mismatch_fault, or_else, fault_or, segment_verdict, verdict, receiving_landed}
-use Rattle.iw_stream.specs.Kept.{HasBuffer, IsPlaced, IsStarted, Keeps}
+use Rattle.iw_stream.specs.Frames.{IsNext, frame_by, payload_of, placed, head_in, payload_len}
+use Rattle.iw_stream.specs.Judging.{Standing, mismatch_fault, fault_or, judged_head, place_verdict, head_verdict, segment_verdict, verdict, receiving_landed}
+use Rattle.iw_stream.specs.Kept.{HasBuffer, Stands, IsPlaced, AreAwaited, Keeps}
 use Rattle.iw_stream.specs.Starting.{is_open, expecting, first_place_in, first_place_out}
 use Rattle.iw_stream.specs.Stream.{StreamState, owes_frame}
-use Rattle.iw_stream.specs.Work.{place_behind}
+use Rattle.iw_stream.specs.Work.{place_behind, standing}
 use Rattle.iw_stream.proofs.Headers.{header_short, kept_buffer}
-use Rattle.iw_stream.proofs.Landings.{length_ulpdu}
+use Rattle.iw_stream.proofs.Reading.{in_range}
+use Rattle.iw_stream.proofs.Landings.{Judges, judges, length_ulpdu}
 
 -- ---- delivery
 come_more : (place : ℕ) (octets : List ℕ) (p : ℕ) (c : Cell) → not (is_missing c) ≡ true → not (is_missing (first_copy place octets p c)) ≡ true
@@ -65,18 +70,23 @@ keeps_taken s place octets k =
       enough = k.enough;
       few = k.few;
       is_placed = go s.front k.is_placed;
+      first = k.first;
+      awaited = k.awaited;
     }
   where
     go : (o : Option PlacedFrame) → IfSome o (IsPlaced s) → IfSome o (IsPlaced (record s { arrived = taken_in s.arrived place octets }))
     go None p = tt
     go (Some frame) p =
-        let floor = floor_takes s.arrived place octets in record {
-          low = omega (arith, floor, p.low);
-          header = p.header;
-          on = omega (arith, floor, p.on);
-          near = omega (arith, floor, p.near);
-          come = λ q lt. come_takes s.arrived place octets q (p.come q lt);
-          next = p.next;
+        let floor = floor_takes s.arrived place octets in
+        let at = p.stands in record {
+          stands = record {
+            low = omega (arith, floor, at.low);
+            header = at.header;
+            on = omega (arith, floor, at.on);
+            near = omega (arith, floor, at.near);
+            come = λ q lt. come_takes s.arrived place octets q (at.come q lt);
+            next = at.next;
+          };
           buffer = p.buffer;
         }
 
@@ -90,10 +100,11 @@ keeps_delivered s place octets (Ok d) after ok err k = go (is_dropped s.arrived 
     go false is = subst (λ a. Keeps (record s { arrived = a })) (sym is) (keeps_taken s place octets k)
 
 -- ---- a frame that had its turn
-pub keeps_passed : (s : StreamState) (frame : PlacedFrame) (place : ℕ) (after : Arrived) (r : Receiving) → is_open s.start ≡ true → s.front ≡ Some frame → place ≡ place_behind s frame
-    → after ≡ advanced s.arrived place → Keeps s → Keeps (record s { receiving = r; arrived = after; front = None })
-keeps_passed s frame place after r running is there moved k =
-    let p : IsPlaced s frame = subst (λ o. IfSome o (IsPlaced s)) is k.is_placed in
+-- its end is the in-order point, whatever else it changes
+pub keeps_behind : (s : StreamState) (frame : PlacedFrame) (place : ℕ) (after : Arrived) (r : Receiving) (queue : Queue) (reads : List Outstanding) (asked : Requested) → is_open s.start ≡ true → Stands s frame
+    → place ≡ place_behind s frame → after ≡ advanced s.arrived place → queue.sent.first < 2 ^ 64 → AreAwaited queue.sent reads → Keeps s
+    → Keeps (record s { receiving = r; arrived = after; front = None; queue = queue; reads = reads; asked = asked })
+keeps_behind s frame place after r queue reads asked running p there moved first awaited k =
     let floor : after.floor ≡ max s.arrived.floor place = ap (λ a. a.floor) moved ∙ floor_moves s.arrived place in
     let end : after.floor - first_place_in s.start ≡ frame_end (expecting s.start).markers frame.start frame.len = omega (arith, floor, there, p.on) in
     record {
@@ -109,12 +120,53 @@ keeps_passed s frame place after r running is there moved k =
       enough = k.enough;
       few = k.few;
       is_placed = tt;
+      first = first;
+      awaited = awaited;
     }
+
+pub stands_placed : (s : StreamState) (frame : PlacedFrame) → s.front ≡ Some frame → Keeps s → Stands s frame
+stands_placed s frame is k = let p : IsPlaced s frame = subst (λ o. IfSome o (IsPlaced s)) is k.is_placed in p.stands
 
 -- ---- how far the in-order point moves
 pub reaches : (s t : StreamState) (after : Arrived) (to : ℕ) → after ≡ advanced s.arrived to → to ≤ s.arrived.floor + 2 ^ 18 → s ≡ t → after.floor ≤ t.arrived.floor + 2 ^ 18
 reaches s t after to moved near same =
     subst (λ (x : StreamState). after.floor ≤ x.arrived.floor + 2 ^ 18) same (omega (arith, ap (λ (a : Arrived). a.floor) moved ∙ floor_moves s.arrived to, near))
+
+-- ---- what touches neither the octets that came nor the buffers
+pub placed_still : (s t : StreamState) (o : Option PlacedFrame) → s.start ≡ t.start → s.arrived ≡ t.arrived → s.receiving ≡ t.receiving → IfSome o (IsPlaced s) → IfSome o (IsPlaced t)
+placed_still s t None start arrived receiving p = tt
+placed_still s t (Some frame) start arrived receiving p =
+    let at = p.stands in
+    let there : place_behind s frame ≡ place_behind t frame = ap (λ x. first_place_in x + frame_end (expecting x).markers frame.start frame.len) start in
+    let floor : s.arrived.floor ≡ t.arrived.floor = ap (λ (a : Arrived). a.floor) arrived in record {
+      stands = record {
+        low = omega (arith, floor, at.low);
+        header = at.header;
+        on = omega (arith, floor, there, at.on);
+        near = omega (arith, floor, there, at.near);
+        come = λ q lt. subst (λ a. has_come a q ≡ true) arrived (at.come q (omega (arith, there, lt)));
+        next = subst (λ x. IsBetween (expecting x).markers (frame_end (expecting x).markers frame.start frame.len)) start at.next;
+      };
+      buffer = subst (λ r. HasBuffer r (payload_len frame) (head_in frame)) receiving p.buffer;
+    }
+
+pub keeps_queue : (s : StreamState) (queue : Queue) → queue.sent.first < 2 ^ 64 → AreAwaited queue.sent s.reads → Keeps s → Keeps (record s { queue = queue })
+keeps_queue s queue first awaited k = record {
+  started = record {
+    unopened = k.started.unopened;
+    unsent = k.started.unsent;
+    alone = k.started.alone;
+    behind = k.started.behind;
+  };
+  between = k.between;
+  held = k.held;
+  aligned = k.aligned;
+  enough = k.enough;
+  few = k.few;
+  is_placed = placed_still s (record s { queue = queue }) s.front refl refl refl k.is_placed;
+  first = first;
+  awaited = awaited;
+}
 
 -- ---- a part that was sent
 pub aligned_behind : (layout : Layout) (at : ℕ) (u : List ℕ) → at % 4 ≡ 0 → (at + length (frame_octets layout at u)) % 4 ≡ 0
@@ -132,9 +184,10 @@ not_owed sent n first e f = grind (arith, nat_tests)
 first_sent : (sent first : ℕ) → nat_lt sent first ≡ false → first ≤ sent
 first_sent sent first e = grind (arith, nat_tests)
 
-pub keeps_part : (s : StreamState) (queue : Queue) (numbers : Numbers) (n : ℕ) → is_open s.start ≡ true → owes_frame s ≡ false → (s.sent - first_place_out s.start + n) % 4 ≡ 0 → Keeps s
-    → Keeps (record s { queue = queue; numbers = numbers; sent = s.sent + n })
-keeps_part s queue numbers n running owes aligned k =
+pub keeps_sent : (s : StreamState) (queue : Queue) (numbers : Numbers) (n : ℕ) (reads : List Outstanding) (asked : Requested) → is_open s.start ≡ true → owes_frame s ≡ false → (s.sent - first_place_out s.start + n) % 4 ≡ 0
+    → queue.sent.first < 2 ^ 64 → AreAwaited queue.sent reads → Keeps s
+    → Keeps (record s { queue = queue; numbers = numbers; sent = s.sent + n; reads = reads; asked = asked })
+keeps_sent s queue numbers n reads asked running owes aligned first awaited k =
     let low = first_sent s.sent (first_place_out s.start) owes in record {
       started = record {
         unopened = k.started.unopened;
@@ -147,12 +200,10 @@ keeps_part s queue numbers n running owes aligned k =
       aligned = λ e. ap (λ m. m % 4) (let same : s.sent + n - first_place_out s.start ≡ s.sent - first_place_out s.start + n = omega (arith, low) in same) ∙ aligned;
       enough = k.enough;
       few = k.few;
-      is_placed = go s.front k.is_placed;
+      is_placed = placed_still s (record s { queue = queue; numbers = numbers; sent = s.sent + n; reads = reads; asked = asked }) s.front refl refl refl k.is_placed;
+      first = first;
+      awaited = awaited;
     }
-  where
-    go : (o : Option PlacedFrame) → IfSome o (IsPlaced s) → IfSome o (IsPlaced (record s { queue = queue; numbers = numbers; sent = s.sent + n }))
-    go None p = tt
-    go (Some frame) p = record { low = p.low; header = p.header; on = p.on; near = p.near; come = p.come; next = p.next; buffer = p.buffer }
 
 -- ---- a segment in its buffer
 buffer_there : (r : Receiving) (msn mo n : ℕ) → buffer_fault r msn mo n ≡ None → (ahead_of r.due msn < length r.buffers) × (mo + n ≤ length (buffer_of r msn))
@@ -181,36 +232,74 @@ buffer_written r msn mo octets e =
     let same : buffer_of (written r msn mo octets) msn ≡ new = get_or-set_same r.buffers (ahead_of r.due msn) new [] there.0 in
     (omega (arith, length-set r.buffers (ahead_of r.due msn) new, there.0), omega (arith, ap length same, length-splice (buffer_of r msn) mo octets there.1, there.1))
 
-later_passes : (a b : Option Fault) (x y : Landing) → fault_or (or_else a b) x ≡ Ok y → (b ≡ None) × (x ≡ y)
-later_passes None None x y e = (refl, let w = e in cc)
-later_passes None (Some fault) x y e = absurd (let no : ⊥ = cc in no)
-later_passes (Some fault) b x y e = absurd (let no : ⊥ = cc in no)
+passes : {A : Type 0} (o : Option Fault) (x y : A) → fault_or o x ≡ Ok y → (o ≡ None) × (x ≡ y)
+passes None x y e = (refl, let w = e in cc)
+passes (Some fault) x y e = absurd (let no : ⊥ = cc in no)
+
+-- where a frame was placed
+abbrev pub IsPlacing : Landing → Type 0
+IsPlacing (landings.Write at) = Unit {0}
+IsPlacing (landings.Response at) = Unit {0}
+IsPlacing (landings.Send msn mo len) = Unit {0}
+IsPlacing (landings.Request request) = ⊥
 
 -- a Send's segment that was placed has its buffer
-segment_placed : (at : Standing) (o : Option (Segment (List ℕ))) (x : Landing) → segment_verdict at o ≡ Ok x
-    → HasBuffer (receiving_landed at.receiving (payload_of o) x) (length (payload_of o)) o
-segment_placed at None x e = absurd (let no : ⊥ = cc in no)
-segment_placed at (Some (Tagged head payload)) x e = tt
-segment_placed at (Some (Untagged head payload)) x e =
-    let parts = later_passes _ _ _ _ e in
-    subst (λ y. HasBuffer (receiving_landed at.receiving payload y) (length payload) (Some (Untagged head payload))) parts.1 (buffer_written at.receiving head.msn head.mo payload parts.0)
+segment_placed : (at : Standing) (u : List ℕ) (unanswered : ℕ) (head : Head) (x : Landing) → Judges u unanswered head → place_verdict at head (length (payload_of (read_segment u))) ≡ Ok x → IsPlacing x
+    → HasBuffer (receiving_landed at.receiving (payload_of (read_segment u)) x) (length (payload_of (read_segment u))) (read_segment u)
+segment_placed at u unanswered (heads.Write head) x j e p = subst (λ o. HasBuffer (receiving_landed at.receiving (payload_of o) x) (length (payload_of o)) o) (sym j.is) tt
+segment_placed at u unanswered (heads.Response head) x j e p = subst (λ o. HasBuffer (receiving_landed at.receiving (payload_of o) x) (length (payload_of o)) o) (sym j.is) tt
+segment_placed at u unanswered (heads.Send head) x j e p =
+    let parts = passes _ _ _ e in
+    subst (λ y. HasBuffer (receiving_landed at.receiving (payload_of (read_segment u)) y) (length (payload_of (read_segment u))) (read_segment u)) parts.1
+    (subst (λ o. HasBuffer (written at.receiving head.msn head.mo (payload_of (read_segment u))) (length (payload_of (read_segment u))) o) (sym j.is)
+    (buffer_written at.receiving head.msn head.mo (payload_of (read_segment u)) parts.0))
+segment_placed at u unanswered (heads.Request head request) x j e p = absurd (subst IsPlacing (sym (passes _ _ _ e).1) p)
+segment_placed at u unanswered (heads.Terminate head word) x j e p = absurd j
 
-verdict_ok : (at : Standing) (wrong : Option Mismatch) (o : Option (Segment (List ℕ))) (x : Landing) → option_map_or (λ m. Err (mismatch_fault m)) wrong (segment_verdict at o) ≡ Ok x → segment_verdict at o ≡ Ok x
-verdict_ok at None o x e = e
-verdict_ok at (Some m) o x e = absurd (let no : ⊥ = cc in no)
+-- ---- a frame that passed its checks
+pub record IsJudged (at : Standing) (u : List ℕ) (x : Landing) : Type 0 where
+  pub head : Head
+  pub judged : Judges u (length at.asked.unanswered) head
+  pub placed : place_verdict at head (length (payload_of (read_segment u))) ≡ Ok x
 
--- a frame that was placed, of a stream that is open
-pub keeps_judged : (s : StreamState) (table : Table) (found : Found) (after : Receiving) (x : Landing) → is_open s.start ≡ true
-    → IsNext (expecting s.start) s.arrived (first_place_in s.start) found
-    → verdict (record { table = table; domain = s.domain; receiving = s.receiving }) (frame_by found) ≡ Ok x
-    → after ≡ receiving_landed s.receiving (payload_of (read_segment (ulpdu found))) x → Keeps s
-    → Keeps (record s { front = Some (placed (frame_by found)); receiving = after })
-keeps_judged s table found after x running n ok there k =
+ulpdu_judged : (at : Standing) (u : List ℕ) (x : Landing) → segment_verdict at u ≡ Ok x → IsJudged at u x
+ulpdu_judged at u x e = go (judged_head at u) refl e
+  where
+    go : (r : Result Head Fault) → judged_head at u ≡ r → head_verdict at r (length (payload_of (read_segment u))) ≡ Ok x → IsJudged at u x
+    go (Err fault) is h = absurd (let no : ⊥ = cc in no)
+    go (Ok head) is h = record { head = head; judged = judges u at.asked.next (length at.asked.unanswered) head is; placed = h }
+
+pub frame_judged : (at : Standing) (found : Found) (x : Landing) → verdict at (frame_by found) ≡ Ok x → IsJudged at (ulpdu found) x
+frame_judged at found x e = go (frame_by found).mismatch e
+  where
+    go : (wrong : Option Mismatch) → option_map_or (λ m. Err (mismatch_fault m)) wrong (segment_verdict at (ulpdu found)) ≡ Ok x → IsJudged at (ulpdu found) x
+    go None h = ulpdu_judged at (ulpdu found) x h
+    go (Some m) h = absurd (let no : ⊥ = cc in no)
+
+-- a frame that is whole stands at the in-order point
+pub stands_next : (s : StreamState) (found : Found) → IsNext (expecting s.start) s.arrived (first_place_in s.start) found → Stands s (placed (frame_by found))
+stands_next s found n =
     let m : Bool = (expecting s.start).markers in
     let base : ℕ = first_place_in s.start in
-    let long : length (ulpdu found) ≡ ulpdu_len found = length_ulpdu found in
-    let at : Standing = record { table = table; domain = s.domain; receiving = s.receiving } in
-    let sound = verdict_ok at (frame_by found).mismatch (read_segment (ulpdu found)) x ok in
+    let long : length (ulpdu found) ≡ ulpdu_len found = length_ulpdu found in record {
+      low = n.low;
+      header = header_short (ulpdu found);
+      on = subst (λ z. s.arrived.floor < base + frame_end m found.start z) (sym long) n.on;
+      near = subst (λ z. base + frame_end m found.start z ≤ s.arrived.floor + 2 ^ 18) (sym long) n.near;
+      come = λ p lt. n.come p (subst (λ z. p < base + frame_end m found.start z) long lt);
+      next = subst (λ z. IsBetween m (frame_end m found.start z)) (sym long) n.next;
+    }
+
+-- one that was placed, of a stream that is open
+pub keeps_judged : (s : StreamState) (table : Table) (found : Found) (after : Receiving) (x : Landing) → is_open s.start ≡ true
+    → IsNext (expecting s.start) s.arrived (first_place_in s.start) found
+    → verdict (standing table s) (frame_by found) ≡ Ok x → IsPlacing x
+    → after ≡ receiving_landed s.receiving (payload_of (read_segment (ulpdu found))) x → Keeps s
+    → Keeps (record s { front = Some (placed (frame_by found)); receiving = after })
+keeps_judged s table found after x running n ok placing there k =
+    let at : Standing = standing table s in
+    let sound = frame_judged at found x ok in
+    let has = stands_next s found n in
     record {
       started = record {
         unopened = λ e. absurd (true≢false (sym running ∙ e));
@@ -224,13 +313,28 @@ keeps_judged s table found after x running n ok there k =
       enough = k.enough;
       few = k.few;
       is_placed = record {
-        low = n.low;
-        header = header_short (ulpdu found);
-        on = subst (λ z. s.arrived.floor < base + frame_end m found.start z) (sym long) n.on;
-        near = subst (λ z. base + frame_end m found.start z ≤ s.arrived.floor + 2 ^ 18) (sym long) n.near;
-        come = λ p lt. n.come p (subst (λ z. p < base + frame_end m found.start z) long lt);
-        next = subst (λ z. IsBetween m (frame_end m found.start z)) (sym long) n.next;
+        stands = record { low = has.low; header = has.header; on = has.on; near = has.near; come = has.come; next = has.next };
         buffer = subst (λ r. HasBuffer r (payload_len (placed (frame_by found))) (head_in (placed (frame_by found)))) (sym there)
-            (kept_buffer (receiving_landed s.receiving (payload_of (read_segment (ulpdu found))) x) (ulpdu found) (segment_placed at (read_segment (ulpdu found)) x sound));
+            (kept_buffer (receiving_landed s.receiving (payload_of (read_segment (ulpdu found))) x) (ulpdu found) (segment_placed at (ulpdu found) (length s.asked.unanswered) sound.head x sound.judged sound.placed placing));
       };
+      first = k.first;
+      awaited = k.awaited;
     }
+
+-- one more request may wait where one was judged, and its source has a range
+pub record MayTake (asked : Requested) (request : ReadRequest) : Type 0 where
+  pub room : length asked.unanswered < 16
+  pub range : IsInRange request
+
+pub may_take : (at : Standing) (found : Found) (request : ReadRequest) → verdict at (frame_by found) ≡ Ok (landings.Request request) → MayTake at.asked request
+may_take at found request e = let j = frame_judged at found (landings.Request request) e in go j.head j.judged j.placed
+  where
+    go : (head : Head) → Judges (ulpdu found) (length at.asked.unanswered) head → place_verdict at head (length (payload_of (read_segment (ulpdu found)))) ≡ Ok (landings.Request request) → MayTake at.asked request
+    go (heads.Write head) j h = absurd (let w = (passes _ _ _ h).1 in let no : ⊥ = cc in no)
+    go (heads.Response head) j h = absurd (let w = (passes _ _ _ h).1 in let no : ⊥ = cc in no)
+    go (heads.Send head) j h = absurd (let w = (passes _ _ _ h).1 in let no : ⊥ = cc in no)
+    go (heads.Request head asked) j h =
+        let parts = passes _ _ _ h in
+        let same : asked ≡ request = let w = parts.1 in cc in
+        record { room = j.1; range = subst IsInRange same (in_range at.table at.domain asked parts.0) }
+    go (heads.Terminate head word) j h = absurd j

@@ -1,156 +1,115 @@
--- A segment whose header passed its checks: its payload is placed, and has its turn.
-use Rattle.std.proofs.Common.{◌≡◌, ℕ, ◌+◌, ◌-◌, ◌<◌, ◌≤◌, ◌%◌, ◌^◌, Bool, true, false, not, ◌&&◌, nat_lt, if◌then◌else◌, List, [], length, drop, get_or, Option, Some, None, Ok, Err, refl, sym, ap, ◌∙◌, subst, arith, length-drop}
-use Rattle.std.specs.Prelude.{IfOk, Result, OnOk, OnErr, ◌==◌}
-use Rattle.std.specs.Result.{result_err}
+-- A ULPDU whose header passed its checks: which segment it is, and where its payload goes.
+use Rattle.std.proofs.Common.{◌≡◌, ℕ, ◌+◌, ◌-◌, ◌<◌, ◌≤◌, ◌%◌, ◌^◌, Bool, true, false, not, nat_lt, nat_le, if◌then◌else◌, List, [], length, drop, get_or, Option, Some, None, Ok, Err, refl, sym, ap, ◌∙◌, subst, arith, length-drop}
+use Rattle.std.specs.Prelude.{◌==◌}
+use Rattle.std.proofs.lemmas.Bool.Decides.{nat_tests}
 use Rattle.iw_octets.specs.declared.fault.Fault.{Fault}
 use Rattle.iw_octets.specs.declared.fault.TheConstants.Fault as faults
 use Rattle.iw_octets.specs.declared.head.TaggedHead.{TaggedHead}
 use Rattle.iw_octets.specs.declared.head.UntaggedHead.{UntaggedHead}
+use Rattle.iw_octets.specs.declared.operation.UntaggedOperation.TheVariants as operations
+use Rattle.iw_octets.specs.declared.payload.ReadRequest.{ReadRequest}
 use Rattle.iw_octets.specs.declared.segment.Segment.{Segment}
 use Rattle.iw_octets.specs.declared.segment.Segment.TheVariants.{Tagged, Untagged}
+use Rattle.iw_octets.specs.Operation.{rdmap_version, opcode_of}
+use Rattle.iw_octets.specs.Payload.{request_fields}
 use Rattle.iw_octets.specs.Segment.{read_segment}
-use Rattle.iw_memory.specs.declared.rights.Right.TheVariants.{Write}
-use Rattle.iw_memory.specs.Table.{Table, put}
 use Rattle.iw_fpdu.specs.Places.{data_index}
 use Rattle.iw_fpdu.specs.Found.{Found, octet_in, ulpdu, ulpdu_len}
 use Rattle.iw_fpdu.proofs.Octets.{length_data}
 use Rattle.iw_rdmap.specs.declared.head.Head.{Head}
 use Rattle.iw_rdmap.specs.declared.head.Head.TheVariants as heads
-use Rattle.iw_rdmap.specs.FirstPath.{plain_tagged, plain_untagged}
-use Rattle.iw_octets.specs.Operation.{rdmap_version, opcode_of}
-use Rattle.iw_tagged.specs.Placing.{placing_fault}
-use Rattle.iw_untagged.specs.Receiving.{Receiving, HasRoom, HoldsLimits, ahead_of, buffer_of, buffer_fault, turned, written}
-use Rattle.iw_stream.specs.declared.judging.Landing.{Landing}
-use Rattle.iw_stream.specs.declared.judging.Landing.TheVariants as landings
+use Rattle.iw_rdmap.specs.Head.{header_octets}
+use Rattle.iw_rdmap.specs.Judging.{request_fault}
+use Rattle.iw_rdmap.specs.Judging as judging
+use Rattle.iw_rdmap.specs.Unbuilt.{judged_built, carries}
+use Rattle.iw_rdmap.proofs.Built.{said, said-tagged, said-untagged}
+use Rattle.iw_untagged.specs.Receiving.{Receiving, HasRoom, HoldsLimits, ahead_of, buffer_of}
 use Rattle.iw_stream.specs.Frames.{payload_of}
-use Rattle.iw_stream.specs.Judging.{Standing, or_else, fault_or, judged_head, segment_verdict, table_landed, receiving_landed}
-use Rattle.iw_stream.specs.Kept.{HasBuffer}
 use Rattle.iw_stream.proofs.Heads.{segment_behind}
 
 pub length_ulpdu : (f : Found) → length (ulpdu f) ≡ ulpdu_len f
 length_ulpdu f = length_data (octet_in f.arrived f.base) f.layout.markers (data_index f.layout.markers f.start + 2) (ulpdu_len f)
 
--- ---- headers that passed their checks
-tagged_chain : (a b d : Bool) (head : TaggedHead) (x : Head) →
-    (if a then Err faults.TAGGED_VERSION else if b then Err faults.OPERATION_VERSION else if d then Err faults.OPERATION_UNEXPECTED else Ok (heads.Write head)) ≡ Ok x → x ≡ heads.Write head
-tagged_chain true b d head x e = cc
-tagged_chain false true d head x e = cc
-tagged_chain false false true head x e = cc
-tagged_chain false false false head x e = cc
-
-untagged_chain : (a b d f : Bool) (head : UntaggedHead) (x : Head) →
-    (if a then Err faults.UNTAGGED_VERSION else if b then Err faults.UNTAGGED_INVALID_QUEUE else if d then Err faults.OPERATION_VERSION else if f then Err faults.OPERATION_UNEXPECTED else Ok (heads.Send head)) ≡ Ok x → x ≡ heads.Send head
-untagged_chain true b d f head x e = cc
-untagged_chain false true d f head x e = cc
-untagged_chain false false true f head x e = cc
-untagged_chain false false false true head x e = cc
-untagged_chain false false false false head x e = cc
-
-tagged_is : (head : TaggedHead) (x : Head) → plain_tagged head ≡ Ok x → x ≡ heads.Write head
-tagged_is head x e = tagged_chain (not (head.ddp_version == 1)) (not (rdmap_version head.control == 1)) (not (opcode_of head.control == 0)) head x e
-
-untagged_is : (head : UntaggedHead) (x : Head) → plain_untagged head ≡ Ok x → x ≡ heads.Send head
-untagged_is head x e =
-    untagged_chain (not (head.ddp_version == 1)) (nat_lt 2 head.queue) (not (rdmap_version head.control == 1)) (not ((head.queue == 0) && (opcode_of head.control == 3))) head x e
-
--- a tagged segment whose header passed its checks
-pub record Written (u : List ℕ) (head : TaggedHead) : Type 0 where
+-- ---- the segment of a header that passed its checks
+pub record IsTagged (u : List ℕ) (head : TaggedHead) : Type 0 where
   pub payload : List ℕ
   pub is : read_segment u ≡ Some (Tagged head payload)
-  pub passed : plain_tagged head ≡ Ok (heads.Write head)
 
-pub written_parts : (u : List ℕ) (head : TaggedHead) → judged_head (read_segment u) ≡ Ok (heads.Write head) → Written u head
-written_parts u head e = go (read_segment u) refl e
-  where
-    go : (o : Option (Segment (List ℕ))) → read_segment u ≡ o → judged_head o ≡ Ok (heads.Write head) → Written u head
-    go None is h = absurd (let no : ⊥ = cc in no)
-    go (Some (Tagged other payload)) is h =
-        let same : other ≡ head = let w = tagged_is other (heads.Write head) h in cc in
-        record { payload = payload; is = is ∙ ap (λ x. Some (Tagged x payload)) same; passed = subst (λ x. plain_tagged x ≡ Ok (heads.Write head)) same h }
-    go (Some (Untagged other payload)) is h = absurd (let w = untagged_is other (heads.Write head) h in let no : ⊥ = cc in no)
-
--- an untagged one
-pub record Sent (u : List ℕ) (head : UntaggedHead) : Type 0 where
+pub record IsUntagged (u : List ℕ) (head : UntaggedHead) : Type 0 where
   pub payload : List ℕ
   pub is : read_segment u ≡ Some (Untagged head payload)
-  pub passed : plain_untagged head ≡ Ok (heads.Send head)
 
-pub sent_parts : (u : List ℕ) (head : UntaggedHead) → judged_head (read_segment u) ≡ Ok (heads.Send head) → Sent u head
-sent_parts u head e = go (read_segment u) refl e
+-- and a Read Request comes only where one more may wait
+abbrev pub Judges : List ℕ → ℕ → Head → Type 0
+Judges u unanswered (heads.Write head) = IsTagged u head
+Judges u unanswered (heads.Response head) = IsTagged u head
+Judges u unanswered (heads.Send head) = IsUntagged u head
+Judges u unanswered (heads.Request head request) = IsUntagged u head × (unanswered < 16)
+Judges u unanswered (heads.Terminate head word) = ⊥
+
+tagged_chain : (P : Head → Type 0) (a b d e : Bool) (head : TaggedHead) (x : Head) →
+    (if a then Err faults.TAGGED_VERSION else if b then Err faults.OPERATION_VERSION else if d then Ok (heads.Write head) else if e then Ok (heads.Response head) else Err faults.OPERATION_UNEXPECTED) ≡ Ok x
+    → P (heads.Write head) → P (heads.Response head) → P x
+tagged_chain P true b d e head x h w r = absurd (let no : ⊥ = cc in no)
+tagged_chain P false true d e head x h w r = absurd (let no : ⊥ = cc in no)
+tagged_chain P false false true e head x h w r = subst P (let same : heads.Write head ≡ x = cc in same) w
+tagged_chain P false false false true head x h w r = subst P (let same : heads.Response head ≡ x = cc in same) r
+tagged_chain P false false false false head x h w r = absurd (let no : ⊥ = cc in no)
+
+requested : (P : Head → Type 0) (o : Option Fault) (head : UntaggedHead) (request : ReadRequest) (x : Head) → judging.fault_or o (heads.Request head request) ≡ Ok x → (o ≡ None → P (heads.Request head request)) → P x
+requested P None head request x h r = subst P (let same : heads.Request head request ≡ x = cc in same) (r refl)
+requested P (Some fault) head request x h r = absurd (let no : ⊥ = cc in no)
+
+untagged_chain : (P : Head → Type 0) (a b d e f : Bool) (o : Option Fault) (head : UntaggedHead) (request : ReadRequest) (x : Head) →
+    (if a then Err faults.UNTAGGED_VERSION else if b then Err faults.UNTAGGED_INVALID_QUEUE else if d then Err faults.OPERATION_VERSION else if e then Ok (heads.Send head) else if f then judging.fault_or o (heads.Request head request) else Err faults.OPERATION_UNEXPECTED) ≡ Ok x
+    → P (heads.Send head) → (o ≡ None → P (heads.Request head request)) → P x
+untagged_chain P true b d e f o head request x h s r = absurd (let no : ⊥ = cc in no)
+untagged_chain P false true d e f o head request x h s r = absurd (let no : ⊥ = cc in no)
+untagged_chain P false false true e f o head request x h s r = absurd (let no : ⊥ = cc in no)
+untagged_chain P false false false true f o head request x h s r = subst P (let same : heads.Send head ≡ x = cc in same) s
+untagged_chain P false false false false true o head request x h s r = requested P o head request x h r
+untagged_chain P false false false false false o head request x h s r = absurd (let no : ⊥ = cc in no)
+
+few_wait : (head : UntaggedHead) (n next unanswered : ℕ) → request_fault head n next unanswered ≡ None → unanswered < 16
+few_wait head n next unanswered e = go (not (head.msn == next)) (nat_le 16 unanswered) refl _ e
   where
-    go : (o : Option (Segment (List ℕ))) → read_segment u ≡ o → judged_head o ≡ Ok (heads.Send head) → Sent u head
+    go : (a b : Bool) → nat_le 16 unanswered ≡ b → (o : Option Fault) → (if a then Some faults.UNTAGGED_MSN_RANGE else if b then Some faults.UNTAGGED_NO_BUFFER else o) ≡ None → unanswered < 16
+    go true b is o h = absurd (let no : ⊥ = cc in no)
+    go false true is o h = absurd (let no : ⊥ = cc in no)
+    go false false is o h = grind (arith, nat_tests)
+
+pub judges : (u : List ℕ) (next unanswered : ℕ) (x : Head) → judged_built u (length u) next unanswered ≡ Ok x → Judges u unanswered x
+judges u next unanswered x e = go (read_segment u) refl e
+  where
+    go : (o : Option (Segment (List ℕ))) → read_segment u ≡ o → said o (length u) next unanswered ≡ Ok x → Judges u unanswered x
     go None is h = absurd (let no : ⊥ = cc in no)
-    go (Some (Tagged other payload)) is h = absurd (let w = tagged_is other (heads.Send head) h in let no : ⊥ = cc in no)
-    go (Some (Untagged other payload)) is h =
-        let same : other ≡ head = let w = untagged_is other (heads.Send head) h in cc in
-        record { payload = payload; is = is ∙ ap (λ x. Some (Untagged x payload)) same; passed = subst (λ x. plain_untagged x ≡ Ok (heads.Send head)) same h }
+    go (Some (Tagged head payload)) is h =
+        let tagged : Judges u unanswered (heads.Write head) = record { payload = payload; is = is } in
+        tagged_chain (Judges u unanswered) (not (head.ddp_version == 1)) (not (rdmap_version head.control == 1)) (opcode_of head.control == 0) (opcode_of head.control == 2) head x
+        (sym (said-tagged head payload (length u) next unanswered) ∙ h) tagged tagged
+    go (Some (Untagged head payload)) is h =
+        let untagged : Judges u unanswered (heads.Send head) = record { payload = payload; is = is } in
+        untagged_chain (Judges u unanswered) (not (head.ddp_version == 1)) (nat_lt 2 head.queue) (not (rdmap_version head.control == 1)) (carries head (operations.Send false false)) (carries head operations.ReadRequest)
+        (request_fault head (length u - 18) next unanswered) head (request_fields payload) x (sym (said-untagged head payload (length u) next unanswered) ∙ h) untagged
+        (λ none. (untagged, few_wait head (length u - 18) next unanswered none))
 
--- ---- placing them
-abbrev pub standing : Table → ℕ → Receiving → Standing
-standing table domain r = record { table = table; domain = domain; receiving = r }
+-- its payload is all behind the header
+pub record HasPayload (u : List ℕ) (head : Head) : Type 0 where
+  pub payload : payload_of (read_segment u) ≡ drop (header_octets head) u
+  pub len : length (payload_of (read_segment u)) ≡ length u - header_octets head
 
--- a header that fails a check
-pub head_fails : (at : Standing) (o : Option (Segment (List ℕ))) (fault : Fault) → judged_head o ≡ Err fault → segment_verdict at o ≡ Err fault
-head_fails at None fault e = let same : faults.SEGMENT_SHORT ≡ fault = cc in ap Err same
-head_fails at (Some (Tagged head payload)) fault e =
-    ap (λ (x : Result Head Fault). fault_or (or_else (result_err x) (placing_fault at.table at.domain head (length payload) Write)) (landings.Write (record { stag = head.stag; to = head.to; n = length payload }))) e
-head_fails at (Some (Untagged head payload)) fault e =
-    ap (λ (x : Result Head Fault). fault_or (or_else (result_err x) (buffer_fault at.receiving head.msn head.mo (length payload))) (landings.Send head.msn head.mo (length payload))) e
+tagged_payload : (u : List ℕ) (head : TaggedHead) → IsTagged u head → payload_of (read_segment u) ≡ drop 14 u
+tagged_payload u head t = ap payload_of t.is ∙ (segment_behind u (Tagged head t.payload) t.is).payload
 
-pub written_long : (u : List ℕ) (head : TaggedHead) → Written u head → 14 ≤ length u
-written_long u head w = (segment_behind u (Tagged head w.payload) w.is).long
+untagged_payload : (u : List ℕ) (head : UntaggedHead) → IsUntagged u head → payload_of (read_segment u) ≡ drop 18 u
+untagged_payload u head t = ap payload_of t.is ∙ (segment_behind u (Untagged head t.payload) t.is).payload
 
-pub written_payload : (u : List ℕ) (head : TaggedHead) → Written u head → payload_of (read_segment u) ≡ drop 14 u
-written_payload u head w = ap payload_of w.is ∙ (segment_behind u (Tagged head w.payload) w.is).payload
-
-pub written_verdict : (table : Table) (domain : ℕ) (r : Receiving) (u : List ℕ) (head : TaggedHead) (n : ℕ) → Written u head → n ≡ length u
-    → fault_or (placing_fault table domain head (n - 14) Write) (landings.Write (record { stag = head.stag; to = head.to; n = n - 14 })) ≡ segment_verdict (standing table domain r) (read_segment u)
-written_verdict table domain r u head n w all =
-    let len : n - 14 ≡ length w.payload = omega (arith, all, ap length (segment_behind u (Tagged head w.payload) w.is).payload, length-drop 14 u) in
-    ap (λ k. fault_or (placing_fault table domain head k Write) (landings.Write (record { stag = head.stag; to = head.to; n = k }))) len
-    ∙ sym (ap (λ (checked : Result Head Fault). fault_or (or_else (result_err checked) (placing_fault table domain head (length w.payload) Write)) (landings.Write (record { stag = head.stag; to = head.to; n = length w.payload }))) w.passed)
-    ∙ sym (ap (segment_verdict (standing table domain r)) w.is)
-
--- a placement that passed its checks has the header's place
-pub written_table : (fault : Option Fault) (old new : Table) (head : TaggedHead) (n : ℕ) (payload octets : List ℕ) (result : Result Landing Fault)
-    → result ≡ fault_or fault (landings.Write (record { stag = head.stag; to = head.to; n = n })) → OnOk result (new ≡ put old head.stag head.to octets)
-    → payload ≡ octets → IfOk result (λ at. new ≡ table_landed old payload at)
-written_table None old new head n payload octets result e ok same =
-    subst (λ x. IfOk x (λ at. new ≡ table_landed old payload at)) (sym e)
-    (subst (λ x. OnOk x (new ≡ put old head.stag head.to octets)) e ok ∙ ap (put old head.stag head.to) (sym same))
-written_table (Some fault) old new head n payload octets result e ok same = subst (λ x. IfOk x (λ at. new ≡ table_landed old payload at)) (sym e) tt
-
-pub written_queue : (fault : Option Fault) (old : Receiving) (head : TaggedHead) (n : ℕ) (payload : List ℕ) (result : Result Landing Fault)
-    → result ≡ fault_or fault (landings.Write (record { stag = head.stag; to = head.to; n = n })) → IfOk result (λ at. old ≡ receiving_landed old payload at)
-written_queue None old head n payload result e = subst (λ x. IfOk x (λ at. old ≡ receiving_landed old payload at)) (sym e) refl
-written_queue (Some fault) old head n payload result e = subst (λ x. IfOk x (λ at. old ≡ receiving_landed old payload at)) (sym e) tt
-
-pub sent_long : (u : List ℕ) (head : UntaggedHead) → Sent u head → 18 ≤ length u
-sent_long u head w = (segment_behind u (Untagged head w.payload) w.is).long
-
-pub sent_payload : (u : List ℕ) (head : UntaggedHead) → Sent u head → payload_of (read_segment u) ≡ drop 18 u
-sent_payload u head w = ap payload_of w.is ∙ (segment_behind u (Untagged head w.payload) w.is).payload
-
-pub sent_verdict : (table : Table) (domain : ℕ) (r : Receiving) (u : List ℕ) (head : UntaggedHead) (n : ℕ) → Sent u head → n ≡ length u
-    → fault_or (buffer_fault r head.msn head.mo (n - 18)) (landings.Send head.msn head.mo (n - 18)) ≡ segment_verdict (standing table domain r) (read_segment u)
-sent_verdict table domain r u head n w all =
-    let len : n - 18 ≡ length w.payload = omega (arith, all, ap length (segment_behind u (Untagged head w.payload) w.is).payload, length-drop 18 u) in
-    ap (λ k. fault_or (buffer_fault r head.msn head.mo k) (landings.Send head.msn head.mo k)) len
-    ∙ sym (ap (λ (checked : Result Head Fault). fault_or (or_else (result_err checked) (buffer_fault r head.msn head.mo (length w.payload))) (landings.Send head.msn head.mo (length w.payload))) w.passed)
-    ∙ sym (ap (segment_verdict (standing table domain r)) w.is)
-
-pub sent_queue : (fault : Option Fault) (old new : Receiving) (head : UntaggedHead) (n : ℕ) (payload octets : List ℕ) (result : Result Landing Fault)
-    → result ≡ fault_or fault (landings.Send head.msn head.mo n) → OnOk result (new ≡ written old head.msn head.mo octets)
-    → payload ≡ octets → IfOk result (λ at. new ≡ receiving_landed old payload at)
-sent_queue None old new head n payload octets result e ok same =
-    subst (λ x. IfOk x (λ at. new ≡ receiving_landed old payload at)) (sym e)
-    (subst (λ x. OnOk x (new ≡ written old head.msn head.mo octets)) e ok ∙ ap (written old head.msn head.mo) (sym same))
-sent_queue (Some fault) old new head n payload octets result e ok same = subst (λ x. IfOk x (λ at. new ≡ receiving_landed old payload at)) (sym e) tt
-
-pub sent_table : (fault : Option Fault) (old : Table) (head : UntaggedHead) (n : ℕ) (payload : List ℕ) (result : Result Landing Fault)
-    → result ≡ fault_or fault (landings.Send head.msn head.mo n) → IfOk result (λ at. old ≡ table_landed old payload at)
-sent_table None old head n payload result e = subst (λ x. IfOk x (λ at. old ≡ table_landed old payload at)) (sym e) refl
-sent_table (Some fault) old head n payload result e = subst (λ x. IfOk x (λ at. old ≡ table_landed old payload at)) (sym e) tt
+pub has_payload : (u : List ℕ) (unanswered : ℕ) (head : Head) → Judges u unanswered head → HasPayload u head
+has_payload u unanswered (heads.Write head) j = let p = tagged_payload u head j in record { payload = p; len = ap length p ∙ length-drop 14 u }
+has_payload u unanswered (heads.Response head) j = let p = tagged_payload u head j in record { payload = p; len = ap length p ∙ length-drop 14 u }
+has_payload u unanswered (heads.Send head) j = let p = untagged_payload u head j in record { payload = p; len = ap length p ∙ length-drop 18 u }
+has_payload u unanswered (heads.Request head request) j = let p = untagged_payload u head j.0 in record { payload = p; len = ap length p ∙ length-drop 18 u }
+has_payload u unanswered (heads.Terminate head word) j = absurd j
 
 -- ---- its turn
 -- the message that is due has the oldest buffer

@@ -2,7 +2,9 @@ pub mod Heads
 pub mod Headers
 pub mod Landings
 pub mod Fronts
+pub mod Reading
 pub mod Keeping
 pub mod Opening
 pub mod Started
 pub mod Tasks
+pub mod Dues

@@ -1,5 +1,5 @@
 -- What a stream keeps of its start-up.
-use Rattle.std.proofs.Common.{◌≡◌, ℕ, zero, suc, ◌+◌, ◌-◌, ◌<◌, ◌%◌, Bool, true, false, max, nat_lt, List, [], ◌∷◌, length, Option, Some, None, refl, sym, ap, ◌∙◌, subst, arith}
+use Rattle.std.proofs.Common.{◌≡◌, ℕ, ◌-◌, ◌<◌, ◌%◌, Bool, true, false, max, nat_lt, List, [], ◌∷◌, length, Option, Some, None, refl, sym, ap, ◌∙◌, subst, arith}
 use Rattle.std.specs.Prelude.{IfSome, is_some}
 use Rattle.std.specs.Option.{option_map_or}
 use Rattle.std.proofs.lemmas.Bool.{true≢false, false≢true}
@@ -10,7 +10,9 @@ use Rattle.iw_ranges.proofs.InOrder.{floor_moves, held_moves, held_nothing}
 use Rattle.iw_fpdu.specs.declared.layout.Layout.{Layout}
 use Rattle.iw_fpdu.specs.Laws.{IsBetween}
 use Rattle.iw_fpdu.proofs.Follows.{frames_follow}
-use Rattle.iw_queues.specs.Queue.{Queue}
+use Rattle.iw_queues.specs.Queue.{Queue, nothing_posted}
+use Rattle.iw_reads.specs.declared.reads.Outstanding.{Outstanding}
+use Rattle.iw_reads.specs.Requests.{Requested}
 use Rattle.iw_queues.specs.Segments.{Numbers}
 use Rattle.iw_startup.specs.declared.progress.Progress.TheVariants as progress
 use Rattle.iw_startup.specs.declared.side.Reply.{Reply}
@@ -27,10 +29,9 @@ use Rattle.iw_startup.proofs.Heard.{agreed_of-pushed, frame_of-pushed, octets-pu
 use Rattle.iw_untagged.specs.Receiving.{Receiving}
 use Rattle.iw_stream.specs.declared.answer.Role.{Role}
 use Rattle.iw_stream.specs.declared.answer.Role.TheVariants.{Preset, Initiator, Responder}
-use Rattle.iw_stream.specs.declared.judging.PlacedFrame.{PlacedFrame}
 use Rattle.iw_stream.specs.declared.starting.Start.TheInside.{Inside}
 use Rattle.iw_stream.specs.Fields.{IsStart, start_of}
-use Rattle.iw_stream.specs.Kept.{IsPlaced, IsStarted, Keeps}
+use Rattle.iw_stream.specs.Kept.{IsPlaced, Keeps}
 use Rattle.iw_stream.specs.Starting.{StartState, AtOnce, Unheard, Heard, IsFresh, start_by, start_at_first, is_open, expecting, own_frame, awaits_frame, heard, answered_with, agreed_in, agreement_in, first_place_in, first_place_out}
 use Rattle.iw_stream.specs.Starting as starting
 use Rattle.iw_stream.specs.Stream.{StreamState, owes_frame}
@@ -74,8 +75,8 @@ owing : (sent n : ℕ) → sent ≡ 0 → 0 < n → nat_lt sent n ≡ false → 
 owing sent n none long e = grind (arith, nat_tests)
 
 -- ---- a stream to which nothing has happened
-abbrev pub fresh : ℕ → StartState → Queue → Numbers → Receiving → Arrived → StreamState
-fresh domain start queue numbers receiving arrived = record {
+abbrev pub fresh : ℕ → StartState → Queue → Numbers → Receiving → List Outstanding → Requested → Arrived → StreamState
+fresh domain start queue numbers receiving reads asked arrived = record {
   domain = domain;
   start = start;
   mulpdu = 1400;
@@ -83,6 +84,8 @@ fresh domain start queue numbers receiving arrived = record {
   numbers = numbers;
   sent = 0;
   receiving = receiving;
+  reads = reads;
+  asked = asked;
   arrived = arrived;
   front = None;
   ended = false;
@@ -93,8 +96,8 @@ none_read Preset config = refl
 none_read Initiator config = refl
 none_read Responder config = refl
 
-keeps_nothing : (role : Role) (config : Config) (domain : ℕ) (queue : Queue) (numbers : Numbers) (receiving : Receiving) → Keeps (fresh domain (start_at_first role config) queue numbers receiving nothing)
-keeps_nothing role config domain queue numbers receiving =
+keeps_nothing : (role : Role) (config : Config) (domain : ℕ) (numbers : Numbers) (receiving : Receiving) (asked : Requested) → Keeps (fresh domain (start_at_first role config) nothing_posted numbers receiving [] asked nothing)
+keeps_nothing role config domain numbers receiving asked =
     let start = start_at_first role config in record {
       started = record {
         unopened = λ e. (sym (none_read role config), refl);
@@ -108,13 +111,14 @@ keeps_nothing role config domain queue numbers receiving =
       enough = omega arith;
       few = omega arith;
       is_placed = tt;
+      first = omega arith;
+      awaited = tt;
     }
 
-pub keeps_fresh : (role : Role) (config : Config) (domain : ℕ) (start : StartState) (queue : Queue) (numbers : Numbers) (receiving : Receiving) (arrived : Arrived)
-    → start ≡ start_at_first role config → arrived ≡ nothing → Keeps (fresh domain start queue numbers receiving arrived)
-keeps_fresh role config domain start queue numbers receiving arrived first none =
-    subst (λ o. Keeps (fresh domain o queue numbers receiving arrived)) (sym first)
-    (subst (λ a. Keeps (fresh domain (start_at_first role config) queue numbers receiving a)) (sym none) (keeps_nothing role config domain queue numbers receiving))
+pub keeps_fresh : (role : Role) (config : Config) (domain : ℕ) (start : StartState) (queue : Queue) (numbers : Numbers) (receiving : Receiving) (reads : List Outstanding) (asked : Requested) (arrived : Arrived)
+    → start ≡ start_at_first role config → queue ≡ nothing_posted → reads ≡ [] → arrived ≡ nothing → Keeps (fresh domain start queue numbers receiving reads asked arrived)
+keeps_fresh role config domain start queue numbers receiving reads asked arrived first posted read none =
+    subst Keeps (λ i. fresh domain (sym first i) (sym posted i) numbers receiving (sym read i) asked (sym none i)) (keeps_nothing role config domain numbers receiving asked)
 
 -- ---- an answer
 none_placed : (s t : StreamState) → s.front ≡ None → IfSome s.front (IsPlaced t)
@@ -141,6 +145,8 @@ answers s u reply ended is asked k =
       enough = k.enough;
       few = k.few;
       is_placed = none_placed s (record s { start = Heard (answered u reply); ended = ended }) rest.1;
+      first = k.first;
+      awaited = k.awaited;
     }
 
 pub keeps_answered : (s : StreamState) (reply : Reply) (ended : Bool) → starting.is_asked s.start ≡ true → Keeps s → Keeps (record s { start = answered_with s.start reply; ended = ended })
@@ -174,6 +180,8 @@ hears s u octets ended is k =
       enough = k.enough;
       few = k.few;
       is_placed = none_placed s (record s { start = Heard (pushed u octets); arrived = advanced s.arrived n; ended = ended }) rest.1;
+      first = k.first;
+      awaited = k.awaited;
     }
 
 pub keeps_heard : (s : StreamState) (octets : List ℕ) (start : StartState) (arrived : Arrived) (ended : Bool) → awaits_frame s.start ≡ true

@@ -1,34 +1,45 @@
 -- How a frame is judged, and what its turn comes to.
-use Rattle.std.specs.Prelude.{◌≡◌, ℕ, ◌+◌, ◌≤◌, ◌++◌, min, List, length, Bool, true, false, Option, Some, None, Result, Ok, Err}
+use Rattle.std.specs.Prelude.{◌≡◌, ℕ, ◌≤◌, ◌++◌, min, List, length, Bool, true, false, if◌then◌else◌, Option, Some, None, Result, Ok, Err}
 use Rattle.std.specs.Option.{option_map_or}
-use Rattle.std.specs.Result.{result_err}
 use Rattle.iw_octets.specs.declared.fault.Fault.{Fault}
 use Rattle.iw_octets.specs.declared.fault.TheConstants.Fault as faults
 use Rattle.iw_octets.specs.declared.head.TaggedHead.{TaggedHead}
-use Rattle.iw_octets.specs.declared.head.UntaggedHead.{UntaggedHead}
+use Rattle.iw_octets.specs.declared.operation.TaggedOperation.{TaggedOperation}
+use Rattle.iw_octets.specs.declared.operation.TaggedOperation.TheVariants as tagged
 use Rattle.iw_octets.specs.declared.segment.Segment.{Segment}
 use Rattle.iw_octets.specs.declared.segment.Segment.TheVariants.{Tagged, Untagged}
+use Rattle.iw_octets.specs.Operation.{opcode_of, tagged_operation}
+use Rattle.iw_octets.specs.Segment.{read_segment}
 use Rattle.iw_memory.specs.declared.rights.Right.TheVariants as rights
 use Rattle.iw_memory.specs.Table.{Table, put}
 use Rattle.iw_fpdu.specs.declared.fpdu.Mismatch.{Mismatch}
 use Rattle.iw_fpdu.specs.declared.fpdu.Mismatch.TheVariants.{CrcMismatch, MarkerMismatch}
 use Rattle.iw_rdmap.specs.declared.head.Head.{Head}
-use Rattle.iw_rdmap.specs.FirstPath.{plain_tagged, plain_untagged}
+use Rattle.iw_rdmap.specs.declared.head.Head.TheVariants as heads
+use Rattle.iw_rdmap.specs.Unbuilt.{judged_built}
+use Rattle.iw_reads.specs.declared.reads.Outstanding.{Outstanding}
+use Rattle.iw_reads.specs.Outstanding.{sink_fault, response_turn_fault, reads_turned, finished_read}
+use Rattle.iw_reads.specs.Requests.{Requested}
+use Rattle.iw_reads.specs.Source.{source_fault}
+use Rattle.iw_tagged.specs.declared.placing.Placed.{Placed}
 use Rattle.iw_tagged.specs.Placing.{placing_fault}
 use Rattle.iw_untagged.specs.Receiving.{Receiving, buffer_fault, turn_fault, written}
 use Rattle.iw_untagged.specs.Receiving as receiving
 use Rattle.iw_stream.specs.declared.judging.Landing.{Landing}
-use Rattle.iw_stream.specs.declared.judging.Landing.TheVariants.{Write, Send}
+use Rattle.iw_stream.specs.declared.judging.Landing.TheVariants.{Write, Response, Send, Request}
 use Rattle.iw_stream.specs.declared.judging.PlacedFrame.{PlacedFrame}
 use Rattle.iw_stream.specs.declared.judging.Turning.{Turning}
-use Rattle.iw_stream.specs.declared.judging.Turning.TheVariants.{Passed, Completed}
-use Rattle.iw_stream.specs.Frames.{Frame, segment_in, head_in, payload_len}
+use Rattle.iw_stream.specs.declared.judging.Turning.TheVariants.{Passed, Completed, Answered}
+use Rattle.iw_stream.specs.Frames.{Frame, payload_of, head_in, payload_len}
 
--- what the checks of a frame look at: the regions, the stream's domain, and the receive buffers
+-- what the checks of a frame look at: the regions, the stream's domain, the receive buffers, the Reads of this end that are outstanding,
+-- and the peer's requests
 pub record Standing : Type 0 where
   pub table : Table
   pub domain : ℕ
   pub receiving : Receiving
+  pub reads : List Outstanding
+  pub asked : Requested
 
 abbrev pub or_else : Option Fault → Option Fault → Option Fault
 or_else None later = later
@@ -45,46 +56,60 @@ abbrev pub mismatch_fault : Mismatch → Fault
 mismatch_fault CrcMismatch = faults.CRC_MISMATCH
 mismatch_fault MarkerMismatch = faults.MARKER_MISMATCH
 
--- the first check of a tagged segment that fails, its payload having n octets
-abbrev pub tagged_fault : Table → ℕ → TaggedHead → ℕ → Option Fault
-tagged_fault table domain head n = or_else (result_err (plain_tagged head)) (placing_fault table domain head n rights.Write)
-
--- the first check of an untagged segment that fails, its payload having n octets
-abbrev pub untagged_fault : Receiving → UntaggedHead → ℕ → Option Fault
-untagged_fault r head n = or_else (result_err (plain_untagged head)) (buffer_fault r head.msn head.mo n)
-
 -- octets at the front of a ULPDU that its header can be judged by: 46 of them at least, or all
 pub record IsFirst (ulpdu first : List ℕ) : Type 0 where
   pub behind : List ℕ
   pub whole : ulpdu ≡ first ++ behind
   pub enough : min 46 (length ulpdu) ≤ length first
 
--- the header of a segment, judged
-abbrev pub judged_head : Option (Segment (List ℕ)) → Result Head Fault
-judged_head None = Err faults.SEGMENT_SHORT
-judged_head (Some (Tagged head payload)) = plain_tagged head
-judged_head (Some (Untagged head payload)) = plain_untagged head
+-- what the header of a ULPDU says, or the first of its checks that fails
+abbrev pub judged_head : Standing → List ℕ → Result Head Fault
+judged_head at ulpdu = judged_built ulpdu (length ulpdu) at.asked.next (length at.asked.unanswered)
 
--- where a segment goes, or the first check that it fails; none where the ULPDU is too short for its header
-abbrev pub segment_verdict : Standing → Option (Segment (List ℕ)) → Result Landing Fault
-segment_verdict at None = Err faults.SEGMENT_SHORT
-segment_verdict at (Some (Tagged head payload)) =
-    fault_or (tagged_fault at.table at.domain head (length payload)) (Write (record { stag = head.stag; to = head.to; n = length payload }))
-segment_verdict at (Some (Untagged head payload)) =
-    fault_or (untagged_fault at.receiving head (length payload)) (Send head.msn head.mo (length payload))
+-- n octets of a region, from the header's place on
+abbrev pub place_in : TaggedHead → ℕ → Placed
+place_in head n = record { stag = head.stag; to = head.to; n = n }
+
+-- where a tagged segment with n octets of payload goes, or the first check of its sink or its region that fails
+abbrev pub write_verdict : Table → ℕ → TaggedHead → ℕ → Result Landing Fault
+write_verdict table domain head n = fault_or (placing_fault table domain head n rights.Write) (Write (place_in head n))
+
+abbrev pub response_verdict : Table → ℕ → List Outstanding → TaggedHead → ℕ → Result Landing Fault
+response_verdict table domain reads head n =
+    fault_or (or_else (sink_fault reads head n) (placing_fault table domain head n rights.Sink)) (Response (place_in head n))
+
+-- where a segment with this header goes, or the first check of its sink, region, buffer or source that fails
+abbrev pub place_verdict : Standing → Head → ℕ → Result Landing Fault
+place_verdict at (heads.Write head) n = write_verdict at.table at.domain head n
+place_verdict at (heads.Response head) n = response_verdict at.table at.domain at.reads head n
+place_verdict at (heads.Send head) n = fault_or (buffer_fault at.receiving head.msn head.mo n) (Send head.msn head.mo n)
+place_verdict at (heads.Request head request) n = fault_or (source_fault at.table at.domain request) (Request request)
+place_verdict at (heads.Terminate head word) n = Err faults.OPERATION_UNEXPECTED  -- no header is judged to be one's yet
+
+abbrev pub head_verdict : Standing → Result Head Fault → ℕ → Result Landing Fault
+head_verdict at (Err fault) n = Err fault
+head_verdict at (Ok head) n = place_verdict at head n
+
+-- where a ULPDU's payload goes, or the first check that it fails
+abbrev pub segment_verdict : Standing → List ℕ → Result Landing Fault
+segment_verdict at ulpdu = head_verdict at (judged_head at ulpdu) (length (payload_of (read_segment ulpdu)))
 
 -- where a frame's payload goes, or the first check that fails: what is wrong with the frame comes before its segment
 abbrev pub verdict : Standing → Frame → Result Landing Fault
-verdict at frame = option_map_or (λ m. Err (mismatch_fault m)) frame.mismatch (segment_verdict at (segment_in frame))
+verdict at frame = option_map_or (λ m. Err (mismatch_fault m)) frame.mismatch (segment_verdict at frame.ulpdu)
 
 -- what the placement leaves of the regions, and of the receive buffers
 abbrev pub table_landed : Table → List ℕ → Landing → Table
 table_landed table payload (Write at) = put table at.stag at.to payload
+table_landed table payload (Response at) = put table at.stag at.to payload
 table_landed table payload (Send msn mo len) = table
+table_landed table payload (Request request) = table
 
 abbrev pub receiving_landed : Receiving → List ℕ → Landing → Receiving
 receiving_landed r payload (Write at) = r
+receiving_landed r payload (Response at) = r
 receiving_landed r payload (Send msn mo len) = written r msn mo payload
+receiving_landed r payload (Request request) = r
 
 -- ---- its turn
 
@@ -92,14 +117,32 @@ abbrev pub turning_by : Bool → Turning
 turning_by true = Completed
 turning_by false = Passed
 
--- what the turn of a segment comes to, by the checks of a turn alone: no check of a frame, a header or a region is made again
-abbrev pub segment_turn : Receiving → Option (Segment (List ℕ)) → Result Turning Fault
-segment_turn r None = Err faults.SEGMENT_SHORT
-segment_turn r (Some (Tagged head payload)) = Ok Passed
-segment_turn r (Some (Untagged head payload)) = fault_or (turn_fault r head.msn head.mo) (turning_by head.last)
+abbrev pub answering_by : Option ℕ → Turning
+answering_by None = Passed
+answering_by (Some ticket) = Answered ticket
+
+abbrev pub is_read_response : Option TaggedOperation → Bool
+is_read_response None = false
+is_read_response (Some tagged.Write) = false
+is_read_response (Some tagged.ReadResponse) = true
+
+-- a tagged segment carries part of the response to a Read; the turn of a Write has no check
+abbrev pub is_response : TaggedHead → Bool
+is_response head = is_read_response (tagged_operation (opcode_of head.control))
+
+abbrev pub tagged_turn : List Outstanding → TaggedHead → ℕ → Result Turning Fault
+tagged_turn reads head n =
+    if is_response head then fault_or (response_turn_fault reads head n) (answering_by (finished_read reads head)) else Ok Passed
+
+-- what the turn of a segment with n octets of payload comes to, by the checks of a turn alone: no check of a frame, a header or a region is
+-- made again
+abbrev pub segment_turn : Receiving → List Outstanding → ℕ → Option (Segment (List ℕ)) → Result Turning Fault
+segment_turn r reads n None = Err faults.SEGMENT_SHORT
+segment_turn r reads n (Some (Tagged head payload)) = tagged_turn reads head n
+segment_turn r reads n (Some (Untagged head payload)) = fault_or (turn_fault r head.msn head.mo) (turning_by head.last)
 
 abbrev pub turn_of : Standing → PlacedFrame → Result Turning Fault
-turn_of at frame = segment_turn at.receiving (head_in frame)
+turn_of at frame = segment_turn at.receiving at.reads (payload_len frame) (head_in frame)
 
 -- what it leaves of the message that is due, where that is not complete
 abbrev pub turned_by : Receiving → ℕ → Option (Segment (List ℕ)) → Receiving
@@ -109,3 +152,15 @@ turned_by r n (Some (Untagged head payload)) = receiving.turned r n
 
 abbrev pub receiving_turned : Receiving → PlacedFrame → Receiving
 receiving_turned r frame = turned_by r (payload_len frame) (head_in frame)
+
+-- and of the outstanding Reads
+abbrev pub tagged_left : List Outstanding → TaggedHead → ℕ → List Outstanding
+tagged_left reads head n = if is_response head then reads_turned reads head n else reads
+
+abbrev pub left_by_turn : List Outstanding → ℕ → Option (Segment (List ℕ)) → List Outstanding
+left_by_turn reads n None = reads
+left_by_turn reads n (Some (Tagged head payload)) = tagged_left reads head n
+left_by_turn reads n (Some (Untagged head payload)) = reads
+
+abbrev pub reads_left : List Outstanding → PlacedFrame → List Outstanding
+reads_left reads frame = left_by_turn reads (payload_len frame) (head_in frame)

@@ -1,5 +1,5 @@
 -- What a stream keeps of its fields, and the limits that callers may rely on.
-use Rattle.std.specs.Prelude.{◌≡◌, ℕ, ◌+◌, ◌<◌, ◌≤◌, ◌%◌, ◌-◌, ◌^◌, true, false, List, length, Option, Some, None, IfSome}
+use Rattle.std.specs.Prelude.{◌≡◌, ◌≢◌, ℕ, ◌+◌, ◌<◌, ◌≤◌, ◌%◌, ◌-◌, ◌^◌, true, false, List, [], ◌∷◌, length, Option, Some, None, IfSome}
 use Rattle.iw_octets.specs.declared.segment.Segment.{Segment}
 use Rattle.iw_octets.specs.declared.segment.Segment.TheVariants.{Tagged, Untagged}
 use Rattle.iw_ranges.specs.Arrived.{IsWithinLimits, has_come}
@@ -7,9 +7,14 @@ use Rattle.iw_ranges.specs.InOrder.{IsHeld}
 use Rattle.iw_fpdu.specs.Frame.{frame_end}
 use Rattle.iw_fpdu.specs.Laws.{IsBetween}
 use Rattle.iw_untagged.specs.Receiving.{Receiving, HoldsLimits, ahead_of, buffer_of}
+use Rattle.iw_queues.specs.Completions as completions
+use Rattle.iw_queues.specs.Completions.{IsAwaited}
 use Rattle.iw_queues.specs.Queue as queues
+use Rattle.iw_reads.specs.declared.reads.Outstanding.{Outstanding}
+use Rattle.iw_reads.specs.Outstanding as outstanding
+use Rattle.iw_reads.specs.Requests as requests
 use Rattle.iw_stream.specs.declared.answer.Step.{Step}
-use Rattle.iw_stream.specs.declared.answer.Step.TheVariants.{Done, Asked, Opened, Closed, Placed, Buffered, Passed, Received, Fault, Idle}
+use Rattle.iw_stream.specs.declared.answer.Step.TheVariants.{Done, Asked, Opened, Closed, Placed, Buffered, Requested, Passed, Received, Fault, Idle}
 use Rattle.iw_stream.specs.declared.judging.PlacedFrame.{PlacedFrame}
 use Rattle.iw_stream.specs.Frames.{head_in, payload_len}
 use Rattle.iw_stream.specs.Starting.{is_open, expecting, first_place_in, first_place_out}
@@ -22,14 +27,18 @@ HasBuffer r n None = ⊥
 HasBuffer r n (Some (Tagged head payload)) = Unit {0}
 HasBuffer r n (Some (Untagged head payload)) = (ahead_of r.due head.msn < length r.buffers) × (head.mo + n ≤ length (buffer_of r head.msn))
 
--- the frame at the in-order point, which was placed: it came whole, and the next one begins where it ends
-pub record IsPlaced (s : StreamState) (frame : PlacedFrame) : Type 0 where
+-- the frame at the in-order point: it came whole, and the next one begins where it ends
+pub record Stands (s : StreamState) (frame : PlacedFrame) : Type 0 where
   pub low : frame.start ≤ s.arrived.floor + 4
   pub header : length frame.header.items ≤ frame.len
   pub on : s.arrived.floor < place_behind s frame
   pub near : place_behind s frame ≤ s.arrived.floor + 2 ^ 18
   pub come : (p : ℕ) → p < place_behind s frame → has_come s.arrived p ≡ true
   pub next : IsBetween (expecting s.start).markers (frame_end (expecting s.start).markers frame.start frame.len)
+
+-- and was placed
+pub record IsPlaced (s : StreamState) (frame : PlacedFrame) : Type 0 where
+  pub stands : Stands s frame
   pub buffer : HasBuffer s.receiving (payload_len frame) (head_in frame)
 
 -- how far the start-up has come
@@ -42,6 +51,16 @@ pub record IsStarted (s : StreamState) : Type 0 where
   -- the peer's frames stand behind its start-up frame
   pub behind : first_place_in s.start ≤ s.arrived.floor
 
+-- none of the Reads has this ticket
+abbrev pub AreOthers : ℕ → List Outstanding → Type 0
+AreOthers ticket [] = Unit {0}
+AreOthers ticket (read ∷ reads) = (read.ticket ≢ ticket) × AreOthers ticket reads
+
+-- the Reads were sent and are not finished, each with a ticket of its own
+abbrev pub AreAwaited : completions.Outstanding → List Outstanding → Type 0
+AreAwaited sent [] = Unit {0}
+AreAwaited sent (read ∷ reads) = (read.ticket < 2 ^ 64) × IsAwaited sent read.ticket × AreOthers read.ticket reads × AreAwaited sent reads
+
 pub record Keeps (s : StreamState) : Type 0 where
   pub started : IsStarted s
   pub between : IsBetween (expecting s.start).markers (s.arrived.floor - first_place_in s.start)
@@ -50,13 +69,17 @@ pub record Keeps (s : StreamState) : Type 0 where
   pub enough : 128 ≤ s.mulpdu
   pub few : s.mulpdu ≤ 64512
   pub is_placed : IfSome s.front (IsPlaced s)
+  pub first : s.queue.sent.first < 2 ^ 64
+  pub awaited : AreAwaited s.queue.sent s.reads
 
--- at most 1,024 islands and 262,144 octets behind the in-order point, 256 messages of 16,777,216 octets, 256 receive buffers, a maximum ULPDU of
--- 128 to 64,512 octets
+-- at most 1,024 islands and 262,144 octets behind the in-order point, 256 messages of 16,777,216 octets, 256 receive buffers, 16 outstanding
+-- Reads each way, a maximum ULPDU of 128 to 64,512 octets
 pub record IsWithin (s : StreamState) : Type 0 where
   pub arrived : IsWithinLimits s.arrived
   pub queue : queues.IsWithinLimits s.queue
   pub receiving : HoldsLimits s.receiving
+  pub reads : outstanding.HoldsLimits s.reads
+  pub asked : requests.HoldsLimits s.asked
   pub enough : 128 ≤ s.mulpdu
   pub few : s.mulpdu ≤ 64512
 
@@ -69,6 +92,7 @@ IsWithinBuffer (Opened agreed) = Unit {0}
 IsWithinBuffer (Closed fault) = Unit {0}
 IsWithinBuffer (Placed right stag to len) = Unit {0}
 IsWithinBuffer (Buffered msn mo len) = Unit {0}
+IsWithinBuffer (Requested size stag to) = Unit {0}
 IsWithinBuffer Passed = Unit {0}
 IsWithinBuffer (Fault fault) = Unit {0}
 IsWithinBuffer Idle = Unit {0}

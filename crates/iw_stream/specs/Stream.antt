@@ -1,8 +1,11 @@
 -- The state of a stream, and what each call but work leaves of it.
-use Rattle.std.specs.Prelude.{ℕ, ◌+◌, ◌-◌, ◌==◌, nat_lt, Bool, true, false, not, ◌&&◌, ◌||◌, List, [], length, if◌then◌else◌, Option, Some, None}
+use Rattle.std.specs.Prelude.{ℕ, ◌+◌, ◌-◌, ◌==◌, nat_lt, nat_le, Bool, true, false, not, ◌&&◌, ◌||◌, List, [], length, if◌then◌else◌, Option, Some, None, Result, Ok, Err}
 use Rattle.std.specs.Option.{option_map, option_map_or}
-use Rattle.iw_octets.specs.declared.message.Message.{Message}
+use Rattle.iw_octets.specs.declared.fault.Fault.{Fault}
+use Rattle.iw_octets.specs.declared.segment.Segment.{Segment}
+use Rattle.iw_octets.specs.declared.segment.Segment.TheVariants.{Tagged}
 use Rattle.iw_octets.specs.Segment.{segment_octets}
+use Rattle.iw_memory.specs.Table.{Table}
 use Rattle.iw_ranges.specs.declared.Delivery.{Delivery}
 use Rattle.iw_ranges.specs.declared.Delivery.TheVariants.{Kept, Dropped}
 use Rattle.iw_ranges.specs.Arrived.{Arrived, nothing, delivery, taken_in}
@@ -19,6 +22,11 @@ use Rattle.iw_queues.specs.declared.send_queue.Part.{Part}
 use Rattle.iw_queues.specs.Queue.{Queue, nothing_posted, posted, next_part, part_sent}
 use Rattle.iw_queues.specs.Queue as queues
 use Rattle.iw_queues.specs.Segments.{Numbers, first_numbers, segment_of, numbers_behind}
+use Rattle.iw_reads.specs.declared.reads.Outstanding.{Outstanding}
+use Rattle.iw_reads.specs.declared.response.ResponsePart.{ResponsePart}
+use Rattle.iw_reads.specs.Outstanding.{most_reads, asked_for}
+use Rattle.iw_reads.specs.Requests.{Requested, nothing_asked, response_part, part_fetched}
+use Rattle.iw_reads.specs.Response.{fetch_fault, fetched_octets}
 use Rattle.arrayvec.specs.ArrayVec.{ArrayVec}
 use Rattle.iw_startup.specs.declared.config.Config.{Config}
 use Rattle.iw_startup.specs.declared.side.Reply.TheVariants.{Accept, Reject}
@@ -32,6 +40,7 @@ use Rattle.iw_stream.specs.declared.answer.RecvRefusal.TheVariants as recv_refus
 use Rattle.iw_stream.specs.declared.answer.SizeRefusal.{SizeRefusal}
 use Rattle.iw_stream.specs.declared.answer.SizeRefusal.TheVariants.{BadSize}
 use Rattle.iw_stream.specs.declared.judging.PlacedFrame.{PlacedFrame}
+use Rattle.iw_stream.specs.Judging.{fault_or}
 use Rattle.iw_stream.specs.Starting.{StartState, start_at_first, is_open, sending, own_frame, first_place_in, first_place_out, is_responder, is_asked, answered_with}
 
 pub record StreamState : Type 0 where
@@ -42,6 +51,8 @@ pub record StreamState : Type 0 where
   pub numbers : Numbers  -- the message sequence numbers of the next messages
   pub sent : ℕ  -- octets emitted
   pub receiving : Receiving
+  pub reads : List Outstanding  -- the Reads whose requests were emitted and whose responses have not come whole, oldest first
+  pub asked : Requested  -- the peer's Read Requests
   pub arrived : Arrived  -- what came, from the in-order point on
   pub front : Option PlacedFrame  -- the frame at the in-order point, once it was placed
   pub ended : Bool
@@ -56,6 +67,8 @@ opened domain role config = record {
   numbers = first_numbers;
   sent = 0;
   receiving = nothing_received;
+  reads = [];
+  asked = nothing_asked;
   arrived = nothing;
   front = None;
   ended = false;
@@ -88,51 +101,98 @@ keeps_silent s = is_responder s.start && (s.arrived.floor == first_place_in s.st
 abbrev pub is_mute : StreamState → Bool
 is_mute s = s.ended || (not (is_open s.start) || keeps_silent s)
 
--- the part that is to be sent next
+abbrev pub is_read : Request (List ℕ) → Bool
+is_read (requests.Message m) = false
+is_read (requests.Read request) = true
+
+-- a Read is not begun while 16 are outstanding, and all behind it wait too
+abbrev pub may_go : List Outstanding → Option (Part (Request (List ℕ))) → Option (Part (Request (List ℕ)))
+may_go reads None = None
+may_go reads (Some part) = if is_read part.message && nat_le most_reads (length reads) then None else Some part
+
+-- the part of what was posted that is to be sent next
 abbrev pub part_due : StreamState → Option (Part (Request (List ℕ)))
-part_due s = next_part s.queue s.mulpdu
+part_due s = may_go s.reads (next_part s.queue s.mulpdu)
+
+-- the part of a response that is to be sent next, the peer's oldest request first; none while a message is begun, since the parts of two
+-- messages never mingle
+abbrev pub response_due : StreamState → Option ResponsePart
+response_due s = if nat_lt 0 s.queue.offset then None else response_part s.asked s.mulpdu
 
 -- what is to be emitted next
 pub data Due : Type 0 where
   StartUp : Due  -- this end's start-up frame
-  NextPart : Part (Request (List ℕ)) → Due  -- the frame of the part that is next
+  Response : ResponsePart → Due  -- the frame of a part of a response, if its source is not denied
+  NextPart : Part (Request (List ℕ)) → Due  -- the frame of a part of what was posted
   NoneDue : Due
 
 abbrev pub due : StreamState → Due
-due s = if owes_frame s then StartUp else if is_mute s then NoneDue else option_map_or NextPart (part_due s) NoneDue
+due s =
+    if owes_frame s then StartUp
+    else if is_mute s then NoneDue
+    else option_map_or Response (response_due s) (option_map_or NextPart (part_due s) NoneDue)
+
+-- the frame that carries a segment, at the place that is next
+abbrev pub frame_of : StreamState → Segment (List ℕ) → List ℕ
+frame_of s segment = frame_octets (sending s.start) (s.sent - first_place_out s.start) (segment_octets segment)
 
 abbrev pub frame_of_part : StreamState → Part (Request (List ℕ)) → List ℕ
-frame_of_part s part = frame_octets (sending s.start) (s.sent - first_place_out s.start) (segment_octets (segment_of s.numbers part))
+frame_of_part s part = frame_of s (segment_of s.numbers part)
+
+-- the frame of a part of a response, whose octets are fetched as it is sent, or why they are denied
+abbrev pub frame_fetched : Table → StreamState → ResponsePart → Result (List ℕ) Fault
+frame_fetched table s part = fault_or (fetch_fault table s.domain part) (frame_of s (Tagged part.head (fetched_octets table part)))
 
 -- its octets
-abbrev pub octets_due : StreamState → Due → List ℕ
-octets_due s StartUp = own_frame s.start
-octets_due s (NextPart part) = frame_of_part s part
-octets_due s NoneDue = []
+abbrev pub octets_fetched : Result (List ℕ) Fault → List ℕ
+octets_fetched (Ok frame) = frame
+octets_fetched (Err fault) = []
 
-abbrev pub emission_due : StreamState → Due → Emission
-emission_due s StartUp = emissions.Frame s.sent (length (own_frame s.start))
-emission_due s (NextPart part) = emissions.Frame s.sent (length (frame_of_part s part))
-emission_due s NoneDue = emissions.Nothing
+abbrev pub octets_due : Table → StreamState → Due → List ℕ
+octets_due table s StartUp = own_frame s.start
+octets_due table s (Response part) = octets_fetched (frame_fetched table s part)
+octets_due table s (NextPart part) = frame_of_part s part
+octets_due table s NoneDue = []
 
-abbrev pub left_due : StreamState → Due → StreamState
-left_due s StartUp = record s { sent = s.sent + length (own_frame s.start) }
-left_due s (NextPart part) = record s {
+abbrev pub emission_fetched : StreamState → ResponsePart → Result (List ℕ) Fault → Emission
+emission_fetched s part (Ok frame) = emissions.Fetched s.sent (length frame) part.stag part.to part.n
+emission_fetched s part (Err fault) = emissions.Fault fault
+
+abbrev pub emission_due : Table → StreamState → Due → Emission
+emission_due table s StartUp = emissions.Frame s.sent (length (own_frame s.start))
+emission_due table s (Response part) = emission_fetched s part (frame_fetched table s part)
+emission_due table s (NextPart part) = emissions.Frame s.sent (length (frame_of_part s part))
+emission_due table s NoneDue = emissions.Nothing
+
+-- a Read is outstanding once its request was sent
+abbrev pub reads_with : List Outstanding → ℕ → Request (List ℕ) → List Outstanding
+reads_with reads ticket (requests.Message m) = reads
+reads_with reads ticket (requests.Read request) = asked_for reads ticket request
+
+abbrev pub left_fetched : StreamState → ResponsePart → Result (List ℕ) Fault → StreamState
+left_fetched s part (Ok frame) = record s { asked = part_fetched s.asked (Some part); sent = s.sent + length frame }
+left_fetched s part (Err fault) = record s { ended = true }
+
+abbrev pub left_due : Table → StreamState → Due → StreamState
+left_due table s StartUp = record s { sent = s.sent + length (own_frame s.start) }
+left_due table s (Response part) = left_fetched s part (frame_fetched table s part)
+left_due table s (NextPart part) = record s {
   queue = part_sent s.queue (Some part);
   numbers = numbers_behind s.numbers part;
   sent = s.sent + length (frame_of_part s part);
+  reads = reads_with s.reads part.ticket part.message;
 }
-left_due s NoneDue = s
+left_due table s NoneDue = s
 
 -- what a call to emit appends, answers and leaves
-abbrev pub emitted : StreamState → List ℕ
-emitted s = octets_due s (due s)
+abbrev pub emitted : Table → StreamState → List ℕ
+emitted table s = octets_due table s (due s)
 
-abbrev pub emission_of : StreamState → Emission
-emission_of s = emission_due s (due s)
+abbrev pub emission_of : Table → StreamState → Emission
+emission_of table s = emission_due table s (due s)
 
-abbrev pub after_emit : StreamState → StreamState
-after_emit s = left_due s (due s)
+abbrev pub after_emit : Table → StreamState → StreamState
+after_emit table s = left_due table s (due s)
 
 -- ---- delivery
 
@@ -153,12 +213,12 @@ post_refusal_of refusals.TooLong = post_refusals.TooLong
 post_refusal_of refusals.NoMemory = post_refusals.NoMemory
 
 -- why a posting is refused, if it is
-abbrev pub post_refusal : StreamState → Message (List ℕ) → Option PostRefusal
-post_refusal s m =
-    if s.ended || not (is_open s.start) then Some post_refusals.NotOpen else option_map post_refusal_of (queues.post_refusal s.queue (requests.Message m))
+abbrev pub post_refusal : StreamState → Request (List ℕ) → Option PostRefusal
+post_refusal s request =
+    if s.ended || not (is_open s.start) then Some post_refusals.NotOpen else option_map post_refusal_of (queues.post_refusal s.queue request)
 
-abbrev pub with_message : StreamState → Message (List ℕ) → StreamState
-with_message s m = record s { queue = posted s.queue (requests.Message m) }
+abbrev pub with_request : StreamState → Request (List ℕ) → StreamState
+with_request s request = record s { queue = posted s.queue request }
 
 abbrev pub recv_refusal_of : BufferRefusal → RecvRefusal
 recv_refusal_of buffer_refusals.Full = recv_refusals.Full

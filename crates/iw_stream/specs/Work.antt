@@ -1,5 +1,5 @@
 -- What a call to work does: one task, by the state alone, and what it answers and leaves.
-use Rattle.std.specs.Prelude.{ℕ, ◌+◌, ◌-◌, true, false, not, List, length, if◌then◌else◌, Option, Some, None, Result, Ok, Err}
+use Rattle.std.specs.Prelude.{ℕ, ◌+◌, ◌-◌, true, false, not, List, if◌then◌else◌, Option, Some, None, Result, Ok, Err}
 use Rattle.std.specs.Option.{option_map_or}
 use Rattle.iw_octets.specs.declared.fault.Fault.{Fault}
 use Rattle.iw_memory.specs.declared.rights.Right.TheVariants as rights
@@ -8,19 +8,22 @@ use Rattle.iw_ranges.specs.Arrived.{in_order, advanced}
 use Rattle.iw_fpdu.specs.Frame.{frame_end}
 use Rattle.iw_fpdu.specs.Places.{frame_start}
 use Rattle.iw_queues.specs.declared.completions.Done.{Done}
-use Rattle.iw_queues.specs.Queue.{done_in, handed_from}
+use Rattle.iw_octets.specs.declared.payload.ReadRequest.{ReadRequest}
+use Rattle.iw_queues.specs.Completions as completions
+use Rattle.iw_queues.specs.Queue.{sent_with, done_in, handed_from}
+use Rattle.iw_reads.specs.Requests.{taken_up}
 use Rattle.iw_startup.specs.declared.progress.Progress.{Progress}
 use Rattle.iw_startup.specs.declared.progress.Progress.TheVariants as progress
 use Rattle.iw_untagged.specs.Receiving.{Receiving, finished, oldest}
 use Rattle.iw_stream.specs.declared.answer.Step.{Step}
 use Rattle.iw_stream.specs.declared.answer.Step.TheVariants as steps
 use Rattle.iw_stream.specs.declared.judging.Landing.{Landing}
-use Rattle.iw_stream.specs.declared.judging.Landing.TheVariants.{Write, Send}
+use Rattle.iw_stream.specs.declared.judging.Landing.TheVariants.{Write, Response, Send, Request}
 use Rattle.iw_stream.specs.declared.judging.PlacedFrame.{PlacedFrame}
 use Rattle.iw_stream.specs.declared.judging.Turning.{Turning}
-use Rattle.iw_stream.specs.declared.judging.Turning.TheVariants.{Passed, Completed}
+use Rattle.iw_stream.specs.declared.judging.Turning.TheVariants.{Passed, Completed, Answered}
 use Rattle.iw_stream.specs.Frames.{Frame, frame_at, segment_in, payload_of, placed, payload_len}
-use Rattle.iw_stream.specs.Judging.{Standing, verdict, table_landed, receiving_landed, turn_of, receiving_turned}
+use Rattle.iw_stream.specs.Judging.{Standing, verdict, table_landed, receiving_landed, turn_of, receiving_turned, reads_left}
 use Rattle.iw_stream.specs.Starting.{StartState, is_open, expecting, first_place_in, awaits_frame, progress_in, heard, agreement_in}
 use Rattle.iw_stream.specs.Stream.{StreamState}
 
@@ -54,7 +57,7 @@ task s =
 
 -- what its checks look at
 abbrev pub standing : Table → StreamState → Standing
-standing table s = record { table = table; domain = s.domain; receiving = s.receiving }
+standing table s = record { table = table; domain = s.domain; receiving = s.receiving; reads = s.reads; asked = s.asked }
 
 -- ---- what is answered
 
@@ -67,11 +70,14 @@ heard_step start octets (progress.Faulted fault) = steps.Closed fault
 abbrev pub turned_step : Receiving → PlacedFrame → Result Turning Fault → Step (List ℕ)
 turned_step r frame (Ok Passed) = steps.Passed
 turned_step r frame (Ok Completed) = steps.Received (oldest r) (r.turned + payload_len frame) false None
+turned_step r frame (Ok (Answered ticket)) = steps.Passed
 turned_step r frame (Err fault) = steps.Fault fault
 
 abbrev pub judged_step : Result Landing Fault → Step (List ℕ)
 judged_step (Ok (Write at)) = steps.Placed rights.Write at.stag at.to at.n
+judged_step (Ok (Response at)) = steps.Placed rights.Sink at.stag at.to at.n
 judged_step (Ok (Send msn mo len)) = steps.Buffered msn mo len
+judged_step (Ok (Request request)) = steps.Requested request.size request.source request.source_to
 judged_step (Err fault) = steps.Fault fault
 
 abbrev pub step_of : Table → StreamState → Task → Step (List ℕ)
@@ -98,16 +104,34 @@ abbrev pub place_behind : StreamState → PlacedFrame → ℕ
 place_behind s frame = first_place_in s.start + frame_end (expecting s.start).markers frame.start frame.len
 
 -- a frame had its turn, and the in-order point lies behind it
-abbrev pub behind : StreamState → PlacedFrame → Receiving → StreamState
-behind s frame r = record s { front = None; receiving = r; arrived = advanced s.arrived (place_behind s frame) }
+abbrev pub behind : StreamState → PlacedFrame → StreamState
+behind s frame = record s { front = None; arrived = advanced s.arrived (place_behind s frame) }
 
 abbrev pub after_turn : StreamState → PlacedFrame → Result Turning Fault → StreamState
-after_turn s frame (Ok Passed) = behind s frame (receiving_turned s.receiving frame)
-after_turn s frame (Ok Completed) = behind s frame (finished s.receiving)
+after_turn s frame (Ok Passed) = record (behind s frame) {
+  receiving = receiving_turned s.receiving frame;
+  reads = reads_left s.reads frame;
+}
+after_turn s frame (Ok Completed) = record (behind s frame) { receiving = finished s.receiving }
+after_turn s frame (Ok (Answered ticket)) = record (behind s frame) {
+  reads = reads_left s.reads frame;
+  queue = sent_with s.queue (completions.finished s.queue.sent ticket);
+}
 after_turn s frame (Err fault) = record s { ended = true }
 
+-- the frame at the in-order point waits for its turn
+abbrev pub lands : StreamState → Frame → Landing → StreamState
+lands s frame at = record s { front = Some (placed frame); receiving = receiving_landed s.receiving (payload_of (segment_in frame)) at }
+
+-- a Read Request has its turn at once
+abbrev pub takes_up : StreamState → PlacedFrame → ReadRequest → StreamState
+takes_up s frame request = record (behind s frame) { asked = taken_up s.asked (record { header = frame.header; request = request }) }
+
 abbrev pub after_judging : StreamState → Frame → Result Landing Fault → StreamState
-after_judging s frame (Ok at) = record s { front = Some (placed frame); receiving = receiving_landed s.receiving (payload_of (segment_in frame)) at }
+after_judging s frame (Ok (Write at)) = lands s frame (Write at)
+after_judging s frame (Ok (Response at)) = lands s frame (Response at)
+after_judging s frame (Ok (Send msn mo len)) = lands s frame (Send msn mo len)
+after_judging s frame (Ok (Request request)) = takes_up s (placed frame) request
 after_judging s frame (Err fault) = record s { ended = true }
 
 abbrev pub left_by : Table → StreamState → Task → StreamState

@@ -3,12 +3,13 @@ use iw_octets::{Fault, Stag};
 use iw_queues::Kind;
 use iw_startup::{Agreed, StartupFault};
 
-/// Why a message is not posted: the first reason that holds, in the order `NotOpen`, `Full`, `TooLong`, `NoMemory`.
+/// Why a message or a Read is not posted: the first reason that holds, in the order `NotOpen`, `Full`, `TooLong`,
+/// `NoMemory`.
 #[derive(Clone, Copy, Debug, PartialEq, Eq)]
 pub enum PostRefusal {
     /// 256 messages are posted and not yet handed out.
     Full,
-    /// The message has too many octets.
+    /// The message has too many octets, or the Read asks for too many.
     TooLong,
     /// The stream is not open yet, or has ended.
     NotOpen,
@@ -35,7 +36,20 @@ pub enum SizeRefusal {
 #[derive(Clone, Copy, Debug, PartialEq, Eq)]
 pub enum Emission {
     /// A frame of `len` octets, the first of which has the stream place `from`.
-    Frame { from: u64, len: usize },
+    Frame {
+        from: u64,
+        len: usize,
+    },
+    /// A frame of the response to a Read, as `Frame`. Its payload are the `n` octets of region `stag` from tagged offset `to` on.
+    Fetched {
+        from: u64,
+        len: usize,
+        stag: Stag,
+        to: u64,
+        n: usize,
+    },
+    /// The source of the Read that is answered is denied: nothing is appended, and the stream has ended by this fault.
+    Fault(Fault),
     /// Nothing is due.
     Nothing,
 }
@@ -74,6 +88,12 @@ pub enum Step<O> {
         msn: u32,
         mo: u32,
         len: usize,
+    },
+    /// A Read Request for `size` octets was taken up: those of region `stag` from tagged offset `to` on.
+    Requested {
+        size: u32,
+        stag: Stag,
+        to: u64,
     },
     /// A frame had its turn, and there is nothing more to say of it.
     Passed,

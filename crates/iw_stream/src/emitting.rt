@@ -1,4 +1,5 @@
 ghost use Rattle.std.specs.Prelude.{◌≡◌, ◌+◌, ◌-◌, ◌<◌, ◌≤◌, ◌%◌, ◌^◌, ◌++◌, length, OnOk, OnErr};
+ghost use Rattle.iw_octets.specs.declared.segment.Segment.TheVariants.{Tagged};
 ghost use Rattle.iw_octets.specs.Segment.{segment_octets};
 ghost use Rattle.iw_fpdu.specs.Frame.{frame_octets, max_sent};
 ghost use Rattle.iw_queues.specs.Request.{payload, header_len};
@@ -172,4 +173,26 @@ pub(crate) fn write_part<A: Allocator, B: Allocator>(
             write_frame(layout, at, head.as_slice(), request.as_slice(), out)
         }
     }
+}
+
+/// Appends the frame of a part of a response, to stand at frame place `at`: a segment with this header and these octets.
+///
+/// An `Err` leaves `out` as it was.
+#[tactic(auto, unfolding(iw_octets::specs::Segment::segment_octets))]
+pub(crate) fn write_response<A: Allocator>(
+    layout: Layout,
+    at: u64,
+    head: TaggedHead,
+    octets: &[u8],
+    out: &mut Vec<u8, A>,
+) -> Result<(), AllocError>
+    requires place { at < 2 ^ 63 }
+    requires aligned { at % 4 ≡ 0 }
+    requires version { head.ddp_version < 4 }
+    requires short { 14 + length octets.now ≤ max_sent }
+    ensures ok { OnOk result (out.new.items ≡ out.old.items ++ frame_octets layout at (segment_octets (Tagged head octets.now))) }
+    ensures err { OnErr result (out.new.items ≡ out.old.items) }
+{
+    let head = head.write();
+    write_frame(layout, at, head.as_slice(), octets, out)
 }

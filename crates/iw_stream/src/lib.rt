@@ -1,18 +1,18 @@
-//! One stream of an endpoint: its start-up, messages posted, frames emitted, octets that came, and the frames in them
-//! judged in order.
+//! One stream of an endpoint: its start-up, messages and Reads posted, frames emitted, octets that came, and the
+//! frames in them judged in order.
 //!
 //! A [`Stream`] belongs to a protection domain and has a [`Role`]: open at once, or opened by MPA's start-up frames
 //! (RFC 5044 7.1). Its owner
 //!
-//! 1. posts receive buffers (`post_recv`) and, once the stream is open, messages (`post`);
+//! 1. posts receive buffers (`post_recv`) and, once the stream is open, messages and Reads (`post`);
 //! 2. sends what `emit` appends, until it answers [`Emission::Nothing`];
 //! 3. hands in octets that came, with their place in the stream (`deliver`), in any order;
 //! 4. calls `work` until it answers [`Step::Idle`]: each call does one step and says what it did. Where it is
 //!    [`Step::Asked`], the owner accepts or rejects the peer's Request.
 //!
 //! After 3 and 4 there may be more to emit. The regions that the peer may use are an `iw_memory::Memory`, lent to each call
-//! of `work`. No call does input or output; `post`, `post_recv`, `deliver` and `emit` may want memory, and then change
-//! nothing; `work` takes none.
+//! of `work`, and of `emit`, which answers the peer's Reads from them. No call does input or output; `post`, `post_recv`,
+//! `deliver` and `emit` may want memory, and then change nothing; `work` takes none.
 #![tactic(auto)]
 
 mod answer;
@@ -23,8 +23,9 @@ mod starting;
 mod stream;
 
 pub use answer::{Emission, PostRefusal, RecvRefusal, Role, SizeRefusal, Step};
-pub use iw_queues::Kind;
+pub use iw_queues::{Kind, Request};
 pub use iw_ranges::Delivery;
+pub use iw_reads::{Asked, Outstanding, ResponsePart};
 pub use iw_startup::{Agreed, Config, NotAsked, PrivateData, StartupFault};
 pub use judging::{Landing, PlacedFrame, Turning};
 pub use stream::Stream;

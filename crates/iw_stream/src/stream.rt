@@ -1,21 +1,26 @@
-ghost use Rattle.std.specs.Prelude.{◌≡◌, ◌+◌, ◌≤◌, ◌^◌, ◌++◌, length, true, false, is_ok, is_some, Some, None, IfSome, IfNone, IfOk, IfErr, IsErr, IsSome, OnOk, OnErr};
+ghost use Rattle.std.specs.Prelude.{◌≡◌, ◌+◌, ◌<◌, ◌≤◌, ◌^◌, ◌++◌, ◌&&◌, nat_le, length, true, false, is_ok, is_some, Some, None, Ok, IfSome, IfNone, IfOk, IfErr, IsErr, IsSome, OnOk, OnErr};
 ghost use Rattle.std.specs.Option.{option_map_or};
 ghost use Rattle.std.specs.Result.{result_err};
+ghost use Rattle.iw_octets.specs.declared.fault.Fault.{Fault};
+ghost use Rattle.iw_octets.specs.declared.segment.Segment.TheVariants.{Tagged};
 ghost use Rattle.iw_memory.specs.Table.{Table};
 ghost use Rattle.iw_ranges.specs.Arrived.{BringsOctets};
 ghost use Rattle.iw_stream.specs.Starting.{is_open, own_frame, first_place_in, first_place_out, awaits_frame, private_in, agreement_in};
-ghost use Rattle.iw_stream.specs.Stream.{post_refusal_of, recv_refusal_of};
+ghost use Rattle.iw_reads.specs.Outstanding.{most_reads};
+ghost use Rattle.iw_reads.specs.Source.{IsInRange};
+ghost use Rattle.iw_stream.specs.Stream.{post_refusal_of, recv_refusal_of, is_read, reads_with};
 
 use crate::answer::{Emission, PostRefusal, RecvRefusal, Role, SizeRefusal, Step};
-use crate::emitting::{Numbers, write_part};
+use crate::emitting::{Numbers, write_part, write_response};
 use crate::incoming::frame_at;
 use crate::judging::{Landing, PlacedFrame, Turning, land_frame, placed_frame, turn_frame};
 use crate::starting::{Start, octets_in_order};
 use bytes::Bytes;
 use iw_memory::{Memory, Right};
-use iw_octets::{Message, Octets};
+use iw_octets::{Octets, ReadRequest};
 use iw_queues::{Refusal, Request, SendQueue};
 use iw_ranges::{Delivery, Islands};
+use iw_reads::{Asked, Reads, Requests, ResponsePart, fetch};
 use iw_startup::{Agreed, Config, NotAsked, PrivateData, Progress};
 use iw_tagged::Placed;
 use iw_untagged::{BufferRefusal, Received, RecvQueue};
@@ -43,6 +48,10 @@ pub struct Stream<A: Allocator = Global> {
     numbers: Numbers,
     queue: SendQueue<A>,
     receiving: RecvQueue<A>,
+    // The Reads of this end whose responses have not come whole.
+    reads: Reads,
+    // The peer's Read Requests.
+    asked: Requests,
     start: Start,
 }
 
@@ -77,10 +86,41 @@ fn recv_refusal_of(refusal: BufferRefusal) -> RecvRefusal
     }
 }
 
+// A Read is not begun while 16 are outstanding.
+fn must_wait<A: Allocator>(reads: &Reads, request: &Request<Bytes<A>>) -> bool
+    ensures { result ≡ is_read request.now && nat_le most_reads (length reads.now) }
+{
+    matches!(request, Request::Read(_)) && reads.is_full()
+}
+
+// A Read is outstanding once its request was sent.
+fn read_sent<A: Allocator>(reads: &mut Reads, ticket: u64, request: &Request<Bytes<A>>)
+    requires { (is_read request.now && nat_le most_reads (length reads.old)) ≡ false }
+    ensures { reads.new ≡ reads_with reads.old ticket request.now }
+{
+    match request {
+        Request::Message(_) => {}
+        Request::Read(request) => reads.add(ticket, *request),
+    }
+}
+
+// What is said of octets that were placed with this right.
+fn placed_step<A: Allocator>(right: Right, placed: Placed) -> Step<Octets<A>>
+    ensures { result ≡ Step.Placed right placed.stag placed.to placed.n }
+{
+    let Placed { stag, to, n } = placed;
+    Step::Placed {
+        right,
+        stag,
+        to,
+        len: n,
+    }
+}
+
 impl<A: Allocator> Stream<A> {
-    ghost use Rattle.iw_stream.specs.Stream.{opened, owes_frame, is_mute, keeps_silent, may_answer, accepted, rejected, post_refusal, with_message, recv_refusal, with_buffer, delivery_of, after_deliver, part_due, StartUp, NextPart, NoneDue, octets_due, emission_due, left_due, emission_of, emitted, after_emit, size_refusal, with_mulpdu};
-    ghost use Rattle.iw_stream.specs.Work.{Hear, Judge, Turn, Rest, next_frame, step_of, left_by, table_left, work_step, worked, table_worked};
-    ghost use Rattle.iw_stream.specs.Kept.{IsWithin, IsWithinBuffer};
+    ghost use Rattle.iw_stream.specs.Stream.{opened, owes_frame, is_mute, keeps_silent, may_answer, accepted, rejected, post_refusal, with_request, recv_refusal, with_buffer, delivery_of, after_deliver, part_due, response_due, frame_of, StartUp, Response, NextPart, NoneDue, octets_due, emission_due, left_due, emission_fetched, left_fetched, emission_of, emitted, after_emit, size_refusal, with_mulpdu};
+    ghost use Rattle.iw_stream.specs.Work.{Hear, Judge, Turn, Rest, next_frame, judged_step, takes_up, step_of, left_by, table_left, work_step, worked, table_worked};
+    ghost use Rattle.iw_stream.specs.Kept.{IsWithin, IsWithinBuffer, Stands};
 
     /// A stream of this domain with a ULPDU size of 1,400 octets, which begins as its role says: open at once, with the
     /// markers and CRCs that `config` asks for in both directions, or with start-up frames, which agree on them.
@@ -103,19 +143,23 @@ impl<A: Allocator> Stream<A> {
             numbers: Numbers::first(),
             queue: SendQueue::new(alloc),
             receiving,
+            reads: Reads::new(),
+            asked: Requests::new(),
             start: Start::new(role, config),
         })
     }
 
     /// The limits that a stream keeps: at most 1,024 islands of octets that came, within 262,144 octets from the in-order
-    /// point on; at most 256 posted messages, of at most 16,777,216 octets each; at most 256 receive buffers; a maximum
-    /// ULPDU of 128 to 64,512 octets.
+    /// point on; at most 256 posted messages, of at most 16,777,216 octets each; at most 256 receive buffers; at most 16
+    /// Reads of each end that are not answered; a maximum ULPDU of 128 to 64,512 octets.
     pub fn limits(&self)
         ensures { IsWithin self.now }
     {
         let _ = self.arrived.floor();
         let _ = self.queue.len();
         self.receiving.limits();
+        let _ = self.reads.len();
+        let _ = self.asked.len();
     }
 
     /// How many octets were emitted: the place behind them in the stream.
@@ -193,25 +237,24 @@ impl<A: Allocator> Stream<A> {
         self.start.private()
     }
 
-    /// Posts a message behind the others. An `Err` changes nothing, and has the message.
+    /// Posts a message or a Read behind the others. An `Err` changes nothing, and has what was to be posted.
     pub fn post(
         &mut self,
-        message: Message<Bytes<A>>,
-    ) -> Result<(), (PostRefusal, Message<Bytes<A>>)>
+        request: Request<Bytes<A>>,
+    ) -> Result<(), (PostRefusal, Request<Bytes<A>>)>
         // The refusal, where one applies, and otherwise want of memory alone.
-        ensures refused { IfSome (post_refusal self.old message) (λ refusal. IfErr result (λ e. e.0 ≡ refusal) × IsErr result) }
-        ensures memory { IfNone (post_refusal self.old message) (IfErr result (λ e. e.0 ≡ PostRefusal.NoMemory)) }
-        ensures back { IfErr result (λ e. e.1 ≡ message) }
+        ensures refused { IfSome (post_refusal self.old request) (λ refusal. IfErr result (λ e. e.0 ≡ refusal) × IsErr result) }
+        ensures memory { IfNone (post_refusal self.old request) (IfErr result (λ e. e.0 ≡ PostRefusal.NoMemory)) }
+        ensures back { IfErr result (λ e. e.1 ≡ request) }
         ensures err { OnErr result (self.new ≡ self.old) }
-        ensures ok { OnOk result (self.new ≡ with_message self.old message) }
+        ensures ok { OnOk result (self.new ≡ with_request self.old request) }
     {
         if self.ended || !self.start.is_open() {
-            return Err((PostRefusal::NotOpen, message));
+            return Err((PostRefusal::NotOpen, request));
         }
-        match self.queue.post(Request::Message(message)) {
+        match self.queue.post(request) {
             Ok(_) => Ok(()),
-            Err((refusal, Request::Message(message))) => Err((post_refusal_of(refusal), message)),
-            Err((_, Request::Read(_))) => unreachable!(),
+            Err((refusal, request)) => Err((post_refusal_of(refusal), request)),
         }
     }
 
@@ -264,15 +307,20 @@ impl<A: Allocator> Stream<A> {
         self.arrived.add(from, octets)
     }
 
-    /// Appends to `out` what is to be emitted next: this end's start-up frame, or else the frame of the part that is due, if
-    /// one is and frames may be sent. An `Err` is want of memory, comes only where something is due, and changes nothing.
-    pub fn emit(&mut self, out: &mut Vec<u8, A>) -> Result<Emission, AllocError>
+    /// Appends to `out` what is to be emitted next: this end's start-up frame, or else, if frames may be sent, the frame of
+    /// the next part of a message that is begun, of the response to the peer's oldest Read Request, or of the next message.
+    /// A Read is not begun while 16 are outstanding, and what was posted behind it waits too.
+    ///
+    /// The octets of a response are fetched as they are sent; where the peer may not read them, nothing is appended and the
+    /// stream has ended. An `Err` is want of memory, comes only where something is appended, and changes nothing.
+    pub fn emit(&mut self, memory: &Memory<A>, out: &mut Vec<u8, A>) -> Result<Emission, AllocError>
         requires { self.old.sent ≤ 2 ^ 62 }
-        ensures emission { IfOk result (λ emission. emission ≡ emission_of self.old) }
-        ensures out { OnOk result (out.new.items ≡ out.old.items ++ emitted self.old) }
-        ensures after { OnOk result (self.new ≡ after_emit self.old) }
+        ensures emission { IfOk result (λ emission. emission ≡ emission_of memory.now self.old) }
+        ensures out { OnOk result (out.new.items ≡ out.old.items ++ emitted memory.now self.old) }
+        ensures after { OnOk result (self.new ≡ after_emit memory.now self.old) }
         ensures err { OnErr result ((self.new ≡ self.old) × (out.new.items ≡ out.old.items)) }
-        ensures memory { emission_of self.old ≡ Emission.Nothing → is_ok result ≡ true }
+        ensures memory { emission_of memory.now self.old ≡ Emission.Nothing → is_ok result ≡ true }
+        ensures denied { (fault : Fault) → emission_of memory.now self.old ≡ Emission.Fault fault → is_ok result ≡ true }
     {
         if self.owes_frame() {
             return self.emit_startup(out);
@@ -280,16 +328,19 @@ impl<A: Allocator> Stream<A> {
         if self.is_mute() {
             return Ok(Emission::Nothing);
         }
-        self.emit_part(out)
+        match self.response_due() {
+            Some(part) => self.emit_response(part, memory, out),
+            None => self.emit_part(out),
+        }
     }
 
     // Appends this end's start-up frame.
     fn emit_startup(&mut self, out: &mut Vec<u8, A>) -> Result<Emission, AllocError>
         requires place { self.old.sent ≤ 2 ^ 62 }
         requires owed { owes_frame self.old ≡ true }
-        ensures emission { IfOk result (λ emission. emission ≡ emission_due self.old StartUp) }
-        ensures out { OnOk result (out.new.items ≡ out.old.items ++ octets_due self.old StartUp) }
-        ensures after { OnOk result (self.new ≡ left_due self.old StartUp) }
+        ensures emission { (table : Table) → IfOk result (λ emission. emission ≡ emission_due table self.old StartUp) }
+        ensures out { (table : Table) → OnOk result (out.new.items ≡ out.old.items ++ octets_due table self.old StartUp) }
+        ensures after { (table : Table) → OnOk result (self.new ≡ left_due table self.old StartUp) }
         ensures err { OnErr result ((self.new ≡ self.old) × (out.new.items ≡ out.old.items)) }
     {
         let from = self.sent;
@@ -298,14 +349,84 @@ impl<A: Allocator> Stream<A> {
         Ok(Emission::Frame { from, len })
     }
 
-    // Appends the frame of the part that is due, if one is.
+    // The part of a response that is to be sent next: none while a message is begun.
+    fn response_due(&self) -> Option<ResponsePart>
+        ensures { result ≡ response_due self.now }
+    {
+        if self.queue.is_begun() {
+            return None;
+        }
+        self.asked.next_part(self.mulpdu)
+    }
+
+    // Fetches the part of a response that is due, and appends its frame.
+    fn emit_response(
+        &mut self,
+        part: ResponsePart,
+        memory: &Memory<A>,
+        out: &mut Vec<u8, A>,
+    ) -> Result<Emission, AllocError>
+        requires place { self.old.sent ≤ 2 ^ 62 }
+        requires open { is_open self.old.start ≡ true }
+        requires owed { owes_frame self.old ≡ false }
+        requires due { response_due self.old ≡ Some part }
+        ensures emission { IfOk result (λ emission. emission ≡ emission_due memory.now self.old (Response part)) }
+        ensures out { OnOk result (out.new.items ≡ out.old.items ++ octets_due memory.now self.old (Response part)) }
+        ensures after { OnOk result (self.new ≡ left_due memory.now self.old (Response part)) }
+        ensures err { OnErr result ((self.new ≡ self.old) × (out.new.items ≡ out.old.items)) }
+        ensures denied { (fault : Fault) → emission_due memory.now self.old (Response part) ≡ Emission.Fault fault → is_ok result ≡ true }
+    {
+        match fetch(part, memory, self.domain) {
+            Ok(octets) => self.emit_fetched(part, octets, out),
+            Err(fault) => {
+                self.ended = true;
+                Ok(Emission::Fault(fault))
+            }
+        }
+    }
+
+    // Appends the frame of a part of a response, with these octets.
+    fn emit_fetched(
+        &mut self,
+        part: ResponsePart,
+        octets: &[u8],
+        out: &mut Vec<u8, A>,
+    ) -> Result<Emission, AllocError>
+        requires place { self.old.sent ≤ 2 ^ 62 }
+        requires open { is_open self.old.start ≡ true }
+        requires owed { owes_frame self.old ≡ false }
+        requires due { response_due self.old ≡ Some part }
+        requires octets { length octets.now ≡ part.n }
+        ensures emission { IfOk result (λ emission. emission ≡ emission_fetched self.old part (Ok (frame_of self.old (Tagged part.head octets.now)))) }
+        ensures out { OnOk result (out.new.items ≡ out.old.items ++ frame_of self.old (Tagged part.head octets.now)) }
+        ensures after { OnOk result (self.new ≡ left_fetched self.old part (Ok (frame_of self.old (Tagged part.head octets.now)))) }
+        ensures err { OnErr result ((self.new ≡ self.old) × (out.new.items ≡ out.old.items)) }
+    {
+        let place = self.sent - self.start.first_place_out();
+        let before = out.len();
+        write_response(self.start.sending(), place, part.head, octets, out)?;
+        let len = out.len() - before;
+        let from = self.sent;
+        self.asked.part_fetched(self.mulpdu);
+        self.sent += len as u64;
+        let ResponsePart { stag, to, n, .. } = part;
+        Ok(Emission::Fetched {
+            from,
+            len,
+            stag,
+            to,
+            n,
+        })
+    }
+
+    // Appends the frame of the part of what was posted that is due, if one is.
     fn emit_part(&mut self, out: &mut Vec<u8, A>) -> Result<Emission, AllocError>
         requires place { self.old.sent ≤ 2 ^ 62 }
         requires open { is_open self.old.start ≡ true }
         requires owed { owes_frame self.old ≡ false }
-        ensures emission { IfOk result (λ emission. emission ≡ emission_due self.old (option_map_or NextPart (part_due self.old) NoneDue)) }
-        ensures out { OnOk result (out.new.items ≡ out.old.items ++ octets_due self.old (option_map_or NextPart (part_due self.old) NoneDue)) }
-        ensures after { OnOk result (self.new ≡ left_due self.old (option_map_or NextPart (part_due self.old) NoneDue)) }
+        ensures emission { (table : Table) → IfOk result (λ emission. emission ≡ emission_due table self.old (option_map_or NextPart (part_due self.old) NoneDue)) }
+        ensures out { (table : Table) → OnOk result (out.new.items ≡ out.old.items ++ octets_due table self.old (option_map_or NextPart (part_due self.old) NoneDue)) }
+        ensures after { (table : Table) → OnOk result (self.new ≡ left_due table self.old (option_map_or NextPart (part_due self.old) NoneDue)) }
         ensures err { OnErr result ((self.new ≡ self.old) × (out.new.items ≡ out.old.items)) }
         ensures memory { part_due self.old ≡ None → is_ok result ≡ true }
     {
@@ -315,18 +436,22 @@ impl<A: Allocator> Stream<A> {
         let Some(part) = self.queue.next_part(self.mulpdu) else {
             return Ok(Emission::Nothing);
         };
+        if must_wait(&self.reads, part.message) {
+            return Ok(Emission::Nothing);
+        }
         let before = out.len();
         write_part(self.start.sending(), place, self.numbers, &part, out)?;
         let len = out.len() - before;
         let from = self.sent;
         self.numbers = self.numbers.behind(&part);
+        read_sent(&mut self.reads, part.ticket, part.message);
         self.queue.part_sent(self.mulpdu);
         self.sent += len as u64;
         Ok(Emission::Frame { from, len })
     }
 
     /// Does one step: hands out a finished message, or reads the peer's start-up frame, or gives the frame at the in-order
-    /// point, where it was placed, its turn, or judges and places it.
+    /// point, where it was placed, its turn, or judges and places it. A Read Request has its turn as it is judged.
     #[inline(always)]
     pub fn work(&mut self, memory: &mut Memory<A>) -> Step<Octets<A>>
         requires { self.old.arrived.floor + 2 ^ 18 ≤ 2 ^ 63 }
@@ -390,7 +515,7 @@ impl<A: Allocator> Stream<A> {
         ensures step { result ≡ step_of memory.old self.old (option_map_or Judge (next_frame self.old) Rest) }
         ensures after { self.new ≡ left_by memory.old self.old (option_map_or Judge (next_frame self.old) Rest) }
         ensures memory { memory.new ≡ table_left memory.old self.old (option_map_or Judge (next_frame self.old) Rest) }
-        ensures stays { self.new.arrived ≡ self.old.arrived }
+        ensures reach { self.new.arrived.floor ≤ self.old.arrived.floor + 2 ^ 18 }
         ensures within { IsWithinBuffer result }
     {
         let base = self.start.first_place_in();
@@ -399,24 +524,59 @@ impl<A: Allocator> Stream<A> {
         let Some(fpdu) = frame_at(layout, &self.arrived, base, start) else {
             return Step::Idle;
         };
-        match land_frame(&fpdu, self.domain, memory, &mut self.receiving) {
+        match land_frame(
+            &fpdu,
+            self.domain,
+            &self.reads,
+            &self.asked,
+            memory,
+            &mut self.receiving,
+        ) {
             Err(fault) => {
                 self.ended = true;
                 Step::Fault(fault)
             }
-            Ok(Landing::Write(Placed { stag, to, n })) => {
+            Ok(Landing::Write(placed)) => {
                 self.front = Some(placed_frame(&fpdu, start));
-                Step::Placed {
-                    right: Right::Write,
-                    stag,
-                    to,
-                    len: n,
-                }
+                placed_step(Right::Write, placed)
+            }
+            Ok(Landing::Response(placed)) => {
+                self.front = Some(placed_frame(&fpdu, start));
+                placed_step(Right::Sink, placed)
             }
             Ok(Landing::Send { msn, mo, len }) => {
                 self.front = Some(placed_frame(&fpdu, start));
                 Step::Buffered { msn, mo, len }
             }
+            Ok(Landing::Request(request)) => {
+                let frame = placed_frame(&fpdu, start);
+                self.take_up(frame, request)
+            }
+        }
+    }
+
+    // Takes up the Read Request in the frame at the in-order point, which has its turn at once.
+    fn take_up(&mut self, frame: PlacedFrame, request: ReadRequest) -> Step<Octets<A>>
+        requires open { is_open self.old.start ≡ true }
+        requires place { self.old.arrived.floor + 2 ^ 18 ≤ 2 ^ 63 }
+        requires stands { Stands self.old frame }
+        requires room { length self.old.asked.unanswered < 16 }
+        requires range { IsInRange request }
+        ensures step { result ≡ judged_step (Ok (Landing.Request request)) }
+        ensures after { self.new ≡ takes_up self.old frame request }
+        ensures reach { self.new.arrived.floor ≤ self.old.arrived.floor + 2 ^ 18 }
+        ensures within { IsWithinBuffer result }
+    {
+        let PlacedFrame { start, len, header } = frame;
+        let end = self.start.expecting().end_of(start, len);
+        let place = self.start.first_place_in() + end;
+        self.front = None;
+        self.arrived.advance(place);
+        self.asked.take(Asked { header, request });
+        Step::Requested {
+            size: request.size,
+            stag: request.source,
+            to: request.source_to,
         }
     }
 
@@ -436,7 +596,7 @@ impl<A: Allocator> Stream<A> {
         };
         let end = self.start.expecting().end_of(frame.start, frame.len);
         let place = self.start.first_place_in() + end;
-        match turn_frame(frame, &mut self.receiving) {
+        match turn_frame(frame, &mut self.reads, &mut self.receiving) {
             Err(fault) => {
                 self.ended = true;
                 Step::Fault(fault)
@@ -456,6 +616,12 @@ impl<A: Allocator> Stream<A> {
                     solicited: false,
                     invalidate: None,
                 }
+            }
+            Ok(Turning::Answered(ticket)) => {
+                self.front = None;
+                self.arrived.advance(place);
+                self.queue.finish(ticket);
+                Step::Passed
             }
         }
     }

@@ -1,5 +1,5 @@
-use Rattle.std.proofs.Common.{◌≡◌, ◌+◌, ◌-◌, ap, ◌∙◌, sym, subst, arith}
-use Rattle.iw_fpdu.specs.Places.{IsStart, frame_start}
+use Rattle.std.proofs.Common.{◌+◌, ◌-◌, sym, subst, arith}
+use Rattle.iw_fpdu.specs.Places.{IsStart}
 use Rattle.iw_fpdu.proofs.Follows.{begins}
 use Rattle.iw_stream.proofs.Fronts.{frame_read, next_read, kept_cell, none_there, start_near}
 use Rattle.iw_stream.proofs.incoming.frame_at.Goals as goal

@@ -1,7 +1,6 @@
-use Rattle.std.proofs.Common.{sym, subst, ap, ◌∙◌}
+use Rattle.std.proofs.Common.{ap, ◌∙◌}
 use Rattle.iw_fpdu.specs.Found.{ulpdu}
 use Rattle.iw_stream.specs.Frames.{header_in}
-use Rattle.iw_stream.specs.Judging.{IsFirst}
 use Rattle.iw_stream.proofs.Heads.{first_taken, header_first}
 use Rattle.iw_stream.proofs.judging.header_of.Goals as goal
 

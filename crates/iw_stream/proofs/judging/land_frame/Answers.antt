@@ -7,4 +7,4 @@ use Rattle.iw_stream.proofs.judging.land_frame.Goals as goal
 pub land_by-requires-in-None-clause-first : goal.land_by-requires-in-None-clause-first
 land_by-requires-in-None-clause-first g c =
     let u = ulpdu c.args.fpdu.now in
-    subst (IsFirst u) (sym (c.as_slice.ensures.value ∙ c.first_octets.ensures)) (first_taken u)
+    subst (IsFirst u) (sym (c.as_slice.ensures.value ∙ c.first_octets-first.ensures)) (first_taken u)

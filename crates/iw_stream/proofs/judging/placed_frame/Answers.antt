@@ -1,6 +1,4 @@
-use Rattle.std.proofs.Common.{sym, ap, ◌∙◌}
-use Rattle.arrayvec.specs.ArrayVec.{ArrayVec}
-use Rattle.iw_fpdu.specs.Found.{ulpdu}
+use Rattle.std.proofs.Common.{sym, ◌∙◌}
 use Rattle.iw_stream.specs.declared.judging.PlacedFrame.{PlacedFrame}
 use Rattle.iw_stream.proofs.Landings.{length_ulpdu}
 use Rattle.iw_stream.proofs.judging.placed_frame.Goals as goal

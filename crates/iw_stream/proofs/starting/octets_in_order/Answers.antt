@@ -1,5 +1,4 @@
 use Rattle.std.proofs.Common.{ap, length, arith}
-use Rattle.iw_ranges.specs.Arrived.{in_order}
 use Rattle.iw_stream.proofs.Fronts.{in_window}
 use Rattle.iw_stream.proofs.Started.{part_here, part_is}
 use Rattle.iw_stream.proofs.starting.octets_in_order.Goals as goal

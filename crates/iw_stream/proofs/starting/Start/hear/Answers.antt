@@ -1,4 +1,4 @@
-use Rattle.std.proofs.Common.{◌≡◌, true, [], length, ap, sym, ◌∙◌, arith}
+use Rattle.std.proofs.Common.{◌≡◌, [], length, ap, sym, ◌∙◌, arith}
 use Rattle.iw_ranges.specs.Arrived.{advanced, in_order}
 use Rattle.iw_ranges.proofs.InOrder.{all_come}
 use Rattle.iw_startup.specs.Peer.{frame_part}

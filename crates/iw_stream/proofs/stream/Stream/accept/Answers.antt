@@ -1,4 +1,4 @@
-use Rattle.std.proofs.Common.{◌≡◌, Bool, true, false, Ok, Err, sym, subst}
+use Rattle.std.proofs.Common.{◌≡◌, Ok, Err, sym, subst}
 use Rattle.std.specs.Prelude.{Result, OnOk, OnErr, is_ok}
 use Rattle.iw_startup.specs.declared.side.Reply.{Reply}
 use Rattle.iw_startup.specs.declared.side.Reply.TheVariants.{Accept}

@@ -1,6 +1,5 @@
 use Rattle.iw_stream.specs.Fields.{state_of}
 use Rattle.iw_stream.proofs.Keeping.{keeps_delivered}
-use Rattle.iw_stream.proofs.Opening.{told}
 use Rattle.iw_stream.proofs.stream.Stream.deliver.Goals as goal
 
 pub invariant_of-self : goal.invariant_of-self

@@ -1,7 +1,11 @@
-use Rattle.std.proofs.Common.{sym, ap, ◌∙◌}
+use Rattle.std.proofs.Common.{◌≡◌, ◌<◌, ◌^◌, sym, ap, ◌∙◌, subst}
 use Rattle.std.specs.Option.{option_map_or}
+use Rattle.iw_queues.specs.Queue.{Queue, done_in, handed_from}
 use Rattle.iw_stream.specs.Fields.{state_of}
+use Rattle.iw_stream.specs.Kept.{AreAwaited}
 use Rattle.iw_stream.specs.Work.{Hear, Turn, Rest, step_of, left_by, work_step, worked}
+use Rattle.iw_stream.proofs.Keeping.{keeps_queue}
+use Rattle.iw_stream.proofs.Reading.{awaited_handed, first_handed}
 use Rattle.iw_stream.proofs.Tasks.{task_hears, task_turns}
 use Rattle.iw_stream.proofs.stream.Stream.work.Goals as goal
 
@@ -26,3 +30,12 @@ returns-then-is_some-clause-step g c =
     let turns =
     task_turns s (sym c.in_default.ensures.done) c.if-self.false (sym c.awaits_frame.ensures ∙ c.if-awaits_frame.false) (sym c.is_open.ensures ∙ c.if-not-is_open.false) (sym c.is_some.ensures ∙ c.if-is_some.true) in
     c.turn.ensures.step table ∙ ap (λ q. step_of table (record s { queue = q }) (option_map_or Turn s.front Rest)) c.in_default.ensures.after ∙ ap (step_of table s) (sym turns) ∙ ap (work_step table) c.self.view_is
+
+pub invariant_of-self : goal.invariant_of-self
+invariant_of-self g c =
+    let s = state_of c.self.inside in
+    let after : c.next.new.self ≡ handed_from c.self.inside.queue (done_in c.self.inside.queue) = c.next.ensures.after ∙ ap (handed_from c.self.inside.queue) c.next.ensures.done in
+    keeps_queue s c.next.new.self
+    (subst (λ (q : Queue). q.sent.first < 2 ^ 64) (sym after) (first_handed s.queue (done_in s.queue) c.self.invariant.first))
+    (subst (λ (q : Queue). AreAwaited q.sent c.self.inside.reads) (sym after) (awaited_handed s.queue s.reads c.self.invariant.first c.self.invariant.awaited))
+    c.self.invariant
