@@ -1,6 +1,7 @@
 use crate::call::{End, Options};
 use iw_memory::{DomainRefusal, NoRegion, RegisterRefusal, Right, Rights, StoreRefusal};
-use iw_octets::{Fault, Message, Stag};
+use iw_octets::{Fault, Stag};
+use iw_queues::Request;
 use iw_startup::{Agreed, NotAsked, StartupFault};
 use iw_stream::{Delivery, Kind, PostRefusal, RecvRefusal, Role, SizeRefusal};
 
@@ -20,7 +21,21 @@ pub enum OpenRefusal {
 #[derive(Debug, PartialEq, Drop)]
 pub enum Shown<O> {
     /// A frame, whose first octet has the stream place `from`.
-    Frame { from: u64, octets: O },
+    Frame {
+        from: u64,
+        octets: O,
+    },
+    /// A frame of the response to a Read, whose first octet has the stream place `from`: its payload are these octets of
+    /// region `stag`, which stood there from tagged offset `to` on.
+    Fetched {
+        from: u64,
+        frame: O,
+        stag: Stag,
+        to: u64,
+        octets: O,
+    },
+    /// The source of the Read that is answered is denied: nothing was emitted, and the stream has ended by this fault.
+    Fault(Fault),
     /// Nothing was due.
     Nothing,
 }
@@ -54,6 +69,12 @@ pub enum Seen<O> {
         mo: u32,
         len: usize,
     },
+    /// A Read Request was taken up: it asks for `size` octets of region `stag`, from tagged offset `to` on.
+    Requested {
+        size: u32,
+        stag: Stag,
+        to: u64,
+    },
     /// A frame had its turn, and there is nothing more to say of it.
     Passed,
     /// A Send is complete: its octets, whether it was solicited, and the STag that it invalidated.
@@ -76,7 +97,7 @@ pub enum StreamAct<O> {
         refused: Option<RecvRefusal>,
     },
     Post {
-        message: Message<O>,
+        message: Request<O>,
         refused: Option<PostRefusal>,
     },
     Emit(Shown<O>),

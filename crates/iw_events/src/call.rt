@@ -1,5 +1,6 @@
 use iw_memory::Rights;
-use iw_octets::{Message, Stag};
+use iw_octets::Stag;
+use iw_queues::Request;
 use iw_stream::Role;
 
 /// One of the two ends. Stream n of one is connected to stream n of the other.
@@ -23,8 +24,8 @@ pub struct Options {
 pub enum StreamCall<O> {
     /// Posts a receive buffer of `len` zero octets.
     Recv { len: u32 },
-    /// Posts a Write or a Send.
-    Post { message: Message<O> },
+    /// Posts a Write, a Send or a Read.
+    Post { message: Request<O> },
     /// Emits one frame.
     Emit,
     /// Delivers `len` octets that the other end emitted, the first of them at the stream place `from`.

@@ -7,7 +7,8 @@ use Rattle.iw_stream.specs.declared.answer.Role.TheVariants.{Preset, Initiator, 
 use Rattle.iw_events.specs.declared.call.Call.{Call}
 use Rattle.iw_events.specs.declared.call.Call.TheVariants.{Domain, Register, Deregister, Invalidate, Store, Open, Stream}
 use Rattle.iw_octets.specs.declared.message.Message.TheVariants as messages
-use Rattle.iw_events.specs.declared.call.StreamCall.TheVariants.{Recv, Post, Deliver, Raw, Mulpdu, Accept, Reject}
+use Rattle.iw_queues.specs.declared.request.Request.TheVariants as requests
+use Rattle.iw_events.specs.declared.call.StreamCall.TheVariants.{Recv, Deliver, Raw, Mulpdu, Accept, Reject}
 use Rattle.iw_schedules.specs.declared.fault.FaultName.{FaultName}
 use Rattle.iw_schedules.specs.declared.kinds.TheConstants.{MAX_WORD_OCTETS}
 use Rattle.iw_schedules.specs.declared.words.CallWord.{CallWord}
@@ -21,9 +22,9 @@ use Rattle.iw_schedules.specs.FirstPath.IsKind.{plain}
 use Rattle.iw_schedules.specs.Rights.{rights_word}
 use Rattle.iw_schedules.specs.Options.{options_word}
 use Rattle.iw_schedules.specs.Words.{one_of, role_text, roles, role_word, call_text, call_words, call_word}
-use Rattle.iw_schedules.specs.Calls.{field, octet_number, long_number, size_number, times_at, step_call, one, domain_at, register_at, deregister_at, invalidate_at, store_at, open_at, accept_at, reject_at, recv_at, send_at, write_at, steps_at, deliver_at, raw_at, mulpdu_at, behind, calls_at}
+use Rattle.iw_schedules.specs.Calls.{field, octet_number, long_number, size_number, times_at, step_call, one, posted, read_of, domain_at, register_at, deregister_at, invalidate_at, store_at, open_at, accept_at, reject_at, recv_at, send_at, write_at, read_at, steps_at, deliver_at, raw_at, mulpdu_at, behind, calls_at}
 use Rattle.iw_schedules.specs.Grammar.{Word, IsOctetNumber, IsTimes, IsCall}
-use Rattle.iw_schedules.specs.Grammar.IsCall.{domain, register, deregister, invalidate, store, opening, accept, reject, recv, send, write, emit, emit_times, work, work_times, deliver, raw, mulpdu}
+use Rattle.iw_schedules.specs.Grammar.IsCall.{domain, register, deregister, invalidate, store, opening, accept, reject, recv, send, write, read, emit, emit_times, work, work_times, deliver, raw, mulpdu}
 use Rattle.iw_schedules.proofs.KindLaws.{bind_ok, okay, number_is, number_again, times_is, times_again, stag_is, stag_again, octets_is, octets_again, private_is, private_again, rights_is, rights_again, options_are, options_again, kind_is}
 
 abbrev Calls : Type 0
@@ -155,7 +156,7 @@ send_is words calls e =
     reads kind_word behind_a _ (calls, []) (λ ws. IsCall (codes "send" ∷ a ∷ ws) calls) then_a (λ b kind behind_b is_b then_b.
     reads (invalidated_word kind) behind_b _ (calls, []) (λ ws. IsCall (codes "send" ∷ a ∷ b ∷ ws) calls) then_b (λ c stag behind_c is_c then_c.
     reads octets_word behind_c _ (calls, []) (λ ws. IsCall (codes "send" ∷ a ∷ b ∷ c ∷ ws) calls) then_c (λ d octets others is_d then_d.
-    finishes (λ ws made. IsCall (codes "send" ∷ a ∷ b ∷ c ∷ d ∷ ws) made) calls (one (Stream stream (Post (messages.Send octets (is_solicited kind) stag)))) others then_d
+    finishes (λ ws made. IsCall (codes "send" ∷ a ∷ b ∷ c ∷ d ∷ ws) made) calls (posted stream (requests.Message (messages.Send octets (is_solicited kind) stag))) others then_d
     (send (number_is 255 a stream is_a) (kind_is b c kind stag is_b is_c) (octets_is d octets is_d))))))
 
 pub write_is : (words : List Word) (calls : Calls) → write_at words ≡ Ok (calls, []) → IsCall (codes "write" ∷ words) calls
@@ -165,7 +166,19 @@ write_is words calls e =
     reads stag_word behind_a _ (calls, []) (λ ws. IsCall (codes "write" ∷ a ∷ ws) calls) then_a (λ b stag behind_b is_b then_b.
     reads long_number behind_b _ (calls, []) (λ ws. IsCall (codes "write" ∷ a ∷ b ∷ ws) calls) then_b (λ c to behind_c is_c then_c.
     reads octets_word behind_c _ (calls, []) (λ ws. IsCall (codes "write" ∷ a ∷ b ∷ c ∷ ws) calls) then_c (λ d octets others is_d then_d.
-    finishes (λ ws made. IsCall (codes "write" ∷ a ∷ b ∷ c ∷ d ∷ ws) made) calls (one (Stream stream (Post (messages.Write stag to octets)))) others then_d (write (number_is 255 a stream is_a) (stag_is b stag is_b) (number_is (2 ^ 64 - 1) c to is_c) (octets_is d octets is_d))))))
+    finishes (λ ws made. IsCall (codes "write" ∷ a ∷ b ∷ c ∷ d ∷ ws) made) calls (posted stream (requests.Message (messages.Write stag to octets))) others then_d (write (number_is 255 a stream is_a) (stag_is b stag is_b) (number_is (2 ^ 64 - 1) c to is_c) (octets_is d octets is_d))))))
+
+pub read_is : (words : List Word) (calls : Calls) → read_at words ≡ Ok (calls, []) → IsCall (codes "read" ∷ words) calls
+unfolding read_at
+read_is words calls e =
+    reads octet_number words _ (calls, []) (λ ws. IsCall (codes "read" ∷ ws) calls) e (λ a stream behind_a is_a then_a.
+    reads stag_word behind_a _ (calls, []) (λ ws. IsCall (codes "read" ∷ a ∷ ws) calls) then_a (λ b sink behind_b is_b then_b.
+    reads long_number behind_b _ (calls, []) (λ ws. IsCall (codes "read" ∷ a ∷ b ∷ ws) calls) then_b (λ c sink_to behind_c is_c then_c.
+    reads size_number behind_c _ (calls, []) (λ ws. IsCall (codes "read" ∷ a ∷ b ∷ c ∷ ws) calls) then_c (λ d size behind_d is_d then_d.
+    reads stag_word behind_d _ (calls, []) (λ ws. IsCall (codes "read" ∷ a ∷ b ∷ c ∷ d ∷ ws) calls) then_d (λ f source behind_f is_f then_f.
+    reads long_number behind_f _ (calls, []) (λ ws. IsCall (codes "read" ∷ a ∷ b ∷ c ∷ d ∷ f ∷ ws) calls) then_f (λ g source_to others is_g then_g.
+    finishes (λ ws made. IsCall (codes "read" ∷ a ∷ b ∷ c ∷ d ∷ f ∷ g ∷ ws) made) calls (posted stream (requests.Read (read_of sink sink_to size source source_to))) others then_g
+    (read (number_is 255 a stream is_a) (stag_is b sink is_b) (number_is (2 ^ 64 - 1) c sink_to is_c) (number_is (2 ^ 32 - 1) d size is_d) (stag_is f source is_f) (number_is (2 ^ 64 - 1) g source_to is_g))))))))
 
 pub deliver_is : (words : List Word) (calls : Calls) → deliver_at words ≡ Ok (calls, []) → IsCall (codes "deliver" ∷ words) calls
 unfolding deliver_at
@@ -245,6 +258,7 @@ behind_is named.Reject words calls e = reject_is words calls e
 behind_is named.Recv words calls e = recv_is words calls e
 behind_is named.Send words calls e = send_is words calls e
 behind_is named.Write words calls e = write_is words calls e
+behind_is named.Read words calls e = read_is words calls e
 behind_is named.Emit words calls e = emit_is words calls e
 behind_is named.Work words calls e = work_is words calls e
 behind_is named.Deliver words calls e = deliver_is words calls e
@@ -265,7 +279,7 @@ role_again Initiator = refl
 role_again Responder = refl
 
 pub calls_again : (words : List Word) (calls : Calls) → IsCall words calls → calls_at words ≡ Ok (calls, [])
-unfolding calls_at call_word domain_at register_at deregister_at invalidate_at store_at open_at accept_at reject_at recv_at send_at write_at steps_at deliver_at raw_at mulpdu_at
+unfolding calls_at call_word domain_at register_at deregister_at invalidate_at store_at open_at accept_at reject_at recv_at send_at write_at read_at steps_at deliver_at raw_at mulpdu_at
 calls_again words calls (domain {a} {pd} p) = rw (number_again 255 a pd p) refl
 calls_again words calls (register {a} {b} {c} {d} {pd} {base} {rights} {octets} p q r s) = rw (number_again 255 a pd p, number_again (2 ^ 64 - 1) b base q, rights_again c rights r, octets_again d octets s) refl
 calls_again words calls (deregister {a} {stag} p) = rw (stag_again a stag p) refl
@@ -277,6 +291,8 @@ calls_again words calls (reject {a} {b} {stream} {private} p q) = rw (number_aga
 calls_again words calls (recv {a} {b} {stream} {len} p q) = rw (number_again 255 a stream p, number_again MAX_WORD_OCTETS b len q) refl
 calls_again words calls (send {a} {b} {c} {d} {stream} {solicited} {invalidate} {octets} p plain r) = rw (number_again 255 a stream p, octets_again d octets r) refl
 calls_again words calls (write {a} {b} {c} {d} {stream} {to} {stag} {octets} p q r s) = rw (number_again 255 a stream p, stag_again b stag q, number_again (2 ^ 64 - 1) c to r, octets_again d octets s) refl
+calls_again words calls (read {a} {b} {c} {d} {e} {f} {stream} {sink_to} {size} {source_to} {sink} {source} p q r s t u) =
+    rw (number_again 255 a stream p, stag_again b sink q, number_again (2 ^ 64 - 1) c sink_to r, number_again (2 ^ 32 - 1) d size s, stag_again e source t, number_again (2 ^ 64 - 1) f source_to u) refl
 calls_again words calls (emit {a} {stream} p) = rw (number_again 255 a stream p) refl
 calls_again words calls (emit_times {a} {b} {stream} {n} p q) = rw (number_again 255 a stream p, times_again b n q) refl
 calls_again words calls (work {a} {stream} p) = rw (number_again 255 a stream p) refl

@@ -159,8 +159,15 @@ accepted_words (Err refusal) = refused not_asked
 abbrev pub fault_words : Fault → Words
 fault_words fault = codes "fault" ∷ decimal fault.layer ∷ decimal fault.kind ∷ decimal fault.code ∷ []
 
+-- a frame of the response to a Read, and the octets of a region that it carries
+abbrev pub fetched_words : ℕ → List ℕ → Stag → ℕ → List ℕ → Words
+fetched_words from frame stag to octets =
+    codes "fetched" ∷ decimal from ∷ octets_text frame ∷ stag_text stag ∷ decimal to ∷ octets_text octets ∷ []
+
 abbrev pub shown_words : Shown (List ℕ) → Words
 shown_words (shown.Frame from octets) = codes "frame" ∷ decimal from ∷ octets_text octets ∷ []
+shown_words (shown.Fetched from frame stag to octets) = fetched_words from frame stag to octets
+shown_words (shown.Fault fault) = fault_words fault
 shown_words shown.Nothing = codes "nothing" ∷ []
 
 abbrev pub done_words : Kind → Words
@@ -171,6 +178,9 @@ placed_words right stag to octets = codes "placed" ∷ right_text right ∷ stag
 
 abbrev pub buffered_words : ℕ → ℕ → ℕ → Words
 buffered_words msn mo len = codes "buffered" ∷ decimal msn ∷ decimal mo ∷ decimal len ∷ []
+
+abbrev pub requested_words : ℕ → Stag → ℕ → Words
+requested_words size stag to = codes "requested" ∷ decimal size ∷ stag_text stag ∷ decimal to ∷ []
 
 abbrev pub received_words : List ℕ → Bool → Option Stag → Words
 received_words octets solicited invalidate = codes "received" ∷ octets_text octets ∷ send_text solicited invalidate ∷ optional_stag_text invalidate ∷ []
@@ -188,6 +198,7 @@ seen_words (seen.Opened agreed private) = opened_words agreed private
 seen_words (seen.Closed fault) = numbered (codes "closed") (startup_fault fault)
 seen_words (seen.Placed right stag to octets) = placed_words right stag to octets
 seen_words (seen.Buffered msn mo len) = buffered_words msn mo len
+seen_words (seen.Requested size stag to) = requested_words size stag to
 seen_words seen.Passed = codes "passed" ∷ []
 seen_words (seen.Received octets solicited invalidate) = received_words octets solicited invalidate
 seen_words (seen.Fault fault) = fault_words fault

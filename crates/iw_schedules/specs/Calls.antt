@@ -1,6 +1,10 @@
 -- The words of a line, taken one after the other: which events the line stands for.
 use Rattle.std.specs.Prelude.{ℕ, ◌-◌, ◌^◌, List, [], ◌∷◌, replicate, Result, Ok, Err}
+use Rattle.iw_octets.specs.declared.stag.Stag.{Stag}
+use Rattle.iw_octets.specs.declared.payload.ReadRequest.{ReadRequest}
 use Rattle.iw_octets.specs.declared.message.Message.TheVariants as messages
+use Rattle.iw_queues.specs.declared.request.Request.{Request}
+use Rattle.iw_queues.specs.declared.request.Request.TheVariants as requests
 use Rattle.iw_events.specs.declared.call.Call.{Call}
 use Rattle.iw_events.specs.declared.call.Call.TheVariants.{Domain, Register, Deregister, Invalidate, Store, Open, Stream}
 use Rattle.iw_events.specs.declared.call.StreamCall.{StreamCall}
@@ -50,6 +54,15 @@ times_at (word ∷ words) = times_word word >>= λ n. Ok (n, words)
 
 abbrev pub one : Call (List ℕ) → List (Call (List ℕ))
 one call = call ∷ []
+
+-- what is posted on a stream
+abbrev pub posted : ℕ → Request (List ℕ) → List (Call (List ℕ))
+posted stream request = one (Stream stream (Post request))
+
+-- a Read of `size` octets, from the source to the sink
+abbrev pub read_of : Stag → ℕ → ℕ → Stag → ℕ → ReadRequest
+read_of sink sink_to size source source_to =
+    record { sink = sink; sink_to = sink_to; size = size; source = source; source_to = source_to }
 
 unfoldable pub domain_at : List (List ℕ) → Taken (List (Call (List ℕ)))
 domain_at words = do
@@ -114,7 +127,7 @@ send_at words = do
   kind ← field kind_word stream.1
   stag ← field (invalidated_word kind.0) kind.1
   octets ← field octets_word stag.1
-  Ok (one (Stream stream.0 (Post (messages.Send octets.0 (is_solicited kind.0) stag.0))), octets.1)
+  Ok (posted stream.0 (requests.Message (messages.Send octets.0 (is_solicited kind.0) stag.0)), octets.1)
 
 unfoldable pub write_at : List (List ℕ) → Taken (List (Call (List ℕ)))
 write_at words = do
@@ -122,7 +135,18 @@ write_at words = do
   stag ← field stag_word stream.1
   to ← field long_number stag.1
   octets ← field octets_word to.1
-  Ok (one (Stream stream.0 (Post (messages.Write stag.0 to.0 octets.0))), octets.1)
+  Ok (posted stream.0 (requests.Message (messages.Write stag.0 to.0 octets.0)), octets.1)
+
+-- where the octets of a Read go, how many they are, and where they are taken from
+unfoldable pub read_at : List (List ℕ) → Taken (List (Call (List ℕ)))
+read_at words = do
+  stream ← field octet_number words
+  sink ← field stag_word stream.1
+  sink_to ← field long_number sink.1
+  size ← field size_number sink_to.1
+  source ← field stag_word size.1
+  source_to ← field long_number source.1
+  Ok (posted stream.0 (requests.Read (read_of sink.0 sink_to.0 size.0 source.0 source_to.0)), source_to.1)
 
 abbrev pub step_call : Step → StreamCall (List ℕ)
 step_call steps.Emit = Emit
@@ -168,6 +192,7 @@ behind named.Reject words = reject_at words
 behind named.Recv words = recv_at words
 behind named.Send words = send_at words
 behind named.Write words = write_at words
+behind named.Read words = read_at words
 behind named.Emit words = steps_at steps.Emit words
 behind named.Work words = steps_at steps.Work words
 behind named.Deliver words = deliver_at words

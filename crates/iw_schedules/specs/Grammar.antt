@@ -7,13 +7,14 @@ use Rattle.iw_octets.specs.declared.constants.TheConstants.{MAX_PRIVATE}
 use Rattle.iw_octets.specs.declared.stag.Stag.{Stag}
 use Rattle.iw_octets.specs.Stag.{stag_at}
 use Rattle.iw_octets.specs.declared.message.Message.TheVariants as messages
+use Rattle.iw_queues.specs.declared.request.Request.TheVariants as requests
 use Rattle.iw_memory.specs.declared.rights.Rights.{Rights}
 use Rattle.iw_events.specs.declared.call.End.{End}
 use Rattle.iw_stream.specs.declared.answer.Role.{Role}
 use Rattle.iw_events.specs.declared.call.Options.{Options}
 use Rattle.iw_events.specs.declared.call.Call.{Call}
 use Rattle.iw_events.specs.declared.call.Call.TheVariants.{Domain, Register, Deregister, Invalidate, Store, Open, Stream}
-use Rattle.iw_events.specs.declared.call.StreamCall.TheVariants.{Recv, Post, Emit, Deliver, Raw, Mulpdu, Accept, Reject, Work}
+use Rattle.iw_events.specs.declared.call.StreamCall.TheVariants.{Recv, Emit, Deliver, Raw, Mulpdu, Accept, Reject, Work}
 use Rattle.iw_schedules.specs.declared.fault.FaultName.{FaultName}
 use Rattle.iw_schedules.specs.declared.fault.ScheduleFault.{ScheduleFault}
 use Rattle.iw_schedules.specs.declared.fault.ScheduleFault.TheVariants.{Line, NoMemory}
@@ -25,7 +26,7 @@ use Rattle.iw_schedules.specs.FirstPath.{IsKind}
 use Rattle.iw_schedules.specs.Rights.{IsRights}
 use Rattle.iw_schedules.specs.Options.{IsOptions}
 use Rattle.iw_schedules.specs.Words.{end_text, role_text}
-use Rattle.iw_schedules.specs.Calls.{one}
+use Rattle.iw_schedules.specs.Calls.{one, posted, read_of}
 use Rattle.iw_schedules.specs.Schedule.{Events, is_skipped, event_at, with_line}
 
 abbrev pub Word : Type 0
@@ -46,7 +47,7 @@ IsOctetNumber word n = IsNumber 255 word n
 abbrev pub IsLongNumber : Word → ℕ → Type 0
 IsLongNumber word n = IsNumber (2 ^ 64 - 1) word n
 
--- the size of a message or of a ULPDU
+-- the size of a Read or of a ULPDU
 abbrev pub IsSize : Word → ℕ → Type 0
 IsSize word n = IsNumber (2 ^ 32 - 1) word n
 
@@ -92,9 +93,13 @@ pub data IsCall : List Word → List (Call (List ℕ)) → Type 0 where
   reject : {a b : Word} {stream : ℕ} {private : List ℕ} → IsOctetNumber a stream → IsPrivate b private → IsCall (codes "reject" ∷ a ∷ b ∷ []) (one (Stream stream (Reject private)))
   recv : {a b : Word} {stream len : ℕ} → IsOctetNumber a stream → IsNumber MAX_WORD_OCTETS b len → IsCall (codes "recv" ∷ a ∷ b ∷ []) (one (Stream stream (Recv len)))
   send : {a b c d : Word} {stream : ℕ} {solicited : Bool} {invalidate : Option Stag} {octets : List ℕ} → IsOctetNumber a stream → IsKind b c solicited invalidate → IsOctets d octets
-      → IsCall (codes "send" ∷ a ∷ b ∷ c ∷ d ∷ []) (one (Stream stream (Post (messages.Send octets solicited invalidate))))
+      → IsCall (codes "send" ∷ a ∷ b ∷ c ∷ d ∷ []) (posted stream (requests.Message (messages.Send octets solicited invalidate)))
   write : {a b c d : Word} {stream to : ℕ} {stag : Stag} {octets : List ℕ} → IsOctetNumber a stream → IsStag b stag → IsLongNumber c to → IsOctets d octets
-      → IsCall (codes "write" ∷ a ∷ b ∷ c ∷ d ∷ []) (one (Stream stream (Post (messages.Write stag to octets))))
+      → IsCall (codes "write" ∷ a ∷ b ∷ c ∷ d ∷ []) (posted stream (requests.Message (messages.Write stag to octets)))
+  read : {a b c d e f : Word} {stream sink_to size source_to : ℕ} {sink source : Stag}
+      → IsOctetNumber a stream → IsStag b sink → IsLongNumber c sink_to → IsSize d size → IsStag e source
+      → IsLongNumber f source_to
+      → IsCall (codes "read" ∷ a ∷ b ∷ c ∷ d ∷ e ∷ f ∷ []) (posted stream (requests.Read (read_of sink sink_to size source source_to)))
   emit : {a : Word} {stream : ℕ} → IsOctetNumber a stream → IsCall (codes "emit" ∷ a ∷ []) (one (Stream stream Emit))
   emit_times : {a b : Word} {stream n : ℕ} → IsOctetNumber a stream → IsTimes b n → IsCall (codes "emit" ∷ a ∷ b ∷ []) (replicate n (Stream stream Emit))
   work : {a : Word} {stream : ℕ} → IsOctetNumber a stream → IsCall (codes "work" ∷ a ∷ []) (one (Stream stream Work))

@@ -4,8 +4,9 @@ use Rattle.std.specs.Option.{option_map}
 use Rattle.std.specs.List.{flat_map}
 use Rattle.std.specs.Fmt.{decimal}
 use Rattle.iw_octets.specs.declared.stag.Stag.{Stag}
-use Rattle.iw_octets.specs.declared.message.Message.{Message}
 use Rattle.iw_octets.specs.declared.message.Message.TheVariants as messages
+use Rattle.iw_queues.specs.declared.request.Request.{Request}
+use Rattle.iw_queues.specs.declared.request.Request.TheVariants as requests
 use Rattle.iw_memory.specs.declared.refusal.RegisterRefusal.{RegisterRefusal}
 use Rattle.iw_memory.specs.declared.refusal.NoRegion.{NoRegion}
 use Rattle.iw_events.specs.declared.act.Act.{Act}
@@ -26,10 +27,11 @@ abbrev pub deregistered : Result (List ℕ) NoRegion → Words
 deregistered (Ok octets) = codes "ok" ∷ octets_text octets ∷ []
 deregistered (Err refusal) = refused no_region
 
--- the word that posts a message
-abbrev pub post_word : Message (List ℕ) → CallWord
-post_word (messages.Write stag to octets) = named.Write
-post_word (messages.Send octets solicited invalidate) = named.Send
+-- the word that posts a message or a Read
+abbrev pub post_word : Request (List ℕ) → CallWord
+post_word (requests.Message (messages.Write stag to octets)) = named.Write
+post_word (requests.Message (messages.Send octets solicited invalidate)) = named.Send
+post_word (requests.Read request) = named.Read
 
 -- a call, and the stream or the domain that it names
 abbrev pub call_on : CallWord → ℕ → Words

@@ -7,7 +7,7 @@ ghost use Rattle.iw_schedules.specs.FirstPath.{kind_word, invalidated_word};
 ghost use Rattle.iw_schedules.specs.Rights.{rights_word};
 ghost use Rattle.iw_schedules.specs.Options.{options_word};
 ghost use Rattle.iw_schedules.specs.Words.{role_word, call_word};
-ghost use Rattle.iw_schedules.specs.Calls.{step_call, calls_of, next_word, field, octet_number, long_number, size_number, times_at, domain_at, register_at, deregister_at, invalidate_at, store_at, open_at, accept_at, reject_at, recv_at, send_at, write_at, steps_at, deliver_at, raw_at, mulpdu_at, behind, calls_at};
+ghost use Rattle.iw_schedules.specs.Calls.{step_call, calls_of, next_word, field, octet_number, long_number, size_number, times_at, domain_at, register_at, deregister_at, invalidate_at, store_at, open_at, accept_at, reject_at, recv_at, send_at, write_at, read_at, steps_at, deliver_at, raw_at, mulpdu_at, behind, calls_at};
 
 use crate::fault::{FaultName, ReadError};
 use crate::first_path::SendKind;
@@ -17,9 +17,9 @@ use crate::rights::read_rights;
 use crate::words::CallWord;
 use crate::{kinds, words};
 use bytes::Bytes;
-use iw_events::{Call, Options, Role, StreamCall};
+use iw_events::{Call, Options, Request, Role, StreamCall};
 use iw_memory::Rights;
-use iw_octets::{Message, Stag};
+use iw_octets::{Message, ReadRequest, Stag};
 use std::alloc::Allocator;
 
 /// A call of a stream that a line may ask for many times.
@@ -83,7 +83,7 @@ fn long_number_in(words: &mut Pieces<'_>) -> Result<u64, ReadError>
     Ok(kinds::number(next(words)?, u64::MAX)?)
 }
 
-// A number of octets that a message or a ULPDU may have.
+// The size of a Read or of a ULPDU.
 fn size_in(words: &mut Pieces<'_>) -> Result<u32, ReadError>
     ensures { Gives (λ n. (n, words.new)) result (field size_number words.old) }
 {
@@ -271,6 +271,7 @@ fn send<A: Allocator + Copy>(alloc: A, words: &mut Pieces<'_>) -> Result<Calls<B
         solicited: kind.is_solicited(),
         invalidate,
     };
+    let message = Request::Message(message);
     let call = StreamCall::Post { message };
     Ok(Calls::One(Call::Stream { stream, call }))
 }
@@ -286,7 +287,24 @@ fn write<A: Allocator + Copy>(
     let stag = stag_in(words)?;
     let to = long_number_in(words)?;
     let octets = octets_in(alloc, words)?;
-    let message = Message::Write { stag, to, octets };
+    let message = Request::Message(Message::Write { stag, to, octets });
+    let call = StreamCall::Post { message };
+    Ok(Calls::One(Call::Stream { stream, call }))
+}
+
+#[tactic(auto, unfolding(crate::specs::Calls::read_at))]
+fn read<A: Allocator>(words: &mut Pieces<'_>) -> Result<Calls<Bytes<A>>, ReadError>
+    ensures { Gives (λ calls. (calls_of calls, words.new)) result (read_at words.old) }
+{
+    let stream = octet_number_in(words)?;
+    let request = ReadRequest {
+        sink: stag_in(words)?,
+        sink_to: long_number_in(words)?,
+        size: size_in(words)?,
+        source: stag_in(words)?,
+        source_to: long_number_in(words)?,
+    };
+    let message = Request::Read(request);
     let call = StreamCall::Post { message };
     Ok(Calls::One(Call::Stream { stream, call }))
 }
@@ -356,6 +374,7 @@ fn calls_behind<A: Allocator + Copy>(
         CallWord::Recv => recv(words),
         CallWord::Send => send(alloc, words),
         CallWord::Write => write(alloc, words),
+        CallWord::Read => read(words),
         CallWord::Emit => steps(Step::Emit, words),
         CallWord::Work => steps(Step::Work, words),
         CallWord::Deliver => deliver(words),

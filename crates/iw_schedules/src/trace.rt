@@ -3,7 +3,7 @@ ghost use Rattle.std.specs.Option.{option_map};
 ghost use Rattle.std.specs.Fmt.{decimal};
 ghost use Rattle.iw_schedules.specs.Shown.{shown_refusal};
 ghost use Rattle.iw_schedules.specs.Words.{call_text};
-ghost use Rattle.iw_schedules.specs.Answers.{stag_text, ok_or_refused, kind_text, right_text, send_text, delivery_text, agreed_text, accepted_words, asked_words, opened_words, fault_words, shown_words, done_words, placed_words, buffered_words, received_words, seen_words};
+ghost use Rattle.iw_schedules.specs.Answers.{stag_text, ok_or_refused, kind_text, right_text, send_text, delivery_text, agreed_text, accepted_words, asked_words, opened_words, fault_words, fetched_words, shown_words, done_words, placed_words, buffered_words, requested_words, received_words, seen_words};
 ghost use Rattle.iw_schedules.specs.Trace.{registered, deregistered, post_word, call_on, call_of_stag, stream_word, stream_answer, stream_words, act_words, entry_text, trace_text};
 ghost use Rattle.iw_schedules.specs.Appended.{with_words};
 
@@ -11,7 +11,7 @@ use crate::refusals::Refusal;
 use crate::words::{CallWord, end_name};
 use crate::{appending, refusals};
 use bytes::Bytes;
-use iw_events::{Act, Entry, Seen, Shown, StreamAct};
+use iw_events::{Act, Entry, Request, Seen, Shown, StreamAct};
 use iw_memory::{NoRegion, RegisterRefusal, Right};
 use iw_octets::{Fault, Message, Stag};
 use iw_startup::{Agreed, NotAsked};
@@ -75,13 +75,14 @@ fn agreed_name(agreed: Agreed) -> &'static str
     }
 }
 
-// The word that posts a message.
-fn post_name<A: Allocator>(message: &Message<Bytes<A>>) -> CallWord
+// The word that posts a message or a Read.
+fn post_name<A: Allocator>(message: &Request<Bytes<A>>) -> CallWord
     ensures { result ≡ post_word message.now }
 {
     match message {
-        Message::Write { .. } => CallWord::Write,
-        Message::Send { .. } => CallWord::Send,
+        Request::Message(Message::Write { .. }) => CallWord::Write,
+        Request::Message(Message::Send { .. }) => CallWord::Send,
+        Request::Read(_) => CallWord::Read,
     }
 }
 
@@ -94,6 +95,36 @@ fn add_fault<A: Allocator>(text: &mut String<A>, fault: Fault) -> Result<(), All
     appending::number(text, u64::from(fault.code))
 }
 
+fn add_frame<A: Allocator + Copy>(
+    text: &mut String<A>,
+    from: u64,
+    octets: &[u8],
+) -> Result<(), AllocError>
+    ensures { OnOk result (string_bytes text.new ≡ with_words (string_bytes text.old) (shown_words (Shown.Frame from octets.now))) }
+{
+    appending::word(text, "frame")?;
+    appending::number(text, from)?;
+    appending::octets(text, octets)
+}
+
+fn add_fetched<A: Allocator + Copy>(
+    text: &mut String<A>,
+    from: u64,
+    frame: &[u8],
+    stag: Stag,
+    to: u64,
+    octets: &[u8],
+) -> Result<(), AllocError>
+    ensures { OnOk result (string_bytes text.new ≡ with_words (string_bytes text.old) (fetched_words from frame.now stag to octets.now)) }
+{
+    appending::word(text, "fetched")?;
+    appending::number(text, from)?;
+    appending::octets(text, frame)?;
+    appending::stag(text, stag)?;
+    appending::number(text, to)?;
+    appending::octets(text, octets)
+}
+
 fn add_shown<A: Allocator + Copy>(
     text: &mut String<A>,
     shown: &Shown<Bytes<A>>,
@@ -101,11 +132,15 @@ fn add_shown<A: Allocator + Copy>(
     ensures { OnOk result (string_bytes text.new ≡ with_words (string_bytes text.old) (shown_words shown.now)) }
 {
     match shown {
-        Shown::Frame { from, octets } => {
-            appending::word(text, "frame")?;
-            appending::number(text, *from)?;
-            appending::octets(text, octets.as_slice())
-        }
+        Shown::Frame { from, octets } => add_frame(text, *from, octets.as_slice()),
+        Shown::Fetched {
+            from,
+            frame,
+            stag,
+            to,
+            octets,
+        } => add_fetched(text, *from, frame.as_slice(), *stag, *to, octets.as_slice()),
+        Shown::Fault(fault) => add_fault(text, *fault),
         Shown::Nothing => appending::word(text, "nothing"),
     }
 }
@@ -138,6 +173,20 @@ fn add_buffered<A: Allocator>(
     appending::number(text, u64::from(msn))?;
     appending::number(text, u64::from(mo))?;
     appending::number(text, len as u64)
+}
+
+fn add_requested<A: Allocator + Copy>(
+    text: &mut String<A>,
+    size: u32,
+    stag: Stag,
+    to: u64,
+) -> Result<(), AllocError>
+    ensures { OnOk result (string_bytes text.new ≡ with_words (string_bytes text.old) (requested_words size stag to)) }
+{
+    appending::word(text, "requested")?;
+    appending::number(text, u64::from(size))?;
+    appending::stag(text, stag)?;
+    appending::number(text, to)
 }
 
 fn add_received<A: Allocator + Copy>(
@@ -213,6 +262,7 @@ fn add_seen<A: Allocator + Copy>(
             octets,
         } => add_placed(text, *right, *stag, *to, octets.as_slice()),
         Seen::Buffered { msn, mo, len } => add_buffered(text, *msn, *mo, *len),
+        Seen::Requested { size, stag, to } => add_requested(text, *size, *stag, *to),
         Seen::Passed => appending::word(text, "passed"),
         Seen::Received {
             octets,

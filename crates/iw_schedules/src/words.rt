@@ -20,6 +20,7 @@ pub(crate) enum CallWord {
     Recv,
     Send,
     Write,
+    Read,
     Emit,
     Work,
     Deliver,
@@ -29,7 +30,7 @@ pub(crate) enum CallWord {
 
 impl CallWord {
     /// Every one of them.
-    pub(crate) const ALL: [CallWord; 16] = [
+    pub(crate) const ALL: [CallWord; 17] = [
         CallWord::Domain,
         CallWord::Register,
         CallWord::Deregister,
@@ -41,6 +42,7 @@ impl CallWord {
         CallWord::Recv,
         CallWord::Send,
         CallWord::Write,
+        CallWord::Read,
         CallWord::Emit,
         CallWord::Work,
         CallWord::Deliver,
@@ -63,6 +65,7 @@ impl CallWord {
             CallWord::Recv => "recv",
             CallWord::Send => "send",
             CallWord::Write => "write",
+            CallWord::Read => "read",
             CallWord::Emit => "emit",
             CallWord::Work => "work",
             CallWord::Deliver => "deliver",
