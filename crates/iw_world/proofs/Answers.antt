@@ -71,6 +71,7 @@ answers table s t step rule k over = told step (sees table s (sound s t k) step 
     told (seen.Closed fault) h = heard_frame s t k over (progress.Faulted fault) h
     told (seen.Placed right stag to octets) h = (reads s t k over h.0.runs.running h.0.runs.started, judged table s t (seen.Placed right stag to octets) k h.0)
     told (seen.Buffered msn mo len) h = (reads s t k over h.0.runs.running h.0.runs.started, judged table s t (seen.Buffered msn mo len) k h.0)
+    told (seen.Requested size stag to) h = (reads s t k over h.0.runs.running h.0.runs.started, judged table s t (seen.Requested size stag to) k h.0)
     told seen.Passed h = (reads s t k over h.0.runs.running h.0.runs.started, turned table s t seen.Passed k h.0)
     told (seen.Received octets solicited invalidate) h = (reads s t k over h.0.runs.running h.0.runs.started, turned table s t (seen.Received octets solicited invalidate) k h.0)
     told (seen.Fault fault) (inl h) = (reads s t k over h.runs.running h.runs.started, inl (judged table s t (seen.Fault fault) k h))

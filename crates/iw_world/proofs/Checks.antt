@@ -1,31 +1,20 @@
 -- What follows where no check of an untagged segment fails.
 use Rattle.std.proofs.Common.{◌≡◌, ℕ, zero, suc, ◌+◌, ◌<◌, ◌≤◌, List, [], ◌∷◌, ◌++◌, length, take, drop, map, Option, Some, None, Bool, true, false, cond, refl, sym, ap, ◌∙◌, arith, length-append, length-drop, length-take}
 use Rattle.std.specs.Prelude.{slice_get, slice_set, slice_index_or, nat_le, nat_lt}
-use Rattle.std.specs.Result.{result_err}
 use Rattle.std.proofs.lemmas.Bool.Decides.{nat_tests}
 use Rattle.std.proofs.lemmas.Option.{none-some}
 use Rattle.iw_octets.specs.declared.fault.Fault.{Fault}
 use Rattle.iw_octets.specs.declared.fault.TheConstants.Fault as faults
-use Rattle.iw_octets.specs.declared.head.TaggedHead.{TaggedHead}
 use Rattle.iw_octets.specs.declared.head.UntaggedHead.{UntaggedHead}
 use Rattle.iw_octets.specs.Octets.{splice}
-use Rattle.iw_memory.specs.declared.rights.Right.TheVariants.{Write}
-use Rattle.iw_memory.specs.Table.{Table}
-use Rattle.iw_tagged.specs.Placing.{placing_fault}
 use Rattle.iw_octets.specs.Operation.{opcode_of}
-use Rattle.iw_rdmap.specs.FirstPath.{plain_tagged, plain_untagged}
 use Rattle.iw_untagged.specs.Receiving.{Receiving, ahead_of, buffer_of, buffer_fault, turn_fault}
-use Rattle.iw_stream.specs.Judging.{or_else, tagged_fault, untagged_fault}
 
 -- the buffer is there, with room
 pub record HasBuffer (bs : List (List ℕ)) (i end : ℕ) : Type 0 where
   pub buffer : List ℕ
   pub is : slice_get bs i ≡ Some buffer
   pub room : end ≤ length buffer
-
-pub head_passes : (first later : Option Fault) → or_else first later ≡ None → (first ≡ None) × (later ≡ None)
-head_passes (Some fault) later e = absurd (none-some _ (sym e))
-head_passes None later e = (refl, e)
 
 get_within : (bs : List (List ℕ)) (i : ℕ) → i < length bs → slice_get bs i ≡ Some (slice_index_or bs i [])
 get_within [] i h = absurd (omega (arith, h))
@@ -43,28 +32,15 @@ passed r msn mo n e = go (nat_le 256 (ahead_of r.due msn)) (nat_le (length r.buf
     go false false true b c h = absurd (none-some _ (sym h))
     go false false false b c h = (grind (arith, nat_tests), grind (arith, nat_tests))
 
-pub checked_buffer : (r : Receiving) (head : UntaggedHead) (n : ℕ) → untagged_fault r head n ≡ None → HasBuffer r.buffers (ahead_of r.due head.msn) (head.mo + n)
+pub checked_buffer : (r : Receiving) (head : UntaggedHead) (n : ℕ) → buffer_fault r head.msn head.mo n ≡ None → HasBuffer r.buffers (ahead_of r.due head.msn) (head.mo + n)
 checked_buffer r head n e =
-    let p = passed r head.msn head.mo n (head_passes (result_err (plain_untagged head)) (buffer_fault r head.msn head.mo n) e).1 in
+    let p = passed r head.msn head.mo n e in
     record { buffer = buffer_of r head.msn; is = get_within r.buffers (ahead_of r.due head.msn) p.0; room = p.1 }
 
--- a header that passes its checks is a plain Send's
+-- a plain Send's header
 pub record IsPlainSend (head : UntaggedHead) : Type 0 where
   pub queue : head.queue ≡ 0
   pub opcode : opcode_of head.control ≡ 3
-
-pub checked_head : (r : Receiving) (head : UntaggedHead) (n : ℕ) → untagged_fault r head n ≡ None → IsPlainSend head
-checked_head r head n e = plain head (head_passes (result_err (plain_untagged head)) (buffer_fault r head.msn head.mo n) e).0
-  where
-    plain : (head : UntaggedHead) → result_err (plain_untagged head) ≡ None → IsPlainSend head
-    plain head e = record { queue = grind (arith, nat_tests); opcode = grind (arith, nat_tests) }
-
--- a tagged header that passes its checks is a Write's
-pub checked_write : (table : Table) (domain : ℕ) (head : TaggedHead) (n : ℕ) → tagged_fault table domain head n ≡ None → opcode_of head.control ≡ 0
-checked_write table domain head n e = plain head (head_passes (result_err (plain_tagged head)) (placing_fault table domain head n Write) e).0
-  where
-    plain : (head : TaggedHead) → result_err (plain_tagged head) ≡ None → opcode_of head.control ≡ 0
-    plain head e = grind (arith, nat_tests)
 
 pub turned_first : (r : Receiving) (msn mo : ℕ) → turn_fault r msn mo ≡ None → ahead_of r.due msn ≡ 0
 turned_first r msn mo e = grind (arith, nat_tests)

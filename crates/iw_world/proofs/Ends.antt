@@ -16,7 +16,9 @@ use Rattle.iw_stream.specs.declared.judging.Turning.TheVariants as turning
 use Rattle.iw_stream.specs.Frames as placed
 use Rattle.iw_stream.specs.Judging.{verdict, turn_of}
 use Rattle.iw_stream.specs.Starting.{progress_in}
-use Rattle.iw_stream.specs.Stream.{StreamState, Due, StartUp, NextPart, NoneDue, due, left_due}
+use Rattle.iw_stream.specs.Stream.{StreamState, Due, StartUp, Response, NextPart, NoneDue, due, left_due, left_fetched, frame_fetched}
+use Rattle.iw_reads.specs.declared.response.ResponsePart.{ResponsePart}
+use Rattle.iw_stream.specs.declared.judging.Landing.TheVariants as landing
 use Rattle.iw_stream.specs.Work.{Task, HandOut, Hear, Turn, Judge, Rest, task, inbox, standing, after_hearing, after_turn, after_judging, left_by, worked}
 use Rattle.iw_events.specs.declared.act.OpenRefusal.TheVariants.{NumberTaken, BadNumber, NoDomain}
 use Rattle.iw_events.specs.declared.act.Act.{Act}
@@ -65,10 +67,15 @@ opens s n pd e = go (has_stream s n) (nat_le stream_numbers n) refl refl (is_add
     go false false h z added e' = record { fresh = h; number = grind (arith, nat_tests) }
 
 -- a stream keeps its domain
-left_domain : (s : StreamState) (d : Due) → (left_due s d).domain ≡ s.domain
-left_domain s StartUp = refl
-left_domain s (NextPart part) = refl
-left_domain s NoneDue = refl
+fetched_domain : (s : StreamState) (part : ResponsePart) (r : Result (List ℕ) Fault) → (left_fetched s part r).domain ≡ s.domain
+fetched_domain s part (Ok frame) = refl
+fetched_domain s part (Err fault) = refl
+
+left_domain : (table : Table) (s : StreamState) (d : Due) → (left_due table s d).domain ≡ s.domain
+left_domain table s StartUp = refl
+left_domain table s (Response part) = fetched_domain s part (frame_fetched table s part)
+left_domain table s (NextPart part) = refl
+left_domain table s NoneDue = refl
 
 worked_domain : (table : Table) (s : StreamState) → (worked table s).domain ≡ s.domain
 worked_domain table s = go (task s)
@@ -82,10 +89,14 @@ worked_domain table s = go (task s)
     turns : (frame : PlacedFrame) (r : Result Turning Fault) → (after_turn s frame r).domain ≡ s.domain
     turns frame (Ok turning.Passed) = refl
     turns frame (Ok turning.Completed) = refl
+    turns frame (Ok (turning.Answered ticket)) = refl
     turns frame (Err fault) = refl
 
     judges : (frame : placed.Frame) (r : Result Landing Fault) → (after_judging s frame r).domain ≡ s.domain
-    judges frame (Ok at) = refl
+    judges frame (Ok (landing.Write at)) = refl
+    judges frame (Ok (landing.Response at)) = refl
+    judges frame (Ok (landing.Send msn mo len)) = refl
+    judges frame (Ok (landing.Request request)) = refl
     judges frame (Err fault) = refl
 
     go : (t : Task) → (left_by table s t).domain ≡ s.domain
@@ -100,7 +111,7 @@ same_domain table s (Recv len None) = refl
 same_domain table s (Recv len (Some refusal)) = refl
 same_domain table s (Post m None) = refl
 same_domain table s (Post m (Some refusal)) = refl
-same_domain table s (Emit shown) = left_domain s (due s)
+same_domain table s (Emit shown) = left_domain table s (due s)
 same_domain table s (Accept private (Ok agreed)) = refl
 same_domain table s (Accept private (Err refusal)) = refl
 same_domain table s (Reject private None) = refl

@@ -8,7 +8,8 @@ use Rattle.std.proofs.lemmas.Bool.{false≢true, true≢false}
 use Rattle.std.proofs.lemmas.Option.{none-some}
 use Rattle.iw_octets.specs.declared.head.TaggedHead.{TaggedHead}
 use Rattle.iw_octets.specs.declared.head.UntaggedHead.{UntaggedHead}
-use Rattle.iw_octets.specs.declared.message.Message.{Message}
+use Rattle.iw_queues.specs.declared.request.Request.{Request}
+use Rattle.iw_queues.specs.declared.request.Request.TheVariants.{Message as Posted, Read}
 use Rattle.iw_octets.specs.declared.message.Message.TheVariants.{Write, Send}
 use Rattle.iw_octets.specs.declared.segment.Segment.{Segment}
 use Rattle.iw_octets.specs.declared.segment.Segment.TheVariants.{Tagged, Untagged}
@@ -16,9 +17,11 @@ use Rattle.iw_octets.specs.Octets.{splice}
 use Rattle.iw_octets.specs.Stag.{number_of}
 use Rattle.iw_queues.specs.Joined.{Whole, Cell, joined, completed, is_solicited, is_invalidating, count_in, count_writes, count_segments}
 use Rattle.iw_octets.specs.Operation.{opcode_of, untagged_operation}
-use Rattle.iw_untagged.specs.Receiving.{Receiving, ahead_of, buffer_of, oldest, with_buffer, written, turned, finished, turn_fault}
-use Rattle.iw_world.specs.Words.{Octets, Sent}
-use Rattle.iw_world.specs.Safe.{requests}
+use Rattle.iw_untagged.specs.Receiving.{Receiving, ahead_of, buffer_of, oldest, with_buffer, turned, finished, turn_fault}
+use Rattle.std.proofs.lemmas.List.Concat.{flat_map-append}
+use Rattle.iw_memory.specs.declared.rights.Right.TheVariants as rights
+use Rattle.iw_world.specs.Words.{Octets, Sent, Placing, written_by, written, sunk_by, sunk, as_write}
+use Rattle.iw_untagged.specs.Receiving as receiving
 use Rattle.iw_world.proofs.Lists.{Each, each-push}
 use Rattle.iw_world.proofs.Checks.{HasBuffer, IsPlainSend, turned_first, index_of}
 
@@ -64,10 +67,33 @@ count-append c [] ys = omega arith
 count-append c (Tagged head octets ∷ xs) ys = let rest = count-append c xs ys in omega (arith, rest)
 count-append c (Untagged head octets ∷ xs) ys = count-append c xs ys
 
-count_writes-push : (c : Cell) (ms : List (Message Octets)) (m : Message Octets) → count_writes c (requests (ms ++ m ∷ [])) ≡ count_writes c (requests ms) + count_writes c (requests (m ∷ []))
-count_writes-push c [] m = omega arith
-count_writes-push c (Write stag to octets ∷ ms) m = let rest = count_writes-push c ms m in omega (arith, rest)
-count_writes-push c (Send octets solicited invalidate ∷ ms) m = count_writes-push c ms m
+pub count_writes-append : (c : Cell) (xs ys : List (Request Octets)) → count_writes c (xs ++ ys) ≡ count_writes c xs + count_writes c ys
+count_writes-append c [] ys = omega arith
+count_writes-append c (Posted (Write stag to octets) ∷ xs) ys = let rest = count_writes-append c xs ys in omega (arith, rest)
+count_writes-append c (Posted (Send octets solicited invalidate) ∷ xs) ys = count_writes-append c xs ys
+count_writes-append c (Read request ∷ xs) ys = count_writes-append c xs ys
+
+-- how often a cell is among the octets of the segments of responses
+abbrev pub count_responses : Cell → List (Segment Octets) → ℕ
+count_responses c [] = 0
+count_responses c (Tagged head octets ∷ ss) = cond (nat_eq (opcode_of head.control) 2) (count_in c head.stag head.to octets) 0 + count_responses c ss
+count_responses c (Untagged head octets ∷ ss) = count_responses c ss
+
+pub responses-append : (c : Cell) (xs ys : List (Segment Octets)) → count_responses c (xs ++ ys) ≡ count_responses c xs + count_responses c ys
+responses-append c [] ys = omega arith
+responses-append c (Tagged head octets ∷ xs) ys = let rest = responses-append c xs ys in omega (arith, rest)
+responses-append c (Untagged head octets ∷ xs) ys = responses-append c xs ys
+
+-- one more placement
+written-push : (c : Cell) (ps : List Placing) (p : Placing) → count_writes c (written (ps ++ p ∷ [])) ≡ count_writes c (written ps) + count_writes c (written_by p.right (as_write p))
+written-push c ps p =
+    ap (count_writes c) (flat_map-append (λ (q : Placing). written_by q.right (as_write q)) ps (p ∷ []) ∙ ap (λ z. written ps ++ z) (append-nil (written_by p.right (as_write p))))
+    ∙ count_writes-append c (written ps) (written_by p.right (as_write p))
+
+sunk-push : (c : Cell) (ps : List Placing) (p : Placing) → count_writes c (sunk (ps ++ p ∷ [])) ≡ count_writes c (sunk ps) + count_writes c (sunk_by p.right (as_write p))
+sunk-push c ps p =
+    ap (count_writes c) (flat_map-append (λ (q : Placing). sunk_by q.right (as_write q)) ps (p ∷ []) ∙ ap (λ z. sunk ps ++ z) (append-nil (sunk_by p.right (as_write p))))
+    ∙ count_writes-append c (sunk ps) (sunk_by p.right (as_write p))
 
 -- ---- what stands in the oldest buffer
 
@@ -127,7 +153,7 @@ turned_at r msn mo e = grind (arith, nat_tests)
 
 -- a Send's segment is written into its buffer
 fills : (r : Receiving) (head : UntaggedHead) (payload : Octets) (segments : List (Segment Octets)) → IsPlainSend head → HasBuffer r.buffers (ahead_of r.due head.msn) (head.mo + length payload) → Begun r segments
-    → Fills (written r head.msn head.mo payload) head payload segments
+    → Fills (receiving.written r head.msn head.mo payload) head payload segments
 fills r head payload segments plain b begins = record {
   plain = plain;
   count = begins.count;
@@ -150,15 +176,21 @@ count_waiting c false o = 0
 count_waiting c true None = 0
 count_waiting c true (Some segment) = count_segments c (segment ∷ [])
 
-pub record Joins (segments : List (Segment Octets)) (r : Receiving) (placed ended : Bool) (o : Option (Segment Octets)) (received : List Sent) (placements : List (Message Octets)) : Type 0 where
+abbrev pub sunk_waiting : Cell → Bool → Option (Segment Octets) → ℕ
+sunk_waiting c false o = 0
+sunk_waiting c true None = 0
+sunk_waiting c true (Some segment) = count_responses c (segment ∷ [])
+
+pub record Joins (segments : List (Segment Octets)) (r : Receiving) (placed ended : Bool) (o : Option (Segment Octets)) (received : List Sent) (placements : List Placing) : Type 0 where
   pub received_are : map whole received ≡ joined [] segments
   pub plain : Each (λ (x : Sent). x.invalidate ≡ None) received
   pub begins : ended ≡ false → placed ≡ false → Begun r segments
   pub waits : ended ≡ false → placed ≡ true → Waits r segments o
-  pub counted : (c : Cell) → count_writes c (requests placements) ≡ count_segments c segments + count_waiting c placed o
+  pub counted : (c : Cell) → count_writes c (written placements) ≡ count_segments c segments + count_waiting c placed o
+  pub sunk_are : (c : Cell) → count_writes c (sunk placements) ≡ count_responses c segments + sunk_waiting c placed o
 
 -- the same of values that are equal
-pub reshape : {segments : List (Segment Octets)} {r r' : Receiving} {placed placed' ended ended' : Bool} {o o' : Option (Segment Octets)} {received received' : List Sent} {placements placements' : List (Message Octets)}
+pub reshape : {segments : List (Segment Octets)} {r r' : Receiving} {placed placed' ended ended' : Bool} {o o' : Option (Segment Octets)} {received received' : List Sent} {placements placements' : List Placing}
     → r ≡ r' → placed ≡ placed' → ended ≡ ended' → o ≡ o' → received ≡ received' → placements ≡ placements' → Joins segments r placed ended o received placements → Joins segments r' placed' ended' o' received' placements'
 reshape {segments} {r} {r'} {placed} {placed'} {ended} {ended'} {o} {o'} {received} {received'} {placements} {placements'} a b c d e f j =
     subst (λ z. Joins segments r' placed' ended' o' received' z) f
@@ -168,13 +200,13 @@ reshape {segments} {r} {r'} {placed} {placed'} {ended} {ended'} {o} {o'} {receiv
     (subst (λ z. Joins segments r' z ended o received placements) b (subst (λ z. Joins segments z placed ended o received placements) a j)))))
 
 -- nothing is received, and nothing placed
-pub joins_same : (segments : List (Segment Octets)) (r : Receiving) (placed ended : Bool) (o : Option (Segment Octets)) (received : List Sent) (placements : List (Message Octets))
+pub joins_same : (segments : List (Segment Octets)) (r : Receiving) (placed ended : Bool) (o : Option (Segment Octets)) (received : List Sent) (placements : List Placing)
     → Joins segments r placed ended o received placements → Joins segments r placed ended o (received ++ []) (placements ++ [])
 joins_same segments r placed ended o received placements j =
     subst (λ x. Joins segments r placed ended o x (placements ++ [])) (sym (append-nil received)) (subst (Joins segments r placed ended o received) (sym (append-nil placements)) j)
 
 -- a buffer is posted
-pub joins_buffer : (segments : List (Segment Octets)) (r : Receiving) (placed ended : Bool) (o : Option (Segment Octets)) (received : List Sent) (placements : List (Message Octets)) (new : List ℕ)
+pub joins_buffer : (segments : List (Segment Octets)) (r : Receiving) (placed ended : Bool) (o : Option (Segment Octets)) (received : List Sent) (placements : List Placing) (new : List ℕ)
     → Joins segments r placed ended o received placements → Joins segments (with_buffer r new) placed ended o received placements
 joins_buffer segments r placed ended o received placements new j = record {
   received_are = j.received_are;
@@ -182,10 +214,11 @@ joins_buffer segments r placed ended o received placements new j = record {
   begins = λ e p. begun_more r segments new (j.begins e p);
   waits = λ e p. waits_more r segments o new (j.waits e p);
   counted = j.counted;
+  sunk_are = j.sunk_are;
 }
 
 -- more octets come: the segment that waits stays
-pub joins_front : (segments : List (Segment Octets)) (r : Receiving) (placed ended : Bool) (o o' : Option (Segment Octets)) (received : List Sent) (placements : List (Message Octets))
+pub joins_front : (segments : List (Segment Octets)) (r : Receiving) (placed ended : Bool) (o o' : Option (Segment Octets)) (received : List Sent) (placements : List Placing)
     → (placed ≡ true → o' ≡ o) → Joins segments r placed ended o received placements → Joins segments r placed ended o' received placements
 joins_front segments r placed ended o o' received placements same j = record {
   received_are = j.received_are;
@@ -193,14 +226,19 @@ joins_front segments r placed ended o o' received placements same j = record {
   begins = j.begins;
   waits = λ e p. subst (Waits r segments) (sym (same p)) (j.waits e p);
   counted = λ c. j.counted c ∙ ap (λ n. count_segments c segments + n) (go c placed same);
+  sunk_are = λ c. j.sunk_are c ∙ ap (λ n. count_responses c segments + n) (sinks c placed same);
 }
   where
+    sinks : (c : Cell) (placed : Bool) → (placed ≡ true → o' ≡ o) → sunk_waiting c placed o ≡ sunk_waiting c placed o'
+    sinks c false h = refl
+    sinks c true h = ap (sunk_waiting c true) (sym (h refl))
+
     go : (c : Cell) (placed : Bool) → (placed ≡ true → o' ≡ o) → count_waiting c placed o ≡ count_waiting c placed o'
     go c false h = refl
     go c true h = ap (count_waiting c true) (sym (h refl))
 
 -- the stream ends
-pub joins_end : (segments : List (Segment Octets)) (r : Receiving) (placed ended : Bool) (o : Option (Segment Octets)) (received : List Sent) (placements : List (Message Octets))
+pub joins_end : (segments : List (Segment Octets)) (r : Receiving) (placed ended : Bool) (o : Option (Segment Octets)) (received : List Sent) (placements : List Placing)
     → Joins segments r placed ended o received placements → Joins segments r placed true o received placements
 joins_end segments r placed ended o received placements j = record {
   received_are = j.received_are;
@@ -208,35 +246,62 @@ joins_end segments r placed ended o received placements j = record {
   begins = λ e. absurd (true≢false e);
   waits = λ e. absurd (true≢false e);
   counted = j.counted;
+  sunk_are = j.sunk_are;
 }
 
 -- a Write's segment is placed
-pub joins_write : (segments : List (Segment Octets)) (r : Receiving) (head : TaggedHead) (payload : Octets) (received : List Sent) (placements : List (Message Octets)) → opcode_of head.control ≡ 0
-    → Joins segments r false false (Some (Tagged head payload)) received placements → Joins segments r true false (Some (Tagged head payload)) received (placements ++ Write head.stag head.to payload ∷ [])
-joins_write segments r head payload received placements op j = record {
-  received_are = j.received_are;
-  plain = j.plain;
-  begins = λ e p. absurd (true≢false p);
-  waits = λ e p. j.begins refl refl;
-  counted = λ c.
-      let one : count_segments c (Tagged head payload ∷ []) ≡ count_in c head.stag head.to payload + 0 = ap (λ n. cond (nat_eq n 0) (count_in c head.stag head.to payload) 0 + 0) op in
-      omega (arith, count_writes-push c placements (Write head.stag head.to payload), j.counted c, one);
-}
+pub joins_write : (segments : List (Segment Octets)) (r : Receiving) (head : TaggedHead) (payload : Octets) (received : List Sent) (placements : List Placing) → opcode_of head.control ≡ 0
+    → Joins segments r false false (Some (Tagged head payload)) received placements
+    → Joins segments r true false (Some (Tagged head payload)) received (placements ++ record { right = rights.Write; stag = head.stag; to = head.to; octets = payload } ∷ [])
+joins_write segments r head payload received placements op j =
+    let p : Placing = record { right = rights.Write; stag = head.stag; to = head.to; octets = payload } in
+    record {
+      received_are = j.received_are;
+      plain = j.plain;
+      begins = λ e p. absurd (true≢false p);
+      waits = λ e p. j.begins refl refl;
+      counted = λ c.
+          let one : count_segments c (Tagged head payload ∷ []) ≡ count_in c head.stag head.to payload + 0 = ap (λ n. cond (nat_eq n 0) (count_in c head.stag head.to payload) 0 + 0) op in
+          omega (arith, written-push c placements p, j.counted c, one);
+      sunk_are = λ c.
+          let none : count_responses c (Tagged head payload ∷ []) ≡ 0 = ap (λ n. cond (nat_eq n 2) (count_in c head.stag head.to payload) 0 + 0) op in
+          omega (arith, sunk-push c placements p, j.sunk_are c, none);
+    }
+
+-- part of a response is placed
+pub joins_response : (segments : List (Segment Octets)) (r : Receiving) (head : TaggedHead) (payload : Octets) (received : List Sent) (placements : List Placing) → opcode_of head.control ≡ 2
+    → Joins segments r false false (Some (Tagged head payload)) received placements
+    → Joins segments r true false (Some (Tagged head payload)) received (placements ++ record { right = rights.Sink; stag = head.stag; to = head.to; octets = payload } ∷ [])
+joins_response segments r head payload received placements op j =
+    let p : Placing = record { right = rights.Sink; stag = head.stag; to = head.to; octets = payload } in
+    record {
+      received_are = j.received_are;
+      plain = j.plain;
+      begins = λ e p. absurd (true≢false p);
+      waits = λ e p. j.begins refl refl;
+      counted = λ c.
+          let none : count_segments c (Tagged head payload ∷ []) ≡ 0 = ap (λ n. cond (nat_eq n 0) (count_in c head.stag head.to payload) 0 + 0) op in
+          omega (arith, written-push c placements p, j.counted c, none);
+      sunk_are = λ c.
+          let one : count_responses c (Tagged head payload ∷ []) ≡ count_in c head.stag head.to payload + 0 = ap (λ n. cond (nat_eq n 2) (count_in c head.stag head.to payload) 0 + 0) op in
+          omega (arith, sunk-push c placements p, j.sunk_are c, one);
+    }
 
 -- a Send's segment is placed
-pub joins_send : (segments : List (Segment Octets)) (r : Receiving) (head : UntaggedHead) (payload : Octets) (received : List Sent) (placements : List (Message Octets)) → IsPlainSend head
+pub joins_send : (segments : List (Segment Octets)) (r : Receiving) (head : UntaggedHead) (payload : Octets) (received : List Sent) (placements : List Placing) → IsPlainSend head
     → HasBuffer r.buffers (ahead_of r.due head.msn) (head.mo + length payload) → Joins segments r false false (Some (Untagged head payload)) received placements
-    → Joins segments (written r head.msn head.mo payload) true false (Some (Untagged head payload)) received placements
+    → Joins segments (receiving.written r head.msn head.mo payload) true false (Some (Untagged head payload)) received placements
 joins_send segments r head payload received placements plain b j = record {
   received_are = j.received_are;
   plain = j.plain;
   begins = λ e p. absurd (true≢false p);
   waits = λ e p. fills r head payload segments plain b (j.begins refl refl);
   counted = j.counted;
+  sunk_are = j.sunk_are;
 }
 
 -- a Write's segment has its turn
-pub joins_tagged : (segments : List (Segment Octets)) (r : Receiving) (head : TaggedHead) (payload : Octets) (o' : Option (Segment Octets)) (received : List Sent) (placements : List (Message Octets))
+pub joins_tagged : (segments : List (Segment Octets)) (r : Receiving) (head : TaggedHead) (payload : Octets) (o' : Option (Segment Octets)) (received : List Sent) (placements : List Placing)
     → Joins segments r true false (Some (Tagged head payload)) received placements → Joins (segments ++ Tagged head payload ∷ []) r false false o' received placements
 joins_tagged segments r head payload o' received placements j =
     let b = j.waits refl refl in
@@ -247,6 +312,24 @@ joins_tagged segments r head payload o' received placements j =
       begins = λ e p. record { octets = b.octets ∙ sym same; count = b.count ∙ ap length (sym same) };
       waits = λ e p. absurd (false≢true p);
       counted = λ c. omega (arith, j.counted c, count-append c segments (Tagged head payload ∷ []));
+      sunk_are = λ c. omega (arith, j.sunk_are c, responses-append c segments (Tagged head payload ∷ []));
+    }
+
+-- a Read Request has its turn
+pub joins_request : (segments : List (Segment Octets)) (r : Receiving) (head : UntaggedHead) (payload : Octets) (o' : Option (Segment Octets)) (received : List Sent) (placements : List Placing) → head.queue ≡ 1
+    → Joins segments r false false (Some (Untagged head payload)) received placements → Joins (segments ++ Untagged head payload ∷ []) r false false o' received placements
+joins_request segments r head payload o' received placements queue j =
+    let b = j.begins refl refl in
+    let same : begun [] (segments ++ Untagged head payload ∷ []) ≡ begun [] segments =
+    begun-append [] segments (Untagged head payload ∷ []) ∙ ap (λ n. cond (nat_eq n 0) (cond head.last [] (begun [] segments ++ payload)) (begun [] segments)) queue in
+    record {
+      received_are = j.received_are ∙ sym (append-nil (joined [] segments))
+          ∙ ap (λ n. joined [] segments ++ cond (nat_eq n 0) (cond head.last (completed head (begun [] segments ++ payload) ∷ []) []) []) (sym queue) ∙ sym (joined-append [] segments (Untagged head payload ∷ []));
+      plain = j.plain;
+      begins = λ e p. record { octets = b.octets ∙ sym same; count = b.count ∙ ap length (sym same) };
+      waits = λ e p. absurd (false≢true p);
+      counted = λ c. omega (arith, j.counted c, count-append c segments (Untagged head payload ∷ []));
+      sunk_are = λ c. omega (arith, j.sunk_are c, responses-append c segments (Untagged head payload ∷ []));
     }
 
 -- the octets of a Send's segment behind those that came before
@@ -261,7 +344,7 @@ joined_next segments head payload plain =
     ∙ ap (λ n. joined [] segments ++ cond (nat_eq n 0) (cond head.last (completed head (begun [] segments ++ payload) ∷ []) []) []) plain.queue
 
 -- a Send's segment that is not its last has its turn
-pub joins_part : (segments : List (Segment Octets)) (r : Receiving) (head : UntaggedHead) (payload : Octets) (o' : Option (Segment Octets)) (received : List Sent) (placements : List (Message Octets))
+pub joins_part : (segments : List (Segment Octets)) (r : Receiving) (head : UntaggedHead) (payload : Octets) (o' : Option (Segment Octets)) (received : List Sent) (placements : List Placing)
     → turn_fault r head.msn head.mo ≡ None → head.last ≡ false → Joins segments r true false (Some (Untagged head payload)) received placements
     → Joins (segments ++ Untagged head payload ∷ []) (turned r (length payload)) false false o' received placements
 joins_part segments r head payload o' received placements turn last j =
@@ -276,6 +359,7 @@ joins_part segments r head payload o' received placements turn last j =
       begins = λ e p. record { octets = w.octets turn ∙ sym next; count = omega (arith, w.count, ap length next, length-append (begun [] segments) payload) };
       waits = λ e p. absurd (false≢true p);
       counted = λ c. omega (arith, j.counted c, count-append c segments (Untagged head payload ∷ []));
+      sunk_are = λ c. omega (arith, j.sunk_are c, responses-append c segments (Untagged head payload ∷ []));
     }
 
 -- the Send that a plain last segment completes
@@ -287,7 +371,7 @@ plain_whole head octets op = ap (λ n. record {
 }) op
 
 -- a Send's last segment has its turn: the Send is received
-pub joins_last : (segments : List (Segment Octets)) (r : Receiving) (head : UntaggedHead) (payload : Octets) (o' : Option (Segment Octets)) (received : List Sent) (placements : List (Message Octets))
+pub joins_last : (segments : List (Segment Octets)) (r : Receiving) (head : UntaggedHead) (payload : Octets) (o' : Option (Segment Octets)) (received : List Sent) (placements : List Placing)
     → turn_fault r head.msn head.mo ≡ None → head.last ≡ true → Joins segments r true false (Some (Untagged head payload)) received placements
     → Joins (segments ++ Untagged head payload ∷ []) (finished r) false false o' (received ++ record { octets = take (r.turned + length payload) (oldest r); solicited = false; invalidate = None } ∷ []) placements
 joins_last segments r head payload o' received placements turn last j =
@@ -304,4 +388,5 @@ joins_last segments r head payload o' received placements turn last j =
       begins = λ e p. record { octets = sym next; count = ap length (sym next) };
       waits = λ e p. absurd (false≢true p);
       counted = λ c. omega (arith, j.counted c, count-append c segments (Untagged head payload ∷ []));
+      sunk_are = λ c. omega (arith, j.sunk_are c, responses-append c segments (Untagged head payload ∷ []));
     }

@@ -16,13 +16,12 @@ use Rattle.iw_memory.specs.Table.{Table, part_of, slots_of, region_at, is_added,
 use Rattle.iw_octets.specs.declared.segment.Segment.{Segment}
 use Rattle.iw_fpdu.specs.Sequence.{sequence}
 use Rattle.iw_queues.specs.Joined.{IsPrefixOf, Cell}
-use Rattle.iw_queues.specs.Segments.{Numbers, AreSpelled, segment_with, segment_of}
+use Rattle.iw_queues.specs.Segments.{Numbers, first_numbers, segment_with, segment_of}
 use Rattle.iw_octets.specs.declared.operation.TaggedOperation.TheVariants as tagged
 use Rattle.iw_octets.specs.declared.operation.UntaggedOperation.TheVariants as untagged
 use Rattle.iw_octets.specs.Operation.{control_of, tagged_opcode, untagged_opcode}
-use Rattle.iw_queues.proofs.Sending.{sends_in_order}
-use Rattle.iw_stream.specs.Starting.{is_asked, sending, own_frame, agreement_in}
-use Rattle.iw_stream.specs.Stream.{StreamState, part_due, owes_frame, recv_refusal, recv_refusal_of, post_refusal, post_refusal_of, may_answer, delivery_of}
+use Rattle.iw_stream.specs.Starting.{is_asked, sending, own_frame, first_place_out, agreement_in}
+use Rattle.iw_stream.specs.Stream.{StreamState, is_read, may_go, part_due, response_due, owes_frame, recv_refusal, recv_refusal_of, post_refusal, post_refusal_of, may_answer, delivery_of}
 use Rattle.iw_stream.specs.Work as work
 use Rattle.iw_stream.specs.declared.answer.PostRefusal.TheVariants as post_refusals
 use Rattle.iw_stream.specs.declared.answer.RecvRefusal.TheVariants as recv_refusals
@@ -36,7 +35,22 @@ use Rattle.iw_queues.specs.Request.{kind_of, payload, size_of, header_len}
 use Rattle.iw_queues.specs.Queue.{Queue, next_part, IsBegun, IsWithinLimits}
 use Rattle.iw_queues.specs.Laws.{IsFilled, kinds_in}
 use Rattle.iw_queues.proofs.Filled.{fills}
-use Rattle.iw_octets.specs.declared.message.Message.{Message}
+use Rattle.iw_octets.specs.declared.payload.ReadRequest.{ReadRequest}
+use Rattle.iw_octets.specs.Payload.{FitsRequest, request_octets}
+use Rattle.iw_octets.proofs.Spelled.{length-request_octets}
+use Rattle.iw_memory.specs.declared.rights.Right.TheVariants as rights
+use Rattle.iw_memory.proofs.Callers.{allows}
+use Rattle.iw_reads.specs.declared.requests.Asked.{Asked}
+use Rattle.iw_reads.specs.Outstanding.{most_reads}
+use Rattle.iw_reads.specs.Requests.{Requested, part_for}
+use Rattle.iw_reads.specs.Requests as requests
+use Rattle.iw_reads.specs.Response.{response_head, fetch_fault}
+use Rattle.iw_reads.specs.Source.{reading_fault}
+use Rattle.std.specs.Prelude.{All, slice_get, nat_eq, ◌≢◌}
+use Rattle.std.proofs.lemmas.Bool.{cases_lt}
+use Rattle.std.proofs.lemmas.Bool.Decides.{nat_tests}
+use Rattle.std.proofs.lemmas.List.Elements.{All-head}
+use Rattle.std.proofs.Math.Seq.{take-append_seam}
 use Rattle.iw_octets.specs.declared.message.Message.TheVariants.{Write, Send}
 use Rattle.iw_octets.specs.declared.stag.Stag.{Stag}
 use Rattle.iw_octets.specs.Stag.{number_of}
@@ -54,14 +68,16 @@ use Rattle.iw_events.specs.declared.act.Act.{Act}
 use Rattle.iw_events.specs.declared.act.Act.TheVariants.{Domain, Register, Deregister, Invalidate, Store, Open, Stream}
 use Rattle.iw_events.specs.declared.act.StreamAct.{StreamAct}
 use Rattle.iw_events.specs.declared.act.StreamAct.TheVariants.{Recv, Post, Emit, Deliver, Raw, Mulpdu, Accept, Reject, Work}
-use Rattle.iw_events.specs.declared.act.Shown.TheVariants.{Frame, Nothing}
+use Rattle.iw_events.specs.declared.act.Shown.TheVariants.{Frame, Fetched, Fault as Denied, Nothing}
 use Rattle.iw_events.specs.declared.act.Seen.TheVariants as seen
 use Rattle.iw_events.specs.declared.act.Entry.{Entry}
-use Rattle.iw_world.specs.Words.{Octets, other, acts, deed, buffers, finished_kinds, size_set, stream_numbers, stream_acts, Opening, opening_in, opening_of, openings, was_opened, domain_of, posted, sends, received, ended, sent, placements, table_after}
-use Rattle.iw_world.specs.Safe.{IsHonest, InOrder, requests, CoversWrites, Covered, Fits, Within, WithinStream}
-use Rattle.iw_world.specs.Sends.{AreFirstFrames, Emission, AreAllFrames, HasNothing, Over, Closed, AllSent, NothingShown, NothingStream, NothingOnlyAtRest, FrameSized, SizedStream, Sized, FrameAllowed, SpeaksStream, Speaks, CanFinish, FinishedStream, Finished}
+use Rattle.iw_world.specs.Words.{Octets, other, acts, deed, buffers, finished_kinds, size_set, stream_numbers, stream_acts, Opening, opening_in, opening_of, openings, was_opened, domain_of, posted, sends, received, ended, sent, placings, written, table_after}
+use Rattle.iw_world.specs.Safe.{IsHonest, InOrder, CoversWrites, Covered, Fits, Within, WithinStream}
+use Rattle.iw_world.specs.Merged.{AreMerged, posts_in, octets_of, response_segment}
+use Rattle.iw_world.specs.Faithful.{FetchShown, FetchStream}
+use Rattle.iw_world.specs.Sends.{AreFirstFrames, Emission, AreAllFrames, HasNothing, Over, Closed, AllSent, ReadWaits, MaySend, FewReads, NothingShown, NothingStream, NothingOnlyAtRest, FrameSized, SizedStream, Sized, FrameAllowed, SpeaksStream, Speaks, CanFinish, FinishedStream, Finished}
 use Rattle.iw_world.specs.Sends.{Silent as Muted}
-use Rattle.iw_world.specs.Turns.{story, story_of, standing, TurnsSeen, TurnsStream, Turns}
+use Rattle.iw_world.specs.Turns.{Answer, is_last, story, story_of, standing, TurnsSeen, TurnsStream, Turns}
 use Rattle.iw_world.specs.Rest.{IdleStream, IdleOnlyAtRest}
 use Rattle.iw_world.specs.Calls.{deregister_answer, invalidate_refusal, IsNew, open_refusal_by, EndAnswered, ShowsMemory, recv_refusal_by, post_refusal_by, may_answer_by, Accepted, Rejected, StreamAnswered, AnsweredStream, Answered, delivery_by, KeptStream, KeepsOctets, CarriedStream, CarriesOctets}
 use Rattle.iw_world.specs.Words.{OnSome, OnStream, AtEach}
@@ -72,12 +88,13 @@ use Rattle.iw_world.proofs.Told.{told, sees}
 use Rattle.iw_world.proofs.Tracks.{Track, sound, silent_is, point_is, accepting, refusing}
 use Rattle.iw_world.proofs.Answers.{answers, idles, idle_unfinished}
 use Rattle.iw_world.proofs.Tales.{Tale, tale_of}
-use Rattle.iw_world.proofs.Sending.{shown_good, FitsRequest, Rests, Ended, Shut, Silent, Sent, rests, none_left, shows, EmitsStart, EmitsPart, emits_frame}
-use Rattle.iw_world.proofs.Owns.{first_fits, Own, Emits, within, WithinTale, IsFramed, Unspoken, Spoken, behind_start, before_start, part_fits}
-use Rattle.iw_world.proofs.Counts.{last_of}
+use Rattle.iw_world.proofs.Counts.{plain_part}
+use Rattle.iw_world.proofs.Merges.{asked_or}
+use Rattle.iw_world.proofs.Sending.{shown_good, Rests, Ended, Shut, Silent, Sent, MaySpeak, none_left, shows, EmitsStart, EmitsPart, EmitsResponse, emits_as}
+use Rattle.iw_world.proofs.Owns.{first_fits, Own, Emits, answers_part, part_is_of, within, WithinTale, IsFramed, Unspoken, Spoken, behind_start, before_start}
 use Rattle.iw_world.proofs.Messages.{start_frame_is, open_is, sequence_is, can_finish, cannot_finish}
 use Rattle.iw_world.proofs.Heard.{IsHeard, hears_all}
-use Rattle.iw_world.proofs.Delivered.{received_prefix, writes_covered}
+use Rattle.iw_world.proofs.Delivered.{whole_of, received_prefix, writes_covered}
 use Rattle.iw_world.proofs.Ends.{there, EndSeen, unopened}
 use Rattle.iw_world.proofs.Whole.{tale, Seen, seen_at, follows_split}
 
@@ -108,7 +125,7 @@ in_order trace follows past future is x n honest = prefix_of past (state_after s
 
 -- what was placed for Writes is what was posted, as far as Sends were received
 covers : (past : List (Entry Octets)) (w : State) → Seen past w → (x : End) (n : ℕ) → IsHonest n past → (cell : Cell)
-    → CoversWrites (posted (stream_acts n (acts x past))) (placements (stream_acts n (acts (other x) past))) (length (received (stream_acts n (acts (other x) past)))) cell
+    → CoversWrites (posted (stream_acts n (acts x past))) (written (placings (stream_acts n (acts (other x) past)))) (length (received (stream_acts n (acts (other x) past)))) cell
 covers past w k x n honest cell =
     let p = k.pairs x n in
     writes_covered (stream_at (end_of x w) n) (tale n (acts x past)) (stream_at (end_of (other x) w) n) (tale n (acts (other x) past)) p.own.emits p.own_peer.track (heard past w k x n honest) (p.out (honest.calm (other x))) cell
@@ -165,11 +182,15 @@ first_frames past w k x n =
     let t : Tale = tale n (acts x past) in
     let own = (k.pairs x n).own in
     let e = own.emits in
-    let rest = sends_in_order.whole (requests (posted (stream_acts n (acts x past)))) e.segments s.numbers s.queue e.has in
+    let all = whole_of s t e in
     record {
+      items = all.items;
+      posts = all.posts;
+      answers = all.requests ∙ ap (λ (z : Requested). map (λ (a : Answer). a.request) t.story.answers ++ map (λ (a : Asked). a.request) z.unanswered) (sym e.asks.asked);
+      fetched = all.octets;
       begun = e.segments;
-      later = rest.0;
-      carry = rest.1;
+      later = all.later;
+      carry = all.merged;
       framed = framed s t own.track e.segments e.framed;
       closed = λ h. e.shut (sym (open_is s t own.track) ∙ h);
       silent = λ h. e.silent (silent_is s t own.track ∙ h);
@@ -182,20 +203,61 @@ first_frames past w k x n =
 pub emission : (trace : List (Entry Octets)) → Follows start trace → Emission trace
 emission trace follows past future is x n = first_frames past (state_after start past) (seen_at past future trace follows is) x n
 
--- where no part is due, what was sent is all frames of what was posted
-all_frames : (o : Opening) (c : Connected) (t : Tale) → Own o c t → owes_frame c.stream ≡ false → part_due c.stream ≡ None → AreAllFrames t.story t.sent t.posted
-all_frames o c t own owes none =
+-- where no part of a message was begun, and no request waits, what was sent is all frames of messages and responses
+all_frames : (o : Opening) (c : Connected) (t : Tale) (own : Own o c t) → owes_frame c.stream ≡ false → c.stream.queue.offset ≡ 0 → c.stream.asked.unanswered ≡ [] → AreAllFrames t.story t.sent (posts_in own.emits.merges.items)
+all_frames o c t own owes unbegun none =
     let e = own.emits in
-    let left : c.stream.queue.unsent ≡ [] = none_left c.stream.queue c.stream.mulpdu none in
+    let k = e.merges in
+    let nil : length t.story.begun ≡ 0 = (let zero_is : c.stream.asked.fetched ≡ 0 = subst (λ z. requests.IsBegun z c.stream.asked.fetched) none e.asks.begun in omega (arith, zero_is, e.asks.fetched)) in
+    let whole : AreMerged first_numbers 0 (k.items ++ []) (e.segments ++ []) =
+    k.goes_on [] [] (record { post = λ some. absurd (omega (arith, some, unbegun)); response = λ some. absurd (omega (arith, some, nil)) }) refl in
     record {
-      segments = e.segments ++ [];
-      carry = e.has.goes_on [] (subst (λ ms. AreSpelled c.stream.numbers c.stream.queue.offset ms []) (sym left) refl);
-      framed = behind_start c.stream t e own.sent owes ∙ sym (sequence_is c.stream t own.track e.segments) ∙ ap (λ z. own_frame t.story.start ++ sequence (sending t.story.start) 0 (map segment_octets z)) (sym (append-nil e.segments));
+      items = k.items;
+      posts = refl;
+      answers = k.are;
+      none_waits = ap (λ (z : Requested). z.unanswered) e.asks.asked ∙ none;
+      frames = record {
+        segments = e.segments;
+        carry = subst (λ z. AreMerged first_numbers 0 z e.segments) (append-nil k.items) (subst (AreMerged first_numbers 0 (k.items ++ [])) (append-nil e.segments) whole);
+        framed = behind_start c.stream t e own.sent owes ∙ sym (sequence_is c.stream t own.track e.segments);
+      };
     }
+
+-- nothing is due of a response: no request waits, where no message was begun
+none_waits : (s : StreamState) → s.queue.offset ≡ 0 → response_due s ≡ None → s.asked.unanswered ≡ []
+none_waits s unbegun e = go s.asked.unanswered refl
+  where
+    go : (waiting : List Asked) → s.asked.unanswered ≡ waiting → s.asked.unanswered ≡ []
+    go [] is = is
+    go (x ∷ xs) is = absurd (none-some _ (sym e ∙ (λ i. cond (nat_lt 0 (unbegun i)) None (part_for (is i) s.asked.fetched s.mulpdu))))
+
+-- why no part of a message is due
+record WaitsFor (s : StreamState) : Type 0 where
+  pub request : ReadRequest
+  pub messages : List (Request Octets)
+  pub unsent : s.queue.unsent ≡ Read request ∷ messages
+  pub full : most_reads ≤ length s.reads
+
+part_waits : (s : StreamState) → part_due s ≡ None → (s.queue.unsent ≡ []) ⊎ WaitsFor s
+part_waits s e = go (next_part s.queue s.mulpdu) refl e
+  where
+    read_of : (m : Request Octets) (ms : List (Request Octets)) → s.queue.unsent ≡ m ∷ ms → (is_read m && nat_le most_reads (length s.reads)) ≡ true → (s.queue.unsent ≡ []) ⊎ WaitsFor s
+    read_of (Posted m) ms is b = absurd (false≢true b)
+    read_of (Read request) ms is b = inr (record { request = request; messages = ms; unsent = is; full = (let le : nat_le most_reads (length s.reads) ≡ true = b in grind (arith, nat_tests)) })
+
+    go : (p : Option (Part (Request Octets))) → next_part s.queue s.mulpdu ≡ p → may_go s.reads p ≡ None → (s.queue.unsent ≡ []) ⊎ WaitsFor s
+    go None is h = inl (none_left s.queue s.mulpdu is)
+    go (Some part) is h =
+        let w = shows s.queue s.mulpdu part is in
+        by (is_read part.message && nat_le most_reads (length s.reads)) refl h w.message w.messages w.unsent (ap (λ (p : Part (Request Octets)). p.message) w.is)
+      where
+        by : (b : Bool) → (is_read part.message && nat_le most_reads (length s.reads)) ≡ b → cond b None (Some part) ≡ None → (m : Request Octets) (ms : List (Request Octets)) → s.queue.unsent ≡ m ∷ ms → part.message ≡ m → (s.queue.unsent ≡ []) ⊎ WaitsFor s
+        by false b h m ms is same = absurd (none-some _ (sym h))
+        by true b h m ms is same = read_of m ms is (ap (λ z. is_read z && nat_le most_reads (length s.reads)) (sym same) ∙ b)
 
 nothing_stream : (o : Opening) (c : Connected) (done : List (StreamAct Octets)) (table : Table) (act : StreamAct Octets) → StreamRule table c.stream act → Own o c (tale_of o done) → OnSome (NothingShown (story o done) done) (deed act).shown
 nothing_stream o c done table (Emit Nothing) rule own =
-    let r = rests c.stream rule in
+    let r = emits_as table c.stream Nothing rule in
     (frame_sent r.spoken, go r.spoken r.reason)
   where
     t : Tale
@@ -204,14 +266,40 @@ nothing_stream o c done table (Emit Nothing) rule own =
     frame_sent : owes_frame c.stream ≡ false → IsPrefixOf (own_frame (story o done).start) (sent done)
     frame_sent owes =
         let frames : List ℕ = sequence (sending c.stream.start) 0 (map segment_octets own.emits.segments) in
-        (frames, ap (λ z. z ++ frames) (start_frame_is c.stream t own.track) ∙ sym (behind_start c.stream t own.emits own.sent owes))
+        (frames, ap (λ z. z ++ frames) (start_frame_is c.stream (tale_of o done) own.track) ∙ sym (behind_start c.stream (tale_of o done) own.emits own.sent owes))
+
+    all : owes_frame c.stream ≡ false → response_due c.stream ≡ None → (c.stream.queue.unsent ≡ []) ⊎ WaitsFor c.stream → HasNothing (ended done) (story o done) (sent done) (posted done)
+    all owes quiet (inl left) =
+        let e = own.emits in
+        let unbegun : c.stream.queue.offset ≡ 0 = subst (λ z. IsBegun z c.stream.queue.offset) left e.limits.begun in
+        let whole : posts_in e.merges.items ≡ posted done = sym (append-nil (posts_in e.merges.items)) ∙ ap (λ z. posts_in e.merges.items ++ z) (sym left) ∙ e.merges.posts in
+        AllSent (subst (AreAllFrames (story o done) (sent done)) whole (all_frames o c (tale_of o done) own owes unbegun (none_waits c.stream unbegun quiet)))
+    all owes quiet (inr w) =
+        let e = own.emits in
+        let unbegun : c.stream.queue.offset ≡ 0 = zero_of c.stream.queue.offset (subst (λ z. IsBegun z c.stream.queue.offset) w.unsent e.limits.begun) in
+        let items : List (Request Octets) = posts_in e.merges.items in
+        let split : posted done ≡ items ++ Read w.request ∷ w.messages = sym e.merges.posts ∙ ap (λ z. items ++ z) w.unsent in
+        let here : slice_get (posted done) (length items) ≡ Some (Read w.request) = ap (λ z. slice_get z (length items)) split ∙ get_after items (Read w.request) w.messages in
+        let firsts : items ≡ take (length items) (posted done) = sym (take-append_seam items (Read w.request ∷ w.messages)) ∙ ap (take (length items)) (sym split) in
+        ReadWaits (length items) w.request here (omega (arith, w.full, ap length e.asks.reads))
+        (subst (AreAllFrames (story o done) (sent done)) firsts (all_frames o c (tale_of o done) own owes unbegun (none_waits c.stream unbegun quiet)))
+      where
+        zero_of : (n : ℕ) → (0 < n → n < 0) → n ≡ 0
+        zero_of zero h = refl
+        zero_of (suc n) h = let no : suc n < 0 = h (omega arith) in absurd (omega (arith, no))
+
+        get_after : (xs : List (Request Octets)) (m : Request Octets) (ms : List (Request Octets)) → slice_get (xs ++ m ∷ ms) (length xs) ≡ Some m
+        get_after [] m ms = refl
+        get_after (x ∷ xs) m ms = get_after xs m ms
 
     go : owes_frame c.stream ≡ false → Rests c.stream → HasNothing (ended done) (story o done) (sent done) (posted done)
     go owes (Ended over) = Over (sym own.ended ∙ over)
-    go owes (Shut closed) = Closed (open_is c.stream t own.track ∙ closed)
-    go owes (Silent silent) = Muted (sym (silent_is c.stream t own.track) ∙ silent)
-    go owes (Sent none) = AllSent (all_frames o c t own owes none)
+    go owes (Shut closed) = Closed (open_is c.stream (tale_of o done) own.track ∙ closed)
+    go owes (Silent silent) = Muted (sym (silent_is c.stream (tale_of o done) own.track) ∙ silent)
+    go owes (Sent quiet none) = all owes quiet (part_waits c.stream none)
 nothing_stream o c done table (Emit (Frame from octets)) rule own = tt
+nothing_stream o c done table (Emit (Fetched from frame stag to octets)) rule own = tt
+nothing_stream o c done table (Emit (Denied fault)) rule own = tt
 nothing_stream o c done table (Post m refused) rule own = tt
 nothing_stream o c done table (Recv len refused) rule own = tt
 nothing_stream o c done table (Deliver from octets delivery) rule own = tt
@@ -225,21 +313,20 @@ pub nothing_at_rest : (trace : List (Entry Octets)) → Follows start trace → 
 nothing_at_rest trace follows = each_stream NothingStream trace follows (λ done s n act k opened rule own. nothing_stream (opening_of n done) (stream_at s n) (stream_acts n done) s.table act rule own)
 
 -- a frame stands behind what was sent, and is the start-up frame or that of a part, as large as was set
-part_size : (numbers : Numbers) (part : Part (Request Octets)) → FitsRequest part.message → part.offset + part.n ≤ length (payload part.message) → length (segment_octets (segment_of numbers part)) ≡ part.n + header_len part.message
-part_size numbers part fits within = sized numbers part.message part.offset part.n part.last fits within
-  where
-    sized : (numbers : Numbers) (m : Request Octets) (offset n : ℕ) (last : Bool) → FitsRequest m → offset + n ≤ length (payload m) → length (segment_octets (segment_with numbers m offset last (take n (drop offset (payload m))))) ≡ n + header_len m
-    sized numbers (Posted (Write stag to octets)) offset n last fits within =
-        omega (arith, within, length-segment_octets_tagged (record { last = last; ddp_version = 1; control = control_of (tagged_opcode tagged.Write); stag = stag; to = (to + offset) % 2 ^ 64 }) (take n (drop offset octets)), length-take n (drop offset octets), length-drop offset octets)
-    sized numbers (Posted (Send octets solicited invalidate)) offset n last fits within =
-        omega (
-          arith,
-          within,
-          length-segment_octets_untagged (record { last = last; ddp_version = 1; control = control_of (untagged_opcode (untagged.Send solicited (is_some invalidate))); tail = option_map_or number_of invalidate 0; queue = 0; msn = numbers.send; mo = offset }) (take n (drop offset octets)),
-          length-take n (drop offset octets),
-          length-drop offset octets,
-        )
-    sized numbers (Read request) offset n last fits within = absurd fits
+-- how large the frame of a part is
+part_size : (numbers : Numbers) (m : Request Octets) (offset n : ℕ) (last : Bool) (size : ℕ) → offset + n ≤ length (payload m) → n + header_len m ≤ size → 128 ≤ size → (last ≡ false → n + header_len m ≡ size)
+    → (length (segment_octets (segment_with numbers m offset last (take n (drop offset (payload m))))) ≤ size) × (is_last (segment_with numbers m offset last (take n (drop offset (payload m)))) ≡ false → length (segment_octets (segment_with numbers m offset last (take n (drop offset (payload m))))) ≡ size)
+part_size numbers (Posted (Write stag to octets)) offset n last size within fits enough full =
+    let long = length-segment_octets_tagged (record { last = last; ddp_version = 1; control = control_of (tagged_opcode tagged.Write); stag = stag; to = (to + offset) % 2 ^ 64 }) (take n (drop offset octets)) in
+    let many : length (take n (drop offset octets)) ≡ n = omega (arith, within, length-take n (drop offset octets), length-drop offset octets) in
+    (omega (arith, long, many, fits), (λ h. omega (arith, long, many, full h)))
+part_size numbers (Posted (Send octets solicited invalidate)) offset n last size within fits enough full =
+    let long = length-segment_octets_untagged (record { last = last; ddp_version = 1; control = control_of (untagged_opcode (untagged.Send solicited (is_some invalidate))); tail = option_map_or number_of invalidate 0; queue = 0; msn = numbers.send; mo = offset }) (take n (drop offset octets)) in
+    let many : length (take n (drop offset octets)) ≡ n = omega (arith, within, length-take n (drop offset octets), length-drop offset octets) in
+    (omega (arith, long, many, fits), (λ h. omega (arith, long, many, full h)))
+part_size numbers (Read request) offset n last size within fits enough full =
+    let long = length-segment_octets_untagged (record { last = true; ddp_version = 1; control = control_of (untagged_opcode untagged.ReadRequest); tail = 0; queue = 1; msn = numbers.read; mo = 0 }) (request_octets request) in
+    (omega (arith, long, length-request_octets request, enough), (λ h. absurd (false≢true (sym h))))
 
 -- how far a part reaches
 part_within : (q : Queue) (max : ℕ) (part : Part (Request Octets)) → IsWithinLimits q → next_part q max ≡ Some part → part.offset + part.n ≤ length (payload part.message)
@@ -262,22 +349,44 @@ frame_sized o c done from octets own (inr p) =
     let s : StreamState = c.stream in
     let t : Tale = tale_of o done in
     let e = own.emits in
-    let fits = part_fits s p.part p.is_loud.part_is e.fit in
     let filled : IsFilled s.mulpdu p.part = fills s.queue s.mulpdu p.part e.enough e.limits p.is_loud.part_is in
-    let size : length (segment_octets (segment_of s.numbers p.part)) ≡ p.part.n + header_len p.part.message = part_size s.numbers p.part fits (part_within s.queue s.mulpdu p.part e.limits p.is_loud.part_is) in (
+    let size = part_size s.numbers p.part.message p.part.offset p.part.n p.part.last s.mulpdu (part_within s.queue s.mulpdu p.part e.limits p.is_loud.part_is) filled.fits e.enough filled.full in (
       p.from_is ∙ own.sent,
       inr (record {
         segment = segment_of s.numbers p.part;
-        known = (shown_good s.numbers s.queue s.mulpdu p.part p.is_loud.part_is e.limits e.enough e.few e.number (first_fits s.queue e.fit)).fits;
+        known = (shown_good s.numbers s.queue s.mulpdu p.part p.is_loud.part_is e.limits e.enough e.few e.numbers (first_fits s.queue e.fit)).fits (plain_part s.numbers p.part);
         is = p.octets_are ∙ (λ i. frame_octets (sending (sym own.track.begins.start i)) (own.sent i - length (own_frame (sym own.track.begins.start i))) (segment_octets (segment_of s.numbers p.part)));
-        fits = omega (arith, size, filled.fits, e.size);
-        full = λ h. size ∙ filled.full (sym (last_of s.numbers p.part fits) ∙ h) ∙ e.size;
+        fits = omega (arith, size.0, e.size);
+        full = λ h. size.1 h ∙ e.size;
       }),
     )
 
+-- the frame of part of a response
+response_sized : (o : Opening) (c : Connected) (done : List (StreamAct Octets)) (table : Table) (from : ℕ) (frame : Octets) (stag : Stag) (to : ℕ) (octets : Octets) → EmitsResponse table c.stream from frame stag to octets → Own o c (tale_of o done)
+    → FrameSized (story o done) (size_set done) (sent done) (Fetched from frame stag to octets)
+response_sized o c done table from frame stag to octets p own =
+    let s : StreamState = c.stream in
+    let e = own.emits in
+    let w = answers_part table s (tale_of o done) from frame stag to octets p e.asks in
+    let waits : (story o done).asked.unanswered ≡ w.oldest ∷ w.others = ap (λ (z : Requested). z.unanswered) e.asks.asked ∙ w.waiting in (
+      p.from_is ∙ own.sent,
+      record {
+        fits = omega (arith, w.many, e.size, e.enough);
+        full = λ oldest others is less.
+            let same : w.oldest ≡ oldest = ap (asked_or w.oldest) (sym waits ∙ is) in
+            let size : oldest.request.size ≡ w.oldest.request.size = ap (λ (z : Asked). z.request.size) (sym same) in
+            omega (arith, w.many, e.size, e.enough, below_size (λ z. less (z ∙ sym size)) w.within);
+      },
+    )
+  where
+    below_size : {a b : ℕ} → a ≢ b → a ≤ b → a < b
+    below_size {a} {b} h le = elim (cases_lt a b) [ inl lt ↦ lt | inr ge ↦ absurd (h (omega (arith, le, ge))) ]
+
 shown_sized : (o : Opening) (c : Connected) (done : List (StreamAct Octets)) (table : Table) (act : StreamAct Octets) → StreamRule table c.stream act → Own o c (tale_of o done)
     → OnSome (FrameSized (story o done) (size_set done) (sent done)) (deed act).shown
-shown_sized o c done table (Emit (Frame from octets)) rule own = frame_sized o c done from octets own (emits_frame c.stream from octets rule)
+shown_sized o c done table (Emit (Frame from octets)) rule own = frame_sized o c done from octets own (emits_as table c.stream (Frame from octets) rule)
+shown_sized o c done table (Emit (Fetched from frame stag to octets)) rule own = response_sized o c done table from frame stag to octets (emits_as table c.stream (Fetched from frame stag to octets) rule) own
+shown_sized o c done table (Emit (Denied fault)) rule own = tt
 shown_sized o c done table (Emit Nothing) rule own = tt
 shown_sized o c done table (Post m refused) rule own = tt
 shown_sized o c done table (Recv len refused) rule own = tt
@@ -291,10 +400,15 @@ shown_sized o c done table (Work step) rule own = tt
 pub sized_all : (trace : List (Entry Octets)) → Follows start trace → Sized trace
 sized_all trace follows = each_stream SizedStream trace follows (λ done s n act k opened rule own. shown_sized (opening_of n done) (stream_at s n) (stream_acts n done) s.table act rule own)
 
+may_send : (o : Opening) (c : Connected) (done : List (StreamAct Octets)) → MaySpeak c.stream → Own o c (tale_of o done) → MaySend (ended done) (story o done)
+may_send o c done m own =
+    let t : Tale = tale_of o done in
+    record { running = sym own.ended ∙ m.running; open_now = open_is c.stream t own.track ∙ m.started; loud = sym (silent_is c.stream t own.track) ∙ m.loud }
+
 -- and goes out where one may
 shown_allowed : (o : Opening) (c : Connected) (done : List (StreamAct Octets)) (table : Table) (act : StreamAct Octets) → StreamRule table c.stream act → Own o c (tale_of o done)
     → OnSome (FrameAllowed (ended done) (story o done) (sent done)) (deed act).shown
-shown_allowed o c done table (Emit (Frame from octets)) rule own = go (emits_frame c.stream from octets rule)
+shown_allowed o c done table (Emit (Frame from octets)) rule own = go (emits_as table c.stream (Frame from octets) rule)
   where
     t : Tale
     t = tale_of o done
@@ -302,6 +416,8 @@ shown_allowed o c done table (Emit (Frame from octets)) rule own = go (emits_fra
     go : EmitsStart c.stream from octets ⊎ EmitsPart c.stream from octets → FrameAllowed (ended done) (story o done) (sent done) (Frame from octets)
     go (inl p) = inl ((before_start c.stream t own.emits own.sent p.owes).0, p.octets_are ∙ sym (start_frame_is c.stream t own.track))
     go (inr p) = inr (record { running = sym own.ended ∙ p.is_loud.running; open_now = open_is c.stream t own.track ∙ p.is_loud.started; loud = sym (silent_is c.stream t own.track) ∙ p.is_loud.loud })
+shown_allowed o c done table (Emit (Fetched from frame stag to octets)) rule own = may_send o c done (emits_as table c.stream (Fetched from frame stag to octets) rule).speaks own
+shown_allowed o c done table (Emit (Denied fault)) rule own = may_send o c done (emits_as table c.stream (Denied fault) rule).speaks own
 shown_allowed o c done table (Emit Nothing) rule own = tt
 shown_allowed o c done table (Post m refused) rule own = tt
 shown_allowed o c done table (Recv len refused) rule own = tt
@@ -317,13 +433,14 @@ speaks_all trace follows = each_stream SpeaksStream trace follows (λ done s n a
 
 -- ---- the turns of frames
 
-same_standing : (done : List (Act Octets)) (n : ℕ) (s : EndState) → EndSeen s done → has_stream s n ≡ true → Track (stream_at s n).stream (tale n done) → work.standing s.table (stream_at s n).stream ≡ standing n done
-same_standing done n s k there track = λ i. record { table = k.table i; domain = k.domain n there i; receiving = sym track.receiving i }
+same_standing : (done : List (Act Octets)) (n : ℕ) (s : EndState) → EndSeen s done → has_stream s n ≡ true → Own (opening_of n done) (stream_at s n) (tale n done) → work.standing s.table (stream_at s n).stream ≡ standing n done
+same_standing done n s k there own =
+    λ i. record { table = k.table i; domain = k.domain n there i; receiving = sym own.track.receiving i; reads = sym own.emits.asks.reads i; asked = sym own.emits.asks.asked i }
 
 turns_stream : (done : List (Act Octets)) (n : ℕ) (s : EndState) (act : StreamAct Octets) → EndSeen s done → has_stream s n ≡ true → StreamRule s.table (stream_at s n).stream act
     → Own (opening_of n done) (stream_at s n) (tale n done) → TurnsStream done n act
 turns_stream done n s (Work step) k there rule own =
-    subst (λ z. TurnsSeen (ended (stream_acts n done)) (story_of n done) z step) (same_standing done n s k there own.track) (answers s.table (stream_at s n).stream (tale n done) step rule own.track own.ended)
+    subst (λ z. TurnsSeen (ended (stream_acts n done)) (story_of n done) z step) (same_standing done n s k there own) (answers s.table (stream_at s n).stream (tale n done) step rule own.track own.ended)
 turns_stream done n s (Post m refused) k there rule own = tt
 turns_stream done n s (Recv len refused) k there rule own = tt
 turns_stream done n s (Emit shown) k there rule own = tt
@@ -340,6 +457,67 @@ turns_all trace follows = each_stream TurnsStream trace follows turns_at
         → Own (opening_of n done) (stream_at s n) (tale n done) → TurnsStream done n act
     turns_at done s n act k there rule own = turns_stream done n s act k there rule own
 
+-- ---- what is fetched
+
+fetch_shown : (done : List (Act Octets)) (n : ℕ) (s : EndState) (act : StreamAct Octets) → EndSeen s done → has_stream s n ≡ true → StreamRule s.table (stream_at s n).stream act → Own (opening_of n done) (stream_at s n) (tale n done)
+    → OnSome (FetchShown (story_of n done) (work.standing s.table (stream_at s n).stream)) (deed act).shown
+fetch_shown done n s (Emit (Fetched from frame stag to octets)) k there rule own =
+    let c : Connected = stream_at s n in
+    let t : Tale = tale n done in
+    let w = answers_part s.table c.stream t from frame stag to octets (emits_as s.table c.stream (Fetched from frame stag to octets) rule) own.emits.asks in
+    let p = emits_as s.table c.stream (Fetched from frame stag to octets) rule in
+    record {
+      oldest = w.oldest;
+      waits = record { others = w.others; is = ap (λ (z : Requested). z.unanswered) own.emits.asks.asked ∙ w.waiting };
+      source = w.stag_is;
+      place = w.to_is;
+      asked_for = w.within;
+      allowed = allows s.table c.stream.domain stag to (length octets) rights.Read w.admitted;
+      stand = w.stand;
+      carries = w.frame_is
+          ∙ (λ i. frame_octets (sending (sym own.track.begins.start i)) (sym p.from_is i - first_place_out (sym own.track.begins.start i)) (segment_octets (response_segment w.oldest.request (length (story_of n done).begun) (w.last_is i) octets)));
+    }
+fetch_shown done n s (Emit (Denied fault)) k there rule own =
+    let c : Connected = stream_at s n in
+    let t : Tale = tale n done in
+    let p = emits_as s.table c.stream (Denied fault) rule in
+    let w = part_is_of c.stream p.part p.is_due in
+    let fetched = own.emits.asks.fetched in
+    let within = denied_within c.stream.asked.fetched w.oldest.request.size (c.stream.mulpdu - 14) (subst (λ z. requests.IsBegun z c.stream.asked.fetched) w.waiting own.emits.asks.begun) in
+    record {
+      oldest = w.oldest;
+      waits = record { others = w.others; is = ap (λ (z : Requested). z.unanswered) own.emits.asks.asked ∙ w.waiting };
+      n = min (w.oldest.request.size - c.stream.asked.fetched) (c.stream.mulpdu - 14);
+      asked_for = omega (arith, fetched, within);
+      denied = (λ i. reading_fault s.table c.stream.domain w.oldest.request.source (w.oldest.request.source_to + sym fetched i) (min (w.oldest.request.size - c.stream.asked.fetched) (c.stream.mulpdu - 14)))
+          ∙ ap (fetch_fault s.table c.stream.domain) (sym w.is) ∙ p.denied;
+    }
+  where
+    denied_within : (n size room : ℕ) → (0 < n → n < size) → n + min (size - n) room ≤ size
+    denied_within zero size room h = omega arith
+    denied_within (suc n) size room h = let more : suc n < size = h (omega arith) in omega (arith, more)
+fetch_shown done n s (Emit (Frame from octets)) k there rule own = tt
+fetch_shown done n s (Emit Nothing) k there rule own = tt
+fetch_shown done n s (Post m refused) k there rule own = tt
+fetch_shown done n s (Recv len refused) k there rule own = tt
+fetch_shown done n s (Deliver from octets delivery) k there rule own = tt
+fetch_shown done n s (Raw from octets delivery) k there rule own = tt
+fetch_shown done n s (Mulpdu size refused) k there rule own = tt
+fetch_shown done n s (Accept private answer) k there rule own = tt
+fetch_shown done n s (Reject private refused) k there rule own = tt
+fetch_shown done n s (Work step) k there rule own = tt
+
+pub fetched_all : (trace : List (Entry Octets)) → Follows start trace → AtEach (OnStream FetchStream) trace
+fetched_all trace follows = each_stream FetchStream trace follows (λ done s n act k opened rule own.
+    subst (λ z. OnSome (FetchShown (story_of n done) z) (deed act).shown) (same_standing done n s k opened own) (fetch_shown done n s act k opened rule own))
+
+-- ---- Reads that are outstanding
+
+pub few_reads : (trace : List (Entry Octets)) → Follows start trace → FewReads trace
+few_reads trace follows past future is x n =
+    let own = ((seen_at past future trace follows is).pairs x n).own in
+    omega (arith, own.emits.asks.few, ap length own.emits.asks.reads)
+
 -- ---- finished messages
 
 finished_stream : (done : List (Act Octets)) (n : ℕ) (s : EndState) (act : StreamAct Octets) → StreamRule s.table (stream_at s n).stream act → Own (opening_of n done) (stream_at s n) (tale n done) → FinishedStream done n act
@@ -353,6 +531,7 @@ finished_stream done n s (Work (seen.Opened agreed private)) rule own = tt
 finished_stream done n s (Work (seen.Closed fault)) rule own = tt
 finished_stream done n s (Work (seen.Placed right stag to octets)) rule own = tt
 finished_stream done n s (Work (seen.Buffered msn mo len)) rule own = tt
+finished_stream done n s (Work (seen.Requested size stag to)) rule own = tt
 finished_stream done n s (Work seen.Passed) rule own = tt
 finished_stream done n s (Work (seen.Received octets solicited invalidate)) rule own = tt
 finished_stream done n s (Work (seen.Fault fault)) rule own = tt
@@ -383,6 +562,7 @@ idle_stream s c done n (Reject private refused) rule o = tt
 idle_stream s c done n (Work (seen.Done kind)) rule own = tt
 idle_stream s c done n (Work (seen.Placed right stag to octets)) rule o = tt
 idle_stream s c done n (Work (seen.Buffered msn mo len)) rule o = tt
+idle_stream s c done n (Work (seen.Requested size stag to)) rule o = tt
 idle_stream s c done n (Work seen.Passed) rule o = tt
 idle_stream s c done n (Work (seen.Received octets solicited invalidate)) rule o = tt
 idle_stream s c done n (Work (seen.Fault fault)) rule o = tt
@@ -445,9 +625,9 @@ recv_refused o c done own = go c.stream.ended (nat_le 256 (length c.stream.recei
     go false true a b = (λ i. cond (a i) (Some recv_refusals.Ended) (cond (b i) (Some recv_refusals.Full) None))
     go false false a b = (λ i. cond (a i) (Some recv_refusals.Ended) (cond (b i) (Some recv_refusals.Full) None))
 
-post_refused : (o : Opening) (c : Connected) (done : List (StreamAct Octets)) (m : Message Octets) → Own o c (tale_of o done) → post_refusal c.stream m ≡ post_refusal_by (story o done) done m
+post_refused : (o : Opening) (c : Connected) (done : List (StreamAct Octets)) (m : Request Octets) → Own o c (tale_of o done) → post_refusal c.stream m ≡ post_refusal_by (story o done) done m
 post_refused o c done m own =
-    (λ i. cond (own.ended i || not (sym (open_is c.stream (tale_of o done) own.track) i)) (Some post_refusals.NotOpen) (of_queue (nat_le 256 (held i)) (nat_lt 16777216 (size_of (Posted m))) i))
+    (λ i. cond (own.ended i || not (sym (open_is c.stream (tale_of o done) own.track) i)) (Some post_refusals.NotOpen) (of_queue (nat_le 256 (held i)) (nat_lt 16777216 (size_of m)) i))
   where
     q : Queue
     q = c.stream.queue
@@ -461,8 +641,7 @@ post_refused o c done m own =
           length-append (map (λ (w : WasSent). w.kind) q.sent.messages) (map kind_of q.unsent),
           length-map q.sent.messages (λ (w : WasSent). w.kind),
           length-map q.unsent kind_of,
-          length-map (requests (posted done)) kind_of,
-          length-map (posted done) Posted,
+          length-map (posted done) kind_of,
         )
 
     held : length q.sent.messages + length q.unsent ≡ length (posted done) - length (finished_kinds done)

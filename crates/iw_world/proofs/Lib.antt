@@ -8,6 +8,7 @@ pub mod Joins
 pub mod Sending
 pub mod Located
 pub mod Counts
+pub mod Merges
 pub mod Tracks
 pub mod Answers
 pub mod Owns

@@ -1,16 +1,58 @@
 -- What the state of a stream has in common with what its acts say, and that changes stay within what was allowed.
-use Rattle.std.proofs.Common.{◌≡◌, ℕ, ◌+◌, ◌-◌, ◌%◌, ◌^◌, ◌<◌, ◌≤◌, List, [], ◌∷◌, ◌++◌, length, drop, map, replicate, Option, Some, None, Bool, true, false, cond, refl, sym, ap, ◌∙◌, subst, arith, length-append, append_assoc, length-take, inl, inr, ◌⊎◌, Ok, Err}
+use Rattle.std.proofs.Common.{◌≡◌, ℕ, zero, suc, take, length-drop, ◌+◌, ◌-◌, ◌%◌, ◌^◌, ◌<◌, ◌≤◌, List, [], ◌∷◌, ◌++◌, length, drop, map, replicate, Option, Some, None, Bool, true, false, cond, refl, sym, ap, ◌∙◌, subst, arith, length-append, append_assoc, length-take, inl, inr, ◌⊎◌, Ok, Err}
 use Rattle.std.specs.Prelude.{slice_get, slice_set, slice_index_or, nat_lt, nat_eq, is_some, ◌&&◌}
 use Rattle.std.proofs.lemmas.List.{append-nil, map-append, length-replicate, length_push}
 use Rattle.std.proofs.lemmas.Option.{none-some}
 use Rattle.std.proofs.lemmas.Bool.Decides.{nat_tests}
 use Rattle.std.proofs.lemmas.Bool.{true≢false, false≢true}
-use Rattle.iw_octets.specs.declared.message.Message.{Message}
+use Rattle.iw_octets.specs.declared.head.TaggedHead.{TaggedHead}
+use Rattle.iw_octets.specs.declared.payload.ReadRequest.{ReadRequest}
+use Rattle.iw_octets.specs.declared.stag.Stag.{Stag}
+use Rattle.iw_octets.specs.Payload.{FitsRequest, request_octets, read_request}
+use Rattle.iw_octets.specs.Parts.{part_at}
+use Rattle.iw_octets.proofs.Spelled.{read_request-spelled}
+use Rattle.iw_octets.proofs.Segments.{read_segment-spelled}
+use Rattle.iw_octets.specs.Segment.{read_segment}
+use Rattle.iw_memory.specs.declared.refusal.Deny.{Deny}
+use Rattle.iw_memory.specs.declared.rights.Right.{Right}
+use Rattle.iw_memory.specs.declared.rights.Right.TheVariants as rights
+use Rattle.iw_memory.specs.Region.{Region, octets_from}
+use Rattle.iw_memory.specs.Laws.{Serves}
+use Rattle.iw_fpdu.specs.Laws.{IsBetween}
+use Rattle.iw_fpdu.specs.Sequence.{Carried, intact, first_frame}
+use Rattle.iw_fpdu.proofs.Sequences.{between_behind, written_is_first}
+use Rattle.iw_queues.specs.declared.request.Request.TheVariants.{Message as Posted, Read}
+use Rattle.iw_queues.specs.declared.request.Kind.TheVariants as kinds
+use Rattle.iw_queues.specs.Completions as completions
+use Rattle.iw_queues.specs.Queue.{next_part}
+use Rattle.iw_queues.specs.Segments.{segment_with}
+use Rattle.iw_queues.specs.Request.{payload}
+use Rattle.iw_octets.specs.declared.message.Message.TheVariants.{Write, Send}
+use Rattle.iw_reads.specs.declared.reads.Outstanding.{Outstanding}
+use Rattle.iw_reads.specs.declared.requests.Asked.{Asked}
+use Rattle.iw_reads.specs.declared.response.ResponsePart.{ResponsePart}
+use Rattle.iw_reads.specs.Outstanding.{most_reads, asked_for, reads_turned, finished_read}
+use Rattle.iw_reads.specs.Requests.{Requested, part_for, part_fetched, taken_up}
+use Rattle.iw_reads.specs.Requests as requests
+use Rattle.iw_reads.specs.Response.{response_head, part_of_response}
+use Rattle.iw_reads.specs.Source.{denial_fault}
+use Rattle.iw_stream.specs.Frames.{placed as placed_of}
+use Rattle.iw_stream.specs.Judging.{is_response, left_by_turn, reads_left}
+use Rattle.iw_stream.proofs.Headers.{left_kept}
+use Rattle.std.specs.Option.{option_map, option_map_or}
+use Rattle.std.specs.Prelude.{All, IsSomeAnd, nat_le, min, not}
+use Rattle.std.proofs.lemmas.Option.{same_Some}
+use Rattle.std.proofs.lemmas.List.{length-set}
+use Rattle.std.proofs.lemmas.List.Elements.{All-head}
+use Rattle.iw_world.specs.Turns.{Answer, Story, story_after, segment_out, read_out, is_last, sends_segment, fetches_for, asked_in, next_reads, next_asked}
+use Rattle.iw_world.specs.Merged.{Item, Response, response_segment}
+use Rattle.iw_world.specs.Rules.{FitsPosted}
+use Rattle.iw_world.proofs.Merges.{Merges, BeginsResponse, asked_or, merges_post, merges_part, merges_last, merges_front}
 use Rattle.iw_octets.specs.declared.segment.Segment.{Segment}
 use Rattle.iw_octets.specs.declared.segment.Segment.TheVariants.{Tagged, Untagged}
 use Rattle.iw_octets.specs.Octets.{splice}
 use Rattle.iw_octets.specs.Segment.{segment_octets}
-use Rattle.iw_memory.specs.Table.{Table}
+use Rattle.iw_memory.specs.Table.{Table, region_at, denial, octets_at}
 use Rattle.iw_memory.specs.Laws.{Allows}
 use Rattle.iw_memory.proofs.Callers.{allows}
 use Rattle.iw_ranges.specs.declared.Delivery.TheVariants.{Kept, Dropped}
@@ -23,7 +65,6 @@ use Rattle.iw_fpdu.proofs.Follows.{frames_follow}
 use Rattle.iw_untagged.specs.Receiving.{Receiving, ahead_of}
 use Rattle.iw_queues.specs.declared.request.Kind.{Kind}
 use Rattle.iw_queues.specs.declared.request.Request.{Request}
-use Rattle.iw_queues.specs.declared.request.Request.TheVariants.{Message as Posted}
 use Rattle.iw_queues.specs.declared.completions.Done.{Done}
 use Rattle.iw_queues.specs.declared.completions.Sent.{Sent as WasSent}
 use Rattle.iw_queues.specs.declared.send_queue.Part.{Part}
@@ -31,8 +72,6 @@ use Rattle.iw_queues.specs.Request.{kind_of}
 use Rattle.iw_queues.specs.Completions.{done_from, added}
 use Rattle.iw_queues.specs.Queue.{Queue, part_sent, done_in, handed_from, behind_oldest, IsWithinLimits}
 use Rattle.iw_queues.specs.Segments.{Numbers, numbers_behind, segment_of}
-use Rattle.iw_queues.specs.Laws.{HasSent}
-use Rattle.iw_queues.proofs.Sending.{sends_in_order}
 use Rattle.iw_queues.proofs.Limits.{limits_posted, limits_sent, limits_handed}
 use Rattle.iw_stream.specs.declared.answer.SizeRefusal.TheVariants.{BadSize}
 use Rattle.iw_startup.specs.declared.progress.Progress.{Progress}
@@ -48,25 +87,25 @@ use Rattle.iw_startup.proofs.Openings.{unanswered_not_agreed}
 use Rattle.iw_stream.specs.declared.answer.Role.{Role}
 use Rattle.iw_stream.specs.declared.answer.Role.TheVariants.{Preset, Initiator, Responder}
 use Rattle.iw_stream.specs.Frames.{payload_of}
-use Rattle.iw_stream.specs.Starting.{StartState, AtOnce, Unheard, Heard, is_open, sending, own_frame, first_place_in, is_responder, heard, answered_with}
-use Rattle.iw_stream.specs.Stream.{StreamState, Due, StartUp, NextPart, NoneDue, size_refusal, due, octets_due, emission_due, left_due, emission_of, emitted, after_emit, part_due, owes_frame, keeps_silent}
+use Rattle.iw_stream.specs.Starting.{StartState, AtOnce, Unheard, Heard, is_open, sending, own_frame, first_place_in, is_responder, heard, answered_with, first_place_out}
+use Rattle.iw_stream.specs.Stream.{StreamState, Due, StartUp, Response as NextResponse, NextPart, NoneDue, size_refusal, due, emission_of, emitted, part_due, response_due, frame_of, is_read, reads_with, owes_frame, keeps_silent}
 use Rattle.iw_stream.specs.Work.{inbox}
 use Rattle.iw_events.specs.declared.act.StreamAct.{StreamAct}
 use Rattle.iw_events.specs.declared.act.StreamAct.TheVariants.{Recv, Post, Emit, Deliver, Raw, Mulpdu, Accept, Reject, Work}
 use Rattle.iw_events.specs.declared.act.Shown.{Shown}
-use Rattle.iw_events.specs.declared.act.Shown.TheVariants.{Frame, Nothing}
+use Rattle.iw_events.specs.declared.act.Shown.TheVariants.{Frame, Fetched, Fault as Denied, Nothing}
 use Rattle.iw_events.specs.declared.act.Seen.TheVariants as seen
-use Rattle.iw_world.specs.Words.{Octets, deed, Opening, posted_by, finished_by, size_after, received_by, ended_after, octets_shown, sent_by, buffers_after, Sent}
+use Rattle.iw_world.specs.Words.{Octets, deed, Opening, posted_by, finished_by, size_after, received_by, ended_after, octets_shown, is_denied, sent_by, buffers_after, Sent}
 use Rattle.iw_world.specs.Rules.{Connected, connected_after, StreamRule, shown_of, private_data}
-use Rattle.iw_world.specs.Safe.{InBuffer, requests}
+use Rattle.iw_world.specs.Safe.{InBuffer}
 use Rattle.iw_world.specs.Words.{OnSome}
-use Rattle.iw_world.proofs.Nexts.{fore, segment_at, turned_by}
-use Rattle.iw_world.proofs.Told.{Told, SeesSend, Hears, after_act, told, left_told}
+use Rattle.iw_world.proofs.Nexts.{fore, segment_at, turned_by, standing}
+use Rattle.iw_world.proofs.Told.{Told, Fronts, SeesSend, Hears, left_frame, after_shown, after_act, told, left_told, asked_front, reads_front, finishes_read, with_finished}
 use Rattle.iw_world.proofs.Tales.{Tale, tale_after}
-use Rattle.iw_world.proofs.Tracks.{Track, sound, silent_is, tracking, MayAnswer, may, accepting, refusing, unanswered}
+use Rattle.iw_world.proofs.Tracks.{Track, sound, silent_is, next_whole, tracking, MayAnswer, may, accepting, refusing, unanswered}
 use Rattle.iw_world.proofs.Lists.{Each, each-push, each-rest}
-use Rattle.iw_world.proofs.Counts.{Counts, same_counts, posted_counts, part_counts, handed_counts}
-use Rattle.iw_world.proofs.Sending.{FitsRequest, IsSendable, accepted, EmitsStart, EmitsPart, emits_frame, rests, shown_good, shows, behind_small}
+use Rattle.iw_world.proofs.Counts.{Counts, same_counts, posted_counts, part_counts, handed_counts, answered_counts, part_ticket, hands, one_for, count_last, count_last-append, last_of, plain_part, whole_of}
+use Rattle.iw_world.proofs.Sending.{FitsNumbers, IsSendable, accepted, EmitsStart, EmitsPart, EmitsResponse, emits_as, shown_good, response_good, shows, behind_small, is_answer}
 use Rattle.iw_world.proofs.Checks.{HasBuffer, checked_buffer, same_lengths, index_of, length_of, length-splice}
 
 -- what was sent is the start-up frame, if there is one, and the frames of these segments; or neither yet
@@ -74,21 +113,31 @@ pub data IsFramed (start : StartState) (sent : Octets) (segments : List (Segment
   Unspoken : sent ≡ [] → segments ≡ [] → IsFramed start sent segments
   Spoken : sent ≡ own_frame start ++ sequence (sending start) 0 (map segment_octets segments) → IsFramed start sent segments
 
--- the segments are the first of what was posted, and the queue has the rest
+-- what the story says of Reads is what the state has
+pub record Asks (s : StreamState) (t : Story) : Type 0 where
+  pub reads : t.reads ≡ s.reads
+  pub asked : t.asked ≡ s.asked
+  pub fetched : s.asked.fetched ≡ length t.begun
+  pub begun : requests.IsBegun s.asked.unanswered s.asked.fetched
+  pub few : length s.reads ≤ 16
+
+-- the segments are the first of what was posted and of what the peer asked for, and the queue has the rest
 pub record Emits (s : StreamState) (t : Tale) : Type 0 where
   pub segments : List (Segment Octets)
-  pub has : HasSent (requests t.posted) segments s.numbers s.queue
+  pub merges : Merges s.queue s.numbers s.asked.unanswered t.story.begun t.posted t.story.answers segments
+  pub asks : Asks s t.story
   pub good : Each IsSendable segments
   pub framed : IsFramed s.start t.sent segments
   pub shut : is_open s.start ≡ false → segments ≡ []
   pub silent : keeps_silent s ≡ true → segments ≡ []
   pub limits : IsWithinLimits s.queue
-  pub fit : Each FitsRequest s.queue.unsent
-  pub number : s.numbers.send < 2 ^ 32
+  pub fit : Each FitsPosted s.queue.unsent
+  pub numbers : FitsNumbers s.numbers
   pub size : s.mulpdu ≡ t.size
   pub enough : 128 ≤ s.mulpdu
   pub few : s.mulpdu ≤ 64512
-  pub counts : Counts s.queue segments t.posted t.finished
+  pub counts : Counts s.queue segments t.posted t.finished t.story.answered s.reads
+  pub whole : t.story.whole ≡ count_last segments
 
 -- the private data of a Reply has room in its frame
 abbrev pub IsSmall : Side → Type 0
@@ -123,28 +172,43 @@ pub record Own (o : Opening) (c : Connected) (t : Tale) : Type 0 where
   pub ended : c.stream.ended ≡ t.ended
 
 -- the fields that an emission leaves
-left_receiving : (s : StreamState) (d : Due) → (left_due s d).receiving ≡ s.receiving
-left_receiving s StartUp = refl
-left_receiving s (NextPart part) = refl
-left_receiving s NoneDue = refl
+pub record LeavesHeard (s s' : StreamState) : Type 0 where
+  pub receiving : s'.receiving ≡ s.receiving
+  pub start : s'.start ≡ s.start
 
-left_ended : (s : StreamState) (d : Due) → (left_due s d).ended ≡ s.ended
-left_ended s StartUp = refl
-left_ended s (NextPart part) = refl
-left_ended s NoneDue = refl
-
-left_start : (s : StreamState) (d : Due) → (left_due s d).start ≡ s.start
-left_start s StartUp = refl
-left_start s (NextPart part) = refl
-left_start s NoneDue = refl
-
-emission_sent : (s : StreamState) (shown : Shown Octets) → shown ≡ shown_of (emission_of s) (emitted s) → (after_emit s).sent ≡ s.sent + length (octets_shown shown)
-emission_sent s shown rule = go (due s) rule
+left_heard : (s : StreamState) (shown : Shown Octets) → LeavesHeard s (after_shown s shown)
+left_heard s (Frame from octets) = go (due s)
   where
-    go : (d : Due) → shown ≡ shown_of (emission_due s d) (octets_due s d) → (left_due s d).sent ≡ s.sent + length (octets_shown shown)
-    go StartUp h = ap (λ z. s.sent + length (octets_shown z)) (sym h)
-    go (NextPart part) h = ap (λ z. s.sent + length (octets_shown z)) (sym h)
-    go NoneDue h = let none : length (octets_shown shown) ≡ 0 = ap (λ z. length (octets_shown z)) h in omega (arith, none)
+    go : (d : Due) → LeavesHeard s (left_frame s d)
+    go StartUp = record { receiving = refl; start = refl }
+    go (NextResponse part) = record { receiving = refl; start = refl }
+    go (NextPart part) = record { receiving = refl; start = refl }
+    go NoneDue = record { receiving = refl; start = refl }
+left_heard s (Fetched from frame stag to octets) = record { receiving = refl; start = refl }
+left_heard s (Denied fault) = record { receiving = refl; start = refl }
+left_heard s Nothing = record { receiving = refl; start = refl }
+
+shown_ended : (s : StreamState) (shown : Shown Octets) → (after_shown s shown).ended ≡ cond (is_denied shown) true s.ended
+shown_ended s (Frame from octets) = go (due s)
+  where
+    go : (d : Due) → (left_frame s d).ended ≡ s.ended
+    go StartUp = refl
+    go (NextResponse part) = refl
+    go (NextPart part) = refl
+    go NoneDue = refl
+shown_ended s (Fetched from frame stag to octets) = refl
+shown_ended s (Denied fault) = refl
+shown_ended s Nothing = refl
+
+emission_sent : (table : Table) (s : StreamState) (shown : Shown Octets) → shown ≡ shown_of table (emission_of table s) (emitted table s) → (after_shown s shown).sent ≡ s.sent + length (octets_shown shown)
+emission_sent table s (Frame from octets) rule = frame (emits_as table s (Frame from octets) rule)
+  where
+    frame : EmitsStart s from octets ⊎ EmitsPart s from octets → (left_frame s (due s)).sent ≡ s.sent + length octets
+    frame (inl p) = ap (λ d. (left_frame s d).sent) p.next ∙ ap (λ z. s.sent + length z) (sym p.octets_are)
+    frame (inr p) = ap (λ d. (left_frame s d).sent) p.next ∙ ap (λ z. s.sent + length z) (sym p.octets_are)
+emission_sent table s (Fetched from frame stag to octets) rule = refl
+emission_sent table s (Denied fault) rule = omega arith
+emission_sent table s Nothing rule = omega arith
 
 next_due : (d n : ℕ) → d ≡ (1 + n) % 2 ^ 32 → (d + 1) % 2 ^ 32 ≡ (1 + (n + 1)) % 2 ^ 32
 next_due d n e = omega arith
@@ -182,7 +246,7 @@ lengths_are table s (Recv len None) rule = map-append length s.receiving.buffers
 lengths_are table s (Recv len (Some refusal)) rule = refl
 lengths_are table s (Post m None) rule = refl
 lengths_are table s (Post m (Some refusal)) rule = refl
-lengths_are table s (Emit shown) rule = ap (λ (r : Receiving). map length r.buffers) (left_receiving s (due s))
+lengths_are table s (Emit shown) rule = ap (λ (r : Receiving). map length r.buffers) (left_heard s shown).receiving
 lengths_are table s (Deliver from octets Kept) rule = refl
 lengths_are table s (Raw from octets Kept) rule = refl
 lengths_are table s (Deliver from octets Dropped) rule = refl
@@ -199,6 +263,7 @@ lengths_are table s (Work (seen.Closed fault)) rule = refl
 lengths_are table s (Work (seen.Done kind)) rule = refl
 lengths_are table s (Work (seen.Placed right stag to octets)) rule = refl
 lengths_are table s (Work (seen.Buffered msn mo len)) rule = kept_lengths s.receiving msn mo len s refl rule.1
+lengths_are table s (Work (seen.Requested size stag to)) rule = refl
 lengths_are table s (Work seen.Passed) rule = ap (map length) (turned_lengths s.receiving (segment_at (fore s)))
 lengths_are table s (Work (seen.Received octets solicited invalidate)) rule = one_less s.receiving.buffers
 lengths_are table s (Work (seen.Fault fault)) rule = refl
@@ -210,6 +275,7 @@ same_due d done e = e ∙ ap (λ z. (1 + length z) % 2 ^ 32) (sym (append-nil do
 due_is : (s : StreamState) (act : StreamAct Octets) (done : List Sent) → s.receiving.due ≡ (1 + length done) % 2 ^ 32 → (after_act s act).receiving.due ≡ (1 + length (done ++ received_by act)) % 2 ^ 32
 due_is s (Work (seen.Received octets solicited invalidate)) done e = next_due s.receiving.due (length done) e ∙ ap (λ k. (1 + k) % 2 ^ 32) (sym (length_push done _))
 due_is s (Work seen.Passed) done e = turned_due s.receiving (segment_at (fore s)) ∙ same_due s.receiving.due done e
+due_is s (Work (seen.Requested size stag to)) done e = same_due s.receiving.due done e
 due_is s (Work (seen.Done kind)) done e = same_due s.receiving.due done e
 due_is s (Work (seen.Placed right stag to octets)) done e = same_due s.receiving.due done e
 due_is s (Work (seen.Buffered msn mo len)) done e = same_due s.receiving.due done e
@@ -219,7 +285,7 @@ due_is s (Recv len None) done e = same_due s.receiving.due done e
 due_is s (Recv len (Some refusal)) done e = same_due s.receiving.due done e
 due_is s (Post m None) done e = same_due s.receiving.due done e
 due_is s (Post m (Some refusal)) done e = same_due s.receiving.due done e
-due_is s (Emit shown) done e = ap (λ (r : Receiving). r.due) (left_receiving s (due s)) ∙ same_due s.receiving.due done e
+due_is s (Emit shown) done e = ap (λ (r : Receiving). r.due) (left_heard s shown).receiving ∙ same_due s.receiving.due done e
 due_is s (Accept private (Ok agreed)) done e = same_due s.receiving.due done e
 due_is s (Accept private (Err refusal)) done e = same_due s.receiving.due done e
 due_is s (Reject private None) done e = same_due s.receiving.due done e
@@ -238,7 +304,7 @@ same_sent : (n : ℕ) (sent : List ℕ) → n ≡ length sent → n ≡ length (
 same_sent n sent e = e ∙ ap length (sym (append-nil sent))
 
 sent_is : (table : Table) (s : StreamState) (act : StreamAct Octets) (sent : List ℕ) → Told table s act → s.sent ≡ length sent → (after_act s act).sent ≡ length (sent ++ sent_by act)
-sent_is table s (Emit shown) sent rule e = emission_sent s shown rule ∙ ap (λ n. n + length (octets_shown shown)) e ∙ sym (length-append sent (octets_shown shown))
+sent_is table s (Emit shown) sent rule e = emission_sent table s shown rule ∙ ap (λ n. n + length (octets_shown shown)) e ∙ sym (length-append sent (octets_shown shown))
 sent_is table s (Accept private (Ok agreed)) sent rule e = same_sent s.sent sent e
 sent_is table s (Accept private (Err refusal)) sent rule e = same_sent s.sent sent e
 sent_is table s (Reject private None) sent rule e = same_sent s.sent sent e
@@ -247,6 +313,7 @@ sent_is table s (Work (seen.Asked private)) sent rule e = same_sent s.sent sent 
 sent_is table s (Work (seen.Opened agreed private)) sent rule e = same_sent s.sent sent e
 sent_is table s (Work (seen.Closed fault)) sent rule e = same_sent s.sent sent e
 sent_is table s (Work (seen.Received octets solicited invalidate)) sent rule e = same_sent s.sent sent e
+sent_is table s (Work (seen.Requested size stag to)) sent rule e = same_sent s.sent sent e
 sent_is table s (Work seen.Passed) sent rule e = same_sent s.sent sent e
 sent_is table s (Work (seen.Done kind)) sent rule e = same_sent s.sent sent e
 sent_is table s (Work (seen.Placed right stag to octets)) sent rule e = same_sent s.sent sent e
@@ -268,53 +335,91 @@ sent_is table s (Mulpdu size (Some refusal)) sent rule e = same_sent s.sent sent
 abbrev StillSilent : StreamState → StreamState → Type 0
 StillSilent s s' = keeps_silent s' ≡ true → keeps_silent s ≡ true
 
--- nothing is posted or emitted
-quiet : (s s' : StreamState) (t : Tale) (act : StreamAct Octets) → s'.start ≡ s.start → s'.queue ≡ s.queue → s'.numbers ≡ s.numbers → s'.mulpdu ≡ s.mulpdu
-    → posted_by act ≡ [] → finished_by act ≡ [] → size_after t.size act ≡ t.size → sent_by act ≡ [] → StillSilent s s' → Emits s t → Emits s' (tale_after t act)
-quiet s s' t act start queue numbers mulpdu posted finished size sent silent e =
-    let same : t.posted ++ posted_by act ≡ t.posted = ap (λ z. t.posted ++ z) posted ∙ append-nil t.posted in
+-- what the story says of what went out, and of Reads, stays
+pub record StaysSaid (t t' : Story) : Type 0 where
+  pub whole : t'.whole ≡ t.whole
+  pub reads : t'.reads ≡ t.reads
+  pub answered : t'.answered ≡ t.answered
+  pub asked : t'.asked ≡ t.asked
+  pub answers : t'.answers ≡ t.answers
+  pub begun : t'.begun ≡ t.begun
+
+pub stays_said : (t : Story) → StaysSaid t t
+stays_said t = record { whole = refl; reads = refl; answered = refl; asked = refl; answers = refl; begun = refl }
+
+same_asks : (s s' : StreamState) (t t' : Story) → s'.reads ≡ s.reads → s'.asked ≡ s.asked → StaysSaid t t' → Asks s t → Asks s' t'
+same_asks s s' t t' reads asked said k = record {
+  reads = said.reads ∙ k.reads ∙ sym reads;
+  asked = said.asked ∙ k.asked ∙ sym asked;
+  fetched = ap (λ (z : Requested). z.fetched) asked ∙ k.fetched ∙ ap length (sym said.begun);
+  begun = subst (λ (z : Requested). requests.IsBegun z.unanswered z.fetched) (sym asked) k.begun;
+  few = subst (λ z. length z ≤ 16) (sym reads) k.few;
+}
+
+pub same_merges : {q q' : Queue} {n n' : Numbers} {w w' : List Asked} {b b' : Octets} {ms ms' : List (Request Octets)} {an an' : List Answer} {us : List (Segment Octets)} → q' ≡ q → n' ≡ n → w' ≡ w → b' ≡ b → ms' ≡ ms → an' ≡ an → Merges q n w b ms an us → Merges q' n' w' b' ms' an' us
+same_merges {q} {q'} {n} {n'} {w} {w'} {b} {b'} {ms} {ms'} {an} {an'} {us} e f g h i j k =
+    subst (λ z. Merges z n' w' b' ms' an' us) (sym e)
+    (subst (λ z. Merges q z w' b' ms' an' us) (sym f)
+    (subst (λ z. Merges q n z b' ms' an' us) (sym g) (subst (λ z. Merges q n w z ms' an' us) (sym h) (subst (λ z. Merges q n w b z an' us) (sym i) (subst (λ z. Merges q n w b ms z us) (sym j) k)))))
+
+-- what is kept of messages that were sent is nothing to those that are not
+sent_merges : {q : Queue} {sent : completions.Outstanding} {n : Numbers} {w : List Asked} {b : Octets} {ms : List (Request Octets)} {an : List Answer} {us : List (Segment Octets)} → Merges q n w b ms an us → Merges (record q { sent = sent }) n w b ms an us
+sent_merges k = record { items = k.items; posts = k.posts; are = k.are; apart = k.apart; done = k.done; partial = k.partial; segments_are = k.segments_are; spelled = k.spelled; goes_on = λ rest ss g m. k.goes_on rest ss (record { post = g.post; response = g.response }) m }
+
+-- segments of responses count for nothing
+more_counts : {q : Queue} {us us' : List (Segment Octets)} {ms : List (Request Octets)} {ks : List Kind} {a : ℕ} {rs : List Outstanding} → count_last us ≡ count_last us' → Counts q us ms ks a rs → Counts q us' ms ks a rs
+more_counts e n = record { order = n.order; first = n.first; split = n.split; lasts = sym e ∙ n.lasts; counted = n.counted; oldest = n.oldest; marked = n.marked; some = n.some; done = n.done; tickets = n.tickets }
+
+-- nothing of the queue or of Reads changes, and nothing is posted or emitted
+record StaysQuiet (s s' : StreamState) (t : Tale) (act : StreamAct Octets) : Type 0 where
+  pub queue : s'.queue ≡ s.queue
+  pub numbers : s'.numbers ≡ s.numbers
+  pub mulpdu : s'.mulpdu ≡ s.mulpdu
+  pub reads : s'.reads ≡ s.reads
+  pub asked : s'.asked ≡ s.asked
+  pub posted : posted_by act ≡ []
+  pub finished : finished_by act ≡ []
+  pub size : size_after t.size act ≡ t.size
+  pub sent : sent_by act ≡ []
+  pub said : StaysSaid t.story (story_after t.story act)
+
+-- the segments stay, with what is said of what was sent of them
+stays : (s s' : StreamState) (t : Tale) (act : StreamAct Octets) → StaysQuiet s s' t act → (e : Emits s t) → IsFramed s'.start (t.sent ++ sent_by act) e.segments → (is_open s'.start ≡ false → e.segments ≡ []) → (keeps_silent s' ≡ true → e.segments ≡ [])
+    → Emits s' (tale_after t act)
+stays s s' t act q e framed shut silent =
+    let same : t.posted ++ posted_by act ≡ t.posted = ap (λ z. t.posted ++ z) q.posted ∙ append-nil t.posted in
     record {
       segments = e.segments;
-      has = subst (λ z. HasSent (requests z) e.segments s'.numbers s'.queue) (sym same) (subst (λ n. HasSent (requests t.posted) e.segments n s'.queue) (sym numbers) (subst (HasSent (requests t.posted) e.segments s.numbers) (sym queue) e.has));
+      merges = same_merges q.queue q.numbers (ap (λ (z : Requested). z.unanswered) q.asked) q.said.begun same q.said.answers e.merges;
+      asks = same_asks s s' t.story (story_after t.story act) q.reads q.asked q.said e.asks;
       good = e.good;
-      framed = subst (λ z. IsFramed s'.start z e.segments) (sym (ap (λ z. t.sent ++ z) sent ∙ append-nil t.sent)) (subst (λ z. IsFramed z t.sent e.segments) (sym start) e.framed);
-      shut = λ h. e.shut (sym (ap is_open start) ∙ h);
-      silent = λ h. e.silent (silent h);
-      limits = subst IsWithinLimits (sym queue) e.limits;
-      fit = subst (λ (q : Queue). Each FitsRequest q.unsent) (sym queue) e.fit;
-      number = omega (arith, ap (λ (n : Numbers). n.send) numbers, e.number);
-      size = mulpdu ∙ e.size ∙ sym size;
-      enough = omega (arith, mulpdu, e.enough);
-      few = omega (arith, mulpdu, e.few);
-      counts = same_counts queue same (ap (λ z. t.finished ++ z) finished ∙ append-nil t.finished) e.counts;
+      framed = framed;
+      shut = shut;
+      silent = silent;
+      limits = subst IsWithinLimits (sym q.queue) e.limits;
+      fit = subst (λ (z : Queue). Each FitsPosted z.unsent) (sym q.queue) e.fit;
+      numbers = subst FitsNumbers (sym q.numbers) e.numbers;
+      size = q.mulpdu ∙ e.size ∙ sym q.size;
+      enough = omega (arith, q.mulpdu, e.enough);
+      few = omega (arith, q.mulpdu, e.few);
+      counts = same_counts q.queue same (ap (λ z. t.finished ++ z) q.finished ∙ append-nil t.finished) q.said.answered q.reads e.counts;
+      whole = q.said.whole ∙ e.whole;
     }
+
+quiet : (s s' : StreamState) (t : Tale) (act : StreamAct Octets) → s'.start ≡ s.start → StaysQuiet s s' t act → StillSilent s s' → Emits s t → Emits s' (tale_after t act)
+quiet s s' t act start q silent e =
+    stays s s' t act q e (subst (λ z. IsFramed s'.start z e.segments) (sym (ap (λ z. t.sent ++ z) q.sent ∙ append-nil t.sent)) (subst (λ z. IsFramed z t.sent e.segments) (sym start) e.framed))
+    (λ h. e.shut (sym (ap is_open start) ∙ h)) (λ h. e.silent (silent h))
 
 bare : (xs : Octets) (l : Layout) (us : List (Segment Octets)) → us ≡ [] → xs ++ sequence l 0 (map segment_octets us) ≡ xs
 unfolding sequence
 bare xs l us none = ap (λ z. xs ++ sequence l 0 (map segment_octets z)) none ∙ append-nil xs
 
 -- the start-up goes on, at a stream that was not open: this end's frame stays, or there was none
-restarts : (s s' : StreamState) (t : Tale) (act : StreamAct Octets) → is_open s.start ≡ false → s'.queue ≡ s.queue → s'.numbers ≡ s.numbers → s'.mulpdu ≡ s.mulpdu
-    → posted_by act ≡ [] → finished_by act ≡ [] → size_after t.size act ≡ t.size → sent_by act ≡ [] → (own_frame s'.start ≡ own_frame s.start) ⊎ (own_frame s.start ≡ []) → Emits s t → Emits s' (tale_after t act)
-restarts s s' t act closed queue numbers mulpdu posted finished size sent own e =
+restarts : (s s' : StreamState) (t : Tale) (act : StreamAct Octets) → is_open s.start ≡ false → StaysQuiet s s' t act → (own_frame s'.start ≡ own_frame s.start) ⊎ (own_frame s.start ≡ []) → Emits s t → Emits s' (tale_after t act)
+restarts s s' t act closed q own e =
     let none : e.segments ≡ [] = e.shut closed in
-    let same : t.posted ++ posted_by act ≡ t.posted = ap (λ z. t.posted ++ z) posted ∙ append-nil t.posted in
-    let unsent : t.sent ++ sent_by act ≡ t.sent = ap (λ z. t.sent ++ z) sent ∙ append-nil t.sent in
-    record {
-      segments = e.segments;
-      has = subst (λ z. HasSent (requests z) e.segments s'.numbers s'.queue) (sym same) (subst (λ n. HasSent (requests t.posted) e.segments n s'.queue) (sym numbers) (subst (HasSent (requests t.posted) e.segments s.numbers) (sym queue) e.has));
-      good = e.good;
-      framed = go none unsent e.framed own;
-      shut = λ h. none;
-      silent = λ h. none;
-      limits = subst IsWithinLimits (sym queue) e.limits;
-      fit = subst (λ (q : Queue). Each FitsRequest q.unsent) (sym queue) e.fit;
-      number = omega (arith, ap (λ (n : Numbers). n.send) numbers, e.number);
-      size = mulpdu ∙ e.size ∙ sym size;
-      enough = omega (arith, mulpdu, e.enough);
-      few = omega (arith, mulpdu, e.few);
-      counts = same_counts queue same (ap (λ z. t.finished ++ z) finished ∙ append-nil t.finished) e.counts;
-    }
+    stays s s' t act q e (go none (ap (λ z. t.sent ++ z) q.sent ∙ append-nil t.sent) e.framed own) (λ h. none) (λ h. none)
   where
     go : {sent' : Octets} → e.segments ≡ [] → sent' ≡ t.sent → IsFramed s.start t.sent e.segments → (own_frame s'.start ≡ own_frame s.start) ⊎ (own_frame s.start ≡ []) → IsFramed s'.start sent' e.segments
     go none unsent (Unspoken b c) own = Unspoken (unsent ∙ b) c
@@ -322,23 +427,25 @@ restarts s s' t act closed queue numbers mulpdu posted finished size sent own e 
     go none unsent (Spoken b) (inr nil) = Unspoken (unsent ∙ b ∙ bare (own_frame s.start) (sending s.start) e.segments none ∙ nil) none
 
 -- a message is posted
-posts : (table : Table) (s : StreamState) (t : Tale) (m : Message Octets) → Told table s (Post m None) → Emits s t → Emits (after_act s (Post m None)) (tale_after t (Post m None))
+posts : (table : Table) (s : StreamState) (t : Tale) (m : Request Octets) → Told table s (Post m None) → Emits s t → Emits (after_act s (Post m None)) (tale_after t (Post m None))
 posts table s t m rule e =
     let ok = accepted s m rule.1 in
     record {
       segments = e.segments;
-      has = subst (λ z. HasSent z e.segments s.numbers (after_act s (Post m None)).queue) (sym (map-append Posted t.posted (m ∷ []))) (sends_in_order.post (requests t.posted) e.segments s.numbers s.queue (Posted m) e.limits e.has);
+      merges = merges_post s.queue s.numbers s.asked.unanswered t.story.begun t.posted t.story.answers e.segments m e.limits.begun e.merges;
+      asks = same_asks s (after_act s (Post m None)) t.story t.story refl refl (stays_said t.story) e.asks;
       good = e.good;
       framed = subst (λ z. IsFramed s.start z e.segments) (sym (append-nil t.sent)) e.framed;
       shut = e.shut;
       silent = e.silent;
-      limits = limits_posted s.queue (Posted m) ok.posted e.limits;
-      fit = each-push FitsRequest s.queue.unsent (Posted m) e.fit rule.0;
-      number = e.number;
+      limits = limits_posted s.queue m ok.posted e.limits;
+      fit = each-push FitsPosted s.queue.unsent m e.fit rule.0;
+      numbers = e.numbers;
       size = e.size;
       enough = e.enough;
       few = e.few;
-      counts = posted_counts s.queue e.segments t.posted t.finished m e.counts;
+      counts = posted_counts s.queue e.segments t.posted t.finished t.story.answered s.reads m e.counts;
+      whole = e.whole;
     }
 
 -- what is left to be sent behind a part
@@ -349,11 +456,11 @@ rest_is q part = go part.last
     go true = refl
     go false = refl
 
-pub first_fits : (q : Queue) → Each FitsRequest q.unsent → (m : Request Octets) (ms : List (Request Octets)) → q.unsent ≡ m ∷ ms → FitsRequest m
-first_fits q fit m ms is = (subst (Each FitsRequest) is fit).0
+pub first_fits : (q : Queue) → Each FitsPosted q.unsent → (m : Request Octets) (ms : List (Request Octets)) → q.unsent ≡ m ∷ ms → FitsPosted m
+first_fits q fit m ms is = (subst (Each FitsPosted) is fit).0
 
-rest_fits : (unsent : List (Request Octets)) (last : Bool) → Each FitsRequest unsent → Each FitsRequest (cond last (drop 1 unsent) unsent)
-rest_fits unsent true fit = each-rest FitsRequest unsent fit
+rest_fits : (unsent : List (Request Octets)) (last : Bool) → Each FitsPosted unsent → Each FitsPosted (cond last (drop 1 unsent) unsent)
+rest_fits unsent true fit = each-rest FitsPosted unsent fit
 rest_fits unsent false fit = fit
 
 alone : (layout : Layout) (at : ℕ) (u : List ℕ) → sequence layout at (u ∷ []) ≡ frame_octets layout at u
@@ -391,53 +498,141 @@ before_start s t e sent owes = go e.framed
         let less : s.sent < length (own_frame s.start) = below s.sent (length (own_frame s.start)) owes in
         absurd (omega (arith, less, sent, ap length b, length-append (own_frame s.start) (sequence (sending s.start) 0 (map segment_octets e.segments))))
 
--- the part that is due is of a message that fits
-pub part_fits : (s : StreamState) (part : Part (Request Octets)) → part_due s ≡ Some part → Each FitsRequest s.queue.unsent → FitsRequest part.message
-part_fits s part due fit =
-    let w = shows s.queue s.mulpdu part due in
-    subst FitsRequest (sym (ap (λ (p : Part (Request Octets)). p.message) w.is)) (first_fits s.queue fit w.message w.messages w.unsent)
+-- ---- frames that go out
 
--- a part is sent
-sends_part : (s : StreamState) (t : Tale) (from : ℕ) (octets : Octets) → (p : EmitsPart s from octets) → s.sent ≡ length t.sent → Emits s t → Emits (left_due s (NextPart p.part)) (tale_after t (Emit (Frame from octets)))
-sends_part s t from octets p sent e =
-    let part : Part (Request Octets) = p.part in
-    let loud = p.is_loud in
-    let segment : Segment Octets = segment_of s.numbers part in
+-- a frame that goes out behind others is read again as the segment that it carries
+record IsRead (s : StreamState) (t : Tale) (from : ℕ) (octets : Octets) (segment : Segment Octets) (segments : List (Segment Octets)) : Type 0 where
+  pub framed : t.sent ++ octets ≡ own_frame s.start ++ sequence (sending s.start) 0 (map segment_octets (segments ++ segment ∷ []))
+  pub told : is_answer segment ≡ false → segment_out t.story from octets ≡ Some segment
+
+not_below : (n m : ℕ) → nat_lt n m ≡ false → m ≤ n
+not_below n m h = grind (arith, nat_tests)
+
+reads_again : (s : StreamState) (t : Tale) (from : ℕ) (octets : Octets) (segment : Segment Octets) → t.story.start ≡ s.start → from ≡ s.sent → owes_frame s ≡ false → octets ≡ frame_of s segment → IsSendable segment → s.sent ≡ length t.sent → (e : Emits s t)
+    → IsRead s t from octets segment e.segments
+reads_again s t from octets segment start from_is spoken octets_are good sent e =
     let us : List (List ℕ) = map segment_octets e.segments in
     let own : Octets = own_frame s.start in
     let layout : Layout = sending s.start in
-    let framed : t.sent ≡ own ++ sequence layout 0 us = behind_start s t e sent loud.spoken in
+    let framed : t.sent ≡ own ++ sequence layout 0 us = behind_start s t e sent spoken in
+    let between : IsBetween layout.markers (place_behind layout 0 us) = between_behind layout 0 us (frames_follow.first layout.markers) in
     let place : place_behind layout 0 us ≡ s.sent - length own =
     place_is layout 0 us (frames_follow.first layout.markers) ∙ omega (arith, ap length framed, length-append own (sequence layout 0 us), sent) in
     let one : sequence layout (place_behind layout 0 us) (segment_octets segment ∷ []) ≡ octets =
-    ap (λ n. sequence layout n (segment_octets segment ∷ [])) place ∙ alone layout (s.sent - length own) (segment_octets segment) ∙ sym p.octets_are in
+    ap (λ n. sequence layout n (segment_octets segment ∷ [])) place ∙ alone layout (s.sent - length own) (segment_octets segment) ∙ sym octets_are in
     let more : sequence layout 0 us ++ octets ≡ sequence layout 0 (map segment_octets (e.segments ++ segment ∷ [])) =
     ap (λ z. sequence layout 0 us ++ z) (sym one) ∙ sym (sequences_join layout 0 us (segment_octets segment ∷ [])) ∙ ap (sequence layout 0) (sym (map-append segment_octets e.segments (segment ∷ []))) in
+    let behind : nat_lt s.sent (length own) ≡ false = spoken in
+    let first : first_frame layout (s.sent - length own) octets ≡ Some (intact (segment_octets segment), []) =
+    ap (first_frame layout (s.sent - length own)) (octets_are ∙ sym (append-nil (frame_octets layout (s.sent - length own) (segment_octets segment))))
+    ∙ written_is_first layout (s.sent - length own) (segment_octets segment) [] (subst (IsBetween layout.markers) place between) good.small in
     record {
+      framed = ap (λ z. z ++ octets) framed ∙ append_assoc own (sequence layout 0 us) octets ∙ ap (λ z. own ++ z) more;
+      told = λ plain. (λ i. cond (nat_lt (from_is i) (first_place_out (start i))) None (option_map_or (λ (first : Carried × Octets). read_segment first.0.ulpdu) (first_frame (sending (start i)) (from_is i - first_place_out (start i)) octets) None))
+          ∙ ap (λ b. cond b None (option_map_or (λ (first : Carried × Octets). read_segment first.0.ulpdu) (first_frame layout (s.sent - length own) octets) None)) behind
+          ∙ ap (λ o. option_map_or (λ (first : Carried × Octets). read_segment first.0.ulpdu) o None) first
+          ∙ read_segment-spelled segment (good.fits plain);
+    }
+
+-- the Read that a part asks for
+asks_read : (numbers : Numbers) (part : Part (Request Octets)) (reads : List Outstanding) (ticket : ℕ) → FitsPosted part.message → part.ticket ≡ ticket
+    → option_map_or (asked_for reads ticket) (read_out (segment_of numbers part)) reads ≡ reads_with reads part.ticket part.message
+asks_read numbers part reads ticket fits same = go part.message fits
+  where
+    again : (request : ReadRequest) → FitsRequest request → read_request (request_octets request) ≡ Some (request, [])
+    again request fits = ap read_request (sym (append-nil (request_octets request))) ∙ read_request-spelled request [] fits
+
+    go : (m : Request Octets) → FitsPosted m → option_map_or (asked_for reads ticket) (read_out (segment_with numbers m part.offset part.last (take part.n (drop part.offset (payload part.message))))) reads ≡ reads_with reads part.ticket m
+    go (Posted (Write stag to octets)) fits = refl
+    go (Posted (Send octets solicited invalidate)) fits = refl
+    go (Read request) fits =
+        ap (λ o. option_map_or (asked_for reads ticket) (option_map (λ (read : ReadRequest × Octets). read.0) o) reads) (again request fits)
+        ∙ ap (λ n. asked_for reads n request) (sym same)
+
+-- fewer than 16 are outstanding where a Read goes out
+still_few : (reads : List Outstanding) (ticket : ℕ) (m : Request Octets) → length reads ≤ 16 → (is_read m && nat_le most_reads (length reads)) ≡ false → length (reads_with reads ticket m) ≤ 16
+still_few reads ticket (Posted m) few room = few
+still_few reads ticket (Read request) few room =
+    let less : length reads < 16 = grind (arith, nat_tests) in
+    omega (arith, less, length_push reads (record { ticket = ticket; request = request; turned = 0 }))
+
+part_fits : (s : StreamState) (part : Part (Request Octets)) → next_part s.queue s.mulpdu ≡ Some part → Each FitsPosted s.queue.unsent → FitsPosted part.message
+part_fits s part due fit =
+    let w = shows s.queue s.mulpdu part due in
+    subst FitsPosted (sym (ap (λ (p : Part (Request Octets)). p.message) w.is)) (first_fits s.queue fit w.message w.messages w.unsent)
+
+-- nothing is begun of a response where a part of a message is due
+unbegun : (s : StreamState) (t : Tale) → (e : Emits s t) → response_due s ≡ None → t.story.begun ≡ []
+unbegun s t e calm = elim e.merges.apart [ inl zero_is ↦ by_waiting s.asked.unanswered refl zero_is | inr nil ↦ nil ]
+  where
+    no_octets : (xs : Octets) → length xs ≡ 0 → xs ≡ []
+    no_octets [] h = refl
+    no_octets (x ∷ xs) h = absurd (omega (arith, h))
+
+    by_waiting : (waiting : List Asked) → s.asked.unanswered ≡ waiting → s.queue.offset ≡ 0 → t.story.begun ≡ []
+    by_waiting [] is zero_is = no_octets t.story.begun (let none : s.asked.fetched ≡ 0 = subst (λ z. requests.IsBegun z s.asked.fetched) is e.asks.begun in omega (arith, none, e.asks.fetched))
+    by_waiting (x ∷ xs) is zero_is =
+        absurd (none-some _ (sym calm ∙ (λ i. cond (nat_lt 0 (zero_is i)) None (part_for (is i) s.asked.fetched s.mulpdu))))
+
+-- a part is sent
+sends_part : (s : StreamState) (t : Tale) (from : ℕ) (octets : Octets) → (p : EmitsPart s from octets) → t.story.start ≡ s.start → s.sent ≡ length t.sent → Emits s t → Emits (left_frame s (NextPart p.part)) (tale_after t (Emit (Frame from octets)))
+sends_part s t from octets p start sent e =
+    let part : Part (Request Octets) = p.part in
+    let loud = p.is_loud in
+    let segment : Segment Octets = segment_of s.numbers part in
+    let good : IsSendable segment = shown_good s.numbers s.queue s.mulpdu part loud.part_is e.limits e.enough e.few e.numbers (first_fits s.queue e.fit) in
+    let r = reads_again s t from octets segment start p.from_is loud.spoken p.octets_are good sent e in
+    let fits : FitsPosted part.message = part_fits s part loud.part_is e.fit in
+    let none : t.story.begun ≡ [] = unbegun s t e loud.quiet in
+    let ticket : part.ticket ≡ t.story.whole % 2 ^ 64 = part_ticket s.queue s.mulpdu part e.segments t.posted t.finished t.story.answered s.reads loud.part_is e.counts ∙ ap (λ n. n % 2 ^ 64) (sym (e.whole ∙ e.counts.lasts)) in
+    let story : story_after t.story (Emit (Frame from octets)) ≡ sends_segment t.story segment = ap (λ o. option_map_or (sends_segment t.story) o t.story) (r.told (plain_part s.numbers part)) in
+    let reads : (sends_segment t.story segment).reads ≡ reads_with s.reads part.ticket part.message =
+    ap (λ z. option_map_or (asked_for z (t.story.whole % 2 ^ 64)) (read_out segment) z) e.asks.reads ∙ asks_read s.numbers part s.reads (t.story.whole % 2 ^ 64) fits ticket in
+    subst (λ z. Emits (left_frame s (NextPart part)) (record (tale_after t (Emit (Frame from octets))) { story = z })) (sym story)
+    (record {
       segments = e.segments ++ segment ∷ [];
-      has = subst (λ z. HasSent (requests z) (e.segments ++ segment ∷ []) (numbers_behind s.numbers part) (part_sent s.queue (Some part))) (sym (append-nil t.posted))
-          (sends_in_order.part (requests t.posted) e.segments s.numbers s.queue s.mulpdu part e.enough e.few loud.part_is e.has);
-      good = each-push IsSendable e.segments segment e.good (shown_good s.numbers s.queue s.mulpdu part loud.part_is e.limits e.enough e.few e.number (first_fits s.queue e.fit));
-      framed = Spoken (ap (λ z. z ++ octets) framed ∙ append_assoc own (sequence layout 0 us) octets ∙ ap (λ z. own ++ z) more);
+      merges = same_merges refl refl refl none (append-nil t.posted) refl (merges_part s.queue s.numbers s.asked.unanswered t.posted t.story.answers e.segments s.mulpdu part e.enough e.few loud.part_is (same_merges refl refl refl (sym none) refl refl e.merges));
+      asks = record {
+        reads = reads;
+        asked = e.asks.asked;
+        fetched = e.asks.fetched;
+        begun = e.asks.begun;
+        few = still_few s.reads part.ticket part.message e.asks.few loud.room;
+      };
+      good = each-push IsSendable e.segments segment e.good good;
+      framed = Spoken r.framed;
       shut = λ h. absurd (true≢false (sym loud.started ∙ h));
       silent = λ h. absurd (false≢true (sym loud.loud ∙ h));
       limits = limits_sent s.queue s.mulpdu part loud.part_is e.limits;
-      fit = subst (Each FitsRequest) (sym (rest_is s.queue part)) (rest_fits s.queue.unsent part.last e.fit);
-      number = behind_small s.numbers part e.number;
+      fit = subst (Each FitsPosted) (sym (rest_is s.queue part)) (rest_fits s.queue.unsent part.last e.fit);
+      numbers = behind_small s.numbers part e.numbers;
       size = e.size;
       enough = e.enough;
       few = e.few;
-      counts = subst (λ o. Counts (part_sent s.queue o) (e.segments ++ segment ∷ []) (t.posted ++ []) (t.finished ++ [])) loud.part_is
-          (part_counts s.queue e.segments t.posted t.finished s.numbers s.mulpdu part loud.part_is (part_fits s part loud.part_is e.fit) e.counts);
-    }
+      counts = part_counts s.queue e.segments t.posted t.finished t.story.answered s.reads s.numbers s.mulpdu part loud.part_is e.counts;
+      whole = one_whole (is_last segment) part.last (last_of s.numbers s.queue s.mulpdu part loud.part_is) e.whole
+          ∙ sym (count_last-append e.segments (segment ∷ []) ∙ omega (arith, ap one_for (whole_of s.numbers s.queue s.mulpdu part loud.part_is)));
+    })
+  where
+    one_whole : (b last : Bool) → b ≡ last → {w c : ℕ} → w ≡ c → cond b (w + 1) w ≡ c + one_for last
+    one_whole true true is e = omega (arith, e)
+    one_whole false false is e = omega (arith, e)
+    one_whole true false is e = absurd (true≢false is)
+    one_whole false true is e = absurd (false≢true is)
 
 -- the start-up frame is sent
-sends_start : (s : StreamState) (t : Tale) (from : ℕ) (octets : Octets) → EmitsStart s from octets → s.sent ≡ length t.sent → Emits s t → Emits (left_due s StartUp) (tale_after t (Emit (Frame from octets)))
-sends_start s t from octets p sent e =
+sends_start : (s : StreamState) (t : Tale) (from : ℕ) (octets : Octets) → EmitsStart s from octets → t.story.start ≡ s.start → s.sent ≡ length t.sent → Emits s t → Emits (left_frame s StartUp) (tale_after t (Emit (Frame from octets)))
+sends_start s t from octets p start sent e =
     let before = before_start s t e sent p.owes in
-    record {
+    let none : segment_out t.story from octets ≡ None =
+    (λ i. cond (nat_lt (p.from_is i) (first_place_out (start i))) None (option_map_or (λ (first : Carried × Octets). read_segment first.0.ulpdu) (first_frame (sending t.story.start) (from - first_place_out t.story.start) octets) None))
+    ∙ ap (λ b. cond b None (option_map_or (λ (first : Carried × Octets). read_segment first.0.ulpdu) (first_frame (sending t.story.start) (from - first_place_out t.story.start) octets) None)) p.owes in
+    let story : story_after t.story (Emit (Frame from octets)) ≡ t.story = ap (λ o. option_map_or (sends_segment t.story) o t.story) none in
+    subst (λ z. Emits (left_frame s StartUp) (record (tale_after t (Emit (Frame from octets))) { story = z })) (sym story)
+    (record {
       segments = e.segments;
-      has = subst (λ z. HasSent (requests z) e.segments s.numbers s.queue) (sym (append-nil t.posted)) e.has;
+      merges = same_merges refl refl refl refl (append-nil t.posted) refl e.merges;
+      asks = same_asks s (left_frame s StartUp) t.story t.story refl refl (stays_said t.story) e.asks;
       good = e.good;
       framed = Spoken
           (ap (λ z. z ++ octets) before.0 ∙ p.octets_are ∙ sym (append-nil (own_frame s.start)) ∙ (λ i. own_frame s.start ++ sym (nothing_framed (sending s.start)) i)
@@ -446,20 +641,261 @@ sends_start s t from octets p sent e =
       silent = e.silent;
       limits = e.limits;
       fit = e.fit;
-      number = e.number;
+      numbers = e.numbers;
       size = e.size;
       enough = e.enough;
       few = e.few;
-      counts = same_counts refl (append-nil t.posted) (append-nil t.finished) e.counts;
-    }
+      counts = same_counts refl (append-nil t.posted) (append-nil t.finished) refl refl e.counts;
+      whole = e.whole;
+    })
 
 -- a frame is sent
-sends_frame : (s : StreamState) (t : Tale) (from : ℕ) (octets : Octets) → Frame from octets ≡ shown_of (emission_of s) (emitted s) → s.sent ≡ length t.sent → Emits s t → Emits (after_act s (Emit (Frame from octets))) (tale_after t (Emit (Frame from octets)))
-sends_frame s t from octets rule sent e = go (emits_frame s from octets rule)
+sends_frame : (table : Table) (s : StreamState) (t : Tale) (from : ℕ) (octets : Octets) → Frame from octets ≡ shown_of table (emission_of table s) (emitted table s) → t.story.start ≡ s.start → s.sent ≡ length t.sent → Emits s t → Emits (after_act s (Emit (Frame from octets))) (tale_after t (Emit (Frame from octets)))
+sends_frame table s t from octets rule start sent e = go (emits_as table s (Frame from octets) rule)
   where
-    go : EmitsStart s from octets ⊎ EmitsPart s from octets → Emits (left_due s (due s)) (tale_after t (Emit (Frame from octets)))
-    go (inl p) = subst (λ d. Emits (left_due s d) (tale_after t (Emit (Frame from octets)))) (sym p.next) (sends_start s t from octets p sent e)
-    go (inr p) = subst (λ d. Emits (left_due s d) (tale_after t (Emit (Frame from octets)))) (sym p.next) (sends_part s t from octets p sent e)
+    go : EmitsStart s from octets ⊎ EmitsPart s from octets → Emits (left_frame s (due s)) (tale_after t (Emit (Frame from octets)))
+    go (inl p) = subst (λ d. Emits (left_frame s d) (tale_after t (Emit (Frame from octets)))) (sym p.next) (sends_start s t from octets p start sent e)
+    go (inr p) = subst (λ d. Emits (left_frame s d) (tale_after t (Emit (Frame from octets)))) (sym p.next) (sends_part s t from octets p start sent e)
+
+-- ---- responses
+
+-- the part that is due is of the oldest request
+pub record IsOf (s : StreamState) (part : ResponsePart) : Type 0 where
+  pub oldest : Asked
+  pub others : List Asked
+  pub waiting : s.asked.unanswered ≡ oldest ∷ others
+  pub unbegun : s.queue.offset ≡ 0
+  pub is : part ≡ part_of_response oldest.request (part_at oldest.request.size (s.mulpdu - 14) s.asked.fetched)
+
+pub part_is_of : (s : StreamState) (part : ResponsePart) → response_due s ≡ Some part → IsOf s part
+part_is_of s part e = go (nat_lt 0 s.queue.offset) s.asked.unanswered refl refl e
+  where
+    go : (b : Bool) (waiting : List Asked) → nat_lt 0 s.queue.offset ≡ b → s.asked.unanswered ≡ waiting → cond b None (part_for waiting s.asked.fetched s.mulpdu) ≡ Some part → IsOf s part
+    go true waiting c is h = absurd (none-some _ h)
+    go false [] c is h = absurd (none-some _ h)
+    go false (x ∷ xs) c is h = record { oldest = x; others = xs; waiting = is; unbegun = (let low : s.queue.offset ≤ 0 = not_below 0 s.queue.offset c in omega (arith, low)); is = sym (same_Some _ _ h) }
+
+-- octets that may be read are as many as were asked for
+octets_many : (table : Table) (pd : ℕ) (stag : Stag) (to n : ℕ) (right : Right) → denial table pd stag to n right ≡ None → length (octets_at table stag to n) ≡ n
+octets_many table pd stag to n right none = elim (allows table pd stag to n right none) [
+  | inl zero_is ↦ nothing (region_at table stag) zero_is
+  | inr allowed ↦ some (region_at table stag) allowed.1
+]
+  where
+    nothing : (o : Option Region) → n ≡ 0 → length (option_map_or (λ r. octets_from r to n) o []) ≡ n
+    nothing None zero_is = omega (arith, zero_is)
+    nothing (Some r) zero_is = omega (arith, zero_is, length-take n (drop (to - r.base) r.octets))
+
+    some : (o : Option Region) → IsSomeAnd o (λ r. Serves r to n right) → length (option_map_or (λ r. octets_from r to n) o []) ≡ n
+    some None h = absurd h
+    some (Some r) h = omega (arith, length-take n (drop (to - r.base) r.octets), length-drop (to - r.base) r.octets, h.from_base, h.to_end)
+
+no_denial : (o : Option Deny) → option_map denial_fault o ≡ None → o ≡ None
+no_denial None e = refl
+no_denial (Some deny) e = absurd (none-some _ (sym e))
+
+-- what is known of a part of a response that goes out
+pub record Answers (table : Table) (s : StreamState) (t : Story) (from : ℕ) (frame : Octets) (stag : Stag) (to : ℕ) (octets : Octets) : Type 0 where
+  pub oldest : Asked
+  pub others : List Asked
+  pub waiting : s.asked.unanswered ≡ oldest ∷ others
+  pub unbegun : s.queue.offset ≡ 0
+  pub many : length octets ≡ min (oldest.request.size - length t.begun) (s.mulpdu - 14)
+  pub within : length t.begun + length octets ≤ oldest.request.size
+  pub last : Bool
+  pub last_is : last ≡ nat_eq (length t.begun + length octets) oldest.request.size
+  pub left : part_fetched s.asked (response_due s) ≡ cond last (record s.asked { unanswered = others; fetched = 0 }) (record s.asked { fetched = length t.begun + length octets })
+  pub frame_is : frame ≡ frame_of s (response_segment oldest.request (length t.begun) last octets)
+  pub stag_is : stag ≡ oldest.request.source
+  pub to_is : to ≡ oldest.request.source_to + length t.begun
+  pub admitted : denial table s.domain stag to (length octets) rights.Read ≡ None
+  pub stand : octets ≡ octets_at table stag to (length octets)
+
+same_last : (size begun room n : ℕ) → begun ≤ size → n ≡ min (size - begun) room → nat_le (size - begun) room ≡ nat_eq (begun + n) size
+same_last size begun room n low is = go (nat_le (size - begun) room) (nat_eq (begun + n) size) refl refl
+  where
+    go : (a b : Bool) → nat_le (size - begun) room ≡ a → nat_eq (begun + n) size ≡ b → nat_le (size - begun) room ≡ nat_eq (begun + n) size
+    go true true e f = e ∙ sym f
+    go false false e f = e ∙ sym f
+    go true false e f =
+        let few : size - begun ≤ room = grind (arith, nat_tests) in
+        let whole : begun + n ≡ size = omega (arith, few, is, low) in
+        absurd (let no : ⊥ = grind (arith, nat_tests) in no)
+    go false true e f =
+        let many : room < size - begun = grind (arith, nat_tests) in
+        let whole : begun + n ≡ size = grind (arith, nat_tests) in
+        absurd (omega (arith, many, whole, is))
+
+pub answers_part : (table : Table) (s : StreamState) (t : Tale) (from : ℕ) (frame : Octets) (stag : Stag) (to : ℕ) (octets : Octets) → EmitsResponse table s from frame stag to octets → Asks s t.story → Answers table s t.story from frame stag to octets
+answers_part table s t from frame stag to octets p k =
+    let w = part_is_of s p.part p.is_due in
+    let fetched : s.asked.fetched ≡ length t.story.begun = k.fetched in
+    let admitted : denial table s.domain p.part.stag p.part.to p.part.n rights.Read ≡ None = no_denial (denial table s.domain p.part.stag p.part.to p.part.n rights.Read) p.admitted in
+    let many : length octets ≡ p.part.n = ap length p.octets_are ∙ octets_many table s.domain p.part.stag p.part.to p.part.n rights.Read admitted in
+    let n : p.part.n ≡ min (w.oldest.request.size - s.asked.fetched) (s.mulpdu - 14) = ap (λ (z : ResponsePart). z.n) w.is in
+    let last : p.part.head.last ≡ nat_le (w.oldest.request.size - s.asked.fetched) (s.mulpdu - 14) = ap (λ (z : ResponsePart). z.head.last) w.is in
+    let low : s.asked.fetched ≤ w.oldest.request.size = not_past s.asked.fetched w.oldest.request.size (subst (λ z. requests.IsBegun z s.asked.fetched) w.waiting k.begun) in
+    let size : length octets ≡ min (w.oldest.request.size - length t.story.begun) (s.mulpdu - 14) = omega (arith, many, n, fetched) in
+    let head : p.part.head ≡ response_head w.oldest.request (length t.story.begun) p.part.head.last =
+    ap (λ (z : ResponsePart). z.head) w.is ∙ (λ i. response_head w.oldest.request (fetched i) (sym last i)) in
+    let end : p.part.head.last ≡ nat_eq (length t.story.begun + length octets) w.oldest.request.size =
+    last ∙ same_last w.oldest.request.size s.asked.fetched (s.mulpdu - 14) (length octets) low (omega (arith, many, n)) ∙ ap (λ z. nat_eq (z + length octets) w.oldest.request.size) fetched in
+    let stag_is : stag ≡ w.oldest.request.source = p.stag_is ∙ ap (λ (z : ResponsePart). z.stag) w.is in
+    let to_is : to ≡ w.oldest.request.source_to + length t.story.begun = p.to_is ∙ ap (λ (z : ResponsePart). z.to) w.is ∙ ap (λ z. w.oldest.request.source_to + z) fetched in
+    record {
+      oldest = w.oldest;
+      others = w.others;
+      waiting = w.waiting;
+      unbegun = w.unbegun;
+      many = size;
+      within = omega (arith, size, low, fetched);
+      last = p.part.head.last;
+      last_is = end;
+      left = ap (part_fetched s.asked) p.is_due
+          ∙ (λ i. cond p.part.head.last (record s.asked { unanswered = drop 1 (w.waiting i); fetched = 0 }) (record s.asked { fetched = (let sum : s.asked.fetched + p.part.n ≡ length t.story.begun + length octets = omega (arith, fetched, many) in sum) i }));
+      frame_is = p.frame_is ∙ ap (λ h. frame_of s (Tagged h octets)) head;
+      stag_is = stag_is;
+      to_is = to_is;
+      admitted = (λ i. denial table s.domain (p.stag_is i) (p.to_is i) (many i) rights.Read) ∙ admitted;
+      stand = p.octets_are ∙ (λ i. octets_at table (sym p.stag_is i) (sym p.to_is i) (sym many i));
+    }
+  where
+    not_past : (n size : ℕ) → (0 < n → n < size) → n ≤ size
+    not_past zero size h = omega arith
+    not_past (suc n) size h = let more : suc n < size = h (omega arith) in omega (arith, more)
+
+-- the story behind it
+abbrev story_answered : Story → Asked → List Asked → Octets → Story
+story_answered t oldest others octets = record t {
+  asked = record t.asked { unanswered = others; fetched = 0 };
+  answers = t.answers ++ record { request = oldest.request; octets = t.begun ++ octets } ∷ [];
+  begun = [];
+}
+
+abbrev story_begun : Story → Octets → Story
+story_begun t octets = record t { asked = record t.asked { fetched = length t.begun + length octets }; begun = t.begun ++ octets }
+
+-- what is left of the stream
+abbrev left_answered : StreamState → List Asked → Octets → StreamState
+left_answered s others frame = record s { asked = record s.asked { unanswered = others; fetched = 0 }; sent = s.sent + length frame }
+
+abbrev left_begun : StreamState → ℕ → Octets → StreamState
+left_begun s n frame = record s { asked = record s.asked { fetched = n }; sent = s.sent + length frame }
+
+begun_later : (others : List Asked) → requests.IsBegun others 0
+begun_later [] = refl
+begun_later (x ∷ xs) = λ h. absurd (omega (arith, h))
+
+not_whole : (a b : ℕ) → nat_eq a b ≡ false → a ≤ b → a < b
+not_whole a b e h = grind (arith, nat_tests)
+
+is_whole_size : (a b : ℕ) → nat_eq a b ≡ true → a ≡ b
+is_whole_size a b e = grind (arith, nat_tests)
+
+-- a segment of a response ends no message
+no_end : (l : Bool) → (l && not true) ≡ false
+no_end true = refl
+no_end false = refl
+
+-- part of a response is sent
+sends_response : (table : Table) (s : StreamState) (t : Tale) (from : ℕ) (frame : Octets) (stag : Stag) (to : ℕ) (octets : Octets) → EmitsResponse table s from frame stag to octets → t.story.start ≡ s.start → s.sent ≡ length t.sent → Emits s t
+    → Emits (after_act s (Emit (Fetched from frame stag to octets))) (tale_after t (Emit (Fetched from frame stag to octets)))
+sends_response table s t from frame stag to octets p start sent e = go (answers_part table s t from frame stag to octets p e.asks)
+  where
+    go : Answers table s t.story from frame stag to octets → Emits (after_act s (Emit (Fetched from frame stag to octets))) (tale_after t (Emit (Fetched from frame stag to octets)))
+    go w = by w.last refl
+      where
+        few : length octets + 14 ≤ 64512
+        few = omega (arith, w.many, e.few, e.enough)
+
+        good : IsSendable (response_segment w.oldest.request (length t.story.begun) w.last octets)
+        good = response_good w.oldest.request (length t.story.begun) w.last octets few
+
+        read : IsRead s t from frame (response_segment w.oldest.request (length t.story.begun) w.last octets) e.segments
+        read = reads_again s t from frame (response_segment w.oldest.request (length t.story.begun) w.last octets) start p.from_is p.speaks.spoken w.frame_is good sent e
+
+        waits : t.story.asked.unanswered ≡ w.oldest ∷ w.others
+        waits = ap (λ (z : Requested). z.unanswered) e.asks.asked ∙ w.waiting
+
+        none : count_last (e.segments ++ response_segment w.oldest.request (length t.story.begun) w.last octets ∷ []) ≡ count_last e.segments
+        none = count_last-append e.segments (response_segment w.oldest.request (length t.story.begun) w.last octets ∷ []) ∙ omega (arith, ap one_for (no_end w.last))
+
+        story_is : story_after t.story (Emit (Fetched from frame stag to octets)) ≡ cond w.last (story_answered t.story w.oldest w.others octets) (story_begun t.story octets)
+        story_is = ap (λ z. fetches_for t.story z octets) waits ∙ ap (λ b. cond b (story_answered t.story w.oldest w.others octets) (story_begun t.story octets)) (sym w.last_is)
+
+        out : (b : Bool) → record s { asked = cond b (record s.asked { unanswered = w.others; fetched = 0 }) (record s.asked { fetched = length t.story.begun + length octets }); sent = s.sent + length frame } ≡ cond b (left_answered s w.others frame) (left_begun s (length t.story.begun + length octets) frame)
+        out true = refl
+        out false = refl
+
+        state_is : after_act s (Emit (Fetched from frame stag to octets)) ≡ cond w.last (left_answered s w.others frame) (left_begun s (length t.story.begun + length octets) frame)
+        state_is = (λ i. record s { asked = w.left i; sent = s.sent + length frame }) ∙ out w.last
+
+        merges : Merges s.queue s.numbers (w.oldest ∷ w.others) t.story.begun t.posted t.story.answers e.segments
+        merges = same_merges refl refl (sym w.waiting) refl refl refl e.merges
+
+        left_over : w.last ≡ false → length t.story.begun + length octets < w.oldest.request.size
+        left_over is = not_whole (length t.story.begun + length octets) w.oldest.request.size (sym w.last_is ∙ is) w.within
+
+        some_left : w.last ≡ false → 0 < length octets
+        some_left is = omega (arith, left_over is, w.many, e.enough)
+
+        by : (b : Bool) → w.last ≡ b → Emits (after_act s (Emit (Fetched from frame stag to octets))) (tale_after t (Emit (Fetched from frame stag to octets)))
+        by true is =
+            subst (λ z. Emits z (tale_after t (Emit (Fetched from frame stag to octets)))) (sym (state_is ∙ ap (λ b. cond b (left_answered s w.others frame) (left_begun s (length t.story.begun + length octets) frame)) is))
+            (subst (λ z. Emits (left_answered s w.others frame) (record (tale_after t (Emit (Fetched from frame stag to octets))) { story = z })) (sym (story_is ∙ ap (λ b. cond b (story_answered t.story w.oldest w.others octets) (story_begun t.story octets)) is))
+            (record {
+              segments = e.segments ++ response_segment w.oldest.request (length t.story.begun) w.last octets ∷ [];
+              merges = subst (λ b. Merges s.queue s.numbers w.others [] (t.posted ++ []) (t.story.answers ++ record { request = w.oldest.request; octets = t.story.begun ++ octets } ∷ []) (e.segments ++ response_segment w.oldest.request (length t.story.begun) b octets ∷ [])) (sym is)
+                  (same_merges refl refl refl refl (append-nil t.posted) refl
+                  (merges_last s.queue s.numbers w.oldest w.others t.story.begun octets t.posted t.story.answers e.segments w.unbegun (omega (arith, few)) (is_whole_size (length t.story.begun + length octets) w.oldest.request.size (sym w.last_is ∙ is)) merges));
+              asks = record {
+                reads = e.asks.reads;
+                asked = (λ i. record (e.asks.asked i) { unanswered = w.others; fetched = 0 });
+                fetched = refl;
+                begun = begun_later w.others;
+                few = e.asks.few;
+              };
+              good = each-push IsSendable e.segments (response_segment w.oldest.request (length t.story.begun) w.last octets) e.good good;
+              framed = Spoken read.framed;
+              shut = λ h. absurd (true≢false (sym p.speaks.started ∙ h));
+              silent = λ h. absurd (false≢true (sym p.speaks.loud ∙ h));
+              limits = e.limits;
+              fit = e.fit;
+              numbers = e.numbers;
+              size = e.size;
+              enough = e.enough;
+              few = e.few;
+              counts = more_counts (sym none) (same_counts refl (append-nil t.posted) (append-nil t.finished) refl refl e.counts);
+              whole = e.whole ∙ sym none;
+            }))
+        by false is =
+            subst (λ z. Emits z (tale_after t (Emit (Fetched from frame stag to octets)))) (sym (state_is ∙ ap (λ b. cond b (left_answered s w.others frame) (left_begun s (length t.story.begun + length octets) frame)) is))
+            (subst (λ z. Emits (left_begun s (length t.story.begun + length octets) frame) (record (tale_after t (Emit (Fetched from frame stag to octets))) { story = z })) (sym (story_is ∙ ap (λ b. cond b (story_answered t.story w.oldest w.others octets) (story_begun t.story octets)) is))
+            (record {
+              segments = e.segments ++ response_segment w.oldest.request (length t.story.begun) w.last octets ∷ [];
+              merges = subst (λ b. Merges s.queue s.numbers s.asked.unanswered (t.story.begun ++ octets) (t.posted ++ []) t.story.answers (e.segments ++ response_segment w.oldest.request (length t.story.begun) b octets ∷ [])) (sym is)
+                  (same_merges refl refl w.waiting refl (append-nil t.posted) refl
+                  (merges_front s.queue s.numbers w.oldest w.others t.story.begun octets t.posted t.story.answers e.segments w.unbegun (omega (arith, few)) (some_left is) (left_over is) merges));
+              asks = record {
+                reads = e.asks.reads;
+                asked = (λ i. record (e.asks.asked i) { fetched = length t.story.begun + length octets });
+                fetched = sym (length-append t.story.begun octets);
+                begun = subst (λ z. requests.IsBegun z (length t.story.begun + length octets)) (sym w.waiting) (λ h. left_over is);
+                few = e.asks.few;
+              };
+              good = each-push IsSendable e.segments (response_segment w.oldest.request (length t.story.begun) w.last octets) e.good good;
+              framed = Spoken read.framed;
+              shut = λ h. absurd (true≢false (sym p.speaks.started ∙ h));
+              silent = λ h. absurd (false≢true (sym p.speaks.loud ∙ h));
+              limits = e.limits;
+              fit = e.fit;
+              numbers = e.numbers;
+              size = e.size;
+              enough = e.enough;
+              few = e.few;
+              counts = more_counts (sym none) (same_counts refl (append-nil t.posted) (append-nil t.finished) refl refl e.counts);
+              whole = e.whole ∙ sym none;
+            }))
 
 -- handing out leaves what is left to be sent
 handed_unsent : (q : Queue) → (handed_from q (done_in q)).unsent ≡ q.unsent
@@ -472,21 +908,26 @@ handed_unsent q = go (done_in q) q.sent.messages refl refl
 
 -- a finished message is handed out
 hands_out : (s : StreamState) (t : Tale) (kind : Kind) (d : Done) → done_in s.queue ≡ Some d → kind ≡ d.kind → Emits s t → Emits (after_act s (Work (seen.Done kind))) (tale_after t (Work (seen.Done kind)))
-hands_out s t kind d finished kind_is e = record {
-  segments = e.segments;
-  has = subst (λ z. HasSent (requests z) e.segments s.numbers (handed_from s.queue (done_in s.queue))) (sym (append-nil t.posted)) (sends_in_order.next (requests t.posted) e.segments s.numbers s.queue e.has);
-  good = e.good;
-  framed = subst (λ z. IsFramed s.start z e.segments) (sym (append-nil t.sent)) e.framed;
-  shut = e.shut;
-  silent = e.silent;
-  limits = limits_handed s.queue e.limits;
-  fit = subst (Each FitsRequest) (sym (handed_unsent s.queue)) e.fit;
-  number = e.number;
-  size = e.size;
-  enough = e.enough;
-  few = e.few;
-  counts = subst (λ z. Counts (handed_from s.queue (done_in s.queue)) e.segments (t.posted ++ []) (t.finished ++ z ∷ [])) (sym kind_is) (handed_counts s.queue e.segments t.posted t.finished d finished e.counts);
-}
+hands_out s t kind d finished kind_is e =
+    let h = hands s.queue d finished in
+    let left : handed_from s.queue (done_in s.queue) ≡ record { sent = record { first = (s.queue.sent.first + 1) % 2 ^ 64; messages = h.messages }; unsent = s.queue.unsent; offset = s.queue.offset } = ap (handed_from s.queue) finished ∙ h.left in
+    record {
+      segments = e.segments;
+      merges = same_merges left refl refl refl (append-nil t.posted) refl (sent_merges e.merges);
+      asks = same_asks s (after_act s (Work (seen.Done kind))) t.story t.story refl refl (stays_said t.story) e.asks;
+      good = e.good;
+      framed = subst (λ z. IsFramed s.start z e.segments) (sym (append-nil t.sent)) e.framed;
+      shut = e.shut;
+      silent = e.silent;
+      limits = limits_handed s.queue e.limits;
+      fit = subst (Each FitsPosted) (sym (handed_unsent s.queue)) e.fit;
+      numbers = e.numbers;
+      size = e.size;
+      enough = e.enough;
+      few = e.few;
+      counts = subst (λ z. Counts (handed_from s.queue (done_in s.queue)) e.segments (t.posted ++ []) (t.finished ++ z ∷ []) t.story.answered s.reads) (sym kind_is) (handed_counts s.queue e.segments t.posted t.finished t.story.answered s.reads d finished e.counts);
+      whole = e.whole;
+    }
 
 -- a size that is set is within its limits
 record IsSize (size : ℕ) : Type 0 where
@@ -506,18 +947,20 @@ sets_size s t size rule e =
     let z = set_size size rule in
     record {
       segments = e.segments;
-      has = subst (λ p. HasSent (requests p) e.segments s.numbers s.queue) (sym (append-nil t.posted)) e.has;
+      merges = same_merges refl refl refl refl (append-nil t.posted) refl e.merges;
+      asks = same_asks s (after_act s (Mulpdu size None)) t.story t.story refl refl (stays_said t.story) e.asks;
       good = e.good;
       framed = subst (λ z. IsFramed s.start z e.segments) (sym (append-nil t.sent)) e.framed;
       shut = e.shut;
       silent = e.silent;
       limits = e.limits;
       fit = e.fit;
-      number = e.number;
+      numbers = e.numbers;
       size = refl;
       enough = z.enough;
       few = z.few;
-      counts = same_counts refl (append-nil t.posted) (append-nil t.finished) e.counts;
+      counts = same_counts refl (append-nil t.posted) (append-nil t.finished) refl refl e.counts;
+      whole = e.whole;
     }
 
 -- ---- start-up
@@ -528,22 +971,19 @@ own_heard (Unheard u) xs = frame_of-pushed u xs
 own_heard (Heard u) xs = refl
 
 -- the peer's start-up frame is read
-hears_frame : (s s' : StreamState) (t : Tale) (act : StreamAct Octets) (p : Progress) → Hears s p → s'.start ≡ heard s.start (inbox s) → s'.queue ≡ s.queue → s'.numbers ≡ s.numbers → s'.mulpdu ≡ s.mulpdu
-    → posted_by act ≡ [] → finished_by act ≡ [] → size_after t.size act ≡ t.size → sent_by act ≡ [] → Emits s t → Emits s' (tale_after t act)
-hears_frame s s' t act p h start queue numbers mulpdu posted finished size sent e =
-    restarts s s' t act (ap is_open h.is) queue numbers mulpdu posted finished size sent (inl (ap own_frame start ∙ own_heard s.start (inbox s))) e
+hears_frame : (s s' : StreamState) (t : Tale) (act : StreamAct Octets) (p : Progress) → Hears s p → s'.start ≡ heard s.start (inbox s) → StaysQuiet s s' t act → Emits s t → Emits s' (tale_after t act)
+hears_frame s s' t act p h start q e = restarts s s' t act (ap is_open h.is) q (inl (ap own_frame start ∙ own_heard s.start (inbox s))) e
 
 side_frame : (u : StartupState) → u.side ≡ sides.Responder None → startups.frame_of u ≡ []
 side_frame u e = ap (startups.own_frame u.config) e
 
 -- a responder's user answers: it had no frame before
-answers_frame : (s s' : StreamState) (t : Tale) (act : StreamAct Octets) → MayAnswer s → s'.queue ≡ s.queue → s'.numbers ≡ s.numbers → s'.mulpdu ≡ s.mulpdu
-    → posted_by act ≡ [] → finished_by act ≡ [] → size_after t.size act ≡ t.size → sent_by act ≡ [] → Emits s t → Emits s' (tale_after t act)
-answers_frame s s' t act m queue numbers mulpdu posted finished size sent e =
+answers_frame : (s s' : StreamState) (t : Tale) (act : StreamAct Octets) → MayAnswer s → StaysQuiet s s' t act → Emits s t → Emits s' (tale_after t act)
+answers_frame s s' t act m q e =
     let u : StartupState = m.startup in
     let side : u.side ≡ sides.Responder None = unanswered u m.asked in
     let closed : is_open s.start ≡ false = ap is_open m.is ∙ ap is_some (unanswered_not_agreed u side) in
-    restarts s s' t act closed queue numbers mulpdu posted finished size sent (inr (ap own_frame m.is ∙ side_frame u side)) e
+    restarts s s' t act closed q (inr (ap own_frame m.is ∙ side_frame u side)) e
 
 -- behind a frame that had its turn a stream may speak
 late : (b : Bool) (n : ℕ) → (b && nat_eq (n + 1) 0) ≡ false
@@ -559,39 +999,198 @@ loud table s t act rule k turns =
 waits : (s : StreamState) (from : ℕ) (octets : Octets) → keeps_silent (after_act s (Raw from octets Kept)) ≡ true → keeps_silent s ≡ true
 waits s from octets h = ap (λ n. is_responder s.start && nat_eq n (first_place_in s.start)) (sym (floor_takes s.arrived from octets)) ∙ h
 
+-- ---- turns
+
+-- the Reads that are outstanding behind the frame that has its turn
+next_reads_are : (s : StreamState) (t : Tale) (was : Bool) (segment : Segment Octets) → Fronts s was segment → Track s t → t.story.reads ≡ s.reads → next_reads t.story ≡ reads_front s
+next_reads_are s t was segment f k reads =
+    ap (λ z. option_map_or (λ x. reads_left t.story.reads (placed_of x)) z t.story.reads) (next_whole s t f.frame f.rest k f.whole)
+    ∙ ap (λ r. reads_left r (placed_of (standing s f.frame))) reads
+    ∙ left_kept s.reads (standing s f.frame) segment f.carries
+    ∙ ap (λ o. left_by_turn s.reads (length (payload_of o)) o) (sym (ap segment_at f.whole ∙ f.carries))
+
+-- a Read is finished by the last segment of its response, and no other is
+pub record Turns_reads (q : Queue) (reads left : List Outstanding) (ticket : Option ℕ) (us : List (Segment Octets)) (ms : List (Request Octets)) (ks : List Kind) (a : ℕ) : Type 0 where
+  pub counts : Counts (with_finished q ticket) us (ms ++ []) (ks ++ []) (a + (length reads - length left)) left
+  pub few : length left ≤ length reads
+
+turning_reads : (q : Queue) (reads : List Outstanding) (n : ℕ) (o : Option (Segment Octets)) (us : List (Segment Octets)) (ms : List (Request Octets)) (ks : List Kind) (a : ℕ) → length q.sent.messages ≤ 256 → Counts q us ms ks a reads
+    → Turns_reads q reads (left_by_turn reads n o) (finishes_read reads o) us ms ks a
+turning_reads q reads n o us ms ks a few counts = go o
+  where
+    none : Turns_reads q reads reads None us ms ks a
+    none = record { counts = same_counts refl (append-nil ms) (append-nil ks) (omega arith) refl counts; few = omega arith }
+
+    last : (head : TaggedHead) (rs : List Outstanding) → reads ≡ rs → (b : Bool) → head.last ≡ b → Turns_reads q reads (reads_turned rs head n) (finished_read rs head) us ms ks a
+    last head [] is b l = subst (λ z. Turns_reads q reads z None us ms ks a) is none
+    last head (read ∷ rs) is true l =
+        let all : Counts q us ms ks a (read ∷ rs) = same_counts refl refl refl refl (sym is) counts in
+        subst (λ b. Turns_reads q reads (cond b rs (record read { turned = read.turned + n } ∷ rs)) (cond b (Some read.ticket) None) us ms ks a) (sym l)
+        (record {
+          counts = same_counts refl refl refl (omega (arith, ap length is)) refl (answered_counts q us ms ks a read rs few all);
+          few = omega (arith, ap length is);
+        })
+    last head (read ∷ rs) is false l =
+        let all : Counts q us ms ks a (read ∷ rs) = same_counts refl refl refl refl (sym is) counts in
+        subst (λ b. Turns_reads q reads (cond b rs (record read { turned = read.turned + n } ∷ rs)) (cond b (Some read.ticket) None) us ms ks a) (sym l)
+        (record {
+          counts = same_counts refl (append-nil ms) (append-nil ks) (omega (arith, ap length is)) refl
+              (record { order = all.order; first = all.first; split = all.split; lasts = all.lasts; counted = all.counted; oldest = all.oldest; marked = all.marked; some = all.some; done = all.done; tickets = all.tickets });
+          few = omega (arith, ap length is);
+        })
+
+    by : (head : TaggedHead) (b : Bool) → Turns_reads q reads (cond b (reads_turned reads head n) reads) (cond b (finished_read reads head) None) us ms ks a
+    by head true = last head reads refl head.last refl
+    by head false = none
+
+    go : (o : Option (Segment Octets)) → Turns_reads q reads (left_by_turn reads n o) (finishes_read reads o) us ms ks a
+    go None = none
+    go (Some (Tagged head payload)) = by head (is_response head)
+    go (Some (Untagged head payload)) = none
+
+finished_merges : {q : Queue} {n : Numbers} {w : List Asked} {b : Octets} {ms : List (Request Octets)} {an : List Answer} {us : List (Segment Octets)} (o : Option ℕ) → Merges q n w b ms an us → Merges (with_finished q o) n w b ms an us
+finished_merges None k = k
+finished_merges (Some ticket) k = sent_merges k
+
+finished_limits : (q : Queue) (o : Option ℕ) → IsWithinLimits q → IsWithinLimits (with_finished q o)
+finished_limits q None l = l
+finished_limits q (Some ticket) l = record { posted = omega (arith, l.posted, length-set q.sent.messages (completions.place_of q.sent ticket) (record { kind = kinds.Read; finished = true })); sizes = l.sizes; begun = l.begun }
+
+finished_unsent : (q : Queue) (o : Option ℕ) → (with_finished q o).unsent ≡ q.unsent
+finished_unsent q None = refl
+finished_unsent q (Some ticket) = refl
+
+-- a frame has its turn
+passes : (table : Table) (s : StreamState) (t : Tale) → Told table s (Work seen.Passed) → Track s t → keeps_silent (after_act s (Work seen.Passed)) ≡ false → Emits s t → Emits (after_act s (Work seen.Passed)) (tale_after t (Work seen.Passed))
+passes table s t rule k loud e =
+    let w = rule.1 in
+    let o : Option (Segment Octets) = segment_at (fore s) in
+    let reads : next_reads t.story ≡ reads_front s = next_reads_are s t true w.segment w.fronts k e.asks.reads in
+    let turn = turning_reads s.queue s.reads (length (payload_of o)) o e.segments t.posted t.finished t.story.answered (omega (arith, e.limits.posted)) e.counts in
+    let answered : t.story.answered + (length t.story.reads - length (next_reads t.story)) ≡ t.story.answered + (length s.reads - length (reads_front s)) =
+    (λ i. t.story.answered + (length (e.asks.reads i) - length (reads i))) in
+    record {
+      segments = e.segments;
+      merges = same_merges refl refl refl refl (append-nil t.posted) refl (finished_merges (finishes_read s.reads o) e.merges);
+      asks = record {
+        reads = reads;
+        asked = e.asks.asked;
+        fetched = e.asks.fetched;
+        begun = e.asks.begun;
+        few = omega (arith, turn.few, e.asks.few);
+      };
+      good = e.good;
+      framed = subst (λ z. IsFramed s.start z e.segments) (sym (append-nil t.sent)) e.framed;
+      shut = e.shut;
+      silent = λ h. absurd (false≢true (sym loud ∙ h));
+      limits = finished_limits s.queue (finishes_read s.reads o) e.limits;
+      fit = subst (Each FitsPosted) (sym (finished_unsent s.queue (finishes_read s.reads o))) e.fit;
+      numbers = e.numbers;
+      size = e.size;
+      enough = e.enough;
+      few = e.few;
+      counts = same_counts refl refl refl answered refl (subst (λ z. Counts (with_finished s.queue z) e.segments (t.posted ++ []) (t.finished ++ []) (t.story.answered + (length s.reads - length (reads_front s))) (reads_front s)) (same_ticket o) turn.counts);
+      whole = e.whole;
+    }
+  where
+    same_ticket : (o : Option (Segment Octets)) → finishes_read s.reads o ≡ finishes_read s.reads o
+    same_ticket None = refl
+    same_ticket (Some (Tagged head payload)) = refl
+    same_ticket (Some (Untagged head payload)) = refl
+
+-- a Read Request is taken up
+merges_asked : (s : StreamState) (t : Tale) (asked : Asked) → (e : Emits s t) → Merges s.queue s.numbers (s.asked.unanswered ++ asked ∷ []) t.story.begun t.posted t.story.answers e.segments
+merges_asked s t asked e = record {
+  items = e.merges.items;
+  posts = e.merges.posts;
+  are = e.merges.are;
+  apart = e.merges.apart;
+  done = e.merges.done;
+  partial = e.merges.partial;
+  segments_are = e.merges.segments_are;
+  spelled = e.merges.spelled;
+  goes_on = λ rest ss g m. e.merges.goes_on rest ss (record { post = g.post; response = λ some. go s.asked.unanswered refl some (g.response some) }) m;
+}
+  where
+    go : {rest : List Item} (waiting : List Asked) → s.asked.unanswered ≡ waiting → 0 < length t.story.begun → BeginsResponse (s.asked.unanswered ++ asked ∷ []) t.story.begun rest → BeginsResponse s.asked.unanswered t.story.begun rest
+    go [] is some b = absurd (let none : s.asked.fetched ≡ 0 = subst (λ z. requests.IsBegun z s.asked.fetched) is e.asks.begun in omega (arith, none, some, e.asks.fetched))
+    go (x ∷ xs) is some b =
+        let same : x ≡ b.oldest = ap (asked_or x) (sym (ap (λ z. z ++ asked ∷ []) is) ∙ b.waiting_is) in
+        record { oldest = x; others = xs; waiting_is = is; more = b.more; items = b.items; is = b.is ∙ ap (λ (z : Asked). Response (record { request = z.request; octets = t.story.begun ++ b.more }) ∷ b.items) (sym same) }
+
+begun_more : (waiting : List Asked) (fetched : ℕ) (asked : Asked) → requests.IsBegun waiting fetched → requests.IsBegun (waiting ++ asked ∷ []) fetched
+begun_more [] fetched asked h = λ some. absurd (omega (arith, h, some))
+begun_more (x ∷ xs) fetched asked h = h
+
+takes : (table : Table) (s : StreamState) (t : Tale) (size : ℕ) (stag : Stag) (to : ℕ) → Told table s (Work (seen.Requested size stag to)) → Track s t → keeps_silent (after_act s (Work (seen.Requested size stag to))) ≡ false → Emits s t
+    → Emits (after_act s (Work (seen.Requested size stag to))) (tale_after t (Work (seen.Requested size stag to)))
+takes table s t size stag to rule k loud e =
+    let w = rule.1 in
+    let x : Asked = asked_in (standing s w.fronts.frame) in
+    let state : asked_front s ≡ taken_up s.asked x = ap (λ o. option_map_or (λ (z : Carried × Octets). taken_up s.asked (asked_in (standing s z.0))) o s.asked) w.fronts.whole in
+    let story : next_asked t.story ≡ taken_up s.asked x =
+    ap (λ z. option_map_or (λ f. taken_up t.story.asked (asked_in f)) z t.story.asked) (next_whole s t w.fronts.frame w.fronts.rest k w.fronts.whole) ∙ ap (λ z. taken_up z x) e.asks.asked in
+    record {
+      segments = e.segments;
+      merges = same_merges refl refl (ap (λ (z : Requested). z.unanswered) state) refl (append-nil t.posted) refl (merges_asked s t x e);
+      asks = record {
+        reads = e.asks.reads;
+        asked = story ∙ sym state;
+        fetched = ap (λ (z : Requested). z.fetched) state ∙ e.asks.fetched;
+        begun = subst (λ (z : Requested). requests.IsBegun z.unanswered z.fetched) (sym state) (begun_more s.asked.unanswered s.asked.fetched x e.asks.begun);
+        few = e.asks.few;
+      };
+      good = e.good;
+      framed = subst (λ z. IsFramed s.start z e.segments) (sym (append-nil t.sent)) e.framed;
+      shut = e.shut;
+      silent = λ h. absurd (false≢true (sym loud ∙ h));
+      limits = e.limits;
+      fit = e.fit;
+      numbers = e.numbers;
+      size = e.size;
+      enough = e.enough;
+      few = e.few;
+      counts = same_counts refl (append-nil t.posted) (append-nil t.finished) refl refl e.counts;
+      whole = e.whole;
+    }
+
 emitting : (table : Table) (s : StreamState) (t : Tale) (act : StreamAct Octets) → Told table s act → s.sent ≡ length t.sent → Track s t → Emits s t → Emits (after_act s act) (tale_after t act)
 emitting table s t (Post m None) rule sent k e = posts table s t m rule e
-emitting table s t (Emit (Frame from octets)) rule sent k e = sends_frame s t from octets rule sent e
-emitting table s t (Emit Nothing) rule sent k e = subst (λ d. Emits (left_due s d) (tale_after t (Emit Nothing))) (sym (rests s rule).next) (quiet s s t (Emit Nothing) refl refl refl refl refl refl refl refl (λ h. h) e)
+emitting table s t (Emit (Frame from octets)) rule sent k e = sends_frame table s t from octets rule k.begins.start sent e
+emitting table s t (Emit (Fetched from frame stag to octets)) rule sent k e = sends_response table s t from frame stag to octets (emits_as table s (Fetched from frame stag to octets) rule) k.begins.start sent e
+emitting table s t (Emit (Denied fault)) rule sent k e = quiet s (after_act s (Emit (Denied fault))) t (Emit (Denied fault)) refl (record { queue = refl; numbers = refl; mulpdu = refl; reads = refl; asked = refl; posted = refl; finished = refl; size = refl; sent = refl; said = (record { whole = refl; reads = refl; answered = refl; asked = refl; answers = refl; begun = refl }) }) (λ h. h) e
+emitting table s t (Emit Nothing) rule sent k e = quiet s s t (Emit Nothing) refl (record { queue = refl; numbers = refl; mulpdu = refl; reads = refl; asked = refl; posted = refl; finished = refl; size = refl; sent = refl; said = (record { whole = refl; reads = refl; answered = refl; asked = refl; answers = refl; begun = refl }) }) (λ h. h) e
 emitting table s t (Mulpdu size None) rule sent k e = sets_size s t size rule e
 emitting table s t (Work (seen.Done kind)) rule sent k e = hands_out s t kind rule.0 rule.1 rule.2 e
-emitting table s t (Accept private (Ok agreed)) rule sent k e = answers_frame s (after_act s (Accept private (Ok agreed))) t (Accept private (Ok agreed)) (may s (accepting s agreed rule)) refl refl refl refl refl refl refl e
-emitting table s t (Reject private None) rule sent k e = answers_frame s (after_act s (Reject private None)) t (Reject private None) (may s (refusing s rule)) refl refl refl refl refl refl refl e
-emitting table s t (Work (seen.Asked private)) rule sent k e = hears_frame s (after_act s (Work (seen.Asked private))) t (Work (seen.Asked private)) progresses.Asked rule.0 refl refl refl refl refl refl refl refl e
-emitting table s t (Work (seen.Opened agreed private)) rule sent k e = hears_frame s (after_act s (Work (seen.Opened agreed private))) t (Work (seen.Opened agreed private)) progresses.Agreed rule.0 refl refl refl refl refl refl refl refl e
-emitting table s t (Work (seen.Closed fault)) rule sent k e = hears_frame s (after_act s (Work (seen.Closed fault))) t (Work (seen.Closed fault)) (progresses.Faulted fault) rule refl refl refl refl refl refl refl refl e
-emitting table s t (Post m (Some refusal)) rule sent k e = quiet s s t (Post m (Some refusal)) refl refl refl refl refl refl refl refl (λ h. h) e
-emitting table s t (Recv len (Some refusal)) rule sent k e = quiet s s t (Recv len (Some refusal)) refl refl refl refl refl refl refl refl (λ h. h) e
-emitting table s t (Deliver from octets Dropped) rule sent k e = quiet s s t (Deliver from octets Dropped) refl refl refl refl refl refl refl refl (λ h. h) e
-emitting table s t (Raw from octets Dropped) rule sent k e = quiet s s t (Raw from octets Dropped) refl refl refl refl refl refl refl refl (λ h. h) e
-emitting table s t (Mulpdu size (Some refusal)) rule sent k e = quiet s s t (Mulpdu size (Some refusal)) refl refl refl refl refl refl refl refl (λ h. h) e
-emitting table s t (Accept private (Err refusal)) rule sent k e = quiet s s t (Accept private (Err refusal)) refl refl refl refl refl refl refl refl (λ h. h) e
-emitting table s t (Reject private (Some refusal)) rule sent k e = quiet s s t (Reject private (Some refusal)) refl refl refl refl refl refl refl refl (λ h. h) e
-emitting table s t (Work seen.Idle) rule sent k e = quiet s s t (Work seen.Idle) refl refl refl refl refl refl refl refl (λ h. h) e
-emitting table s t (Recv len None) rule sent k e = quiet s (after_act s (Recv len None)) t (Recv len None) refl refl refl refl refl refl refl refl (λ h. h) e
-emitting table s t (Work (seen.Placed right stag to octets)) rule sent k e = quiet s (after_act s (Work (seen.Placed right stag to octets))) t (Work (seen.Placed right stag to octets)) refl refl refl refl refl refl refl refl (λ h. h) e
-emitting table s t (Work (seen.Buffered msn mo len)) rule sent k e = quiet s (after_act s (Work (seen.Buffered msn mo len))) t (Work (seen.Buffered msn mo len)) refl refl refl refl refl refl refl refl (λ h. h) e
-emitting table s t (Work (seen.Fault fault)) rule sent k e = quiet s (after_act s (Work (seen.Fault fault))) t (Work (seen.Fault fault)) refl refl refl refl refl refl refl refl (λ h. h) e
-emitting table s t (Deliver from octets Kept) rule sent k e = quiet s (after_act s (Deliver from octets Kept)) t (Deliver from octets Kept) refl refl refl refl refl refl refl refl (waits s from octets) e
-emitting table s t (Raw from octets Kept) rule sent k e = quiet s (after_act s (Raw from octets Kept)) t (Raw from octets Kept) refl refl refl refl refl refl refl refl (waits s from octets) e
-emitting table s t (Work seen.Passed) rule sent k e = quiet s (after_act s (Work seen.Passed)) t (Work seen.Passed) refl refl refl refl refl refl refl refl (λ h. absurd (false≢true (sym (loud table s t (Work seen.Passed) rule k refl) ∙ h))) e
-emitting table s t (Work (seen.Received octets solicited invalidate)) rule sent k e = quiet s (after_act s (Work (seen.Received octets solicited invalidate))) t (Work (seen.Received octets solicited invalidate)) refl refl refl refl refl refl refl refl (λ h. absurd (false≢true (sym (loud table s t (Work (seen.Received octets solicited invalidate)) rule k refl) ∙ h))) e
+emitting table s t (Accept private (Ok agreed)) rule sent k e = answers_frame s (after_act s (Accept private (Ok agreed))) t (Accept private (Ok agreed)) (may s (accepting s agreed rule)) (record { queue = refl; numbers = refl; mulpdu = refl; reads = refl; asked = refl; posted = refl; finished = refl; size = refl; sent = refl; said = (record { whole = refl; reads = refl; answered = refl; asked = refl; answers = refl; begun = refl }) }) e
+emitting table s t (Reject private None) rule sent k e = answers_frame s (after_act s (Reject private None)) t (Reject private None) (may s (refusing s rule)) (record { queue = refl; numbers = refl; mulpdu = refl; reads = refl; asked = refl; posted = refl; finished = refl; size = refl; sent = refl; said = (record { whole = refl; reads = refl; answered = refl; asked = refl; answers = refl; begun = refl }) }) e
+emitting table s t (Work (seen.Asked private)) rule sent k e = hears_frame s (after_act s (Work (seen.Asked private))) t (Work (seen.Asked private)) progresses.Asked rule.0 refl (record { queue = refl; numbers = refl; mulpdu = refl; reads = refl; asked = refl; posted = refl; finished = refl; size = refl; sent = refl; said = (record { whole = refl; reads = refl; answered = refl; asked = refl; answers = refl; begun = refl }) }) e
+emitting table s t (Work (seen.Opened agreed private)) rule sent k e = hears_frame s (after_act s (Work (seen.Opened agreed private))) t (Work (seen.Opened agreed private)) progresses.Agreed rule.0 refl (record { queue = refl; numbers = refl; mulpdu = refl; reads = refl; asked = refl; posted = refl; finished = refl; size = refl; sent = refl; said = (record { whole = refl; reads = refl; answered = refl; asked = refl; answers = refl; begun = refl }) }) e
+emitting table s t (Work (seen.Closed fault)) rule sent k e = hears_frame s (after_act s (Work (seen.Closed fault))) t (Work (seen.Closed fault)) (progresses.Faulted fault) rule refl (record { queue = refl; numbers = refl; mulpdu = refl; reads = refl; asked = refl; posted = refl; finished = refl; size = refl; sent = refl; said = (record { whole = refl; reads = refl; answered = refl; asked = refl; answers = refl; begun = refl }) }) e
+emitting table s t (Post m (Some refusal)) rule sent k e = quiet s s t (Post m (Some refusal)) refl (record { queue = refl; numbers = refl; mulpdu = refl; reads = refl; asked = refl; posted = refl; finished = refl; size = refl; sent = refl; said = (record { whole = refl; reads = refl; answered = refl; asked = refl; answers = refl; begun = refl }) }) (λ h. h) e
+emitting table s t (Recv len (Some refusal)) rule sent k e = quiet s s t (Recv len (Some refusal)) refl (record { queue = refl; numbers = refl; mulpdu = refl; reads = refl; asked = refl; posted = refl; finished = refl; size = refl; sent = refl; said = (record { whole = refl; reads = refl; answered = refl; asked = refl; answers = refl; begun = refl }) }) (λ h. h) e
+emitting table s t (Deliver from octets Dropped) rule sent k e = quiet s s t (Deliver from octets Dropped) refl (record { queue = refl; numbers = refl; mulpdu = refl; reads = refl; asked = refl; posted = refl; finished = refl; size = refl; sent = refl; said = (record { whole = refl; reads = refl; answered = refl; asked = refl; answers = refl; begun = refl }) }) (λ h. h) e
+emitting table s t (Raw from octets Dropped) rule sent k e = quiet s s t (Raw from octets Dropped) refl (record { queue = refl; numbers = refl; mulpdu = refl; reads = refl; asked = refl; posted = refl; finished = refl; size = refl; sent = refl; said = (record { whole = refl; reads = refl; answered = refl; asked = refl; answers = refl; begun = refl }) }) (λ h. h) e
+emitting table s t (Mulpdu size (Some refusal)) rule sent k e = quiet s s t (Mulpdu size (Some refusal)) refl (record { queue = refl; numbers = refl; mulpdu = refl; reads = refl; asked = refl; posted = refl; finished = refl; size = refl; sent = refl; said = (record { whole = refl; reads = refl; answered = refl; asked = refl; answers = refl; begun = refl }) }) (λ h. h) e
+emitting table s t (Accept private (Err refusal)) rule sent k e = quiet s s t (Accept private (Err refusal)) refl (record { queue = refl; numbers = refl; mulpdu = refl; reads = refl; asked = refl; posted = refl; finished = refl; size = refl; sent = refl; said = (record { whole = refl; reads = refl; answered = refl; asked = refl; answers = refl; begun = refl }) }) (λ h. h) e
+emitting table s t (Reject private (Some refusal)) rule sent k e = quiet s s t (Reject private (Some refusal)) refl (record { queue = refl; numbers = refl; mulpdu = refl; reads = refl; asked = refl; posted = refl; finished = refl; size = refl; sent = refl; said = (record { whole = refl; reads = refl; answered = refl; asked = refl; answers = refl; begun = refl }) }) (λ h. h) e
+emitting table s t (Work seen.Idle) rule sent k e = quiet s s t (Work seen.Idle) refl (record { queue = refl; numbers = refl; mulpdu = refl; reads = refl; asked = refl; posted = refl; finished = refl; size = refl; sent = refl; said = (record { whole = refl; reads = refl; answered = refl; asked = refl; answers = refl; begun = refl }) }) (λ h. h) e
+emitting table s t (Recv len None) rule sent k e = quiet s (after_act s (Recv len None)) t (Recv len None) refl (record { queue = refl; numbers = refl; mulpdu = refl; reads = refl; asked = refl; posted = refl; finished = refl; size = refl; sent = refl; said = (record { whole = refl; reads = refl; answered = refl; asked = refl; answers = refl; begun = refl }) }) (λ h. h) e
+emitting table s t (Work (seen.Placed right stag to octets)) rule sent k e = quiet s (after_act s (Work (seen.Placed right stag to octets))) t (Work (seen.Placed right stag to octets)) refl (record { queue = refl; numbers = refl; mulpdu = refl; reads = refl; asked = refl; posted = refl; finished = refl; size = refl; sent = refl; said = (record { whole = refl; reads = refl; answered = refl; asked = refl; answers = refl; begun = refl }) }) (λ h. h) e
+emitting table s t (Work (seen.Buffered msn mo len)) rule sent k e = quiet s (after_act s (Work (seen.Buffered msn mo len))) t (Work (seen.Buffered msn mo len)) refl (record { queue = refl; numbers = refl; mulpdu = refl; reads = refl; asked = refl; posted = refl; finished = refl; size = refl; sent = refl; said = (record { whole = refl; reads = refl; answered = refl; asked = refl; answers = refl; begun = refl }) }) (λ h. h) e
+emitting table s t (Work (seen.Fault fault)) rule sent k e = quiet s (after_act s (Work (seen.Fault fault))) t (Work (seen.Fault fault)) refl (record { queue = refl; numbers = refl; mulpdu = refl; reads = refl; asked = refl; posted = refl; finished = refl; size = refl; sent = refl; said = (record { whole = refl; reads = refl; answered = refl; asked = refl; answers = refl; begun = refl }) }) (λ h. h) e
+emitting table s t (Deliver from octets Kept) rule sent k e = quiet s (after_act s (Deliver from octets Kept)) t (Deliver from octets Kept) refl (record { queue = refl; numbers = refl; mulpdu = refl; reads = refl; asked = refl; posted = refl; finished = refl; size = refl; sent = refl; said = (record { whole = refl; reads = refl; answered = refl; asked = refl; answers = refl; begun = refl }) }) (waits s from octets) e
+emitting table s t (Raw from octets Kept) rule sent k e = quiet s (after_act s (Raw from octets Kept)) t (Raw from octets Kept) refl (record { queue = refl; numbers = refl; mulpdu = refl; reads = refl; asked = refl; posted = refl; finished = refl; size = refl; sent = refl; said = (record { whole = refl; reads = refl; answered = refl; asked = refl; answers = refl; begun = refl }) }) (waits s from octets) e
+emitting table s t (Work seen.Passed) rule sent k e = passes table s t rule k (loud table s t (Work seen.Passed) rule k refl) e
+emitting table s t (Work (seen.Requested size stag to)) rule sent k e = takes table s t size stag to rule k (loud table s t (Work (seen.Requested size stag to)) rule k refl) e
+emitting table s t (Work (seen.Received octets solicited invalidate)) rule sent k e = quiet s (after_act s (Work (seen.Received octets solicited invalidate))) t (Work (seen.Received octets solicited invalidate)) refl (record { queue = refl; numbers = refl; mulpdu = refl; reads = refl; asked = refl; posted = refl; finished = refl; size = refl; sent = refl; said = (record { whole = refl; reads = refl; answered = refl; asked = refl; answers = refl; begun = refl }) }) (λ h. absurd (false≢true (sym (loud table s t (Work (seen.Received octets solicited invalidate)) rule k refl) ∙ h))) e
 
 ended_is : (s : StreamState) (act : StreamAct Octets) → (after_act s act).ended ≡ ended_after s.ended act
 ended_is s (Work (seen.Fault fault)) = refl
 ended_is s (Work (seen.Done kind)) = refl
 ended_is s (Work (seen.Placed right stag to octets)) = refl
 ended_is s (Work (seen.Buffered msn mo len)) = refl
+ended_is s (Work (seen.Requested size stag to)) = refl
 ended_is s (Work seen.Passed) = refl
 ended_is s (Work (seen.Received octets solicited invalidate)) = refl
 ended_is s (Work seen.Idle) = refl
@@ -599,7 +1198,7 @@ ended_is s (Recv len None) = refl
 ended_is s (Recv len (Some refusal)) = refl
 ended_is s (Post m None) = refl
 ended_is s (Post m (Some refusal)) = refl
-ended_is s (Emit shown) = left_ended s (due s)
+ended_is s (Emit shown) = shown_ended s shown
 ended_is s (Accept private (Ok agreed)) = refl
 ended_is s (Accept private (Err refusal)) = refl
 ended_is s (Reject private None) = refl
@@ -633,7 +1232,7 @@ answered_starts o s reply small m h =
     subst (IsStartOf o) (ap (λ z. answered_with z reply) (sym m.is)) now
 
 starting : (o : Opening) (table : Table) (s : StreamState) (act : StreamAct Octets) → Told table s act → IsStartOf o s.start → IsStartOf o (after_act s act).start
-starting o table s (Emit shown) rule h = subst (IsStartOf o) (sym (left_start s (due s))) h
+starting o table s (Emit shown) rule h = subst (IsStartOf o) (sym (left_heard s shown).start) h
 starting o table s (Accept private (Ok agreed)) rule h = answered_starts o s (replies.Accept (private_data private)) (omega (arith, length-take 512 private)) (may s (accepting s agreed rule)) h
 starting o table s (Reject private None) rule h = answered_starts o s (replies.Reject (private_data private)) (omega (arith, length-take 512 private)) (may s (refusing s rule)) h
 starting o table s (Work (seen.Asked private)) rule h = heard_starts o s.start (inbox s) h
@@ -654,6 +1253,7 @@ starting o table s (Reject private (Some refusal)) rule h = h
 starting o table s (Work (seen.Done kind)) rule h = h
 starting o table s (Work (seen.Placed right stag to octets)) rule h = h
 starting o table s (Work (seen.Buffered msn mo len)) rule h = h
+starting o table s (Work (seen.Requested size stag to)) rule h = h
 starting o table s (Work seen.Passed) rule h = h
 starting o table s (Work (seen.Received octets solicited invalidate)) rule h = h
 starting o table s (Work (seen.Fault fault)) rule h = h
@@ -697,6 +1297,7 @@ within opening table c t (Work (seen.Buffered msn mo len)) rule o =
       ),
     )
 within opening table c t (Work (seen.Done kind)) rule o = (tt, tt)
+within opening table c t (Work (seen.Requested size stag to)) rule o = (tt, tt)
 within opening table c t (Work seen.Passed) rule o = (tt, tt)
 within opening table c t (Work (seen.Received octets solicited invalidate)) rule o = (tt, tt)
 within opening table c t (Work (seen.Fault fault)) rule o = (tt, tt)

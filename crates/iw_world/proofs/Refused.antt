@@ -1,5 +1,5 @@
 -- Each wrong run breaks its law.
-use Rattle.std.proofs.Common.{◌≡◌, ℕ, zero, suc, ◌<◌, ◌≤◌, [], ◌∷◌, ◌++◌, length, take, replicate, Some, None, Ok, true, false, refl, sym, ap, ◌∙◌, arith, inl, inr, get_or}
+use Rattle.std.proofs.Common.{◌≡◌, ℕ, zero, suc, ◌<◌, ◌≤◌, [], ◌∷◌, ◌++◌, length, map, subst, take, replicate, Some, None, Ok, true, false, refl, sym, ap, ◌∙◌, arith, inl, inr, get_or}
 use Rattle.std.specs.Option.{option_map_or}
 use Rattle.std.proofs.lemmas.Bool.{false≢true, true≢false}
 use Rattle.std.proofs.lemmas.Option.{none-some, some_pair_parts}
@@ -26,20 +26,29 @@ use Rattle.iw_queues.specs.Segments.{send_segment}
 use Rattle.iw_startup.specs.declared.progress.Progress.TheVariants as progress
 use Rattle.iw_startup.specs.Peer.{progress_of, frame_end as startup_end, fixed_fault}
 use Rattle.iw_startup.specs.State.{agreed_of, pushed}
-use Rattle.iw_stream.specs.Starting.{plain}
+use Rattle.iw_stream.specs.Starting.{AtOnce, plain, sending, own_frame}
+use Rattle.iw_world.proofs.Tracks.{shown_stays}
 use Rattle.iw_events.specs.declared.call.End.TheVariants.{A}
 use Rattle.iw_events.specs.declared.act.Act.TheVariants.{Domain}
 use Rattle.iw_events.specs.declared.act.Seen.TheVariants as seen
 use Rattle.iw_events.specs.declared.act.StreamAct.TheVariants.{Emit, Deliver, Accept}
 use Rattle.iw_events.specs.declared.act.Shown.TheVariants.{Frame}
 use Rattle.iw_world.specs.Words.{Octets, acts, stream_acts, openings, ended, sent, size_set, posted, finished_kinds, table_after}
-use Rattle.iw_world.specs.Turns.{story, story_of}
+use Rattle.iw_world.specs.Turns.{Story, story, story_of, segment_out, sends_segment, fetches_for, story_shown}
+use Rattle.iw_reads.specs.declared.requests.Asked.{Asked}
+use Rattle.iw_events.specs.declared.act.Shown.{Shown}
+use Rattle.iw_events.specs.declared.act.Shown.TheVariants as shows
+use Rattle.std.specs.Prelude.{nat_eq}
+use Rattle.std.proofs.Common.{Bool, cond, List, ◌+◌, Option}
 use Rattle.iw_world.specs.Rest.{Over, AwaitsFrame, AwaitsAnswer, NoFrame}
-use Rattle.iw_world.specs.Sends.{is_last, IsSentMessage}
-use Rattle.iw_world.specs.WrongRuns.{a, b, on, raw, works, places, registers, emits, send_frame, reads_behind_fault, reads_unopened, rests_with_reply, never_finished, finished_unsent, finished_as_write, sends_too_large, cut_frame, cuts_short, sends_elsewhere, sends_behind_end, delivers_others, keeps_behind_end, accepts_unasked, answers_stag_again}
-use Rattle.iw_world.specs.WrongRuns.{RefusesFramesBehindFault, RefusesFramesUnopened, RefusesRestWithReply, RefusesNeverFinished, RefusesFinishedUnsent, RefusesFinishedAsWrite, RefusesTooLarge, RefusesCutShort, RefusesElsewhere, RefusesBehindEnd, RefusesOtherOctets, RefusesKeptBehindEnd, RefusesUnaskedAccept, RefusesWrongRefusal, RefusesSameStag}
+use Rattle.iw_world.specs.Turns.{is_last}
+use Rattle.iw_world.specs.Merged.{Post}
+use Rattle.iw_world.specs.Sends.{IsSentMessage}
+use Rattle.iw_world.specs.WrongRuns.{a, b, on, raw, works, places, registers, emits, send_frame, reads_behind_fault, reads_unopened, rests_with_reply, never_finished, finished_unsent, finished_as_write, sends_too_large, cut_frame, cuts_short, sends_elsewhere, sends_behind_end, delivers_others, keeps_behind_end, accepts_unasked, answers_stag_again, fetches, fetches_invalid, request_frame, reads_unanswered}
+use Rattle.iw_world.specs.WrongRuns.{RefusesFramesBehindFault, RefusesFramesUnopened, RefusesRestWithReply, RefusesNeverFinished, RefusesFinishedUnsent, RefusesFinishedAsWrite, RefusesTooLarge, RefusesCutShort, RefusesElsewhere, RefusesBehindEnd, RefusesOtherOctets, RefusesKeptBehindEnd, RefusesUnaskedAccept, RefusesWrongRefusal, RefusesSameStag, RefusesFetchInvalid, RefusesReadUnanswered}
 use Rattle.iw_world.proofs.Messages.{nothing_sent}
-use Rattle.iw_world.proofs.Counts.{last_in, tagged_told, version_of}
+use Rattle.iw_world.proofs.Counts.{last_in, tagged_told}
+use Rattle.iw_world.proofs.Sending.{version_of}
 
 pub refuses_frames_behind_fault : RefusesFramesBehindFault
 unfolding acts stream_acts ended
@@ -51,7 +60,7 @@ refuses_frames_unopened h = false≢true (h (take 5 reads_unopened) (b (works pl
 
 pub refuses_rest_with_reply : RefusesRestWithReply
 unfolding acts stream_acts openings ended story agreed_of progress_of startup_end fixed_fault taken_in held
-refuses_rest_with_reply h = elim (h (take 4 rests_with_reply) (a (works seen.Idle)) [] refl).reason [
+refuses_rest_with_reply h = elim (h (take 3 rests_with_reply) (a (works seen.Idle)) [] refl).reason [
   | Over e ↦ false≢true e
   | AwaitsFrame f ↦ let none : progress.Agreed ≡ progress.More = f.comes in cc
   | AwaitsAnswer o e ↦ true≢false e
@@ -78,11 +87,21 @@ framed =
 sent_one : IsSentMessage (story_of 0 (acts A (take 4 never_finished))) (sent (stream_acts 0 (acts A (take 4 never_finished)))) (posted (stream_acts 0 (acts A (take 4 never_finished)))) (length (finished_kinds (stream_acts 0 (acts A (take 4 never_finished))))) kinds.Send
 unfolding send_one acts stream_acts openings story posted finished_kinds sent
 sent_one = record {
-  message = messages.Send (0x68 ∷ []) false None;
+  message = Posted (messages.Send (0x68 ∷ []) false None);
   is = refl;
   kind_is = refl;
-  sent = (send_frame, record { segments = send_one ∷ []; carry = (send_one ∷ [], [], refl, (omega arith, refl), refl); framed = sym framed }, ([], refl));
+  sent = record {
+    items = Post (Posted (messages.Send (0x68 ∷ []) false None)) ∷ [];
+    posts = refl;
+    first = send_frame;
+    frames = record { segments = send_one ∷ []; carry = (send_one ∷ [], [], refl, (omega arith, refl), refl); framed = subst (λ z. send_frame ≡ own_frame z ++ sequence (sending z) 0 (map segment_octets (send_one ∷ []))) (sym same_start) (sym framed) };
+    begins = ([], refl);
+  };
+  answered = omega arith;
 }
+  where
+    same_start : (story_of 0 (acts A (take 4 never_finished))).start ≡ AtOnce plain
+    same_start = (shown_stays (story_of 0 (acts A (take 3 never_finished))) (Frame 0 send_frame)).start
 
 pub refuses_never_finished : RefusesNeverFinished
 refuses_never_finished h = (h (take 4 never_finished) (a (works seen.Idle)) [] refl).unfinished kinds.Send sent_one
@@ -95,7 +114,7 @@ pub refuses_finished_as_write : RefusesFinishedAsWrite
 unfolding acts stream_acts posted finished_kinds
 refuses_finished_as_write h =
     let r = h (take 4 finished_as_write) (a (works (seen.Done kinds.Write))) [] refl in
-    let same : kinds.Write ≡ kinds.Send = r.kind_is ∙ ap (λ o. option_map_or (λ (m : Message Octets). kind_of (Posted m)) o kinds.Write) (sym r.is) in
+    let same : kinds.Write ≡ kinds.Send = r.kind_is ∙ ap (λ o. option_map_or kind_of o kinds.Write) (sym r.is) in
     cc
 
 -- without markers a frame has no octets but its own
@@ -191,3 +210,39 @@ refuses_wrong_refusal h = none-some _ (sym (h [] (b (Domain 1 (Some DomainTaken)
 pub refuses_same_stag : RefusesSameStag
 unfolding acts table_after empty
 refuses_same_stag h = none-some _ (sym (h (take 2 answers_stag_again) (b registers) [] refl).1.fresh)
+
+pub refuses_fetch_invalid : RefusesFetchInvalid
+unfolding acts stream_acts openings table_after empty
+refuses_fetch_invalid h = elim (h (take 7 fetches_invalid) (b (fetches 2 (0x0c ∷ 0x0d ∷ []))) [] refl).allowed [
+  | inl none ↦ absurd (omega (arith, none))
+  | inr there ↦ absurd (false≢true there.1.valid)
+]
+
+-- what goes out answers no Read of this end
+shown_answers : (t : Story) (shown : Shown Octets) → (story_shown t shown).answered ≡ t.answered
+shown_answers t (shows.Frame from octets) = go (segment_out t from octets)
+  where
+    go : (o : Option (Segment Octets)) → (option_map_or (sends_segment t) o t).answered ≡ t.answered
+    go None = refl
+    go (Some segment) = refl
+shown_answers t (shows.Fetched from frame stag to octets) = go t.asked.unanswered
+  where
+    go : (waiting : List Asked) → (fetches_for t waiting octets).answered ≡ t.answered
+    go [] = refl
+    go (oldest ∷ others) = by (nat_eq (length t.begun + length octets) oldest.request.size)
+      where
+        by : (d : Bool) → (cond d (record t {
+          asked = record t.asked { unanswered = others; fetched = 0 };
+          answers = t.answers ++ record { request = oldest.request; octets = t.begun ++ octets } ∷ [];
+          begun = [];
+        }) (record t { asked = record t.asked { fetched = length t.begun + length octets }; begun = t.begun ++ octets })).answered ≡ t.answered
+        by true = refl
+        by false = refl
+shown_answers t (shows.Fault fault) = refl
+shown_answers t shows.Nothing = refl
+
+pub refuses_read_unanswered : RefusesReadUnanswered
+unfolding acts stream_acts openings story posted finished_kinds
+refuses_read_unanswered h =
+    let r = (h (take 4 reads_unanswered) (a (works (seen.Done kinds.Read))) [] refl).answered in
+    omega (arith, r, shown_answers (story_of 0 (acts A (take 3 reads_unanswered))) (shows.Frame 0 request_frame))

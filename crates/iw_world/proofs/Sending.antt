@@ -1,11 +1,11 @@
 -- The parts that an end sends, and their segments.
-use Rattle.std.proofs.Common.{◌≡◌, ℕ, zero, suc, ◌+◌, ◌-◌, ◌%◌, ◌^◌, ◌<◌, ◌≤◌, List, [], ◌∷◌, length, take, drop, Option, Some, None, Bool, true, false, cond, refl, sym, subst, arith, length-take, inl, inr, ◌⊎◌, ◌||◌, not}
-use Rattle.std.specs.Prelude.{All, is_some, min}
+use Rattle.std.proofs.Common.{◌≡◌, ℕ, zero, suc, ◌+◌, ◌-◌, ◌%◌, ◌^◌, ◌<◌, ◌≤◌, List, [], ◌∷◌, length, take, drop, Option, Some, None, Bool, true, false, cond, refl, sym, subst, arith, length-take, inl, inr, ◌⊎◌, ◌||◌, ◌&&◌, not, ap, ◌∙◌}
+use Rattle.std.specs.Prelude.{All, is_some, min, nat_le, nat_eq}
+use Rattle.std.proofs.lemmas.Bool.{true≢false}
 use Rattle.std.specs.Option.{option_map, option_map_or}
 use Rattle.std.proofs.lemmas.Option.{none-some, same_Some}
 use Rattle.std.proofs.lemmas.List.Elements.{All-head}
 use Rattle.iw_octets.specs.declared.stag.Stag.{Stag}
-use Rattle.iw_octets.specs.declared.message.Message.{Message}
 use Rattle.iw_octets.specs.declared.message.Message.TheVariants.{Write, Send}
 use Rattle.iw_octets.specs.declared.segment.Segment.{Segment}
 use Rattle.iw_octets.specs.Stag.{number_of}
@@ -21,37 +21,58 @@ use Rattle.iw_queues.specs.Queue.{Queue, next_part, part_of_first, part_from, Is
 use Rattle.iw_queues.specs.Queue as queues
 use Rattle.iw_queues.specs.Segments.{Numbers, numbers_after, numbers_behind, segment_with, segment_of}
 use Rattle.iw_octets.specs.declared.operation.UntaggedOperation.TheVariants as untagged
-use Rattle.iw_octets.specs.Operation.{control_of, untagged_opcode}
+use Rattle.iw_octets.specs.Operation.{control_of, opcode_of, untagged_opcode}
 use Rattle.iw_stream.specs.declared.answer.PostRefusal.TheVariants as post_refusals
 use Rattle.iw_stream.specs.Starting.{is_open, own_frame}
-use Rattle.iw_stream.specs.Stream.{StreamState, Due, StartUp, NextPart, NoneDue, post_refusal, post_refusal_of, owes_frame, keeps_silent, part_due, due, frame_of_part, octets_due, emission_due, emission_of, emitted}
-use Rattle.iw_events.specs.declared.act.Shown.TheVariants.{Frame, Nothing}
-use Rattle.iw_world.specs.Rules.{FitsMessage, FitsOptional}
+use Rattle.iw_stream.specs.Judging.{fault_or}
+use Rattle.iw_stream.specs.Stream.{StreamState, Due, StartUp, Response, NextPart, NoneDue, post_refusal, post_refusal_of, owes_frame, keeps_silent, is_read, may_go, part_due, response_due, due, frame_of, frame_of_part, octets_due, octets_fetched, emission_due, emission_fetched, emission_of, emitted}
+use Rattle.iw_reads.specs.declared.response.ResponsePart.{ResponsePart}
+use Rattle.iw_reads.specs.Outstanding.{most_reads}
+use Rattle.iw_reads.specs.Response.{response_head, fetch_fault, fetched_octets}
+use Rattle.iw_memory.specs.Table.{Table, octets_at}
+use Rattle.iw_octets.specs.declared.fault.Fault.{Fault}
+use Rattle.iw_octets.specs.declared.payload.ReadRequest.{ReadRequest}
+use Rattle.iw_octets.specs.declared.segment.Segment.TheVariants.{Tagged, Untagged}
+use Rattle.iw_octets.specs.Payload.{FitsRequest, request_octets}
+use Rattle.iw_octets.proofs.Spelled.{length-request_octets}
+use Rattle.iw_events.specs.declared.act.Shown.{Shown}
+use Rattle.iw_events.specs.declared.act.Shown.TheVariants.{Frame, Fetched, Fault as Denied, Nothing}
+use Rattle.iw_world.specs.Rules.{FitsPosted, FitsOptional}
 use Rattle.iw_world.specs.Words.{Octets}
 use Rattle.iw_world.specs.Rules.{shown_of}
 
--- what is posted at a stream: a message whose numbers fit their fields
-abbrev pub FitsRequest : Request Octets → Type 0
-FitsRequest (Posted message) = FitsMessage message
-FitsRequest (Read request) = ⊥
+-- the numbers of the next messages fit their fields
+pub record FitsNumbers (numbers : Numbers) : Type 0 where
+  pub send : numbers.send < 2 ^ 32
+  pub read : numbers.read < 2 ^ 32
 
--- a segment that is read again as it was written
+abbrev pub version_of : Segment Octets → ℕ
+version_of (Tagged head payload) = head.ddp_version
+version_of (Untagged head payload) = head.ddp_version
+
+-- a segment of the response to a Read of the peer
+abbrev pub is_answer : Segment Octets → Bool
+is_answer (Tagged head payload) = nat_eq (opcode_of head.control) 2
+is_answer (Untagged head payload) = false
+
+-- a segment that is read again as it was written, but for the sink of a response, whose number the peer gave
 pub record IsSendable (segment : Segment Octets) : Type 0 where
-  pub fits : FitsSegment segment
+  pub fits : is_answer segment ≡ false → FitsSegment segment
+  pub version : version_of segment < 4
   pub small : length (segment_octets segment) ≤ 64512
 
 -- ---- postings
 
 -- a message that is accepted is posted on an open stream, and not refused by the queue
-pub record IsAccepted (s : StreamState) (m : Message Octets) : Type 0 where
+pub record IsAccepted (s : StreamState) (m : Request Octets) : Type 0 where
   pub running : s.ended ≡ false
   pub started : is_open s.start ≡ true
-  pub posted : queues.post_refusal s.queue (Posted m) ≡ None
+  pub posted : queues.post_refusal s.queue m ≡ None
 
-pub accepted : (s : StreamState) (m : Message Octets) → None ≡ post_refusal s m → IsAccepted s m
-accepted s m e = go s.ended (is_open s.start) (queues.post_refusal s.queue (Posted m)) refl refl refl e
+pub accepted : (s : StreamState) (m : Request Octets) → None ≡ post_refusal s m → IsAccepted s m
+accepted s m e = go s.ended (is_open s.start) (queues.post_refusal s.queue m) refl refl refl e
   where
-    go : (ended started : Bool) (o : Option Refusal) → s.ended ≡ ended → is_open s.start ≡ started → queues.post_refusal s.queue (Posted m) ≡ o
+    go : (ended started : Bool) (o : Option Refusal) → s.ended ≡ ended → is_open s.start ≡ started → queues.post_refusal s.queue m ≡ o
         → None ≡ cond (ended || not started) (Some post_refusals.NotOpen) (option_map post_refusal_of o) → IsAccepted s m
     go true started o a b c h = absurd (none-some _ h)
     go false false o a b c h = absurd (none-some _ h)
@@ -65,33 +86,61 @@ pub data Rests (s : StreamState) : Type 0 where
   Ended : s.ended ≡ true → Rests s
   Shut : is_open s.start ≡ false → Rests s
   Silent : keeps_silent s ≡ true → Rests s
-  Sent : part_due s ≡ None → Rests s
+  Sent : response_due s ≡ None → part_due s ≡ None → Rests s
 
 -- the stream has not ended, is open and need not keep silent
+pub record MaySpeak (s : StreamState) : Type 0 where
+  pub spoken : owes_frame s ≡ false
+  pub running : s.ended ≡ false
+  pub started : is_open s.start ≡ true
+  pub loud : keeps_silent s ≡ false
+
+-- a Read finds fewer than 16 outstanding
+abbrev pub HasRoom : StreamState → Part (Request Octets) → Type 0
+HasRoom s part = (is_read part.message && nat_le most_reads (length s.reads)) ≡ false
+
+-- and this part is due
 pub record IsLoud (s : StreamState) (part : Part (Request Octets)) : Type 0 where
   pub spoken : owes_frame s ≡ false
   pub running : s.ended ≡ false
   pub started : is_open s.start ≡ true
   pub loud : keeps_silent s ≡ false
-  pub part_is : part_due s ≡ Some part
+  pub quiet : response_due s ≡ None
+  pub part_is : next_part s.queue s.mulpdu ≡ Some part
+  pub room : HasRoom s part
 
 -- why this is due
 abbrev IsDue : StreamState → Due → Type 0
 IsDue s StartUp = owes_frame s ≡ true
+IsDue s (Response part) = MaySpeak s × (response_due s ≡ Some part)
 IsDue s (NextPart part) = IsLoud s part
 IsDue s NoneDue = (owes_frame s ≡ false) × Rests s
 
-due_told : (s : StreamState) → IsDue s (due s)
-due_told s = go (owes_frame s) s.ended (is_open s.start) (keeps_silent s) (part_due s) refl refl refl refl refl
+goes : (s : StreamState) (part : Part (Request Octets)) → part_due s ≡ Some part → (next_part s.queue s.mulpdu ≡ Some part) × HasRoom s part
+goes s part e = go (next_part s.queue s.mulpdu) refl e
   where
-    go : (owes ended started silent : Bool) (o : Option (Part (Request Octets))) → owes_frame s ≡ owes → s.ended ≡ ended → is_open s.start ≡ started → keeps_silent s ≡ silent → part_due s ≡ o
-        → IsDue s (cond owes StartUp (cond (ended || (not started || silent)) NoneDue (option_map_or NextPart o NoneDue)))
-    go true ended started silent o a b c d is = a
-    go false true started silent o a b c d is = (a, Ended b)
-    go false false false silent o a b c d is = (a, Shut c)
-    go false false true true o a b c d is = (a, Silent d)
-    go false false true false None a b c d is = (a, Sent is)
-    go false false true false (Some part) a b c d is = record { spoken = a; running = b; started = c; loud = d; part_is = is }
+    go : (o : Option (Part (Request Octets))) → next_part s.queue s.mulpdu ≡ o → may_go s.reads o ≡ Some part → (next_part s.queue s.mulpdu ≡ Some part) × HasRoom s part
+    go None is h = absurd (none-some _ h)
+    go (Some p) is h = by (is_read p.message && nat_le most_reads (length s.reads)) refl h
+      where
+        by : (b : Bool) → (is_read p.message && nat_le most_reads (length s.reads)) ≡ b → cond b None (Some p) ≡ Some part → (next_part s.queue s.mulpdu ≡ Some part) × HasRoom s part
+        by true c h = absurd (none-some _ h)
+        by false c h = let same : p ≡ part = same_Some _ _ h in (is ∙ h, subst (HasRoom s) same c)
+
+due_told : (s : StreamState) → IsDue s (due s)
+due_told s = go (owes_frame s) s.ended (is_open s.start) (keeps_silent s) (response_due s) (part_due s) refl refl refl refl refl refl
+  where
+    go : (owes ended started silent : Bool) (r : Option ResponsePart) (o : Option (Part (Request Octets))) → owes_frame s ≡ owes → s.ended ≡ ended → is_open s.start ≡ started → keeps_silent s ≡ silent → response_due s ≡ r → part_due s ≡ o
+        → IsDue s (cond owes StartUp (cond (ended || (not started || silent)) NoneDue (option_map_or Response r (option_map_or NextPart o NoneDue))))
+    go true ended started silent r o a b c d q is = a
+    go false true started silent r o a b c d q is = (a, Ended b)
+    go false false false silent r o a b c d q is = (a, Shut c)
+    go false false true true r o a b c d q is = (a, Silent d)
+    go false false true false (Some part) o a b c d q is = (record { spoken = a; running = b; started = c; loud = d }, q)
+    go false false true false None None a b c d q is = (a, Sent q is)
+    go false false true false None (Some part) a b c d q is =
+        let g = goes s part is in
+        record { spoken = a; running = b; started = c; loud = d; quiet = q; part_is = g.0; room = g.1 }
 
 -- the start-up frame is emitted
 pub record EmitsStart (s : StreamState) (from : ℕ) (octets : Octets) : Type 0 where
@@ -108,16 +157,24 @@ pub record EmitsPart (s : StreamState) (from : ℕ) (octets : Octets) : Type 0 w
   pub from_is : from ≡ s.sent
   pub octets_are : octets ≡ frame_of_part s part
 
-pub emits_frame : (s : StreamState) (from : ℕ) (octets : Octets) → Frame from octets ≡ shown_of (emission_of s) (emitted s) → EmitsStart s from octets ⊎ EmitsPart s from octets
-emits_frame s from octets e = go (due s) refl (due_told s) e
-  where
-    go : (d : Due) → due s ≡ d → IsDue s d → Frame from octets ≡ shown_of (emission_due s d) (octets_due s d) → EmitsStart s from octets ⊎ EmitsPart s from octets
-    go StartUp is t h = inl (record { owes = t; next = is; from_is = let place : from ≡ s.sent = cc in place; octets_are = let same : octets ≡ own_frame s.start = cc in same })
-    go (NextPart part) is t h =
-        let place : from ≡ s.sent = cc in
-        let same : octets ≡ frame_of_part s part = cc in
-        inr (record { part = part; is_loud = t; next = is; from_is = place; octets_are = same })
-    go NoneDue is t h = cc
+-- that of part of a response is, with octets that may be read
+pub record EmitsResponse (table : Table) (s : StreamState) (from : ℕ) (frame : Octets) (stag : Stag) (to : ℕ) (octets : Octets) : Type 0 where
+  pub part : ResponsePart
+  pub speaks : MaySpeak s
+  pub is_due : response_due s ≡ Some part
+  pub from_is : from ≡ s.sent
+  pub frame_is : frame ≡ frame_of s (Tagged part.head octets)
+  pub stag_is : stag ≡ part.stag
+  pub to_is : to ≡ part.to
+  pub octets_are : octets ≡ octets_at table part.stag part.to part.n
+  pub admitted : fetch_fault table s.domain part ≡ None
+
+-- the octets of the part that is due are denied
+pub record EmitsDenial (table : Table) (s : StreamState) (fault : Fault) : Type 0 where
+  pub part : ResponsePart
+  pub speaks : MaySpeak s
+  pub is_due : response_due s ≡ Some part
+  pub denied : fetch_fault table s.domain part ≡ Some fault
 
 -- nothing is emitted
 pub record EmitsNothing (s : StreamState) : Type 0 where
@@ -125,13 +182,25 @@ pub record EmitsNothing (s : StreamState) : Type 0 where
   pub next : due s ≡ NoneDue
   pub reason : Rests s
 
-pub rests : (s : StreamState) → Nothing ≡ shown_of (emission_of s) (emitted s) → EmitsNothing s
-rests s e = go (due s) refl (due_told s) e
+abbrev pub Emits_as : Table → StreamState → Shown Octets → Type 0
+Emits_as table s (Frame from octets) = EmitsStart s from octets ⊎ EmitsPart s from octets
+Emits_as table s (Fetched from frame stag to octets) = EmitsResponse table s from frame stag to octets
+Emits_as table s (Denied fault) = EmitsDenial table s fault
+Emits_as table s Nothing = EmitsNothing s
+
+pub emits_as : (table : Table) (s : StreamState) (shown : Shown Octets) → shown ≡ shown_of table (emission_of table s) (emitted table s) → Emits_as table s shown
+emits_as table s shown e = subst (Emits_as table s) (sym e) (go (due s) refl (due_told s))
   where
-    go : (d : Due) → due s ≡ d → IsDue s d → Nothing ≡ shown_of (emission_due s d) (octets_due s d) → EmitsNothing s
-    go StartUp is t h = cc
-    go (NextPart part) is t h = cc
-    go NoneDue is t h = record { spoken = t.0; next = is; reason = t.1 }
+    fetched : (part : ResponsePart) → MaySpeak s → response_due s ≡ Some part → (f : Option Fault) → fetch_fault table s.domain part ≡ f
+        → Emits_as table s (shown_of table (emission_fetched s part (fault_or f (frame_of s (Tagged part.head (fetched_octets table part))))) (octets_fetched (fault_or f (frame_of s (Tagged part.head (fetched_octets table part))))))
+    fetched part speaks due None c = record { part = part; speaks = speaks; is_due = due; from_is = refl; frame_is = refl; stag_is = refl; to_is = refl; octets_are = refl; admitted = c }
+    fetched part speaks due (Some fault) c = record { part = part; speaks = speaks; is_due = due; denied = c }
+
+    go : (d : Due) → due s ≡ d → IsDue s d → Emits_as table s (shown_of table (emission_due table s d) (octets_due table s d))
+    go StartUp is t = inl (record { owes = t; next = is; from_is = refl; octets_are = refl })
+    go (Response part) is t = fetched part t.0 t.1 (fetch_fault table s.domain part) refl
+    go (NextPart part) is t = inr (record { part = part; is_loud = t; next = is; from_is = refl; octets_are = refl })
+    go NoneDue is t = record { spoken = t.0; next = is; reason = t.1 }
 
 -- where no part is due, nothing is left to be sent
 pub none_left : (q : Queue) (max : ℕ) → next_part q max ≡ None → q.unsent ≡ []
@@ -170,10 +239,11 @@ control_fits true true = omega arith
 taken_few : (n offset : ℕ) (octets : Octets) → length (take n (drop offset octets)) ≤ n
 taken_few n offset octets = omega (arith, length-take n (drop offset octets))
 
-part_good : (numbers : Numbers) (m : Request Octets) (offset n : ℕ) (last : Bool) → numbers.send < 2 ^ 32 → FitsRequest m → offset < 2 ^ 32 → n + header_len m ≤ 64512
+part_good : (numbers : Numbers) (m : Request Octets) (offset n : ℕ) (last : Bool) → FitsNumbers numbers → FitsPosted m → offset < 2 ^ 32 → n + header_len m ≤ 64512
     → IsSendable (segment_with numbers m offset last (take n (drop offset (payload m))))
 part_good numbers (Posted (Write stag to octets)) offset n last number fits low room = record {
-  fits = record { ddp_version = omega arith; control = omega arith; stag = fits.0; to = omega arith };
+  fits = λ h. record { ddp_version = omega arith; control = omega arith; stag = fits.0; to = omega arith };
+  version = omega arith;
   small = omega (
     arith,
     length-segment_octets_tagged (record { last = last; ddp_version = 1; control = control_of 0; stag = stag; to = (to + offset) % 2 ^ 64 }) (take n (drop offset octets)),
@@ -182,12 +252,13 @@ part_good numbers (Posted (Write stag to octets)) offset n last number fits low 
   );
 }
 part_good numbers (Posted (Send octets solicited invalidate)) offset n last number fits low room = record {
-  fits = record {
+  version = omega arith;
+  fits = λ h. record {
     ddp_version = omega arith;
     control = control_fits solicited (is_some invalidate);
     tail = number_fits invalidate fits;
     queue = omega arith;
-    msn = number;
+    msn = number.send;
     mo = low;
   };
   small = omega (
@@ -207,9 +278,25 @@ part_good numbers (Posted (Send octets solicited invalidate)) offset n last numb
     room,
   );
 }
-part_good numbers (Read request) offset n last number fits low room = absurd fits
+part_good numbers (Read request) offset n last number fits low room = record {
+  version = omega arith;
+  fits = λ h. record { ddp_version = omega arith; control = omega arith; tail = omega arith; queue = omega arith; msn = number.read; mo = omega arith };
+  small = omega (
+    arith,
+    length-segment_octets_untagged (record { last = true; ddp_version = 1; control = control_of (untagged_opcode untagged.ReadRequest); tail = 0; queue = 1; msn = numbers.read; mo = 0 }) (request_octets request),
+    length-request_octets request,
+  );
+}
 
-header_small : (m : Request Octets) → header_len m ≤ 18
+-- the segment of part of a response
+pub response_good : (request : ReadRequest) (offset : ℕ) (last : Bool) (octets : Octets) → length octets + 14 ≤ 64512 → IsSendable (Tagged (response_head request offset last) octets)
+response_good request offset last octets room = record {
+  fits = λ h. absurd (true≢false h);
+  version = omega arith;
+  small = omega (arith, length-segment_octets_tagged (response_head request offset last) octets, room);
+}
+
+pub header_small : (m : Request Octets) → header_len m ≤ 18
 header_small (Posted (Write stag to octets)) = omega arith
 header_small (Posted (Send octets solicited invalidate)) = omega arith
 header_small (Read request) = omega arith
@@ -218,32 +305,32 @@ low : (offset len : ℕ) → (0 < offset → offset < len) → len ≤ 16777216 
 low zero len begun few = omega arith
 low (suc k) len begun few = let more : suc k < len = begun (omega arith) in omega (arith, more, few)
 
-begun_low : (m : Request Octets) (ms : List (Request Octets)) (offset : ℕ) → FitsRequest m → size_of m ≤ 16777216 → IsBegun (m ∷ ms) offset → offset < 2 ^ 32
+begun_low : (m : Request Octets) (ms : List (Request Octets)) (offset : ℕ) → FitsPosted m → size_of m ≤ 16777216 → IsBegun (m ∷ ms) offset → offset < 2 ^ 32
 begun_low (Posted (Write stag to octets)) ms offset fits size begun = low offset (length octets) begun size
 begun_low (Posted (Send octets solicited invalidate)) ms offset fits size begun = low offset (length octets) begun size
-begun_low (Read request) ms offset fits size begun = absurd fits
+begun_low (Read request) ms offset fits size begun = low offset 0 begun (omega arith)
 
 -- the segment of the part that a queue shows
-pub shown_good : (numbers : Numbers) (q : Queue) (max : ℕ) (part : Part (Request Octets)) → next_part q max ≡ Some part → IsWithinLimits q → 128 ≤ max → max ≤ 64512 → numbers.send < 2 ^ 32
-    → ((m : Request Octets) (ms : List (Request Octets)) → q.unsent ≡ m ∷ ms → FitsRequest m) → IsSendable (segment_of numbers part)
+pub shown_good : (numbers : Numbers) (q : Queue) (max : ℕ) (part : Part (Request Octets)) → next_part q max ≡ Some part → IsWithinLimits q → 128 ≤ max → max ≤ 64512 → FitsNumbers numbers
+    → ((m : Request Octets) (ms : List (Request Octets)) → q.unsent ≡ m ∷ ms → FitsPosted m) → IsSendable (segment_of numbers part)
 shown_good numbers q max part e limits enough few number fit =
     let w = shows q max part e in
     let m : Request Octets = w.message in
-    let fits : FitsRequest m = fit m w.messages w.unsent in
+    let fits : FitsPosted m = fit m w.messages w.unsent in
     let size : size_of m ≤ 16777216 = All-head (λ x. size_of x ≤ 16777216) m w.messages (subst (All (λ x. size_of x ≤ 16777216)) w.unsent limits.sizes) in
     let early : q.offset < 2 ^ 32 = begun_low m w.messages q.offset fits size (subst (λ ms. IsBegun ms q.offset) w.unsent limits.begun) in
     let room : min (length (payload m) - q.offset) (max - header_len m) + header_len m ≤ 64512 = omega (arith, header_small m, enough, few) in
     subst (λ p. IsSendable (segment_of numbers p)) (sym w.is) (part_good numbers m q.offset (min (length (payload m) - q.offset) (max - header_len m)) _ number fits early room)
 
--- the number of the next Send stays within its field
-next_small : (numbers : Numbers) (m : Request Octets) → numbers.send < 2 ^ 32 → (numbers_after numbers m).send < 2 ^ 32
+-- the numbers of the next messages stay within their fields
+next_small : (numbers : Numbers) (m : Request Octets) → FitsNumbers numbers → FitsNumbers (numbers_after numbers m)
 next_small numbers (Posted (Write stag to octets)) h = h
-next_small numbers (Posted (Send octets solicited invalidate)) h = omega arith
-next_small numbers (Read request) h = h
+next_small numbers (Posted (Send octets solicited invalidate)) h = record { send = omega arith; read = h.read }
+next_small numbers (Read request) h = record { send = h.send; read = omega arith }
 
-pub behind_small : (numbers : Numbers) (part : Part (Request Octets)) → numbers.send < 2 ^ 32 → (numbers_behind numbers part).send < 2 ^ 32
+pub behind_small : (numbers : Numbers) (part : Part (Request Octets)) → FitsNumbers numbers → FitsNumbers (numbers_behind numbers part)
 behind_small numbers part h = go part.last
   where
-    go : (last : Bool) → (cond last (numbers_after numbers part.message) numbers).send < 2 ^ 32
+    go : (last : Bool) → FitsNumbers (cond last (numbers_after numbers part.message) numbers)
     go true = next_small numbers part.message h
     go false = h

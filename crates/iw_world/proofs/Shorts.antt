@@ -9,7 +9,7 @@ use Rattle.iw_stream.specs.declared.answer.Role.{Role}
 use Rattle.iw_stream.specs.declared.answer.Role.TheVariants.{Preset, Initiator, Responder}
 use Rattle.iw_stream.specs.Starting.{StartState, AtOnce, Unheard, Heard, start_at_first, heard, answered_with}
 use Rattle.iw_stream.specs.Stream.{StreamState}
-use Rattle.iw_world.proofs.Tracks.{Track, start_octets}
+use Rattle.iw_world.proofs.Tracks.{Track, start_octets, shown_stays}
 use Rattle.std.proofs.lemmas.List.{append-nil, length_push}
 use Rattle.iw_events.specs.declared.call.End.{End}
 use Rattle.iw_events.specs.declared.act.Act.{Act}
@@ -62,6 +62,7 @@ one_frame s peer done (Stream m act) n p rule = go (eqb m n) refl
 abbrev turn_after : ℕ → StreamAct Octets → ℕ
 turn_after turns (Work seen.Passed) = turns + 1
 turn_after turns (Work (seen.Received octets solicited invalidate)) = turns + 1
+turn_after turns (Work (seen.Requested size stag to)) = turns + 1
 turn_after turns (Work (seen.Done kind)) = turns
 turn_after turns (Work (seen.Asked private)) = turns + 1
 turn_after turns (Work (seen.Opened agreed private)) = turns + 1
@@ -114,6 +115,7 @@ frames_read t = t.turns + was_read t.start
 counts : (t : Story) (act : StreamAct Octets) (n : ℕ) → frames_read t ≤ n → frames_read (story_after t act) ≤ turn_after n act
 counts t (Work seen.Passed) n h = omega (arith, h)
 counts t (Work (seen.Received octets solicited invalidate)) n h = omega (arith, h)
+counts t (Work (seen.Requested size stag to)) n h = omega (arith, h)
 counts t (Work (seen.Done kind)) n h = omega (arith, h)
 counts t (Work (seen.Asked private)) n h = omega (arith, h, one_read t.start (in_order t.came))
 counts t (Work (seen.Opened agreed private)) n h = omega (arith, h, one_read t.start (in_order t.came))
@@ -131,7 +133,7 @@ counts t (Reject private None) n h = omega (arith, h, none_read t.start (replies
 counts t (Reject private (Some refusal)) n h = omega (arith, h)
 counts t (Recv len None) n h = omega (arith, h)
 counts t (Recv len (Some refusal)) n h = omega (arith, h)
-counts t (Emit shown) n h = omega (arith, h)
+counts t (Emit shown) n h = let k = shown_stays t shown in omega (arith, h, k.turns, ap was_read k.start)
 counts t (Post m refused) n h = omega (arith, h)
 
 counts_all : (t : Story) (done : List (StreamAct Octets)) (n : ℕ) → frames_read t ≤ n → frames_read (fold story_after t done) ≤ fold turn_after n done
@@ -154,6 +156,7 @@ intro_few s t k = subst (λ z. length k.intro ≤ 262144 * was_read z) (sym k.be
 one_turn : (turns : ℕ) (act : StreamAct Octets) → turn_after turns act ≤ turns + 1
 one_turn turns (Work seen.Passed) = omega arith
 one_turn turns (Work (seen.Received octets solicited invalidate)) = omega arith
+one_turn turns (Work (seen.Requested size stag to)) = omega arith
 one_turn turns (Work (seen.Done kind)) = omega arith
 one_turn turns (Work (seen.Asked private)) = omega arith
 one_turn turns (Work (seen.Opened agreed private)) = omega arith

@@ -4,7 +4,7 @@ use Rattle.std.specs.Prelude.{fold}
 use Rattle.std.specs.List.{flat_map}
 use Rattle.std.proofs.lemmas.List.{append-nil}
 use Rattle.std.proofs.lemmas.List.Concat.{flat_map-append}
-use Rattle.iw_octets.specs.declared.message.Message.{Message}
+use Rattle.iw_queues.specs.declared.request.Request.{Request}
 use Rattle.iw_queues.specs.declared.request.Kind.{Kind}
 use Rattle.iw_events.specs.declared.call.End.{End}
 use Rattle.iw_events.specs.declared.call.End.TheVariants.{A, B}
@@ -12,23 +12,23 @@ use Rattle.iw_events.specs.declared.act.Act.{Act}
 use Rattle.iw_events.specs.declared.act.StreamAct.{StreamAct}
 use Rattle.iw_events.specs.declared.act.Entry.{Entry}
 use Rattle.iw_world.specs.Turns.{Story, story, story_after, untold}
-use Rattle.iw_world.specs.Words.{Opening, Octets, other, acts, acts_if, stream_acts, stream_acts_by, openings, openings_by, posted, posted_by, finished_kinds, finished_by, size_set, size_after, Sent, received, received_by, has_raw, raw_after, ended, ended_after, sent, sent_by, placements, placed_by, table_after, table_by, buffers, buffers_after}
+use Rattle.iw_world.specs.Words.{Opening, Octets, other, acts, acts_if, stream_acts, stream_acts_by, openings, openings_by, posted, posted_by, finished_kinds, finished_by, size_set, size_after, Sent, received, received_by, has_raw, raw_after, ended, ended_after, sent, sent_by, Placing, placings, placed_by, table_after, table_by, buffers, buffers_after}
 
 -- what the acts of one end say of one of its streams
 pub record Tale : Type 0 where
-  pub posted : List (Message Octets)
+  pub posted : List (Request Octets)
   pub finished : List Kind
   pub size : ℕ
   pub received : List Sent
   pub sent : List ℕ
   pub buffers : List ℕ
-  pub placements : List (Message Octets)
+  pub placings : List Placing
   pub story : Story
   pub ended : Bool
   pub raw : Bool
 
 abbrev pub tale_of : Opening → List (StreamAct Octets) → Tale
-tale_of o done = record { posted = posted done; finished = finished_kinds done; size = size_set done; received = received done; sent = sent done; buffers = buffers done; placements = placements done; story = story o done; ended = ended done; raw = has_raw done }
+tale_of o done = record { posted = posted done; finished = finished_kinds done; size = size_set done; received = received done; sent = sent done; buffers = buffers done; placings = placings done; story = story o done; ended = ended done; raw = has_raw done }
 
 abbrev pub tale_after : Tale → StreamAct Octets → Tale
 tale_after t act = record {
@@ -38,7 +38,7 @@ tale_after t act = record {
   received = t.received ++ received_by act;
   sent = t.sent ++ sent_by act;
   buffers = buffers_after t.buffers act;
-  placements = t.placements ++ placed_by act;
+  placings = t.placings ++ placed_by act;
   story = story_after t.story act;
   ended = ended_after t.ended act;
   raw = raw_after t.raw act;
@@ -52,7 +52,7 @@ fold-push f a [] x = refl
 fold-push f a (y ∷ ys) x = fold-push f (f a y) ys x
 
 pub tale-push : (o : Opening) (done : List (StreamAct Octets)) (act : StreamAct Octets) → tale_of o (done ++ act ∷ []) ≡ tale_after (tale_of o done) act
-unfolding posted finished_kinds size_set received sent buffers placements story ended has_raw
+unfolding posted finished_kinds size_set received sent buffers placings story ended has_raw
 tale-push o done act = λ i. record {
   posted = flat_map-push posted_by done act i;
   finished = flat_map-push finished_by done act i;
@@ -60,7 +60,7 @@ tale-push o done act = λ i. record {
   received = flat_map-push received_by done act i;
   sent = flat_map-push sent_by done act i;
   buffers = fold-push buffers_after [] done act i;
-  placements = flat_map-push placed_by done act i;
+  placings = flat_map-push placed_by done act i;
   story = fold-push story_after (untold o) done act i;
   ended = fold-push ended_after false done act i;
   raw = fold-push raw_after false done act i;

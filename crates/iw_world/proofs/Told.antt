@@ -1,5 +1,5 @@
 -- The right answer at a stream, with steps of work told apart by what is seen of them, and what each leaves of the stream.
-use Rattle.std.proofs.Common.{◌≡◌, ◌⊎◌, ℕ, ◌+◌, length, take, Option, Some, None, Result, Ok, Err, Bool, true, false, refl, sym, ap, ◌∙◌, subst, inl, inr}
+use Rattle.std.proofs.Common.{◌≡◌, ◌⊎◌, ℕ, ◌+◌, List, length, take, Option, Some, None, Result, Ok, Err, Bool, true, false, cond, refl, sym, ap, ◌∙◌, subst, inl, inr}
 use Rattle.std.specs.Option.{option_map, option_map_or}
 use Rattle.std.specs.Prelude.{is_some, replicate}
 use Rattle.std.proofs.lemmas.Bool.{false≢true}
@@ -9,18 +9,29 @@ use Rattle.iw_octets.specs.declared.head.TaggedHead.{TaggedHead}
 use Rattle.iw_octets.specs.declared.head.UntaggedHead.{UntaggedHead}
 use Rattle.iw_octets.specs.declared.segment.Segment.{Segment}
 use Rattle.iw_octets.specs.declared.segment.Segment.TheVariants.{Tagged, Untagged}
+use Rattle.iw_octets.specs.declared.payload.ReadRequest.{ReadRequest}
 use Rattle.iw_octets.specs.declared.stag.Stag.{Stag}
+use Rattle.iw_octets.specs.Operation.{opcode_of}
+use Rattle.iw_octets.specs.Payload.{request_fields}
 use Rattle.iw_memory.specs.declared.rights.Right.{Right}
 use Rattle.iw_memory.specs.declared.rights.Right.TheVariants as rights
-use Rattle.iw_memory.specs.Table.{Table, denial}
-use Rattle.iw_fpdu.specs.declared.fpdu.Mismatch.{Mismatch}
+use Rattle.iw_memory.specs.Table.{Table, denial, put, octets_at}
 use Rattle.iw_fpdu.specs.Sequence.{Carried}
 use Rattle.iw_queues.specs.declared.completions.Done.{Done}
-use Rattle.iw_queues.specs.Queue.{done_in, handed_from}
+use Rattle.iw_queues.specs.declared.request.Request.{Request}
+use Rattle.iw_queues.specs.declared.send_queue.Part.{Part}
+use Rattle.iw_queues.specs.Completions as completions
+use Rattle.iw_queues.specs.Queue.{Queue, part_sent, sent_with, done_in, handed_from}
+use Rattle.iw_queues.specs.Segments.{numbers_behind}
+use Rattle.iw_reads.specs.declared.reads.Outstanding.{Outstanding}
+use Rattle.iw_reads.specs.declared.response.ResponsePart.{ResponsePart}
+use Rattle.iw_reads.specs.Outstanding.{response_turn_fault, finished_read}
+use Rattle.iw_reads.specs.Requests.{Requested, taken_up, part_fetched}
+use Rattle.iw_tagged.specs.declared.placing.Placed.{Placed}
 use Rattle.iw_startup.specs.declared.progress.Progress.{Progress}
 use Rattle.iw_startup.specs.declared.progress.Progress.TheVariants as progress
 use Rattle.iw_startup.specs.State.{StartupState}
-use Rattle.iw_untagged.specs.Receiving.{written, finished, oldest, turn_fault}
+use Rattle.iw_untagged.specs.Receiving.{written, finished, oldest, turn_fault, buffer_fault}
 use Rattle.iw_ranges.specs.Arrived.{advanced}
 use Rattle.iw_stream.specs.declared.answer.Step.{Step}
 use Rattle.iw_stream.specs.declared.judging.Landing.{Landing}
@@ -30,22 +41,25 @@ use Rattle.iw_stream.specs.declared.judging.Turning.{Turning}
 use Rattle.iw_stream.specs.declared.judging.Turning.TheVariants as turning
 use Rattle.iw_stream.specs.Frames.{Frame, payload_of, placed, payload_len}
 use Rattle.iw_stream.specs.Frames as frames
-use Rattle.iw_stream.specs.Judging.{fault_or, mismatch_fault, tagged_fault, untagged_fault, segment_verdict, verdict, turning_by, segment_turn, turn_of, receiving_turned}
-use Rattle.iw_stream.specs.Starting.{StartState, AtOnce, Unheard, Heard, is_open, awaits_frame, progress_in, heard, agreement_in, private_in}
-use Rattle.iw_stream.specs.Stream.{StreamState, with_buffer, with_message, with_mulpdu, after_emit, after_deliver, accepted, rejected}
+use Rattle.iw_stream.specs.Judging.{fault_or, verdict, turning_by, answering_by, is_response, tagged_turn, segment_turn, turn_of, receiving_turned, left_by_turn, reads_left}
+use Rattle.iw_stream.specs.Starting.{StartState, AtOnce, Unheard, Heard, is_open, own_frame, awaits_frame, progress_in, heard, agreement_in, private_in}
+use Rattle.iw_stream.specs.Stream.{StreamState, Due, StartUp, Response, NextPart, NoneDue, due, owes_frame, is_mute, part_due, response_due, frame_of_part, frame_fetched, reads_with, octets_due, octets_fetched, emission_due, emission_fetched, emission_of, emitted, left_due, left_fetched, with_buffer, with_request, with_mulpdu, after_emit, after_deliver, accepted, rejected}
 use Rattle.iw_stream.specs.Work.{Turn, Judge, inbox, next_frame, hears, heard_step, turned_step, judged_step, step_of, after_hearing, after_turn, after_judging, left_by, table_judged, work_step, worked, table_worked}
 use Rattle.iw_stream.specs.Work as work
-use Rattle.iw_stream.proofs.Headers.{payload_kept, turn_kept, turned_kept}
+use Rattle.iw_stream.proofs.Headers.{payload_kept, turn_kept, turned_kept, left_kept}
 use Rattle.iw_stream.proofs.Tasks.{IsRunning, IsResting, by_task}
 use Rattle.iw_events.specs.declared.act.StreamAct.{StreamAct}
 use Rattle.iw_events.specs.declared.act.StreamAct.TheVariants.{Recv, Post, Emit, Deliver, Raw, Mulpdu, Accept, Reject, Work}
+use Rattle.iw_events.specs.declared.act.Shown.{Shown}
+use Rattle.iw_events.specs.declared.act.Shown.TheVariants as shows
 use Rattle.iw_events.specs.declared.act.Seen.{Seen}
 use Rattle.iw_events.specs.declared.act.Seen.TheVariants as seen
 use Rattle.iw_world.specs.Words.{Octets}
-use Rattle.iw_world.specs.Turns.{seen_judged, seen_turned}
-use Rattle.iw_world.specs.Rules.{StreamRule, private_data, seen_of, stream_after}
+use Rattle.iw_world.specs.Turns.{asked_in, seen_judged, seen_turned}
+use Rattle.iw_world.specs.Rules.{StreamRule, private_data, seen_of, shown_of, stream_after}
 use Rattle.iw_world.proofs.Nexts.{fore, segment_in, segment_at, turned_by, behind_front, standing, Sound, first_is_here, behind_is}
-use Rattle.iw_world.proofs.Seeing.{Lands, lands_write, write_stands}
+use Rattle.iw_world.proofs.Checks.{IsPlainSend}
+use Rattle.iw_world.proofs.Seeing.{LandsTagged, LandsSend, LandsRequest, LandsAs, lands_as, stands}
 
 -- ---- what an act leaves of a stream, by what is seen of it
 
@@ -53,14 +67,57 @@ use Rattle.iw_world.proofs.Seeing.{Lands, lands_write, write_stands}
 abbrev pub kept_of : StreamState → Option PlacedFrame
 kept_of s = option_map (λ x. placed (standing s x.0)) (fore s)
 
+-- the peer's requests, with the one at the in-order point
+abbrev pub asked_front : StreamState → Requested
+asked_front s = option_map_or (λ x. taken_up s.asked (asked_in (standing s x.0))) (fore s) s.asked
+
+-- the Reads that are outstanding, behind the frame at the in-order point
+abbrev pub reads_front : StreamState → List Outstanding
+reads_front s = left_by_turn s.reads (length (payload_of (segment_at (fore s)))) (segment_at (fore s))
+
+-- the Read that a segment finishes, by its ticket
+abbrev pub finishes_read : List Outstanding → Option (Segment Octets) → Option ℕ
+finishes_read reads None = None
+finishes_read reads (Some (Tagged head payload)) = cond (is_response head) (finished_read reads head) None
+finishes_read reads (Some (Untagged head payload)) = None
+
+abbrev pub with_finished : Queue → Option ℕ → Queue
+with_finished q None = q
+with_finished q (Some ticket) = sent_with q (completions.finished q.sent ticket)
+
+-- what a call to emit leaves, by what it showed
+abbrev pub left_frame : StreamState → Due → StreamState
+left_frame s StartUp = record s { sent = s.sent + length (own_frame s.start) }
+left_frame s (NextPart part) = record s {
+  queue = part_sent s.queue (Some part);
+  numbers = numbers_behind s.numbers part;
+  sent = s.sent + length (frame_of_part s part);
+  reads = reads_with s.reads part.ticket part.message;
+}
+left_frame s (Response part) = s
+left_frame s NoneDue = s
+
+abbrev pub after_shown : StreamState → Shown Octets → StreamState
+after_shown s (shows.Frame from octets) = left_frame s (due s)
+after_shown s (shows.Fetched from frame stag to octets) = record s { asked = part_fetched s.asked (response_due s); sent = s.sent + length frame }
+after_shown s (shows.Fault fault) = record s { ended = true }
+after_shown s shows.Nothing = s
+
 abbrev pub after_seen : StreamState → Seen Octets → StreamState
 after_seen s (seen.Done kind) = record s { queue = handed_from s.queue (done_in s.queue) }
 after_seen s (seen.Asked private) = hears s
 after_seen s (seen.Opened agreed private) = hears s
 after_seen s (seen.Closed fault) = record (hears s) { ended = true }
 after_seen s (seen.Placed right stag to octets) = record s { front = kept_of s }
+after_seen s (seen.Requested size stag to) = record s { front = None; arrived = behind_front s; asked = asked_front s }
 after_seen s (seen.Buffered msn mo len) = record s { front = kept_of s; receiving = written s.receiving msn mo (payload_of (segment_at (fore s))) }
-after_seen s seen.Passed = record s { front = None; receiving = turned_by s.receiving (segment_at (fore s)); arrived = behind_front s }
+after_seen s seen.Passed = record s {
+  front = None;
+  receiving = turned_by s.receiving (segment_at (fore s));
+  arrived = behind_front s;
+  reads = reads_front s;
+  queue = with_finished s.queue (finishes_read s.reads (segment_at (fore s)));
+}
 after_seen s (seen.Received octets solicited invalidate) = record s { front = None; receiving = finished s.receiving; arrived = behind_front s }
 after_seen s (seen.Fault fault) = record s { ended = true }
 after_seen s seen.Idle = s
@@ -68,9 +125,9 @@ after_seen s seen.Idle = s
 abbrev pub after_act : StreamState → StreamAct Octets → StreamState
 after_act s (Recv len None) = with_buffer s (replicate len 0)
 after_act s (Recv len (Some refusal)) = s
-after_act s (Post message None) = with_message s message
-after_act s (Post message (Some refusal)) = s
-after_act s (Emit shown) = after_emit s
+after_act s (Post request None) = with_request s request
+after_act s (Post request (Some refusal)) = s
+after_act s (Emit shown) = after_shown s shown
 after_act s (Deliver from octets delivery) = after_deliver s from octets delivery
 after_act s (Raw from octets delivery) = after_deliver s from octets delivery
 after_act s (Mulpdu size None) = with_mulpdu s size
@@ -110,29 +167,39 @@ pub record Fronts (s : StreamState) (was_placed : Bool) (segment : Segment Octet
   pub whole : fore s ≡ Some (frame, rest)
   pub carries : segment_in frame ≡ Some segment
 
--- a Write that was placed
-pub record SeesWrite (table : Table) (s : StreamState) (right : Right) (stag : Stag) (to : ℕ) (octets : Octets) : Type 0 where
+-- a tagged segment that was placed: a Write's, or part of the response to a Read
+pub record SeesPlaced (table : Table) (s : StreamState) (right : Right) (stag : Stag) (to : ℕ) (octets : Octets) : Type 0 where
   pub head : TaggedHead
   pub fronts : Fronts s false (Tagged head octets)
-  pub checked : tagged_fault table s.domain head (length octets) ≡ None
+  pub kind : ((right ≡ rights.Write) × (opcode_of head.control ≡ 0)) ⊎ ((right ≡ rights.Sink) × (opcode_of head.control ≡ 2))
   pub admitted : denial table s.domain stag to (length octets) right ≡ None
-  pub right_is : right ≡ rights.Write
   pub stag_is : stag ≡ head.stag
   pub to_is : to ≡ head.to
+
+-- a Read Request that was taken up
+pub record SeesRequest (s : StreamState) (size : ℕ) (stag : Stag) (to : ℕ) : Type 0 where
+  pub head : UntaggedHead
+  pub payload : Octets
+  pub fronts : Fronts s false (Untagged head payload)
+  pub queue : head.queue ≡ 1
+  pub size_is : size ≡ (request_fields payload).size
+  pub stag_is : stag ≡ (request_fields payload).source
+  pub to_is : to ≡ (request_fields payload).source_to
 
 -- a Send's segment that was placed
 pub record SeesSend (s : StreamState) (msn mo len : ℕ) : Type 0 where
   pub head : UntaggedHead
   pub payload : Octets
   pub fronts : Fronts s false (Untagged head payload)
-  pub checked : untagged_fault s.receiving head (length payload) ≡ None
+  pub plain : IsPlainSend head
+  pub checked : buffer_fault s.receiving head.msn head.mo (length payload) ≡ None
   pub msn_is : msn ≡ head.msn
   pub mo_is : mo ≡ head.mo
   pub len_is : len ≡ length payload
 
 -- the segment is not the last of a Send
 abbrev pub IsPassing : StreamState → Segment Octets → Type 0
-IsPassing s (Tagged head payload) = Unit {0}
+IsPassing s (Tagged head payload) = is_response head ≡ true → response_turn_fault s.reads head (length payload) ≡ None
 IsPassing s (Untagged head payload) = (turn_fault s.receiving head.msn head.mo ≡ None) × (head.last ≡ false)
 
 pub record Passes (s : StreamState) : Type 0 where
@@ -164,7 +231,8 @@ Sees table s seen.Idle = (done_in s.queue ≡ None) × (Hears s progress.More �
 Sees table s (seen.Asked private) = Hears s progress.Asked × (private ≡ private_in (hears s).start)
 Sees table s (seen.Opened agreed private) = Hears s progress.Agreed × (agreed ≡ agreement_in (heard s.start (inbox s))) × (private ≡ private_in (hears s).start)
 Sees table s (seen.Closed fault) = Hears s (progress.Faulted fault)
-Sees table s (seen.Placed right stag to octets) = Judged table s (seen.Placed right stag to octets) × SeesWrite table s right stag to octets
+Sees table s (seen.Placed right stag to octets) = Judged table s (seen.Placed right stag to octets) × SeesPlaced table s right stag to octets
+Sees table s (seen.Requested size stag to) = Judged table s (seen.Requested size stag to) × SeesRequest s size stag to
 Sees table s (seen.Buffered msn mo len) = Judged table s (seen.Buffered msn mo len) × SeesSend s msn mo len
 Sees table s seen.Passed = Turned table s seen.Passed × Passes s
 Sees table s (seen.Received octets solicited invalidate) = Turned table s (seen.Received octets solicited invalidate) × SeesReceive s octets solicited invalidate
@@ -177,7 +245,7 @@ module _ (table : Table) (s : StreamState) (k : Sound s) (runs : IsRunning s) wh
   -- a frame that was not placed is judged
   module _ (frame : Frame) (is_next : next_frame s ≡ Some frame) (unplaced : s.front ≡ None) (private : Octets) where
     abbrev Lands_in : Result Landing Fault → Type 0
-    Lands_in r = verdict (work.standing table s) frame ≡ r → Given table s (seen_of (table_judged table frame r) private (judged_step r)) (after_judging s frame r)
+    Lands_in r = verdict (work.standing table s) frame ≡ r → LandsAs (work.standing table s) frame r → Given table s (seen_of (table_judged table frame r) private (judged_step r)) (after_judging s frame r)
 
     judged : (step : Seen Octets) → step ≡ seen_judged frame (verdict (work.standing table s) frame) → Judged table s step
     judged step e = record { runs = runs; frame = frame; is_next = is_next; unplaced = unplaced; answer = e }
@@ -199,42 +267,69 @@ module _ (table : Table) (s : StreamState) (k : Sound s) (runs : IsRunning s) wh
     faulted : (fault : Fault) → verdict (work.standing table s) frame ≡ Err fault → Given table s (seen.Fault fault) (record s { ended = true })
     faulted fault e = (inl (judged (seen.Fault fault) (ap (seen_judged frame) (sym e))), refl)
 
-    tagged : (head : TaggedHead) (payload : Octets) → Lands frame (Tagged head payload) → (f : Option Fault) → tagged_fault table s.domain head (length payload) ≡ f
-        → Lands_in (fault_or f (landing.Write (record { stag = head.stag; to = head.to; n = length payload })))
-    tagged head payload lands (Some fault) c e = faulted fault e
-    tagged head payload lands None c e =
-        let w = lands_write (work.standing table s) frame head payload lands c in
-        let stand = write_stands (work.standing table s) frame head payload w in
-        let sees : Judged table s (seen.Placed rights.Write head.stag head.to payload) × SeesWrite table s rights.Write head.stag head.to payload = (
-          judged (seen.Placed rights.Write head.stag head.to payload) (ap (λ z. seen.Placed rights.Write head.stag head.to z) (sym (ap payload_of lands.carries)) ∙ ap (seen_judged frame) (sym e)),
-          record { head = head; fronts = fronts (Tagged head payload) lands.carries; checked = c; admitted = w.admitted; right_is = refl; stag_is = refl; to_is = refl },
-        ) in (
-          subst (λ z. Judged table s (seen.Placed rights.Write head.stag head.to z) × SeesWrite table s rights.Write head.stag head.to z) (sym stand) sees,
-          (λ i. record s { front = keeps i }),
-        )
+    -- its segment, its place and the place behind it
+    behind_here : advanced s.arrived (work.place_behind s (placed frame)) ≡ behind_front s
+    behind_here =
+        let first = first_is_here s frame k is_next in
+        ap (λ z. advanced s.arrived (work.place_behind s (placed z))) first.is ∙ ap (advanced s.arrived) (behind_is s (record { mismatch = frame.mismatch; ulpdu = frame.ulpdu }) first.rest k first.whole)
 
-    untagged : (head : UntaggedHead) (payload : Octets) → Lands frame (Untagged head payload) → (f : Option Fault) → untagged_fault s.receiving head (length payload) ≡ f
-        → Lands_in (fault_or f (landing.Send head.msn head.mo (length payload)))
-    untagged head payload lands (Some fault) c e = faulted fault e
-    untagged head payload lands None c e = (
+    takes : taken_up s.asked (asked_in frame) ≡ asked_front s
+    takes =
+        let first = first_is_here s frame k is_next in
+        ap (λ z. taken_up s.asked (asked_in z)) first.is ∙ ap (λ o. option_map_or (λ (x : Carried × Octets). taken_up s.asked (asked_in (standing s x.0))) o s.asked) (sym first.whole)
+
+    tagged : (opcode : ℕ) (right : Right) (p : Placed) → (w : LandsTagged (work.standing table s) frame opcode right p)
+        → ((right ≡ rights.Write) × (opcode ≡ 0)) ⊎ ((right ≡ rights.Sink) × (opcode ≡ 2)) → seen.Placed right p.stag p.to (payload_of (frames.segment_in frame)) ≡ seen_judged frame (verdict (work.standing table s) frame)
+        → Sees table s (seen.Placed right p.stag p.to (octets_at (put table p.stag p.to (payload_of (frames.segment_in frame))) p.stag p.to p.n))
+    tagged opcode right p w kind e =
+        let whole : octets_at (put table p.stag p.to (payload_of (frames.segment_in frame))) p.stag p.to p.n ≡ w.payload = stands (work.standing table s) frame opcode right p w in
+        let stag : p.stag ≡ w.head.stag = ap (λ (q : Placed). q.stag) w.place in
+        let to : p.to ≡ w.head.to = ap (λ (q : Placed). q.to) w.place in
+        let sees : Sees table s (seen.Placed right p.stag p.to w.payload) = (
+          judged (seen.Placed right p.stag p.to w.payload) (ap (seen.Placed right p.stag p.to) (sym (ap payload_of w.carries)) ∙ e),
+          record {
+            head = w.head;
+            fronts = fronts (Tagged w.head w.payload) w.carries;
+            kind = elim kind [ inl z ↦ inl (z.0, w.is ∙ z.1) | inr z ↦ inr (z.0, w.is ∙ z.1) ];
+            admitted = (λ i. denial table s.domain (stag i) (to i) (length w.payload) right) ∙ w.admitted;
+            stag_is = stag;
+            to_is = to;
+          },
+        ) in
+        subst (λ z. Sees table s (seen.Placed right p.stag p.to z)) (sym whole) sees
+
+    lands_by : (r : Result Landing Fault) → Lands_in r
+    lands_by (Err fault) e w = faulted fault e
+    lands_by (Ok (landing.Write p)) e w = (tagged 0 rights.Write p w (inl (refl, refl)) (ap (seen_judged frame) (sym e)), (λ i. record s { front = keeps i }))
+    lands_by (Ok (landing.Response p)) e w = (tagged 2 rights.Sink p w (inr (refl, refl)) (ap (seen_judged frame) (sym e)), (λ i. record s { front = keeps i }))
+    lands_by (Ok (landing.Send msn mo len)) e w = (
       (
-        judged (seen.Buffered head.msn head.mo (length payload)) (ap (seen_judged frame) (sym e)),
-        record { head = head; payload = payload; fronts = fronts (Untagged head payload) lands.carries; checked = c; msn_is = refl; mo_is = refl; len_is = refl },
+        judged (seen.Buffered msn mo len) (ap (seen_judged frame) (sym e)),
+        record { head = w.head; payload = w.payload; fronts = fronts (Untagged w.head w.payload) w.carries; plain = w.plain; checked = w.checked; msn_is = w.msn_is; mo_is = w.mo_is; len_is = w.len_is },
       ),
-      (λ i. record s { front = keeps i; receiving = written s.receiving head.msn head.mo (payload_of (segment_at (sym (first_is_here s frame k is_next).whole i))) }),
+      (λ i. record s { front = keeps i; receiving = written s.receiving msn mo (payload_of (segment_at (sym (first_is_here s frame k is_next).whole i))) }),
     )
-
-    of_segment : frame.mismatch ≡ None → (o : Option (Segment Octets)) → frames.segment_in frame ≡ o → Lands_in (segment_verdict (work.standing table s) o)
-    of_segment sound None e = faulted faults.SEGMENT_SHORT
-    of_segment sound (Some (Tagged head payload)) e = tagged head payload (record { sound = sound; carries = e }) (tagged_fault table s.domain head (length payload)) refl
-    of_segment sound (Some (Untagged head payload)) e = untagged head payload (record { sound = sound; carries = e }) (untagged_fault s.receiving head (length payload)) refl
-
-    of_frame : (m : Option Mismatch) → frame.mismatch ≡ m → Lands_in (option_map_or (λ w. Err (mismatch_fault w)) m (segment_verdict (work.standing table s) (frames.segment_in frame)))
-    of_frame (Some wrong) e = faulted (mismatch_fault wrong)
-    of_frame None e = of_segment e (frames.segment_in frame) refl
+    lands_by (Ok (landing.Request request)) e w = (
+      (
+        judged (seen.Requested request.size request.source request.source_to) (ap (seen_judged frame) (sym e)),
+        record {
+          head = w.head;
+          payload = w.payload;
+          fronts = fronts (Untagged w.head w.payload) w.carries;
+          queue = w.queue;
+          size_is = ap (λ (z : ReadRequest). z.size) w.is;
+          stag_is = ap (λ (z : ReadRequest). z.source) w.is;
+          to_is = ap (λ (z : ReadRequest). z.source_to) w.is;
+        },
+      ),
+      (λ i. record s { front = None; arrived = behind_here i; asked = (same_request request w ∙ takes) i }),
+    )
+      where
+        same_request : (request : ReadRequest) → LandsRequest (work.standing table s) frame request → taken_up s.asked (record { header = (placed frame).header; request = request }) ≡ taken_up s.asked (asked_in frame)
+        same_request request w = ap (λ z. taken_up s.asked (record { header = (placed frame).header; request = z })) (w.is ∙ ap (λ g. request_fields (payload_of g)) (sym w.carries))
 
     lands : Given table s (seen_of (table_judged table frame (verdict (work.standing table s) frame)) private (judged_step (verdict (work.standing table s) frame))) (after_judging s frame (verdict (work.standing table s) frame))
-    lands = of_frame frame.mismatch refl refl
+    lands = lands_by (verdict (work.standing table s) frame) refl (lands_as (work.standing table s) frame)
 
   -- a frame that was placed has its turn
   module _ (frame : Carried) (rest : Octets) (whole : fore s ≡ Some (frame, rest)) (segment : Segment Octets) (carries : segment_in frame ≡ Some segment) (kept : s.front ≡ Some (placed (standing s frame))) (private : Octets) where
@@ -251,39 +346,80 @@ module _ (table : Table) (s : StreamState) (k : Sound s) (runs : IsRunning s) wh
     size : payload_len (placed (standing s frame)) ≡ length (payload_of (Some segment))
     size = payload_kept (standing s frame) segment carries
 
+    at : segment_at (fore s) ≡ Some segment
+    at = ap segment_at whole ∙ carries
+
     receiving_is : receiving_turned s.receiving (placed (standing s frame)) ≡ turned_by s.receiving (segment_at (fore s))
-    receiving_is = turned_kept s.receiving (standing s frame) segment carries ∙ ap (turned_by s.receiving) (sym (ap segment_at whole ∙ carries))
+    receiving_is = turned_kept s.receiving (standing s frame) segment carries ∙ ap (turned_by s.receiving) (sym at)
+
+    reads_are : reads_left s.reads (placed (standing s frame)) ≡ reads_front s
+    reads_are = left_kept s.reads (standing s frame) segment carries ∙ ap (λ o. left_by_turn s.reads (length (payload_of o)) o) (sym at)
 
     arrived_is : advanced s.arrived (work.place_behind s (placed (standing s frame))) ≡ behind_front s
     arrived_is = ap (advanced s.arrived) (behind_is s frame rest k whole)
 
     -- the turn, by the segment
     abbrev Turned_as : Result Turning Fault → Type 0
-    Turned_as (Ok turning.Passed) = IsPassing s segment
-    Turned_as (Ok turning.Completed) = (head : UntaggedHead) × (payload : Octets) × (segment ≡ Untagged head payload) × (turn_fault s.receiving head.msn head.mo ≡ None) × (head.last ≡ true)
+    Turned_as (Ok turning.Passed) = IsPassing s segment × (finishes_read s.reads (Some segment) ≡ None)
+    Turned_as (Ok (turning.Answered ticket)) =
+        IsPassing s segment × (finishes_read s.reads (Some segment) ≡ Some ticket) × (s.receiving ≡ turned_by s.receiving (Some segment))
+    Turned_as (Ok turning.Completed) =
+        (head : UntaggedHead) × (payload : Octets) × (segment ≡ Untagged head payload) × (turn_fault s.receiving head.msn head.mo ≡ None) × (head.last ≡ true)
     Turned_as (Err fault) = Unit {0}
 
-    as_of : (g : Segment Octets) → segment ≡ g → Turned_as (segment_turn s.receiving (Some g))
-    as_of (Tagged head payload) e = subst (IsPassing s) (sym e) tt
+    as_tagged : (head : TaggedHead) (payload : Octets) → segment ≡ Tagged head payload → Turned_as (tagged_turn s.reads head (length payload))
+    as_tagged head payload e = by (is_response head) refl
+      where
+        passes : (is_response head ≡ true → response_turn_fault s.reads head (length payload) ≡ None) → IsPassing s segment
+        passes h = subst (IsPassing s) (sym e) h
+
+        ends : (ticket : Option ℕ) → finishes_read s.reads (Some (Tagged head payload)) ≡ ticket → finishes_read s.reads (Some segment) ≡ ticket
+        ends ticket h = ap (λ g. finishes_read s.reads (Some g)) e ∙ h
+
+        same : s.receiving ≡ turned_by s.receiving (Some segment)
+        same = ap (λ g. turned_by s.receiving (Some g)) (sym e)
+
+        answered : is_response head ≡ true → (o : Option ℕ) → finished_read s.reads head ≡ o → response_turn_fault s.reads head (length payload) ≡ None → Turned_as (Ok (answering_by o))
+        answered b None r h = (passes (λ x. h), ends None (ap (λ z. cond z (finished_read s.reads head) None) b ∙ r))
+        answered b (Some ticket) r h = (passes (λ x. h), ends (Some ticket) (ap (λ z. cond z (finished_read s.reads head) None) b ∙ r), same)
+
+        turns : is_response head ≡ true → (f : Option Fault) → response_turn_fault s.reads head (length payload) ≡ f → Turned_as (fault_or f (answering_by (finished_read s.reads head)))
+        turns b (Some fault) h = tt
+        turns b None h = answered b (finished_read s.reads head) refl h
+
+        by : (b : Bool) → is_response head ≡ b → Turned_as (cond b (fault_or (response_turn_fault s.reads head (length payload)) (answering_by (finished_read s.reads head))) (Ok turning.Passed))
+        by true b = turns b (response_turn_fault s.reads head (length payload)) refl
+        by false b = (passes (λ x. absurd (false≢true (sym b ∙ x))), ends None (ap (λ z. cond z (finished_read s.reads head) None) b))
+
+    as_of : (g : Segment Octets) → segment ≡ g → Turned_as (segment_turn s.receiving s.reads (length (payload_of (Some g))) (Some g))
+    as_of (Tagged head payload) e = as_tagged head payload e
     as_of (Untagged head payload) e = go (turn_fault s.receiving head.msn head.mo) refl head.last refl
       where
         go : (f : Option Fault) → turn_fault s.receiving head.msn head.mo ≡ f → (last : Bool) → head.last ≡ last → Turned_as (fault_or f (turning_by last))
         go (Some fault) t last l = tt
         go None t true l = (head, payload, e, t, l)
-        go None t false l = subst (IsPassing s) (sym e) (t, l)
+        go None t false l = (subst (IsPassing s) (sym e) (t, l), ap (λ g. finishes_read s.reads (Some g)) e)
 
     as_turn : Turned_as (turn_of (work.standing table s) (placed (standing s frame)))
     as_turn = subst Turned_as (sym (turn_kept (work.standing table s) (standing s frame) segment carries)) (as_of segment refl)
 
+    passing : seen.Passed ≡ seen_turned s.receiving (placed (standing s frame)) (turn_of (work.standing table s) (placed (standing s frame))) → IsPassing s segment → Sees table s seen.Passed
+    passing e h = (turned seen.Passed e, record { segment = segment; fronts = fronted; passing = h })
+
     turns_by : (r : Result Turning Fault) → Turns_to r
     turns_by (Err fault) e = (inr (turned (seen.Fault fault) (ap (seen_turned s.receiving (placed (standing s frame))) (sym e))), refl)
-    turns_by (Ok turning.Passed) e = (
-      (
-        turned seen.Passed (ap (seen_turned s.receiving (placed (standing s frame))) (sym e)),
-        record { segment = segment; fronts = fronted; passing = subst Turned_as e as_turn },
-      ),
-      (λ i. record s { front = None; receiving = receiving_is i; arrived = arrived_is i }),
-    )
+    turns_by (Ok turning.Passed) e =
+        let c = subst Turned_as e as_turn in
+        let none : finishes_read s.reads (segment_at (fore s)) ≡ None = ap (finishes_read s.reads) at ∙ c.1 in (
+          passing (ap (seen_turned s.receiving (placed (standing s frame))) (sym e)) c.0,
+          (λ i. record s { front = None; receiving = receiving_is i; arrived = arrived_is i; reads = reads_are i; queue = with_finished s.queue (sym none i) }),
+        )
+    turns_by (Ok (turning.Answered ticket)) e =
+        let c = subst Turned_as e as_turn in
+        let one : finishes_read s.reads (segment_at (fore s)) ≡ Some ticket = ap (finishes_read s.reads) at ∙ c.1 in (
+          passing (ap (seen_turned s.receiving (placed (standing s frame))) (sym e)) c.0,
+          (λ i. record s { front = None; receiving = (c.2 ∙ ap (turned_by s.receiving) (sym at)) i; arrived = arrived_is i; reads = reads_are i; queue = with_finished s.queue (sym one i) }),
+        )
     turns_by (Ok turning.Completed) e =
         let c = subst Turned_as e as_turn in
         let long : payload_len (placed (standing s frame)) ≡ length c.1 = size ∙ ap (λ g. length (payload_of (Some g))) c.2 in (
@@ -310,6 +446,23 @@ unheard_by : (start : StartState) → awaits_frame start ≡ true → (u : Start
 unheard_by (AtOnce layout) e = absurd (false≢true e)
 unheard_by (Unheard u) e = (u, refl)
 unheard_by (Heard u) e = absurd (false≢true e)
+
+-- a part of a response is due
+abbrev IsResponse : StreamState → Due → Type 0
+IsResponse s StartUp = Unit {0}
+IsResponse s (Response part) = response_due s ≡ Some part
+IsResponse s (NextPart part) = Unit {0}
+IsResponse s NoneDue = Unit {0}
+
+response_told : (s : StreamState) → IsResponse s (due s)
+response_told s = go (owes_frame s) (is_mute s) (response_due s) (part_due s) refl
+  where
+    go : (owes mute : Bool) (o : Option ResponsePart) (p : Option (Part (Request Octets))) → response_due s ≡ o → IsResponse s (cond owes StartUp (cond mute NoneDue (option_map_or Response o (option_map_or NextPart p NoneDue))))
+    go true mute o p e = tt
+    go false true o p e = tt
+    go false false (Some part) p e = e
+    go false false None None e = tt
+    go false false None (Some part) e = tt
 
 -- whatever the task is
 module _ (table : Table) (s : StreamState) (k : Sound s) where
@@ -365,13 +518,28 @@ told table s (Accept private answer) k rule = rule
 told table s (Reject private refused) k rule = rule
 told table s (Mulpdu most refused) k rule = rule
 
+-- what a call to emit leaves, by what it showed
+left_shown : (table : Table) (s : StreamState) (shown : Shown Octets) → shown ≡ shown_of table (emission_of table s) (emitted table s) → after_emit table s ≡ after_shown s shown
+left_shown table s shown e = go (due s) refl (response_told s) shown e
+  where
+    fetched : (part : ResponsePart) → response_due s ≡ Some part → (r : Result Octets Fault) → (shown : Shown Octets) → shown ≡ shown_of table (emission_fetched s part r) (octets_fetched r) → left_fetched s part r ≡ after_shown s shown
+    fetched part due (Ok frame) shown e =
+        (λ i. record s { asked = part_fetched s.asked (sym due i); sent = s.sent + length frame }) ∙ ap (after_shown s) (sym e)
+    fetched part due (Err fault) shown e = ap (after_shown s) (sym e)
+
+    go : (d : Due) → due s ≡ d → IsResponse s d → (shown : Shown Octets) → shown ≡ shown_of table (emission_due table s d) (octets_due table s d) → left_due table s d ≡ after_shown s shown
+    go StartUp is t shown e = ap (left_frame s) (sym is) ∙ ap (after_shown s) (sym e)
+    go (Response part) is t shown e = fetched part t (frame_fetched table s part) shown e
+    go (NextPart part) is t shown e = ap (left_frame s) (sym is) ∙ ap (after_shown s) (sym e)
+    go NoneDue is t shown e = ap (after_shown s) (sym e)
+
 pub left_told : (table : Table) (s : StreamState) (act : StreamAct Octets) → Sound s → StreamRule table s act → stream_after table s act ≡ after_act s act
 left_told table s (Work step) k rule = (sees table s k step rule).1
 left_told table s (Recv len None) k rule = refl
 left_told table s (Recv len (Some refusal)) k rule = refl
 left_told table s (Post message None) k rule = refl
 left_told table s (Post message (Some refusal)) k rule = refl
-left_told table s (Emit shown) k rule = refl
+left_told table s (Emit shown) k rule = left_shown table s shown rule
 left_told table s (Deliver from octets delivery) k rule = refl
 left_told table s (Raw from octets delivery) k rule = refl
 left_told table s (Accept private (Ok agreed)) k rule = refl

@@ -1,5 +1,5 @@
 -- The frames that came, one behind the other, and the one at the in-order point of a stream's state.
-use Rattle.std.proofs.Common.{subst, ◌≡◌, ℕ, ◌+◌, ◌-◌, ◌*◌, ◌≤◌, List, [], ◌∷◌, ◌++◌, length, take, drop, map, replicate, Option, Some, None, Bool, true, false, cond, refl, sym, ap, ◌∙◌, arith, append_assoc, length-append, length-take, Ok, Err}
+use Rattle.std.proofs.Common.{subst, ◌≡◌, ℕ, ◌+◌, ◌-◌, ◌*◌, ◌≤◌, List, [], ◌∷◌, ◌++◌, length, take, drop, map, replicate, Option, Some, None, Bool, true, false, cond, refl, sym, ap, ◌∙◌, arith, append_assoc, length-append, length-take, Ok, Err, inl, inr, ◌⊎◌}
 use Rattle.std.specs.Prelude.{slice_get, max, nat_eq, is_some, not, ◌&&◌, Result}
 use Rattle.std.specs.Option.{option_map, option_map_or}
 use Rattle.std.proofs.lemmas.Bool.{true≢false, false≢true}
@@ -9,7 +9,6 @@ use Rattle.std.proofs.Math.Seq.{take-append_seam}
 use Rattle.iw_octets.specs.declared.segment.Segment.{Segment}
 use Rattle.iw_octets.specs.declared.segment.Segment.TheVariants.{Tagged, Untagged}
 use Rattle.iw_octets.specs.declared.stag.Stag.{Stag}
-use Rattle.iw_octets.specs.declared.message.Message.TheVariants.{Write}
 use Rattle.iw_memory.specs.declared.rights.Right.{Right}
 use Rattle.iw_memory.specs.Table.{Table}
 use Rattle.iw_ranges.specs.declared.Delivery.TheVariants.{Kept, Dropped}
@@ -44,7 +43,7 @@ use Rattle.iw_stream.specs.Frames as frames
 use Rattle.iw_stream.specs.Judging.{receiving_turned}
 use Rattle.iw_stream.specs.Starting.{StartState, AtOnce, Unheard, Heard, IsFresh, is_open, expecting, first_place_in, is_responder, progress_in, heard, agreement_in, answered_with}
 use Rattle.iw_stream.specs.Starting as starting
-use Rattle.iw_stream.specs.Stream.{StreamState, Due, StartUp, NextPart, NoneDue, due, left_due, may_answer, keeps_silent, delivery_of}
+use Rattle.iw_stream.specs.Stream.{StreamState, Due, StartUp, Response, NextPart, NoneDue, due, may_answer, keeps_silent, delivery_of}
 use Rattle.iw_stream.specs.Work.{inbox}
 use Rattle.iw_stream.proofs.Fronts.{carried_by}
 use Rattle.iw_stream.proofs.Headers.{turned_kept}
@@ -55,14 +54,17 @@ use Rattle.iw_events.specs.declared.act.Seen.TheVariants as seen
 use Rattle.iw_world.specs.Words.{Octets, placed_by}
 use Rattle.iw_fpdu.specs.Places.{frame_start}
 use Rattle.iw_world.specs.Turns.{Located, located_of, behind_last}
-use Rattle.iw_world.specs.Turns.{Story, is_silent, hears, next_frame, next_payload, next_turned, in_order_point}
+use Rattle.iw_world.specs.Turns.{Story, is_silent, hears, next_frame, next_payload, next_turned, in_order_point, segment_out, sends_segment, fetches_for, story_shown}
+use Rattle.iw_reads.specs.declared.requests.Asked.{Asked}
+use Rattle.iw_memory.specs.declared.rights.Right.TheVariants as rights
+use Rattle.iw_events.specs.declared.act.Shown.TheVariants as shows
 use Rattle.iw_world.proofs.Located.{frames_at, located_are, located_first, located_none, behind_last-push}
 use Rattle.iw_world.specs.Rules.{private_data, accept_answer, answer_refusal}
 use Rattle.iw_world.proofs.Nexts.{Front, fore, place_in, standing, segment_in, segment_at, place_behind, behind_front, turned_by, IsFore, Sound}
-use Rattle.iw_world.proofs.Told.{Fronts, SeesWrite, SeesSend, IsPassing, SeesReceive, Hears, Told, kept_of, after_act}
+use Rattle.iw_world.proofs.Told.{Fronts, SeesPlaced, SeesRequest, SeesSend, IsPassing, SeesReceive, Hears, Told, kept_of, left_frame, after_act}
 use Rattle.iw_world.proofs.Tales.{Tale, tale_after}
-use Rattle.iw_world.proofs.Checks.{checked_buffer, checked_head, checked_write}
-use Rattle.iw_world.proofs.Joins.{Joins, Waits, reshape, joins_same, joins_buffer, joins_front, joins_end, joins_write, joins_send, joins_tagged, joins_part, joins_last}
+use Rattle.iw_world.proofs.Checks.{checked_buffer}
+use Rattle.iw_world.proofs.Joins.{Joins, Waits, reshape, joins_same, joins_buffer, joins_front, joins_end, joins_write, joins_response, joins_request, joins_send, joins_tagged, joins_part, joins_last}
 
 -- ---- what a state and the acts of a stream have in common
 
@@ -124,7 +126,7 @@ pub record Track (s : StreamState) (t : Tale) : Type 0 where
   pub early : length intro ≤ 262144
   pub segments : List (Segment Octets)  -- what they carried
   pub carried : map segment_in frames ≡ map Some segments
-  pub joins : Joins segments s.receiving (is_some s.front) s.ended (segment_at (fore s)) t.received t.placements
+  pub joins : Joins segments s.receiving (is_some s.front) s.ended (segment_at (fore s)) t.received t.placings
 
 get_behind : (xs ys : List Located) → slice_get (xs ++ ys) (length xs) ≡ slice_get ys 0
 get_behind [] ys = refl
@@ -233,7 +235,7 @@ same_expecting s s' t t' same = ap expecting same.start
 turned : (s s' : StreamState) (t t' : Tale) (frame : Carried) (rest : Octets) (segment : Segment Octets) → fore s ≡ Some (frame, rest) → segment_in frame ≡ Some segment → is_open s.start ≡ true → SameStart s s' t t'
     → s'.arrived ≡ behind_front s → s'.front ≡ None
     → t'.story.came ≡ t.story.came → t'.story.turns ≡ t.story.turns + 1 → t'.story.placed ≡ false → t'.story.receiving ≡ s'.receiving → (k : Track s t)
-    → Joins (k.segments ++ segment ∷ []) s'.receiving (is_some s'.front) s'.ended (segment_at (fore s')) t'.received t'.placements → Track s' t'
+    → Joins (k.segments ++ segment ∷ []) s'.receiving (is_some s'.front) s'.ended (segment_at (fore s')) t'.received t'.placings → Track s' t'
 turned s s' t t' frame rest segment e carries started same arrived empty came turns told receiving k joins =
     let layout : Layout = expecting s.start in
     let at : ℕ = length k.before in
@@ -295,7 +297,7 @@ turned s s' t t' frame rest segment e carries started same arrived empty came tu
 
 -- nothing of it changes but the buffers
 pub same_track : (s s' : StreamState) (t t' : Tale) → SameStart s s' t t' → s'.arrived ≡ s.arrived → t'.story.came ≡ t.story.came → t'.story.turns ≡ t.story.turns → t'.story.placed ≡ (is_some s'.front)
-    → t'.story.receiving ≡ s'.receiving → (is_open s.start ≡ false → (is_some s'.front) ≡ (is_some s.front)) → ((f : PlacedFrame) → s'.front ≡ Some f → IsFore s' f) → (k : Track s t) → Joins k.segments s'.receiving (is_some s'.front) s'.ended (segment_at (fore s')) t'.received t'.placements → Track s' t'
+    → t'.story.receiving ≡ s'.receiving → (is_open s.start ≡ false → (is_some s'.front) ≡ (is_some s.front)) → ((f : PlacedFrame) → s'.front ≡ Some f → IsFore s' f) → (k : Track s t) → Joins k.segments s'.receiving (is_some s'.front) s'.ended (segment_at (fore s')) t'.received t'.placings → Track s' t'
 same_track s s' t t' same arrived came turns placed receiving still fore_is k joins = record {
   intro = k.intro;
   begins = same_begins s s' t t' k.intro same k.begins;
@@ -344,7 +346,7 @@ stays s s' t more k running next placed = go (fore s) refl (k.joins.waits runnin
 -- octets come
 pub comes : (s s' : StreamState) (t t' : Tale) (from : ℕ) (octets : Octets) → Kept ≡ delivery_of s from (length octets)
     → SameStart s s' t t' → s'.arrived ≡ taken_in s.arrived from octets → s'.front ≡ s.front → s'.ended ≡ s.ended → s'.receiving ≡ s.receiving
-    → t'.story.came ≡ taken_in t.story.came from octets → t'.story.turns ≡ t.story.turns → t'.story.placed ≡ t.story.placed → t'.story.receiving ≡ t.story.receiving → t'.received ≡ t.received → t'.placements ≡ t.placements
+    → t'.story.came ≡ taken_in t.story.came from octets → t'.story.turns ≡ t.story.turns → t'.story.placed ≡ t.story.placed → t'.story.receiving ≡ t.story.receiving → t'.received ≡ t.received → t'.placings ≡ t.placings
     → Track s t → Track s' t'
 comes s s' t t' from octets kept same arrived front ended receiving came turns told tale_receiving received placements k =
     let m : ℕ = length k.intro in
@@ -405,7 +407,7 @@ comes s s' t t' from octets kept same arrived front ended receiving came turns t
       segments = k.segments;
       carried = k.carried;
       joins = reshape (sym receiving) (sym placed) (sym ended) refl (sym received) (sym placements)
-          (joins_front k.segments s.receiving (is_some s.front) s.ended (segment_at (fore s)) (segment_at (fore s')) t.received t.placements (stays s s' t more.0 k ok.0 next) k.joins);
+          (joins_front k.segments s.receiving (is_some s.front) s.ended (segment_at (fore s)) (segment_at (fore s')) t.received t.placings (stays s s' t more.0 k ok.0 next) k.joins);
     }
 
 -- ---- start-up
@@ -455,7 +457,7 @@ record Reads (s s' : StreamState) (t t' : Tale) (u : StartupState) : Type 0 wher
   pub story : t'.story ≡ hears t.story
 
 reads : (s s' : StreamState) (t t' : Tale) (u : StartupState) → Reads s s' t t' u → (k : Track s t)
-    → Joins k.segments s'.receiving (is_some s'.front) s'.ended (segment_at (fore s)) t'.received t'.placements → Track s' t'
+    → Joins k.segments s'.receiving (is_some s'.front) s'.ended (segment_at (fore s)) t'.received t'.placings → Track s' t'
 reads s s' t t' u r k joins =
     let n = unread s t u k r.is in
     let part : Octets = frame_part u.side (inbox s) in
@@ -510,50 +512,64 @@ reads s s' t t' u r k joins =
       early = omega (arith, few, ap length split.1, length-append part rest);
       segments = k.segments;
       carried = k.carried;
-      joins = joins_front k.segments s'.receiving (is_some s'.front) s'.ended (segment_at (fore s)) (segment_at (fore s')) t'.received t'.placements (λ p. absurd (false≢true (sym bare.placed ∙ p))) joins;
+      joins = joins_front k.segments s'.receiving (is_some s'.front) s'.ended (segment_at (fore s)) (segment_at (fore s')) t'.received t'.placings (λ p. absurd (false≢true (sym bare.placed ∙ p))) joins;
     }
 
 -- nothing is received, and nothing placed: what is joined stays
-quiet : (s : StreamState) (t : Tale) (k : Track s t) → Joins k.segments s.receiving (is_some s.front) s.ended (segment_at (fore s)) (t.received ++ []) (t.placements ++ [])
-quiet s t k = joins_same k.segments s.receiving (is_some s.front) s.ended (segment_at (fore s)) t.received t.placements k.joins
+quiet : (s : StreamState) (t : Tale) (k : Track s t) → Joins k.segments s.receiving (is_some s.front) s.ended (segment_at (fore s)) (t.received ++ []) (t.placings ++ [])
+quiet s t k = joins_same k.segments s.receiving (is_some s.front) s.ended (segment_at (fore s)) t.received t.placings k.joins
 
 -- a frame that stands at the in-order point, with its segment
-fronted : (s : StreamState) (t : Tale) (k : Track s t) (was : Bool) (segment : Segment Octets) → Fronts s was segment → Joins k.segments s.receiving was false (Some segment) t.received t.placements
+fronted : (s : StreamState) (t : Tale) (k : Track s t) (was : Bool) (segment : Segment Octets) → Fronts s was segment → Joins k.segments s.receiving was false (Some segment) t.received t.placings
 fronted s t k was segment f = reshape refl f.placed f.running (ap segment_at f.whole ∙ f.carries) refl refl k.joins
 
--- a Write's segment is placed
-places : (table : Table) (s : StreamState) (t : Tale) (right : Right) (stag : Stag) (to : ℕ) (octets : Octets) → SeesWrite table s right stag to octets → (k : Track s t)
-    → Joins k.segments s.receiving true s.ended (segment_at (fore s)) (t.received ++ []) (t.placements ++ placed_by (Work (seen.Placed right stag to octets)))
+-- a tagged segment is placed
+places : (table : Table) (s : StreamState) (t : Tale) (right : Right) (stag : Stag) (to : ℕ) (octets : Octets) → SeesPlaced table s right stag to octets → (k : Track s t)
+    → Joins k.segments s.receiving true s.ended (segment_at (fore s)) (t.received ++ []) (t.placings ++ placed_by (Work (seen.Placed right stag to octets)))
 places table s t right stag to octets p k =
     let at : segment_at (fore s) ≡ Some (Tagged p.head octets) = ap segment_at p.fronts.whole ∙ p.fronts.carries in
-    let shown : Write p.head.stag p.head.to octets ∷ [] ≡ placed_by (Work (seen.Placed right stag to octets)) = λ i. placed_by (Work (seen.Placed (sym p.right_is i) (sym p.stag_is i) (sym p.to_is i) octets)) in
-    reshape refl refl (sym p.fronts.running) (sym at) (sym (append-nil t.received)) (ap (λ z. t.placements ++ z) shown)
-    (joins_write k.segments s.receiving p.head octets t.received t.placements (checked_write table s.domain p.head (length octets) p.checked) (fronted s t k false (Tagged p.head octets) p.fronts))
+    let shown : (by : Right) → right ≡ by → record { right = by; stag = p.head.stag; to = p.head.to; octets = octets } ∷ [] ≡ placed_by (Work (seen.Placed right stag to octets)) =
+    λ by e. λ i. placed_by (Work (seen.Placed (sym e i) (sym p.stag_is i) (sym p.to_is i) octets)) in
+    elim p.kind [
+      | inl w ↦
+          reshape refl refl (sym p.fronts.running) (sym at) (sym (append-nil t.received)) (ap (λ z. t.placings ++ z) (shown rights.Write w.0))
+          (joins_write k.segments s.receiving p.head octets t.received t.placings w.1 (fronted s t k false (Tagged p.head octets) p.fronts))
+      | inr w ↦
+          reshape refl refl (sym p.fronts.running) (sym at) (sym (append-nil t.received)) (ap (λ z. t.placings ++ z) (shown rights.Sink w.0))
+          (joins_response k.segments s.receiving p.head octets t.received t.placings w.1 (fronted s t k false (Tagged p.head octets) p.fronts))
+    ]
+
+-- a Read Request has its turn
+requests : (s : StreamState) (t : Tale) (size : ℕ) (stag : Stag) (to : ℕ) (o' : Option (Segment Octets)) → (w : SeesRequest s size stag to) → (k : Track s t)
+    → Joins (k.segments ++ Untagged w.head w.payload ∷ []) s.receiving false s.ended o' (t.received ++ []) (t.placings ++ [])
+requests s t size stag to o' w k =
+    reshape refl refl (sym w.fronts.running) refl (sym (append-nil t.received)) (sym (append-nil t.placings))
+    (joins_request k.segments s.receiving w.head w.payload o' t.received t.placings w.queue (fronted s t k false (Untagged w.head w.payload) w.fronts))
 
 -- a Send's segment is placed
 buffers : (s : StreamState) (t : Tale) (msn mo len : ℕ) → SeesSend s msn mo len → (k : Track s t)
-    → Joins k.segments (written s.receiving msn mo (payload_of (segment_at (fore s)))) true s.ended (segment_at (fore s)) (t.received ++ []) (t.placements ++ [])
+    → Joins k.segments (written s.receiving msn mo (payload_of (segment_at (fore s)))) true s.ended (segment_at (fore s)) (t.received ++ []) (t.placings ++ [])
 buffers s t msn mo len p k =
     let at : segment_at (fore s) ≡ Some (Untagged p.head p.payload) = ap segment_at p.fronts.whole ∙ p.fronts.carries in
-    reshape (λ i. written s.receiving (sym p.msn_is i) (sym p.mo_is i) (payload_of (sym at i))) refl (sym p.fronts.running) (sym at) (sym (append-nil t.received)) (sym (append-nil t.placements))
-    (joins_send k.segments s.receiving p.head p.payload t.received t.placements (checked_head s.receiving p.head (length p.payload) p.checked) (checked_buffer s.receiving p.head (length p.payload) p.checked) (fronted s t k false (Untagged p.head p.payload) p.fronts))
+    reshape (λ i. written s.receiving (sym p.msn_is i) (sym p.mo_is i) (payload_of (sym at i))) refl (sym p.fronts.running) (sym at) (sym (append-nil t.received)) (sym (append-nil t.placings))
+    (joins_send k.segments s.receiving p.head p.payload t.received t.placings p.plain (checked_buffer s.receiving p.head (length p.payload) p.checked) (fronted s t k false (Untagged p.head p.payload) p.fronts))
 
 -- a segment has its turn that completes nothing
 passes : (s : StreamState) (t : Tale) (segment : Segment Octets) (o' : Option (Segment Octets)) → Fronts s true segment → IsPassing s segment → (k : Track s t)
-    → Joins (k.segments ++ segment ∷ []) (turned_by s.receiving (segment_at (fore s))) false s.ended o' (t.received ++ []) (t.placements ++ [])
+    → Joins (k.segments ++ segment ∷ []) (turned_by s.receiving (segment_at (fore s))) false s.ended o' (t.received ++ []) (t.placings ++ [])
 passes s t (Tagged head payload) o' f passing k =
-    reshape (ap (turned_by s.receiving) (sym (ap segment_at f.whole ∙ f.carries))) refl (sym f.running) refl (sym (append-nil t.received)) (sym (append-nil t.placements))
-    (joins_tagged k.segments s.receiving head payload o' t.received t.placements (fronted s t k true (Tagged head payload) f))
+    reshape (ap (turned_by s.receiving) (sym (ap segment_at f.whole ∙ f.carries))) refl (sym f.running) refl (sym (append-nil t.received)) (sym (append-nil t.placings))
+    (joins_tagged k.segments s.receiving head payload o' t.received t.placings (fronted s t k true (Tagged head payload) f))
 passes s t (Untagged head payload) o' f passing k =
-    reshape (ap (turned_by s.receiving) (sym (ap segment_at f.whole ∙ f.carries))) refl (sym f.running) refl (sym (append-nil t.received)) (sym (append-nil t.placements))
-    (joins_part k.segments s.receiving head payload o' t.received t.placements passing.0 passing.1 (fronted s t k true (Untagged head payload) f))
+    reshape (ap (turned_by s.receiving) (sym (ap segment_at f.whole ∙ f.carries))) refl (sym f.running) refl (sym (append-nil t.received)) (sym (append-nil t.placings))
+    (joins_part k.segments s.receiving head payload o' t.received t.placings passing.0 passing.1 (fronted s t k true (Untagged head payload) f))
 
 -- a Send is complete
 receives : (s : StreamState) (t : Tale) (octets : Octets) (solicited : Bool) (invalidate : Option Stag) (o' : Option (Segment Octets)) → (c : SeesReceive s octets solicited invalidate) → (k : Track s t)
-    → Joins (k.segments ++ Untagged c.head c.payload ∷ []) (finished s.receiving) false s.ended o' (t.received ++ record { octets = octets; solicited = solicited; invalidate = invalidate } ∷ []) (t.placements ++ [])
+    → Joins (k.segments ++ Untagged c.head c.payload ∷ []) (finished s.receiving) false s.ended o' (t.received ++ record { octets = octets; solicited = solicited; invalidate = invalidate } ∷ []) (t.placings ++ [])
 receives s t octets solicited invalidate o' c k =
-    reshape refl refl (sym c.fronts.running) refl (λ i. t.received ++ record { octets = sym c.is i; solicited = sym c.plain i; invalidate = sym c.none i } ∷ []) (sym (append-nil t.placements))
-    (joins_last k.segments s.receiving c.head c.payload o' t.received t.placements c.turn c.last (fronted s t k true (Untagged c.head c.payload) c.fronts))
+    reshape refl refl (sym c.fronts.running) refl (λ i. t.received ++ record { octets = sym c.is i; solicited = sym c.plain i; invalidate = sym c.none i } ∷ []) (sym (append-nil t.placings))
+    (joins_last k.segments s.receiving c.head c.payload o' t.received t.placings c.turn c.last (fronted s t k true (Untagged c.head c.payload) c.fronts))
 
 kept_start : (s s' : StreamState) (t t' : Tale) → s'.start ≡ s.start → t'.story.start ≡ t.story.start → SameStart s s' t t'
 kept_start s s' t t' a b = record { start = a; tale_start = b }
@@ -569,7 +585,7 @@ same_fore s s' start arrived f w = record {
 }
 
 same : (s s' : StreamState) (t t' : Tale) → s'.start ≡ s.start → s'.arrived ≡ s.arrived → s'.front ≡ s.front → s'.receiving ≡ s.receiving
-    → t'.story ≡ t.story → (k : Track s t) → Joins k.segments s'.receiving (is_some s'.front) s'.ended (segment_at (fore s')) t'.received t'.placements → Track s' t'
+    → t'.story ≡ t.story → (k : Track s t) → Joins k.segments s'.receiving (is_some s'.front) s'.ended (segment_at (fore s')) t'.received t'.placings → Track s' t'
 same s s' t t' start arrived front receiving story k joins =
     same_track s s' t t' (kept_start s s' t t' start (ap (λ (z : Story). z.start) story)) arrived
     (ap (λ (z : Story). z.came) story) (ap (λ (z : Story). z.turns) story) (ap (λ (z : Story). z.placed) story ∙ k.placed ∙ sym (ap is_some front)) (ap (λ (z : Story). z.receiving) story ∙ k.receiving ∙ sym receiving) (λ h. ap is_some front)
@@ -597,7 +613,7 @@ unanswered u h = go u.side refl h
     go (Responder (Some reply)) is e = absurd (false≢true e)
 
 answers : (s s' : StreamState) (t t' : Tale) (u : StartupState) (reply : Reply) → Answers s s' t t' u reply → (k : Track s t)
-    → Joins k.segments s'.receiving (is_some s'.front) s'.ended (segment_at (fore s)) t'.received t'.placements → Track s' t'
+    → Joins k.segments s'.receiving (is_some s'.front) s'.ended (segment_at (fore s)) t'.received t'.placings → Track s' t'
 answers s s' t t' u reply r k joins =
     let none : agreed_of u ≡ None = unanswered_not_agreed u (unanswered u r.asked) in
     let bare : IsBare k.frames k.before (is_some s.front) = k.shut (ap is_open r.is ∙ ap is_some none) in
@@ -635,7 +651,7 @@ answers s s' t t' u reply r k joins =
       early = k.early;
       segments = k.segments;
       carried = k.carried;
-      joins = joins_front k.segments s'.receiving (is_some s'.front) s'.ended (segment_at (fore s)) (segment_at (fore s')) t'.received t'.placements (λ p. absurd (false≢true (sym still.placed ∙ p))) joins;
+      joins = joins_front k.segments s'.receiving (is_some s'.front) s'.ended (segment_at (fore s)) (segment_at (fore s')) t'.received t'.placings (λ p. absurd (false≢true (sym still.placed ∙ p))) joins;
     }
 
 -- what the peer's start-up frame comes to, by its side
@@ -652,7 +668,7 @@ closes : (s : StreamState) (t : Tale) (fault : StartupFault) → Hears s (progre
 closes s t fault h k =
     reads s (after_act s (Work (seen.Closed fault))) t (tale_after t (Work (seen.Closed fault))) h.startup
     (record { is = h.is; whole = told_whole h.startup.side (inbox s) (progresses.Faulted fault) (comes_to s (progresses.Faulted fault) h) (λ e. cc); start = refl; arrived = refl; front = refl; receiving = refl; story = refl })
-    k (joins_end k.segments s.receiving (is_some s.front) s.ended (segment_at (fore s)) (t.received ++ []) (t.placements ++ []) (quiet s t k))
+    k (joins_end k.segments s.receiving (is_some s.front) s.ended (segment_at (fore s)) (t.received ++ []) (t.placings ++ []) (quiet s t k))
 
 opens : (s : StreamState) (t : Tale) (agreed : Agreed) (private : Octets) → Hears s progresses.Agreed → Track s t → Track (after_act s (Work (seen.Opened agreed private))) (tale_after t (Work (seen.Opened agreed private)))
 opens s t agreed private h k =
@@ -704,16 +720,59 @@ rejects s t private e k =
     let reply : Reply = replies.Reject (private_data private) in
     answers s (after_act s (Reject private None)) t (tale_after t (Reject private None)) m.startup reply
     (record { is = m.is; asked = m.asked; start = ap (λ z. answered_with z reply) m.is; arrived = refl; front = refl; receiving = refl; story = refl })
-    k (joins_end k.segments s.receiving (is_some s.front) s.ended (segment_at (fore s)) (t.received ++ []) (t.placements ++ []) (quiet s t k))
+    k (joins_end k.segments s.receiving (is_some s.front) s.ended (segment_at (fore s)) (t.received ++ []) (t.placings ++ []) (quiet s t k))
 
--- an emission changes nothing of what came
-emits_any : (s : StreamState) (t : Tale) (shown : Shown Octets) → Track s t → Track (after_act s (Emit shown)) (tale_after t (Emit shown))
-emits_any s t shown k = go (due s)
+-- what goes out changes nothing of what came
+pub record StaysHeard (t t' : Story) : Type 0 where
+  pub came : t'.came ≡ t.came
+  pub start : t'.start ≡ t.start
+  pub turns : t'.turns ≡ t.turns
+  pub placed : t'.placed ≡ t.placed
+  pub receiving : t'.receiving ≡ t.receiving
+
+pub shown_stays : (t : Story) (shown : Shown Octets) → StaysHeard t (story_shown t shown)
+shown_stays t (shows.Frame from octets) = go (segment_out t from octets)
   where
-    go : (d : Due) → Track (left_due s d) (tale_after t (Emit shown))
-    go StartUp = same s (left_due s StartUp) t (tale_after t (Emit shown)) refl refl refl refl refl k (quiet s t k)
-    go (NextPart part) = same s (left_due s (NextPart part)) t (tale_after t (Emit shown)) refl refl refl refl refl k (quiet s t k)
-    go NoneDue = same s s t (tale_after t (Emit shown)) refl refl refl refl refl k (quiet s t k)
+    go : (o : Option (Segment Octets)) → StaysHeard t (option_map_or (sends_segment t) o t)
+    go None = record { came = refl; start = refl; turns = refl; placed = refl; receiving = refl }
+    go (Some segment) = record { came = refl; start = refl; turns = refl; placed = refl; receiving = refl }
+shown_stays t (shows.Fetched from frame stag to octets) = go t.asked.unanswered
+  where
+    go : (waiting : List Asked) → StaysHeard t (fetches_for t waiting octets)
+    go [] = record { came = refl; start = refl; turns = refl; placed = refl; receiving = refl }
+    go (oldest ∷ others) = by (nat_eq (length t.begun + length octets) oldest.request.size)
+      where
+        by : (b : Bool) → StaysHeard t (cond b (record t {
+          asked = record t.asked { unanswered = others; fetched = 0 };
+          answers = t.answers ++ record { request = oldest.request; octets = t.begun ++ octets } ∷ [];
+          begun = [];
+        }) (record t { asked = record t.asked { fetched = length t.begun + length octets }; begun = t.begun ++ octets }))
+        by true = record { came = refl; start = refl; turns = refl; placed = refl; receiving = refl }
+        by false = record { came = refl; start = refl; turns = refl; placed = refl; receiving = refl }
+shown_stays t (shows.Fault fault) = record { came = refl; start = refl; turns = refl; placed = refl; receiving = refl }
+shown_stays t shows.Nothing = record { came = refl; start = refl; turns = refl; placed = refl; receiving = refl }
+
+goes_out : (s s' : StreamState) (t t' : Tale) → s'.start ≡ s.start → s'.arrived ≡ s.arrived → s'.front ≡ s.front → s'.receiving ≡ s.receiving
+    → StaysHeard t.story t'.story → (k : Track s t) → Joins k.segments s'.receiving (is_some s'.front) s'.ended (segment_at (fore s')) t'.received t'.placings → Track s' t'
+goes_out s s' t t' start arrived front receiving story k joins =
+    same_track s s' t t' (kept_start s s' t t' start story.start) arrived
+    story.came story.turns (story.placed ∙ k.placed ∙ sym (ap is_some front)) (story.receiving ∙ k.receiving ∙ sym receiving) (λ h. ap is_some front)
+    (λ f h. same_fore s s' start arrived f (k.fore_is f (sym front ∙ h))) k joins
+
+emits_any : (s : StreamState) (t : Tale) (shown : Shown Octets) → Track s t → Track (after_act s (Emit shown)) (tale_after t (Emit shown))
+emits_any s t (shows.Frame from octets) k = go (due s)
+  where
+    go : (d : Due) → Track (left_frame s d) (tale_after t (Emit (shows.Frame from octets)))
+    go StartUp = goes_out s (left_frame s StartUp) t (tale_after t (Emit (shows.Frame from octets))) refl refl refl refl (shown_stays t.story (shows.Frame from octets)) k (quiet s t k)
+    go (NextPart part) = goes_out s (left_frame s (NextPart part)) t (tale_after t (Emit (shows.Frame from octets))) refl refl refl refl (shown_stays t.story (shows.Frame from octets)) k (quiet s t k)
+    go (Response part) = goes_out s s t (tale_after t (Emit (shows.Frame from octets))) refl refl refl refl (shown_stays t.story (shows.Frame from octets)) k (quiet s t k)
+    go NoneDue = goes_out s s t (tale_after t (Emit (shows.Frame from octets))) refl refl refl refl (shown_stays t.story (shows.Frame from octets)) k (quiet s t k)
+emits_any s t (shows.Fetched from frame stag to octets) k =
+    goes_out s (after_act s (Emit (shows.Fetched from frame stag to octets))) t (tale_after t (Emit (shows.Fetched from frame stag to octets))) refl refl refl refl (shown_stays t.story (shows.Fetched from frame stag to octets)) k (quiet s t k)
+emits_any s t (shows.Fault fault) k =
+    goes_out s (after_act s (Emit (shows.Fault fault))) t (tale_after t (Emit (shows.Fault fault))) refl refl refl refl (shown_stays t.story (shows.Fault fault)) k
+    (joins_end k.segments s.receiving (is_some s.front) s.ended (segment_at (fore s)) (t.received ++ []) (t.placings ++ []) (quiet s t k))
+emits_any s t shows.Nothing k = goes_out s s t (tale_after t (Emit shows.Nothing)) refl refl refl refl (shown_stays t.story shows.Nothing) k (quiet s t k)
 
 -- what is kept of the frame that is placed
 kept_whole : (s : StreamState) (was : Bool) (segment : Segment Octets) (w : Fronts s was segment) → kept_of s ≡ Some (placed_of (standing s w.frame))
@@ -759,9 +818,9 @@ silent_is s t k =
 
 pub tracking : (table : Table) (s : StreamState) (t : Tale) (act : StreamAct Octets) → Told table s act → Track s t → Track (after_act s act) (tale_after t act)
 tracking table s t (Deliver from octets Kept) rule k =
-    comes s (after_act s (Deliver from octets Kept)) t (tale_after t (Deliver from octets Kept)) from octets rule (kept_start s (after_act s (Deliver from octets Kept)) t (tale_after t (Deliver from octets Kept)) refl refl) refl refl refl refl refl refl refl refl (append-nil t.received) (append-nil t.placements) k
+    comes s (after_act s (Deliver from octets Kept)) t (tale_after t (Deliver from octets Kept)) from octets rule (kept_start s (after_act s (Deliver from octets Kept)) t (tale_after t (Deliver from octets Kept)) refl refl) refl refl refl refl refl refl refl refl (append-nil t.received) (append-nil t.placings) k
 tracking table s t (Raw from octets Kept) rule k =
-    comes s (after_act s (Raw from octets Kept)) t (tale_after t (Raw from octets Kept)) from octets rule (kept_start s (after_act s (Raw from octets Kept)) t (tale_after t (Raw from octets Kept)) refl refl) refl refl refl refl refl refl refl refl (append-nil t.received) (append-nil t.placements) k
+    comes s (after_act s (Raw from octets Kept)) t (tale_after t (Raw from octets Kept)) from octets rule (kept_start s (after_act s (Raw from octets Kept)) t (tale_after t (Raw from octets Kept)) refl refl) refl refl refl refl refl refl refl refl (append-nil t.received) (append-nil t.placings) k
 tracking table s t (Deliver from octets Dropped) rule k = same s s t (tale_after t (Deliver from octets Dropped)) refl refl refl refl refl k (quiet s t k)
 tracking table s t (Raw from octets Dropped) rule k = same s s t (tale_after t (Raw from octets Dropped)) refl refl refl refl refl k (quiet s t k)
 tracking table s t (Mulpdu size (Some refusal)) rule k = same s s t (tale_after t (Mulpdu size (Some refusal))) refl refl refl refl refl k (quiet s t k)
@@ -783,7 +842,7 @@ tracking table s t (Recv len None) rule k =
     let s' : StreamState = after_act s (Recv len None) in
     let t' : Tale = tale_after t (Recv len None) in
     same_track s s' t t' (kept_start s s' t t' refl refl) refl refl refl k.placed (ap (λ (r : Receiving). with_buffer r (replicate len 0)) k.receiving) (λ h. refl) (λ f h. same_fore s s' refl refl f (k.fore_is f h)) k
-    (joins_buffer k.segments s.receiving (is_some s.front) s.ended (segment_at (fore s)) (t.received ++ []) (t.placements ++ []) (replicate len 0) (quiet s t k))
+    (joins_buffer k.segments s.receiving (is_some s.front) s.ended (segment_at (fore s)) (t.received ++ []) (t.placings ++ []) (replicate len 0) (quiet s t k))
 tracking table s t (Work (seen.Placed right stag to octets)) rule k =
     let w = rule.1 in
     let s' : StreamState = after_act s (Work (seen.Placed right stag to octets)) in
@@ -799,6 +858,12 @@ tracking table s t (Work (seen.Buffered msn mo len)) rule k =
     same_track s s' t t' (kept_start s s' t t' refl refl) refl refl refl (sym some) (λ i. written (k.receiving i) msn mo (next_carries s t k i)) (λ h. absurd (false≢true (sym h ∙ w.fronts.started)))
     (λ f h. kept_fore s s' false (Untagged w.head w.payload) w.fronts refl refl f h) k
     (reshape refl (sym some) refl refl refl refl (buffers s t msn mo len w k))
+tracking table s t (Work (seen.Requested size stag to)) rule k =
+    let w = rule.1 in
+    let s' : StreamState = after_act s (Work (seen.Requested size stag to)) in
+    let t' : Tale = tale_after t (Work (seen.Requested size stag to)) in
+    turned s s' t t' w.fronts.frame w.fronts.rest (Untagged w.head w.payload) w.fronts.whole w.fronts.carries w.fronts.started (kept_start s s' t t' refl refl) refl refl refl refl (k.placed ∙ w.fronts.placed)
+    k.receiving k (requests s t size stag to (segment_at (fore s')) w k)
 tracking table s t (Work seen.Passed) rule k =
     let w = rule.1 in
     let s' : StreamState = after_act s (Work seen.Passed) in
@@ -813,4 +878,4 @@ tracking table s t (Work (seen.Received octets solicited invalidate)) rule k =
     (ap finished k.receiving) k (receives s t octets solicited invalidate (segment_at (fore s')) c k)
 tracking table s t (Work (seen.Fault fault)) rule k =
     same s (after_act s (Work (seen.Fault fault))) t (tale_after t (Work (seen.Fault fault))) refl refl refl refl refl k
-    (joins_end k.segments s.receiving (is_some s.front) s.ended (segment_at (fore s)) (t.received ++ []) (t.placements ++ []) (quiet s t k))
+    (joins_end k.segments s.receiving (is_some s.front) s.ended (segment_at (fore s)) (t.received ++ []) (t.placings ++ []) (quiet s t k))

@@ -22,14 +22,18 @@ use Rattle.iw_stream.specs.declared.answer.Role.{Role}
 use Rattle.iw_stream.specs.declared.answer.Role.TheVariants.{Preset, Initiator, Responder}
 use Rattle.iw_stream.specs.Starting.{StartState, AtOnce, Unheard, Heard, IsFresh, start_at_first, sending, expecting}
 use Rattle.iw_stream.specs.Starting as starting
-use Rattle.iw_stream.specs.Stream.{StreamState}
+use Rattle.iw_stream.specs.Stream.{StreamState, owes_frame, frame_of}
 use Rattle.iw_fpdu.specs.declared.layout.Layout.{Layout}
 use Rattle.iw_fpdu.specs.Sequence.{sequence, place_behind}
 use Rattle.iw_fpdu.specs.Laws.{IsBetween}
 use Rattle.iw_fpdu.proofs.Follows.{frames_follow}
 use Rattle.iw_fpdu.proofs.Sequences.{written_few, place_is, between_behind}
 use Rattle.iw_queues.proofs.Limits.{limits_start}
-use Rattle.iw_queues.proofs.Sending.{sends_in_order}
+use Rattle.iw_octets.specs.declared.segment.Segment.{Segment}
+use Rattle.iw_octets.proofs.Segments.{length-segment_octets_tagged}
+use Rattle.iw_reads.specs.Response.{response_head}
+use Rattle.iw_world.specs.Merged.{response_segment}
+use Rattle.iw_world.proofs.Merges.{merges_none}
 use Rattle.iw_queues.specs.Segments.{segment_of}
 use Rattle.iw_events.specs.declared.call.End.{End}
 use Rattle.iw_events.specs.declared.call.End.TheVariants.{A, B}
@@ -37,16 +41,16 @@ use Rattle.iw_events.specs.declared.act.Act.{Act}
 use Rattle.iw_events.specs.declared.act.Act.TheVariants.{Domain, Register, Deregister, Invalidate, Store, Open, Stream}
 use Rattle.iw_events.specs.declared.act.StreamAct.{StreamAct}
 use Rattle.iw_events.specs.declared.act.StreamAct.TheVariants.{Recv, Post, Emit, Deliver, Raw, Mulpdu, Accept, Reject, Work}
-use Rattle.iw_events.specs.declared.act.Shown.TheVariants.{Frame, Nothing}
+use Rattle.iw_events.specs.declared.act.Shown.TheVariants.{Frame, Fetched, Fault as Denied, Nothing}
 use Rattle.iw_events.specs.declared.act.Entry.{Entry}
 use Rattle.iw_events.specs.declared.act.Seen.TheVariants as seen
 use Rattle.iw_world.specs.Turns.{story}
-use Rattle.iw_world.specs.Words.{Octets, other, acts, stream_acts, stream_acts_by, Opening, no_opening, opening_in, opening_of, openings, openings_by, posted, finished_kinds, size_set, received, ended, sent, sent_by, placements, table_after, buffers}
+use Rattle.iw_world.specs.Words.{Octets, other, acts, stream_acts, stream_acts_by, Opening, no_opening, opening_in, opening_of, openings, openings_by, posted, finished_kinds, size_set, received, ended, sent, sent_by, placings, table_after, buffers}
 use Rattle.iw_world.specs.Rules.{opening_by, Connected, connected, unconnected, EndState, State, end_of, with_end, has_stream, stream_at, no_streams, fresh, start, Rule, WireRule, StreamRule, connected_after, streams_after, end_after, after_entry, state_after, Follows}
 use Rattle.iw_world.proofs.Tales.{Tale, tale_of, tale_after, tale-push, stream_acts-push, openings-push, acts_mine, acts_other}
-use Rattle.iw_world.proofs.Sending.{shown_good, EmitsStart, EmitsPart, emits_frame}
-use Rattle.iw_world.proofs.Tracks.{OnStart, start_octets, Track}
-use Rattle.iw_world.proofs.Owns.{Own, owning, first_fits, Emits, Unspoken, IsSmall, IsStartOf, behind_start}
+use Rattle.iw_world.proofs.Sending.{shown_good, EmitsStart, EmitsPart, emits_as}
+use Rattle.iw_world.proofs.Tracks.{OnStart, start_octets, Track, shown_stays}
+use Rattle.iw_world.proofs.Owns.{Own, owning, answers_part, first_fits, Emits, Unspoken, IsSmall, IsStartOf, behind_start}
 use Rattle.iw_world.proofs.Ends.{EndSeen, end_step, opens, opens_same, at_same, at_other, number_there, unopened, opening_none, opening_one}
 
 -- what the acts of an end say of a stream
@@ -81,13 +85,14 @@ still_of t u (Reject private (Some refusal)) rule h raw = h raw
 still_of t u (Work (seen.Asked private)) rule h raw = h raw
 still_of t u (Work (seen.Opened agreed private)) rule h raw = h raw
 still_of t u (Work (seen.Closed fault)) rule h raw = h raw
-still_of t u (Emit shown) rule h raw = h raw
+still_of t u (Emit shown) rule h raw = subst (λ z. IsOf z u.sent) (sym (shown_stays t.story shown).came) (h raw)
 still_of t u (Post m refused) rule h raw = h raw
 still_of t u (Recv len None) rule h raw = h raw
 still_of t u (Recv len (Some refusal)) rule h raw = h raw
 still_of t u (Work (seen.Done kind)) rule h raw = h raw
 still_of t u (Work (seen.Placed right stag to octets)) rule h raw = h raw
 still_of t u (Work (seen.Buffered msn mo len)) rule h raw = h raw
+still_of t u (Work (seen.Requested size stag to)) rule h raw = h raw
 still_of t u (Work seen.Passed) rule h raw = h raw
 still_of t u (Work (seen.Received octets solicited invalidate)) rule h raw = h raw
 still_of t u (Work (seen.Fault fault)) rule h raw = h raw
@@ -135,25 +140,38 @@ starts_at_first o = go o.role refl
 
 -- a stream to which nothing has happened
 no_emits : (o : Opening) → Emits (connected o).stream (tale_of o [])
-unfolding posted finished_kinds size_set sent
+unfolding posted finished_kinds size_set sent story
 no_emits o = record {
   segments = [];
-  has = sends_in_order.start;
+  merges = merges_none (connected o).stream.queue refl refl;
+  asks = record { reads = refl; asked = refl; fetched = refl; begun = refl; few = omega arith };
   good = tt;
   framed = Unspoken refl refl;
   shut = λ h. refl;
   silent = λ h. refl;
   limits = limits_start;
   fit = tt;
-  number = omega arith;
+  numbers = record { send = omega arith; read = omega arith };
   size = refl;
   enough = omega arith;
   few = omega arith;
-  counts = record { order = refl; lasts = refl; all = tt };
+  counts = record {
+    order = refl;
+    first = [];
+    split = refl;
+    lasts = refl;
+    counted = refl;
+    oldest = refl;
+    marked = refl;
+    some = omega arith;
+    done = omega arith;
+    tickets = refl;
+  };
+  whole = refl;
 }
 
 no_track : (o : Opening) → Track (connected o).stream (tale_of o [])
-unfolding received placements story
+unfolding received placings story
 no_track o = record {
   intro = [];
   begins = record {
@@ -191,6 +209,7 @@ no_track o = record {
     begins = λ e p. record { octets = refl; count = refl };
     waits = λ e p. absurd (false≢true p);
     counted = λ c. refl;
+    sunk_are = λ c. refl;
   };
 }
 
@@ -302,25 +321,33 @@ few_start o (AtOnce layout) few h = omega arith
 few_start o (Unheard u) few h = few_side u.config u.side (subst (λ (z : Config). length z.private.items ≤ 512) (sym h.config) few) h.small
 few_start o (Heard u) few h = few_side u.config u.side (subst (λ (z : Config). length z.private.items ≤ 512) (sym h.config) few) h.small
 
-pub emits_few : (opening : Opening) (table : Table) (c : Connected) (t : Tale) (act : StreamAct Octets) → StreamRule table c.stream act → Own opening c t → length (sent_by act) ≤ 2 ^ 17
-emits_few opening table c t (Emit (Frame from octets)) rule o = go (emits_frame c.stream from octets rule)
-  where
-    part : EmitsPart c.stream from octets → length octets ≤ 2 ^ 17
-    part p =
-        let s : StreamState = c.stream in
-        let own : Octets = starting.own_frame s.start in
-        let layout : Layout = sending s.start in
-        let good = shown_good s.numbers s.queue s.mulpdu p.part p.is_loud.part_is o.emits.limits o.emits.enough o.emits.few o.emits.number (first_fits s.queue o.emits.fit) in
-        let us : List (List ℕ) = map segment_octets o.emits.segments in
-        let framed : t.sent ≡ own ++ sequence layout 0 us = behind_start s t o.emits o.sent p.is_loud.spoken in
-        let between : IsBetween layout.markers (place_behind layout 0 us) = between_behind layout 0 us (frames_follow.first layout.markers) in
-        let place : place_behind layout 0 us ≡ s.sent - length own =
-        place_is layout 0 us (frames_follow.first layout.markers) ∙ omega (arith, ap length framed, length-append own (sequence layout 0 us), o.sent) in
-        subst (λ z. length z ≤ 2 ^ 17) (sym p.octets_are) (written_few layout (s.sent - length own) (segment_octets (segment_of s.numbers p.part)) (omega (arith, between.aligned, place)) good.small)
+few_frame : {opening : Opening} (c : Connected) (t : Tale) → Own opening c t → owes_frame c.stream ≡ false → (segment : Segment Octets) → length (segment_octets segment) ≤ 64512 → length (frame_of c.stream segment) ≤ 2 ^ 17
+few_frame c t o spoken segment small =
+    let s : StreamState = c.stream in
+    let own : Octets = starting.own_frame s.start in
+    let layout : Layout = sending s.start in
+    let us : List (List ℕ) = map segment_octets o.emits.segments in
+    let framed : t.sent ≡ own ++ sequence layout 0 us = behind_start s t o.emits o.sent spoken in
+    let between : IsBetween layout.markers (place_behind layout 0 us) = between_behind layout 0 us (frames_follow.first layout.markers) in
+    let place : place_behind layout 0 us ≡ s.sent - length own =
+    place_is layout 0 us (frames_follow.first layout.markers) ∙ omega (arith, ap length framed, length-append own (sequence layout 0 us), o.sent) in
+    written_few layout (s.sent - length own) (segment_octets segment) (omega (arith, between.aligned, place)) small
 
+pub emits_few : (opening : Opening) (table : Table) (c : Connected) (t : Tale) (act : StreamAct Octets) → StreamRule table c.stream act → Own opening c t → length (sent_by act) ≤ 2 ^ 17
+emits_few opening table c t (Emit (Frame from octets)) rule o = go (emits_as table c.stream (Frame from octets) rule)
+  where
     go : EmitsStart c.stream from octets ⊎ EmitsPart c.stream from octets → length octets ≤ 2 ^ 17
     go (inl p) = omega (arith, ap length p.octets_are, few_start opening c.stream.start o.small o.starts)
-    go (inr p) = part p
+    go (inr p) =
+        subst (λ z. length z ≤ 2 ^ 17) (sym p.octets_are)
+        (few_frame c t o p.is_loud.spoken (segment_of c.stream.numbers p.part) (shown_good c.stream.numbers c.stream.queue c.stream.mulpdu p.part p.is_loud.part_is o.emits.limits o.emits.enough o.emits.few o.emits.numbers (first_fits c.stream.queue o.emits.fit)).small)
+emits_few opening table c t (Emit (Fetched from frame stag to octets)) rule o =
+    let p = emits_as table c.stream (Fetched from frame stag to octets) rule in
+    let w = answers_part table c.stream t from frame stag to octets p o.emits.asks in
+    subst (λ z. length z ≤ 2 ^ 17) (sym w.frame_is)
+    (few_frame c t o p.speaks.spoken (response_segment w.oldest.request (length t.story.begun) w.last octets)
+    (omega (arith, length-segment_octets_tagged (response_head w.oldest.request (length t.story.begun) w.last) octets, w.many, o.emits.few, o.emits.enough)))
+emits_few opening table c t (Emit (Denied fault)) rule o = omega arith
 emits_few opening table c t (Emit Nothing) rule o = omega arith
 emits_few opening table c t (Recv len refused) rule o = omega arith
 emits_few opening table c t (Post m refused) rule o = omega arith

@@ -3,13 +3,12 @@ use Rattle.std.specs.Prelude.{◌≡◌, ℕ, ◌+◌, ◌-◌, ◌≤◌, nat_l
 use Rattle.std.specs.Option.{option_map_or}
 use Rattle.std.specs.Result.{result_err}
 use Rattle.iw_octets.specs.declared.stag.Stag.{Stag}
-use Rattle.iw_octets.specs.declared.message.Message.{Message}
 use Rattle.iw_memory.specs.declared.refusal.NoRegion.{NoRegion}
 use Rattle.iw_memory.specs.Table.{Table, is_added, domain_refusal, register_refusal, store_refusal, region_at}
 use Rattle.iw_ranges.specs.declared.Delivery.{Delivery}
 use Rattle.iw_ranges.specs.declared.Delivery.TheVariants.{Dropped}
 use Rattle.iw_ranges.specs.Arrived.{advanced, delivery}
-use Rattle.iw_queues.specs.declared.request.Request.TheVariants.{Message as Posted}
+use Rattle.iw_queues.specs.declared.request.Request.{Request}
 use Rattle.iw_queues.specs.Request.{size_of}
 use Rattle.iw_startup.specs.declared.config.Agreed.{Agreed}
 use Rattle.iw_startup.specs.declared.startup.NotAsked.{NotAsked}
@@ -72,11 +71,11 @@ abbrev pub recv_refusal_by : List (StreamAct Octets) → Option RecvRefusal
 recv_refusal_by before =
     if ended before then Some receiving.Ended else if nat_le 256 (length (buffers before)) then Some receiving.Full else None
 
-abbrev pub post_refusal_by : Story → List (StreamAct Octets) → Message Octets → Option PostRefusal
-post_refusal_by t before message =
+abbrev pub post_refusal_by : Story → List (StreamAct Octets) → Request Octets → Option PostRefusal
+post_refusal_by t before request =
     if ended before || not (is_open t.start) then Some posting.NotOpen
     else if nat_le 256 (length (posted before) - length (finished_kinds before)) then Some posting.Full
-    else if nat_lt 16777216 (size_of (Posted message)) then Some posting.TooLong
+    else if nat_lt 16777216 (size_of request) then Some posting.TooLong
     else None
 
 -- the peer's Request was read, and is not answered
@@ -95,7 +94,7 @@ Rejected t before (Some refusal) = may_answer_by t before ≡ false
 -- by what was done on the stream before
 abbrev pub StreamAnswered : Story → List (StreamAct Octets) → StreamAct Octets → Type 0
 StreamAnswered t before (Recv len refused) = refused ≡ recv_refusal_by before
-StreamAnswered t before (Post message refused) = refused ≡ post_refusal_by t before message
+StreamAnswered t before (Post request refused) = refused ≡ post_refusal_by t before request
 StreamAnswered t before (Mulpdu size refused) = refused ≡ size_refusal size
 StreamAnswered t before (Accept private answer) = Accepted t before answer
 StreamAnswered t before (Reject private refused) = Rejected t before refused

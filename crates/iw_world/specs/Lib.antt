@@ -1,9 +1,11 @@
 pub mod Words
 pub mod Rules
 pub mod Turns
+pub mod Merged
 pub mod Safe
 pub mod Sends
 pub mod Rest
+pub mod Faithful
 pub mod Calls
 pub mod WrongRuns
 pub mod Stops

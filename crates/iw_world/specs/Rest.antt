@@ -34,6 +34,7 @@ IdleSeen over t before (seen.Opened agreed private) = Unit {0}
 IdleSeen over t before (seen.Closed fault) = Unit {0}
 IdleSeen over t before (seen.Placed right stag to octets) = Unit {0}
 IdleSeen over t before (seen.Buffered msn mo len) = Unit {0}
+IdleSeen over t before (seen.Requested size stag to) = Unit {0}
 IdleSeen over t before seen.Passed = Unit {0}
 IdleSeen over t before (seen.Received octets solicited invalidate) = Unit {0}
 IdleSeen over t before (seen.Fault fault) = Unit {0}

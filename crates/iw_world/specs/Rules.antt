@@ -2,12 +2,14 @@
 use Rattle.std.specs.Prelude.{◌≡◌, ℕ, ◌<◌, ◌^◌, List, [], ◌∷◌, ◌++◌, length, take, replicate, slice_index_or, slice_set, Bool, true, false, not, nat_le, is_some, unwrap_or, if◌then◌else◌, Option, Some, None, Ok, Err, Result}
 use Rattle.std.specs.Option.{option_map_or}
 use Rattle.iw_octets.specs.declared.stag.Stag.{Stag}
-use Rattle.iw_octets.specs.declared.message.Message.{Message}
 use Rattle.iw_octets.specs.declared.message.Message.TheVariants.{Write, Send}
+use Rattle.iw_octets.specs.Payload.{FitsRequest}
 use Rattle.iw_octets.specs.Stag.{FitsStag}
 use Rattle.iw_memory.specs.declared.refusal.RegisterRefusal.{RegisterRefusal}
 use Rattle.iw_memory.specs.Table.{Table, empty, is_added, domain_refusal, register_refusal, store_refusal, next_stag, octets_at}
 use Rattle.arrayvec.specs.ArrayVec.{ArrayVec}
+use Rattle.iw_queues.specs.declared.request.Request.{Request}
+use Rattle.iw_queues.specs.declared.request.Request.TheVariants.{Message as Posted, Read}
 use Rattle.iw_startup.specs.declared.config.Agreed.{Agreed}
 use Rattle.iw_startup.specs.declared.startup.NotAsked.{NotAsked}
 use Rattle.iw_stream.specs.declared.answer.Role.{Role}
@@ -16,7 +18,7 @@ use Rattle.iw_stream.specs.declared.answer.Step.TheVariants as steps
 use Rattle.iw_stream.specs.declared.answer.Emission.{Emission}
 use Rattle.iw_stream.specs.declared.answer.Emission.TheVariants as emissions
 use Rattle.iw_stream.specs.Starting.{private_in, agreement_in}
-use Rattle.iw_stream.specs.Stream.{StreamState, opened, with_buffer, with_message, with_mulpdu, recv_refusal, post_refusal, size_refusal, emission_of, emitted, after_emit, delivery_of, after_deliver, may_answer, accepted, rejected}
+use Rattle.iw_stream.specs.Stream.{StreamState, opened, with_buffer, with_request, with_mulpdu, recv_refusal, post_refusal, size_refusal, emission_of, emitted, after_emit, delivery_of, after_deliver, may_answer, accepted, rejected}
 use Rattle.iw_stream.specs.Work.{work_step, worked, table_worked}
 use Rattle.iw_events.specs.declared.call.End.{End}
 use Rattle.iw_events.specs.declared.call.End.TheVariants.{A, B}
@@ -31,7 +33,7 @@ use Rattle.iw_events.specs.declared.act.Act.TheVariants.{Domain, Register, Dereg
 use Rattle.iw_events.specs.declared.act.StreamAct.{StreamAct}
 use Rattle.iw_events.specs.declared.act.StreamAct.TheVariants.{Recv, Post, Emit, Deliver, Raw, Mulpdu, Accept, Reject, Work}
 use Rattle.iw_events.specs.declared.act.Shown.{Shown}
-use Rattle.iw_events.specs.declared.act.Shown.TheVariants.{Frame, Nothing}
+use Rattle.iw_events.specs.declared.act.Shown.TheVariants.{Frame, Fetched, Fault as Denied, Nothing}
 use Rattle.iw_events.specs.declared.act.Seen.{Seen}
 use Rattle.iw_events.specs.declared.act.Seen.TheVariants as seen
 use Rattle.iw_events.specs.declared.act.Entry.{Entry}
@@ -45,9 +47,10 @@ abbrev pub FitsOptional : Option Stag → Type 0
 FitsOptional None = Unit {0}
 FitsOptional (Some stag) = FitsStag stag
 
-abbrev pub FitsMessage : Message (List ℕ) → Type 0
-FitsMessage (Write stag to octets) = FitsStag stag × (to < 2 ^ 64)
-FitsMessage (Send octets solicited invalidate) = FitsOptional invalidate
+abbrev pub FitsPosted : Request (List ℕ) → Type 0
+FitsPosted (Posted (Write stag to octets)) = FitsStag stag × (to < 2 ^ 64)
+FitsPosted (Posted (Send octets solicited invalidate)) = FitsOptional invalidate
+FitsPosted (Read request) = FitsRequest request
 
 -- ---- states
 
@@ -100,10 +103,12 @@ stream_at s n = unwrap_or (slice_index_or s.streams n None) unconnected
 
 -- ---- which answer is right
 
--- what was shown of an emission
-abbrev pub shown_of : Emission → List ℕ → Shown Octets
-shown_of (emissions.Frame from len) octets = Frame from octets
-shown_of emissions.Nothing octets = Nothing
+-- what was shown of an emission of these octets, by the regions
+abbrev pub shown_of : Table → Emission → List ℕ → Shown Octets
+shown_of table (emissions.Frame from len) octets = Frame from octets
+shown_of table (emissions.Fetched from len stag to n) octets = Fetched from octets stag to (octets_at table stag to n)
+shown_of table (emissions.Fault fault) octets = Denied fault
+shown_of table emissions.Nothing octets = Nothing
 
 -- what was seen of a step, where it left this table and the peer's private data is this
 abbrev pub seen_of : Table → Octets → Step Octets → Seen Octets
@@ -113,6 +118,7 @@ seen_of table private (steps.Opened agreed) = seen.Opened agreed private
 seen_of table private (steps.Closed fault) = seen.Closed fault
 seen_of table private (steps.Placed right stag to len) = seen.Placed right stag to (octets_at table stag to len)
 seen_of table private (steps.Buffered msn mo len) = seen.Buffered msn mo len
+seen_of table private (steps.Requested size stag to) = seen.Requested size stag to
 seen_of table private steps.Passed = seen.Passed
 seen_of table private (steps.Received buffer len solicited invalidate) = seen.Received (take len buffer) solicited invalidate
 seen_of table private (steps.Fault fault) = seen.Fault fault
@@ -132,8 +138,8 @@ private_data private = record { items = take 512 private }
 -- the right answer at a stream, whoever sent the octets that come
 abbrev pub StreamRule : Table → StreamState → StreamAct Octets → Type 0
 StreamRule table s (Recv len refused) = refused ≡ recv_refusal s
-StreamRule table s (Post message refused) = FitsMessage message × (refused ≡ post_refusal s message)
-StreamRule table s (Emit shown) = shown ≡ shown_of (emission_of s) (emitted s)
+StreamRule table s (Post request refused) = FitsPosted request × (refused ≡ post_refusal s request)
+StreamRule table s (Emit shown) = shown ≡ shown_of table (emission_of table s) (emitted table s)
 StreamRule table s (Deliver from octets delivery) = delivery ≡ delivery_of s from (length octets)
 StreamRule table s (Raw from octets delivery) = delivery ≡ delivery_of s from (length octets)
 StreamRule table s (Mulpdu size refused) = refused ≡ size_refusal size
@@ -193,9 +199,9 @@ Rule s peer act = EndRule s act × PeerRule peer act
 abbrev pub stream_after : Table → StreamState → StreamAct Octets → StreamState
 stream_after table s (Recv len None) = with_buffer s (replicate len 0)
 stream_after table s (Recv len (Some refusal)) = s
-stream_after table s (Post message None) = with_message s message
-stream_after table s (Post message (Some refusal)) = s
-stream_after table s (Emit shown) = after_emit s
+stream_after table s (Post request None) = with_request s request
+stream_after table s (Post request (Some refusal)) = s
+stream_after table s (Emit shown) = after_emit table s
 stream_after table s (Deliver from octets delivery) = after_deliver s from octets delivery
 stream_after table s (Raw from octets delivery) = after_deliver s from octets delivery
 stream_after table s (Mulpdu size None) = with_mulpdu s size

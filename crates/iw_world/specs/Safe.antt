@@ -1,17 +1,15 @@
 -- What holds of every trace of two ends, in words of the trace alone.
-use Rattle.std.specs.Prelude.{◌≡◌, ◌⊎◌, false, ℕ, ◌+◌, ◌<◌, ◌≤◌, List, [], ◌∷◌, ◌++◌, length, map, slice_get, Some}
-use Rattle.iw_octets.specs.declared.message.Message.{Message}
+use Rattle.std.specs.Prelude.{◌≡◌, ◌⊎◌, false, ℕ, ◌+◌, ◌<◌, ◌≤◌, List, [], ◌∷◌, ◌++◌, length, slice_get, Some}
 use Rattle.iw_memory.specs.Laws.{Allows}
 use Rattle.iw_untagged.specs.Receiving.{ahead_of}
 use Rattle.iw_queues.specs.declared.request.Request.{Request}
-use Rattle.iw_queues.specs.declared.request.Request.TheVariants.{Message as Posted}
 use Rattle.iw_queues.specs.Joined.{IsPrefixOf, Cell, count_writes, count_before}
 use Rattle.iw_events.specs.declared.call.End.{End}
 use Rattle.iw_events.specs.declared.act.Act.{Act}
 use Rattle.iw_events.specs.declared.act.StreamAct.{StreamAct}
 use Rattle.iw_events.specs.declared.act.Entry.{Entry}
 use Rattle.iw_stream.specs.declared.answer.Role.TheVariants.{Preset, Initiator, Responder}
-use Rattle.iw_world.specs.Words.{Octets, other, acts, deed, stream_acts, openings, Opening, domain_of, posted, sends, received, has_raw, placements, table_after, buffers, due}
+use Rattle.iw_world.specs.Words.{Octets, other, acts, deed, stream_acts, openings, Opening, domain_of, posted, sends, received, has_raw, placings, written, table_after, buffers, due}
 use Rattle.iw_world.specs.Words.{OnSome, OnStream, AtEach}
 
 -- ---- receives
@@ -36,19 +34,15 @@ InOrder trace = (past future : List (Entry Octets)) → trace ≡ past ++ future
 
 -- ---- Writes
 
--- the messages as what was posted
-abbrev pub requests : List (Message Octets) → List (Request Octets)
-requests messages = map Posted messages
-
 -- of each Send that is received, each octet of the Writes posted before it has been placed, and none has been placed more often than it was posted
-pub record CoversWrites (posted placed : List (Message Octets)) (received : ℕ) (cell : Cell) : Type 0 where
-  pub before : (k : ℕ) → k < received → count_before cell k (requests posted) ≤ count_writes cell (requests placed)
-  pub most : count_writes cell (requests placed) ≤ count_writes cell (requests posted)
+pub record CoversWrites (posted placed : List (Request Octets)) (received : ℕ) (cell : Cell) : Type 0 where
+  pub before : (k : ℕ) → k < received → count_before cell k posted ≤ count_writes cell placed
+  pub most : count_writes cell placed ≤ count_writes cell posted
 
 -- at every moment, what an end has placed for the Writes of an honest stream
 abbrev pub Covered : List (Entry Octets) → Type 0
 Covered trace = (past future : List (Entry Octets)) → trace ≡ past ++ future → (x : End) (n : ℕ) → IsHonest n past → (cell : Cell) →
-    CoversWrites (posted (stream_acts n (acts x past))) (placements (stream_acts n (acts (other x) past))) (length (received (stream_acts n (acts (other x) past)))) cell
+    CoversWrites (posted (stream_acts n (acts x past))) (written (placings (stream_acts n (acts (other x) past)))) (length (received (stream_acts n (acts (other x) past)))) cell
 
 -- ---- octets that change
 

@@ -1,8 +1,19 @@
 -- What became of each frame that came, in words of the trace alone.
-use Rattle.std.specs.Prelude.{◌≡◌, ◌⊎◌, ℕ, zero, suc, ◌+◌, ◌-◌, ◌==◌, ◌&&◌, List, [], ◌∷◌, length, take, drop, replicate, slice_get, fold, Bool, true, false, Option, Some, None, Result, Ok, Err}
+use Rattle.std.specs.Prelude.{◌≡◌, ◌⊎◌, ℕ, zero, suc, ◌+◌, ◌-◌, ◌%◌, ◌^◌, ◌==◌, ◌&&◌, nat_lt, if◌then◌else◌, List, [], ◌∷◌, ◌++◌, length, take, drop, replicate, slice_get, fold, Bool, true, false, Option, Some, None, Result, Ok, Err}
 use Rattle.std.specs.Option.{option_map, option_map_or}
 use Rattle.iw_octets.specs.declared.fault.Fault.{Fault}
+use Rattle.iw_octets.specs.declared.operation.UntaggedOperation.TheVariants.{ReadRequest as AsksRead}
+use Rattle.iw_octets.specs.declared.payload.ReadRequest.{ReadRequest}
+use Rattle.iw_octets.specs.declared.segment.Segment.{Segment}
+use Rattle.iw_octets.specs.declared.segment.Segment.TheVariants.{Tagged, Untagged}
+use Rattle.iw_octets.specs.Operation.{queue_of}
+use Rattle.iw_octets.specs.Payload.{request_fields, read_request}
+use Rattle.iw_octets.specs.Segment.{read_segment}
 use Rattle.iw_memory.specs.declared.rights.Right.TheVariants as rights
+use Rattle.iw_reads.specs.declared.reads.Outstanding.{Outstanding}
+use Rattle.iw_reads.specs.declared.requests.Asked.{Asked}
+use Rattle.iw_reads.specs.Outstanding.{asked_for}
+use Rattle.iw_reads.specs.Requests.{Requested, nothing_asked, taken_up}
 use Rattle.iw_ranges.specs.Arrived.{Arrived, nothing, in_order}
 use Rattle.iw_fpdu.specs.declared.layout.Layout.{Layout}
 use Rattle.iw_fpdu.specs.Places.{frame_start}
@@ -17,10 +28,12 @@ use Rattle.iw_stream.specs.declared.judging.PlacedFrame.{PlacedFrame}
 use Rattle.iw_stream.specs.declared.judging.Turning.{Turning}
 use Rattle.iw_stream.specs.declared.judging.Turning.TheVariants as turning
 use Rattle.iw_stream.specs.Frames.{Frame, standing_at, segment_in, payload_of, placed, payload_len}
-use Rattle.iw_stream.specs.Judging.{Standing, verdict, turn_of, receiving_turned}
-use Rattle.iw_stream.specs.Starting.{StartState, start_at_first, is_open, expecting, first_place_in, is_responder, awaits_frame, progress_in, heard, private_in, agreement_in, answered_with}
+use Rattle.iw_stream.specs.Judging.{Standing, verdict, turn_of, receiving_turned, reads_left}
+use Rattle.iw_stream.specs.Starting.{StartState, start_at_first, is_open, sending, expecting, first_place_in, first_place_out, is_responder, awaits_frame, progress_in, heard, private_in, agreement_in, answered_with}
 use Rattle.iw_events.specs.declared.act.Act.{Act}
 use Rattle.iw_events.specs.declared.act.StreamAct.{StreamAct}
+use Rattle.iw_events.specs.declared.act.Shown.{Shown}
+use Rattle.iw_events.specs.declared.act.Shown.TheVariants as shows
 use Rattle.iw_events.specs.declared.act.Seen.{Seen}
 use Rattle.iw_events.specs.declared.act.Seen.TheVariants as seen
 use Rattle.iw_events.specs.declared.act.Entry.{Entry}
@@ -58,12 +71,23 @@ behind_last at (frame ∷ frames) = behind_last frame.behind frames
 
 -- ---- what the acts of a stream say of the frames that came
 
+-- a request of the peer, and the octets that were fetched for it
+pub record Answer : Type 0 where
+  pub request : ReadRequest
+  pub octets : Octets
+
 pub record Story : Type 0 where
   pub came : Arrived  -- the octets that came, each at its place
   pub start : StartState  -- what the start-up has come to: what both ends asked for and answered, as far as it was read
   pub turns : ℕ  -- how many frames had their turn
   pub placed : Bool  -- the frame whose turn is next has been placed
   pub receiving : Receiving  -- the receive buffers, with what was placed in them
+  pub whole : ℕ  -- how many of the messages that were posted went out to their last frame
+  pub reads : List Outstanding  -- the Reads whose requests went out, and the last frames of whose responses had no turn
+  pub answered : ℕ  -- how many Reads went before them
+  pub asked : Requested  -- the peer's requests, of which those wait that were not answered to their end
+  pub answers : List Answer  -- the responses that were fetched to their end
+  pub begun : Octets  -- the octets that were fetched for the oldest request that waits
 
 -- a responder at which no frame had its turn
 abbrev pub is_silent : Story → Bool
@@ -88,6 +112,17 @@ next_payload t = option_map_or (λ f. payload_of (segment_in f)) (next_frame t) 
 abbrev pub next_turned : Story → Receiving
 next_turned t = option_map_or (λ f. receiving_turned t.receiving (placed f)) (next_frame t) t.receiving
 
+-- what it leaves of the Reads that are outstanding
+abbrev pub next_reads : Story → List Outstanding
+next_reads t = option_map_or (λ f. reads_left t.reads (placed f)) (next_frame t) t.reads
+
+-- the Read Request that it carries
+abbrev pub asked_in : Frame → Asked
+asked_in frame = record { header = (placed frame).header; request = request_fields (payload_of (segment_in frame)) }
+
+abbrev pub next_asked : Story → Requested
+next_asked t = option_map_or (λ f. taken_up t.asked (asked_in f)) (next_frame t) t.asked
+
 -- the peer's start-up frame is read off the octets that came
 abbrev pub hears : Story → Story
 hears t = record t { start = heard t.start (in_order t.came) }
@@ -98,11 +133,63 @@ story_seen t (seen.Opened agreed private) = hears t
 story_seen t (seen.Closed fault) = hears t
 story_seen t (seen.Placed right stag to octets) = record t { placed = true }
 story_seen t (seen.Buffered msn mo len) = record t { placed = true; receiving = written t.receiving msn mo (next_payload t) }
-story_seen t seen.Passed = record t { turns = t.turns + 1; placed = false; receiving = next_turned t }
+story_seen t (seen.Requested size stag to) = record t { turns = t.turns + 1; asked = next_asked t }
+story_seen t seen.Passed = record t {
+  turns = t.turns + 1;
+  placed = false;
+  receiving = next_turned t;
+  reads = next_reads t;
+  answered = t.answered + (length t.reads - length (next_reads t));
+}
 story_seen t (seen.Received octets solicited invalidate) = record t { turns = t.turns + 1; placed = false; receiving = finished t.receiving }
 story_seen t (seen.Done kind) = t
 story_seen t (seen.Fault fault) = t
 story_seen t seen.Idle = t
+
+-- ---- and of those that go out
+
+abbrev pub is_last : Segment Octets → Bool
+is_last (Tagged head payload) = head.last
+is_last (Untagged head payload) = head.last
+
+-- the segment of a frame that goes out from a place on; none of the start-up frame
+abbrev pub segment_out : Story → ℕ → Octets → Option (Segment Octets)
+segment_out t from octets =
+    if nat_lt from (first_place_out t.start) then None
+    else option_map_or (λ first. read_segment first.0.ulpdu) (first_frame (sending t.start) (from - first_place_out t.start) octets) None
+
+-- the Read that it asks for
+abbrev pub read_out : Segment Octets → Option ReadRequest
+read_out (Tagged head payload) = None
+read_out (Untagged head payload) =
+    if head.queue == queue_of AsksRead then option_map (λ read. read.0) (read_request payload) else None
+
+-- the k-th message that is posted has the ticket k, modulo 2^64, of which the first is 0
+abbrev pub sends_segment : Story → Segment Octets → Story
+sends_segment t segment = record t {
+  whole = if is_last segment then t.whole + 1 else t.whole;
+  reads = option_map_or (asked_for t.reads (t.whole % 2 ^ 64)) (read_out segment) t.reads;
+}
+
+-- octets are fetched for the oldest request that waits
+abbrev pub fetches_for : Story → List Asked → Octets → Story
+fetches_for t [] octets = t
+fetches_for t (oldest ∷ others) octets =
+    if length t.begun + length octets == oldest.request.size then record t {
+      asked = record t.asked { unanswered = others; fetched = 0 };
+      answers = t.answers ++ record { request = oldest.request; octets = t.begun ++ octets } ∷ [];
+      begun = [];
+    }
+    else record t {
+      asked = record t.asked { fetched = length t.begun + length octets };
+      begun = t.begun ++ octets;
+    }
+
+abbrev pub story_shown : Story → Shown Octets → Story
+story_shown t (shows.Frame from octets) = option_map_or (sends_segment t) (segment_out t from octets) t
+story_shown t (shows.Fetched from frame stag to octets) = fetches_for t t.asked.unanswered octets
+story_shown t (shows.Fault fault) = t
+story_shown t shows.Nothing = t
 
 -- the calls
 abbrev pub story_called : Story → StreamAct Octets → Story
@@ -113,7 +200,7 @@ story_called t act = record t {
 }
 
 abbrev pub story_after : Story → StreamAct Octets → Story
-story_after t act = option_map_or (story_seen t) (deed act).step (story_called t act)
+story_after t act = option_map_or (story_seen t) (deed act).step (option_map_or (story_shown t) (deed act).shown (story_called t act))
 
 -- of a stream that was opened so
 abbrev pub untold : Opening → Story
@@ -123,6 +210,12 @@ untold o = record {
   turns = 0;
   placed = false;
   receiving = nothing_received;
+  whole = 0;
+  reads = [];
+  answered = 0;
+  asked = nothing_asked;
+  answers = [];
+  begun = [];
 }
 
 unfoldable pub story : Opening → List (StreamAct Octets) → Story
@@ -133,13 +226,16 @@ story o done = fold story_after (untold o) done
 -- what is seen of a frame that is judged: its placement, or the first check that fails
 abbrev pub seen_judged : Frame → Result Landing Fault → Seen Octets
 seen_judged frame (Ok (landing.Write at)) = seen.Placed rights.Write at.stag at.to (payload_of (segment_in frame))
+seen_judged frame (Ok (landing.Response at)) = seen.Placed rights.Sink at.stag at.to (payload_of (segment_in frame))
 seen_judged frame (Ok (landing.Send msn mo len)) = seen.Buffered msn mo len
+seen_judged frame (Ok (landing.Request request)) = seen.Requested request.size request.source request.source_to
 seen_judged frame (Err fault) = seen.Fault fault
 
 -- and of its turn, by the checks of a turn alone
 abbrev pub seen_turned : Receiving → PlacedFrame → Result Turning Fault → Seen Octets
 seen_turned r frame (Ok turning.Passed) = seen.Passed
 seen_turned r frame (Ok turning.Completed) = seen.Received (take (r.turned + payload_len frame) (oldest r)) false None
+seen_turned r frame (Ok (turning.Answered ticket)) = seen.Passed
 seen_turned r frame (Err fault) = seen.Fault fault
 
 -- the frame whose turn is next is whole and was not placed: it is judged
@@ -182,7 +278,9 @@ abbrev pub story_of : ℕ → List (Act Octets) → Story
 story_of n before = story (opening_of n before) (stream_acts n before)
 
 abbrev pub standing : ℕ → List (Act Octets) → Standing
-standing n before = record { table = table_after before; domain = domain_of n before; receiving = (story_of n before).receiving }
+standing n before =
+    let t : Story = story_of n before in
+    record { table = table_after before; domain = domain_of n before; receiving = t.receiving; reads = t.reads; asked = t.asked }
 
 abbrev pub TurnsSeen : Bool → Story → Standing → Seen Octets → Type 0
 TurnsSeen over t s (seen.Done kind) = Unit {0}
@@ -192,6 +290,7 @@ TurnsSeen over t s (seen.Opened agreed private) = HearsReply over t agreed × (p
 TurnsSeen over t s (seen.Closed fault) = HearsFrame over t (progress.Faulted fault)
 TurnsSeen over t s (seen.Placed right stag to octets) = ReadsFrames over t × IsJudged t s (seen.Placed right stag to octets)
 TurnsSeen over t s (seen.Buffered msn mo len) = ReadsFrames over t × IsJudged t s (seen.Buffered msn mo len)
+TurnsSeen over t s (seen.Requested size stag to) = ReadsFrames over t × IsJudged t s (seen.Requested size stag to)
 TurnsSeen over t s seen.Passed = ReadsFrames over t × HasTurn t s seen.Passed
 TurnsSeen over t s (seen.Received octets solicited invalidate) =
     ReadsFrames over t × HasTurn t s (seen.Received octets solicited invalidate)

@@ -3,7 +3,6 @@ use Rattle.std.specs.Prelude.{◌≡◌, ℕ, ◌+◌, ◌%◌, ◌^◌, ◌==�
 use Rattle.std.specs.List.{flat_map}
 use Rattle.std.specs.Option.{option_map_or}
 use Rattle.iw_octets.specs.declared.stag.Stag.{Stag}
-use Rattle.iw_octets.specs.declared.message.Message.{Message}
 use Rattle.iw_octets.specs.declared.message.Message.TheVariants.{Write, Send}
 use Rattle.iw_memory.specs.declared.rights.Right.{Right}
 use Rattle.iw_memory.specs.declared.rights.Right.TheVariants as rights
@@ -11,6 +10,8 @@ use Rattle.iw_memory.specs.Region.{Region}
 use Rattle.iw_memory.specs.Part.{with_room}
 use Rattle.iw_memory.specs.Table.{Table, empty, slots_of, with_part, put, added, deregistered, invalidated}
 use Rattle.iw_queues.specs.declared.request.Kind.{Kind}
+use Rattle.iw_queues.specs.declared.request.Request.{Request}
+use Rattle.iw_queues.specs.declared.request.Request.TheVariants.{Message as Posted, Read}
 use Rattle.iw_ranges.specs.declared.Delivery.{Delivery}
 use Rattle.iw_ranges.specs.declared.Delivery.TheVariants.{Kept, Dropped}
 use Rattle.iw_ranges.specs.Arrived.{Arrived, taken_in}
@@ -30,7 +31,7 @@ use Rattle.iw_events.specs.declared.act.Act.TheVariants.{Domain, Register, Dereg
 use Rattle.iw_events.specs.declared.act.StreamAct.{StreamAct}
 use Rattle.iw_events.specs.declared.act.StreamAct.TheVariants.{Recv, Post, Emit, Deliver, Raw, Mulpdu, Accept, Reject, Work}
 use Rattle.iw_events.specs.declared.act.Shown.{Shown}
-use Rattle.iw_events.specs.declared.act.Shown.TheVariants.{Frame, Nothing}
+use Rattle.iw_events.specs.declared.act.Shown.TheVariants.{Frame, Fetched, Fault as Denied, Nothing}
 use Rattle.iw_events.specs.declared.act.Seen.{Seen}
 use Rattle.iw_events.specs.declared.act.Seen.TheVariants as seen
 use Rattle.iw_events.specs.declared.act.Entry.{Entry}
@@ -147,14 +148,21 @@ pub record Buffering : Type 0 where
   pub mo : ℕ
   pub len : ℕ
 
+-- octets of a region that were fetched for a Read of the peer
+pub record Fetching : Type 0 where
+  pub stag : Stag
+  pub to : ℕ
+  pub octets : Octets
+
 -- what an act did at its stream; a call that was refused did nothing
 pub record Deed : Type 0 where
-  pub posted : Option (Message Octets)
+  pub posted : Option (Request Octets)
   pub buffer : Option ℕ  -- the length of a receive buffer that was posted
   pub size : Option ℕ  -- the ULPDU size that was set
   pub reply : Option Reply  -- how the peer's Request was answered
   pub coming : Option Coming
-  pub shown : Option (Shown Octets)  -- what a call to emit gave
+  pub shown : Option (Shown Octets)  -- what a call to emit gave; and of it:
+  pub fetched : Option Fetching
   pub step : Option (Seen Octets)  -- what a step of work gave; and of it:
   pub finished : Option Kind
   pub placing : Option Placing
@@ -170,6 +178,7 @@ no_deed = record {
   reply = None;
   coming = None;
   shown = None;
+  fetched = None;
   step = None;
   finished = None;
   placing = None;
@@ -191,6 +200,19 @@ abbrev pub acceptance : Octets → Result Agreed NotAsked → Option Reply
 acceptance private (Ok agreed) = Some (reply_with (λ d. replies.Accept d) private)
 acceptance private (Err refusal) = None
 
+abbrev pub fetched_in : Shown Octets → Option Fetching
+fetched_in (Frame from octets) = None
+fetched_in (Fetched from frame stag to octets) = Some (record { stag = stag; to = to; octets = octets })
+fetched_in (Denied fault) = None
+fetched_in Nothing = None
+
+-- the source of a Read was denied: the stream ends
+abbrev pub is_denied : Shown Octets → Bool
+is_denied (Frame from octets) = false
+is_denied (Fetched from frame stag to octets) = false
+is_denied (Denied fault) = true
+is_denied Nothing = false
+
 abbrev pub deed_of_step : Seen Octets → Deed
 deed_of_step (seen.Done kind) = record no_deed { finished = Some kind }
 deed_of_step (seen.Asked private) = no_deed
@@ -199,6 +221,7 @@ deed_of_step (seen.Closed fault) = record no_deed { ends = true }
 deed_of_step (seen.Placed right stag to octets) =
     record no_deed { placing = Some (record { right = right; stag = stag; to = to; octets = octets }) }
 deed_of_step (seen.Buffered msn mo len) = record no_deed { buffering = Some (record { msn = msn; mo = mo; len = len }) }
+deed_of_step (seen.Requested size stag to) = no_deed
 deed_of_step seen.Passed = no_deed
 deed_of_step (seen.Received octets solicited invalidate) =
     record no_deed { received = Some (record { octets = octets; solicited = solicited; invalidate = invalidate }) }
@@ -207,8 +230,8 @@ deed_of_step seen.Idle = no_deed
 
 abbrev pub deed : StreamAct Octets → Deed
 deed (Recv len refused) = record no_deed { buffer = unless refused len }
-deed (Post message refused) = record no_deed { posted = unless refused message }
-deed (Emit shown) = record no_deed { shown = Some shown }
+deed (Post request refused) = record no_deed { posted = unless refused request }
+deed (Emit shown) = record no_deed { shown = Some shown; fetched = fetched_in shown; ends = is_denied shown }
 deed (Deliver from octets delivery) =
     record no_deed { coming = Some (record { raw = false; from = from; octets = octets; delivery = delivery }) }
 deed (Raw from octets delivery) =
@@ -234,11 +257,11 @@ listed (Some x) = x ∷ []
 
 -- ---- messages
 
-abbrev pub posted_by : StreamAct Octets → List (Message Octets)
+abbrev pub posted_by : StreamAct Octets → List (Request Octets)
 posted_by act = listed (deed act).posted
 
 -- the messages accepted, in order
-unfoldable pub posted : List (StreamAct Octets) → List (Message Octets)
+unfoldable pub posted : List (StreamAct Octets) → List (Request Octets)
 posted done = flat_map posted_by done
 
 abbrev pub finished_by : StreamAct Octets → List Kind
@@ -248,10 +271,12 @@ finished_by act = listed (deed act).finished
 unfoldable pub finished_kinds : List (StreamAct Octets) → List Kind
 finished_kinds done = flat_map finished_by done
 
-abbrev pub sends : List (Message Octets) → List Sent
+abbrev pub sends : List (Request Octets) → List Sent
 sends [] = []
-sends (Write stag to octets ∷ ms) = sends ms
-sends (Send octets solicited invalidate ∷ ms) = record { octets = octets; solicited = solicited; invalidate = invalidate } ∷ sends ms
+sends (Posted (Write stag to octets) ∷ ms) = sends ms
+sends (Posted (Send octets solicited invalidate) ∷ ms) =
+    record { octets = octets; solicited = solicited; invalidate = invalidate } ∷ sends ms
+sends (Read request ∷ ms) = sends ms
 
 abbrev pub received_by : StreamAct Octets → List Sent
 received_by act = listed (deed act).received
@@ -282,6 +307,8 @@ ended done = fold ended_after false done
 
 abbrev pub octets_shown : Shown Octets → Octets
 octets_shown (Frame from octets) = octets
+octets_shown (Fetched from frame stag to octets) = frame
+octets_shown (Denied fault) = []
 octets_shown Nothing = []
 
 abbrev pub sent_by : StreamAct Octets → Octets
@@ -342,18 +369,34 @@ table_after done = fold table_by empty done
 
 -- ---- placements
 
--- octets that were placed for a Write, as a Write of those octets
-abbrev pub written_by : Right → Message Octets → List (Message Octets)
-written_by rights.Write message = message ∷ []
-written_by rights.Read message = []
-written_by rights.Sink message = []
+abbrev pub placed_by : StreamAct Octets → List Placing
+placed_by act = listed (deed act).placing
 
-abbrev pub placed_by : StreamAct Octets → List (Message Octets)
-placed_by act = option_map_or (λ p. written_by p.right (Write p.stag p.to p.octets)) (deed act).placing []
+-- what was placed in regions, in order
+unfoldable pub placings : List (StreamAct Octets) → List Placing
+placings done = flat_map placed_by done
 
--- what was placed for Writes, each as a Write of those octets
-unfoldable pub placements : List (StreamAct Octets) → List (Message Octets)
-placements done = flat_map placed_by done
+-- a placement, as a Write of its octets
+abbrev pub as_write : Placing → Request Octets
+as_write p = Posted (Write p.stag p.to p.octets)
+
+-- those for Writes
+abbrev pub written_by : Right → Request Octets → List (Request Octets)
+written_by rights.Write placement = placement ∷ []
+written_by rights.Read placement = []
+written_by rights.Sink placement = []
+
+abbrev pub written : List Placing → List (Request Octets)
+written ps = flat_map (λ p. written_by p.right (as_write p)) ps
+
+-- those for the responses to Reads
+abbrev pub sunk_by : Right → Request Octets → List (Request Octets)
+sunk_by rights.Write placement = []
+sunk_by rights.Read placement = []
+sunk_by rights.Sink placement = placement ∷ []
+
+abbrev pub sunk : List Placing → List (Request Octets)
+sunk ps = flat_map (λ p. sunk_by p.right (as_write p)) ps
 
 -- ---- receive buffers
 

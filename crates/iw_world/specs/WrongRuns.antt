@@ -2,26 +2,30 @@
 use Rattle.std.specs.Prelude.{ℕ, true, false, List, [], ◌∷◌, ◌++◌, replicate, Some, None, Ok}
 use Rattle.iw_octets.specs.declared.fault.TheConstants.Fault as faults
 use Rattle.iw_octets.specs.declared.message.Message.TheVariants as messages
+use Rattle.iw_octets.specs.declared.payload.ReadRequest.{ReadRequest}
 use Rattle.iw_octets.specs.declared.stag.Stag.{Stag}
+use Rattle.iw_octets.specs.Payload.{request_octets}
 use Rattle.iw_memory.specs.declared.rights.Right.TheVariants as rights
 use Rattle.iw_memory.specs.declared.refusal.DomainRefusal.TheVariants.{DomainTaken}
 use Rattle.iw_ranges.specs.declared.Delivery.TheVariants.{Kept}
 use Rattle.iw_queues.specs.declared.request.Kind.TheVariants as kinds
+use Rattle.iw_queues.specs.declared.request.Request.TheVariants.{Message as Posted, Read}
 use Rattle.iw_startup.specs.Frame.{request_key, reply_key}
 use Rattle.iw_stream.specs.declared.answer.Role.{Role}
 use Rattle.iw_stream.specs.declared.answer.Role.TheVariants.{Preset, Initiator, Responder}
 use Rattle.iw_events.specs.declared.call.End.TheVariants.{A, B}
 use Rattle.iw_events.specs.declared.act.Act.{Act}
-use Rattle.iw_events.specs.declared.act.Act.TheVariants.{Domain, Register, Open, Stream}
+use Rattle.iw_events.specs.declared.act.Act.TheVariants.{Domain, Register, Invalidate, Open, Stream}
 use Rattle.iw_events.specs.declared.act.StreamAct.{StreamAct}
 use Rattle.iw_events.specs.declared.act.StreamAct.TheVariants.{Post, Emit, Deliver, Raw, Mulpdu, Accept, Work}
-use Rattle.iw_events.specs.declared.act.Shown.TheVariants.{Frame}
+use Rattle.iw_events.specs.declared.act.Shown.TheVariants.{Frame, Fetched}
 use Rattle.iw_events.specs.declared.act.Seen.{Seen}
 use Rattle.iw_events.specs.declared.act.Seen.TheVariants as seen
 use Rattle.iw_events.specs.declared.act.Entry.{Entry}
 use Rattle.iw_world.specs.Words.{Octets}
 use Rattle.iw_world.specs.Turns.{Turns}
 use Rattle.iw_world.specs.Rest.{IdleOnlyAtRest}
+use Rattle.iw_world.specs.Faithful.{Faithful}
 use Rattle.iw_world.specs.Sends.{Sized, Speaks, Finished}
 use Rattle.iw_world.specs.Calls.{ShowsMemory, Answered, KeepsOctets, CarriesOctets}
 
@@ -65,7 +69,7 @@ places = seen.Placed rights.Write stag 0 (0xaa ∷ [])
 
 -- a Send of one octet, and its frame
 abbrev pub sends_one : Act Octets
-sends_one = on (Post (messages.Send (0x68 ∷ []) false None) None)
+sends_one = on (Post (Posted (messages.Send (0x68 ∷ []) false None)) None)
 
 abbrev pub send_frame : Octets
 send_frame = (0 ∷ 19 ∷ 0x41 ∷ 0x43 ∷ []) ++ replicate 11 0 ++ (1 ∷ 0 ∷ 0 ∷ 0 ∷ 0 ∷ 0x68 ∷ []) ++ replicate 7 0
@@ -96,8 +100,7 @@ RefusesFramesUnopened = ¬ Turns reads_unopened
 
 abbrev pub rests_with_reply : Run
 rests_with_reply =
-    opens a Initiator
-    ++ (a (emits (request_key ++ (0 ∷ 1 ∷ 0 ∷ 0 ∷ []))) ∷ a (raw 0 (reply_key ++ (0 ∷ 1 ∷ 0 ∷ 0 ∷ []))) ∷ a (works seen.Idle) ∷ [])
+    opens a Initiator ++ (a (raw 0 (reply_key ++ (0 ∷ 1 ∷ 0 ∷ 0 ∷ []))) ∷ a (works seen.Idle) ∷ [])
 
 abbrev pub RefusesRestWithReply : Type 0
 RefusesRestWithReply = ¬ IdleOnlyAtRest rests_with_reply
@@ -128,7 +131,7 @@ RefusesFinishedAsWrite = ¬ Finished finished_as_write
 abbrev pub sends_too_large : Run
 sends_too_large =
     opens a Preset
-    ++ (a (on (Mulpdu 128 None)) ∷ a (on (Post (messages.Send (replicate 204 0x22) false None) None))
+    ++ (a (on (Mulpdu 128 None)) ∷ a (on (Post (Posted (messages.Send (replicate 204 0x22) false None)) None))
     ∷ a (emits ((0 ∷ 222 ∷ 0x41 ∷ 0x43 ∷ []) ++ replicate 11 0 ++ (1 ∷ 0 ∷ 0 ∷ 0 ∷ 0 ∷ []) ++ replicate 204 0x22 ++ replicate 4 0)) ∷ [])
 
 -- a Write of two octets is cut, though they fit
@@ -136,7 +139,7 @@ abbrev pub cut_frame : Octets
 cut_frame = (0 ∷ 15 ∷ 0x81 ∷ 0x40 ∷ 1 ∷ 0 ∷ 0 ∷ 0 ∷ []) ++ replicate 8 0 ++ (0xaa ∷ []) ++ replicate 7 0
 
 abbrev pub cuts_short : Run
-cuts_short = opens a Preset ++ (a (on (Post (messages.Write stag 0 (0xaa ∷ 0xbb ∷ [])) None)) ∷ a (emits cut_frame) ∷ [])
+cuts_short = opens a Preset ++ (a (on (Post (Posted (messages.Write stag 0 (0xaa ∷ 0xbb ∷ []))) None)) ∷ a (emits cut_frame) ∷ [])
 
 abbrev pub sends_elsewhere : Run
 sends_elsewhere = opens a Preset ++ (a sends_one ∷ a (on (Emit (Frame 7 send_frame))) ∷ [])
@@ -193,3 +196,37 @@ RefusesWrongRefusal = ¬ ShowsMemory refuses_first_domain
 
 abbrev pub RefusesSameStag : Type 0
 RefusesSameStag = ¬ ShowsMemory answers_stag_again
+
+-- ---- Reads
+
+abbrev pub read_one : ReadRequest
+read_one = record { sink = stag; sink_to = 0; size = 4; source = stag; source_to = 0 }
+
+-- four octets that may be read, of which the peer asks for all
+abbrev pub lends : Act Octets
+lends = Register 1 0 (record { write = false; read = true; sink = false; invalidate = false }) (0x0a ∷ 0x0b ∷ 0x0c ∷ 0x0d ∷ []) (Ok stag)
+
+-- the frame of its request
+abbrev pub request_frame : Octets
+request_frame = (0 ∷ 46 ∷ 0x41 ∷ 0x41 ∷ []) ++ replicate 7 0 ++ (1 ∷ []) ++ replicate 3 0 ++ (1 ∷ []) ++ replicate 4 0 ++ request_octets read_one ++ replicate 4 0
+
+-- two octets go out for it, in a frame of theirs
+abbrev pub fetches : ℕ → Octets → Act Octets
+fetches to octets = on (Emit (Fetched 0 [] stag to octets))
+
+-- the second part goes out though the region was invalidated behind the first
+abbrev pub fetches_invalid : Run
+fetches_invalid =
+    opens b Preset
+    ++ (b lends ∷ b (raw 0 request_frame) ∷ b (works (seen.Requested 4 stag 0)) ∷ b (fetches 0 (0x0a ∷ 0x0b ∷ [])) ∷ b (Invalidate stag None)
+    ∷ b (fetches 2 (0x0c ∷ 0x0d ∷ [])) ∷ [])
+
+abbrev pub RefusesFetchInvalid : Type 0
+RefusesFetchInvalid = ¬ Faithful fetches_invalid
+
+-- a Read is done as soon as its request is sent
+abbrev pub reads_unanswered : Run
+reads_unanswered = opens a Preset ++ (a (on (Post (Read read_one) None)) ∷ a (emits request_frame) ∷ a (works (seen.Done kinds.Read)) ∷ [])
+
+abbrev pub RefusesReadUnanswered : Type 0
+RefusesReadUnanswered = ¬ Finished reads_unanswered

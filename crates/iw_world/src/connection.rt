@@ -1,14 +1,19 @@
-ghost use Rattle.std.specs.Prelude.{◌≡◌, ◌≢◌, ◌+◌, ◌<◌, ◌≤◌, ◌^◌, ℕ, List, length, IfOk, IfErr};
+ghost use Rattle.std.specs.Prelude.{◌≡◌, ◌≢◌, ◌+◌, ◌<◌, ◌≤◌, ◌^◌, ◌++◌, ℕ, List, length, IfOk, IfErr, OnOk};
 ghost use Rattle.iw_memory.specs.Table.{Table};
 ghost use Rattle.iw_events.specs.Events.{stream_call_of};
+ghost use Rattle.iw_stream.specs.Stream.{emission_of, emitted, after_emit};
+ghost use Rattle.iw_world.specs.Bounds.{IsShort};
+ghost use Rattle.iw_world.specs.Rules.{shown_of};
 
 use crate::copies::{known, message_in, private_data, shared, standing};
 use crate::fault::Failure;
 use bytes::Bytes;
 use iw_events::{Seen, Shown, StreamAct, StreamCall};
 use iw_memory::Memory;
-use iw_octets::{Message, Octets};
-use iw_stream::{Agreed, Config, Emission, NotAsked, PostRefusal, RecvRefusal, Role, Step, Stream};
+use iw_octets::Octets;
+use iw_stream::{
+    Agreed, Config, Emission, NotAsked, PostRefusal, RecvRefusal, Request, Role, Step, Stream,
+};
 use std::alloc::{AllocError, Allocator, Global};
 use std::marker::Model;
 
@@ -32,7 +37,7 @@ impl<A: Allocator + Copy> Connection<A> {
     ghost use Rattle.iw_stream.specs.Starting.{private_in};
     ghost use Rattle.iw_stream.specs.Stream.{post_refusal};
     ghost use Rattle.iw_world.specs.Rules.{connected, connected_after, StreamRule, WireRule, seen_of, accept_answer, answer_refusal};
-    ghost use Rattle.iw_world.specs.Bounds.{IsShort, AsksOver};
+    ghost use Rattle.iw_world.specs.Bounds.{AsksOver};
 
     pub(crate) fn new(
         alloc: A,
@@ -77,7 +82,7 @@ impl<A: Allocator + Copy> Connection<A> {
         match call {
             StreamCall::Recv { len } => self.recv(alloc, *len),
             StreamCall::Post { message } => self.post(message),
-            StreamCall::Emit => self.emit(alloc),
+            StreamCall::Emit => self.emit(alloc, memory),
             StreamCall::Deliver { from, len } => self.deliver(alloc, peer, *from, *len),
             StreamCall::Raw { from, octets } => self.raw(*from, octets),
             StreamCall::Mulpdu { size } => Ok(self.mulpdu(*size)),
@@ -105,7 +110,7 @@ impl<A: Allocator + Copy> Connection<A> {
         }
     }
 
-    fn post(&mut self, message: &Message<Bytes<A>>) -> Result<StreamAct<Bytes<A>>, Failure>
+    fn post(&mut self, message: &Request<Bytes<A>>) -> Result<StreamAct<Bytes<A>>, Failure>
         ensures rule { IfOk result (λ act. (table : Table) → StreamRule table self.old.stream act) }
         ensures call { IfOk result (λ act. stream_call_of act ≡ StreamCall.Post message.now) }
         ensures state { IfOk result (λ act. (table : Table) → self.new ≡ connected_after table self.old act) }
@@ -121,7 +126,7 @@ impl<A: Allocator + Copy> Connection<A> {
     }
 
     // Posts a message, and tells why it was refused, if it was.
-    fn try_post(&mut self, message: Message<Bytes<A>>) -> Result<Option<PostRefusal>, Failure>
+    fn try_post(&mut self, message: Request<Bytes<A>>) -> Result<Option<PostRefusal>, Failure>
         ensures rule { IfOk result (λ refused. refused ≡ post_refusal self.old.stream message) }
         ensures state { IfOk result (λ refused. (table : Table) → self.new ≡ connected_after table self.old (StreamAct.Post message refused)) }
         ensures failure { IfErr result (λ failure. failure ≡ Failure.NoMemory) }
@@ -133,22 +138,16 @@ impl<A: Allocator + Copy> Connection<A> {
         }
     }
 
-    fn emit(&mut self, alloc: A) -> Result<StreamAct<Bytes<A>>, Failure>
+    fn emit(&mut self, alloc: A, memory: &Memory<A>) -> Result<StreamAct<Bytes<A>>, Failure>
         requires { IsShort self.old.stream }
-        ensures rule { IfOk result (λ act. (table : Table) → StreamRule table self.old.stream act) }
+        ensures rule { IfOk result (λ act. StreamRule memory.now self.old.stream act) }
         ensures call { IfOk result (λ act. stream_call_of act ≡ StreamCall.Emit) }
-        ensures state { IfOk result (λ act. (table : Table) → self.new ≡ connected_after table self.old act) }
+        ensures state { IfOk result (λ act. self.new ≡ connected_after memory.now self.old act) }
         ensures memory { IfOk result (λ act. (table : Table) → table_by_stream table act ≡ table) }
         ensures failure { IfErr result (λ failure. failure ≡ Failure.NoMemory) }
     {
-        let before = self.wire.len();
-        match self.stream.emit(&mut self.wire)? {
-            Emission::Nothing => Ok(StreamAct::Emit(Shown::Nothing)),
-            Emission::Frame { from, len: _ } => {
-                let octets = Bytes::copy_from_slice(alloc, &self.wire[before..])?;
-                Ok(StreamAct::Emit(Shown::Frame { from, octets }))
-            }
-        }
+        let shown = emit_shown(alloc, memory, &mut self.stream, &mut self.wire)?;
+        Ok(StreamAct::Emit(shown))
     }
 
     fn deliver(
@@ -301,6 +300,7 @@ impl<A: Allocator + Copy> Connection<A> {
                 octets: standing(alloc, memory, stag, to, len)?,
             }),
             Step::Buffered { msn, mo, len } => Ok(Seen::Buffered { msn, mo, len }),
+            Step::Requested { size, stag, to } => Ok(Seen::Requested { size, stag, to }),
             Step::Passed => Ok(Seen::Passed),
             Step::Received {
                 buffer,
@@ -322,5 +322,55 @@ impl<A: Allocator + Copy> Connection<A> {
         ensures { IfOk result (λ private. private ≡ private_in self.now.stream.start) }
     {
         Bytes::copy_from_slice(alloc, self.stream.private())
+    }
+}
+
+// Emits what is due at a stream, appended to the octets that it sent, and shows it.
+fn emit_shown<A: Allocator + Copy>(
+    alloc: A,
+    memory: &Memory<A>,
+    stream: &mut Stream<A>,
+    wire: &mut Vec<u8, A>,
+) -> Result<Shown<Bytes<A>>, Failure>
+    requires { IsShort stream.old }
+    ensures shown { IfOk result (λ shown. shown ≡ shown_of memory.now (emission_of memory.now stream.old) (emitted memory.now stream.old)) }
+    ensures after { OnOk result (stream.new ≡ after_emit memory.now stream.old) }
+    ensures wire { OnOk result (wire.new.items ≡ wire.old.items ++ emitted memory.now stream.old) }
+    ensures failure { IfErr result (λ failure. failure ≡ Failure.NoMemory) }
+{
+    let before = wire.len();
+    let emission = stream.emit(memory, wire)?;
+    Ok(shown(alloc, memory, &wire[before..], emission)?)
+}
+
+// What is shown of an emission of these octets, by the regions.
+fn shown<A: Allocator + Copy>(
+    alloc: A,
+    memory: &Memory<A>,
+    emitted: &[u8],
+    emission: Emission,
+) -> Result<Shown<Bytes<A>>, AllocError>
+    ensures { IfOk result (λ shown. shown ≡ shown_of memory.now emission emitted.now) }
+{
+    match emission {
+        Emission::Frame { from, len: _ } => Ok(Shown::Frame {
+            from,
+            octets: Bytes::copy_from_slice(alloc, emitted)?,
+        }),
+        Emission::Fetched {
+            from,
+            len: _,
+            stag,
+            to,
+            n,
+        } => Ok(Shown::Fetched {
+            from,
+            frame: Bytes::copy_from_slice(alloc, emitted)?,
+            stag,
+            to,
+            octets: standing(alloc, memory, stag, to, n)?,
+        }),
+        Emission::Fault(fault) => Ok(Shown::Fault(fault)),
+        Emission::Nothing => Ok(Shown::Nothing),
     }
 }

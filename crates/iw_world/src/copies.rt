@@ -1,39 +1,45 @@
 //! Copies for the trace, and facts that reading a value tells.
 
 ghost use Rattle.std.specs.Prelude.{◌≡◌, ◌+◌, ◌-◌, ◌≤◌, ◌<◌, take, drop, length, Some, IfOk};
-ghost use Rattle.iw_world.specs.Rules.{FitsMessage};
+ghost use Rattle.iw_world.specs.Rules.{FitsPosted};
+ghost use Rattle.iw_octets.specs.Payload.{FitsRequest};
 ghost use Rattle.iw_octets.specs.Stag.{FitsStag};
 ghost use Rattle.iw_memory.specs.Table.{octets_at};
 ghost use Rattle.iw_world.specs.Rules.{private_data};
 
 use bytes::Bytes;
 use iw_memory::{Memory, Stag};
-use iw_octets::{Message, Octets};
+use iw_octets::{Message, Octets, ReadRequest};
 use iw_startup::MAX_PRIVATE;
-use iw_stream::PrivateData;
+use iw_stream::{PrivateData, Request};
 use std::alloc::{AllocError, Allocator};
 
-/// The same message; its octets are shared, not copied.
+/// The same request; its octets are shared, not copied.
 pub(crate) fn shared<A: Allocator>(
-    message: &Message<Bytes<A>>,
-) -> Result<Message<Bytes<A>>, AllocError>
-    ensures { IfOk result (λ copy. copy ≡ message.now) }
+    request: &Request<Bytes<A>>,
+) -> Result<Request<Bytes<A>>, AllocError>
+    ensures { IfOk result (λ copy. copy ≡ request.now) }
 {
-    match message {
-        Message::Write { stag, to, octets } => Ok(Message::Write {
-            stag: *stag,
-            to: *to,
-            octets: octets.clone()?,
-        }),
-        Message::Send {
-            octets,
-            solicited,
-            invalidate,
-        } => Ok(Message::Send {
+    match request {
+        Request::Message(Message::Write { stag, to, octets }) => {
+            Ok(Request::Message(Message::Write {
+                stag: *stag,
+                to: *to,
+                octets: octets.clone()?,
+            }))
+        }
+        Request::Message(
+            Message::Send {
+                octets,
+                solicited,
+                invalidate,
+            },
+        ) => Ok(Request::Message(Message::Send {
             octets: octets.clone()?,
             solicited: *solicited,
             invalidate: *invalidate,
-        }),
+        })),
+        Request::Read(read) => Ok(Request::Read(*read)),
     }
 }
 
@@ -48,20 +54,36 @@ fn known_stag(stag: Stag)
     } = stag;
 }
 
-/// Tells that the numbers of a message fit their fields.
-pub(crate) fn known<A: Allocator>(message: &Message<Bytes<A>>)
-    ensures { FitsMessage message.now }
+// So do those of a Read.
+fn known_read(request: ReadRequest)
+    ensures { FitsRequest request }
 {
-    match message {
-        Message::Write { stag, to, .. } => {
+    let ReadRequest {
+        sink,
+        sink_to: _,
+        size: _,
+        source,
+        source_to: _,
+    } = request;
+    known_stag(sink);
+    known_stag(source);
+}
+
+/// Tells that the numbers of a request fit their fields.
+pub(crate) fn known<A: Allocator>(request: &Request<Bytes<A>>)
+    ensures { FitsPosted request.now }
+{
+    match request {
+        Request::Message(Message::Write { stag, to, .. }) => {
             known_stag(*stag);
             let _to = *to;
         }
-        Message::Send { invalidate, .. } => {
+        Request::Message(Message::Send { invalidate, .. }) => {
             if let Some(stag) = invalidate {
                 known_stag(*stag);
             }
         }
+        Request::Read(read) => known_read(*read),
     }
 }
 

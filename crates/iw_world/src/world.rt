@@ -5,7 +5,8 @@ ghost use Rattle.iw_events.specs.Events.{event_of};
 ghost use Rattle.iw_world.specs.Words.{other};
 ghost use Rattle.iw_world.specs.Rules.{start, after_entry, end_of, Rule, Follows};
 ghost use Rattle.iw_world.specs.Safe.{InOrder, Covered, Within};
-ghost use Rattle.iw_world.specs.Sends.{Emission, Sized, Speaks, NothingOnlyAtRest, Finished};
+ghost use Rattle.iw_world.specs.Faithful.{Faithful};
+ghost use Rattle.iw_world.specs.Sends.{Emission, Sized, Speaks, NothingOnlyAtRest, Finished, FewReads};
 ghost use Rattle.iw_world.specs.Turns.{Turns};
 ghost use Rattle.iw_world.specs.Rest.{IdleOnlyAtRest};
 ghost use Rattle.iw_world.specs.Calls.{ShowsMemory, Answered, KeepsOctets, CarriesOctets};
@@ -79,13 +80,13 @@ impl<A: Allocator + Copy> World<A> {
         ensures in_order { IfOk result (λ trace. InOrder trace.items) }
         // When a Send is received, each octet of the Writes before it was placed, and none too often.
         ensures covered { IfOk result (λ trace. Covered trace.items) }
-        // What was sent is the frames of what was posted.
+        // What was sent is the frames of what was posted and of the responses to the peer's Reads, no two of them mingled.
         ensures emission { IfOk result (λ trace. Emission trace.items) }
         // Each frame stands behind what was sent before, and has the size that was set last.
         ensures sized { IfOk result (λ trace. Sized trace.items) }
         // But for the start-up frame, a frame is sent only where the stream is open, has not ended and need not keep silent.
         ensures speaks { IfOk result (λ trace. Speaks trace.items) }
-        // Nothing is emitted only where all that was posted was sent.
+        // Nothing is emitted only where all was sent, or all before a Read that waits.
         ensures nothing { IfOk result (λ trace. NothingOnlyAtRest trace.items) }
         // The k-th message that is finished is the k-th that was posted, and was sent to its last segment.
         ensures finished { IfOk result (λ trace. Finished trace.items) }
@@ -99,6 +100,10 @@ impl<A: Allocator + Copy> World<A> {
         ensures idle { IfOk result (λ trace. IdleOnlyAtRest trace.items) }
         // What changed lay where it was allowed.
         ensures within { IfOk result (λ trace. Within trace.items) }
+        // What is fetched for a Read is what the peer asked for, where it may be read, as it stands there.
+        ensures faithful { IfOk result (λ trace. Faithful trace.items) }
+        // No Read goes out while 16 are outstanding.
+        ensures few_reads { IfOk result (λ trace. FewReads trace.items) }
         // Each call of an end is answered by what the entries made of its regions and streams.
         ensures memory { IfOk result (λ trace. ShowsMemory trace.items) }
         // Each call of a stream is refused exactly where it must be.

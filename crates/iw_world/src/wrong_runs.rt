@@ -1,6 +1,6 @@
 //! Runs that no two ends make, each refused by one law of a trace alone, beside that every answer follows the rules.
 
-ghost use Rattle.iw_world.specs.WrongRuns.{RefusesFramesBehindFault, RefusesFramesUnopened, RefusesRestWithReply, RefusesNeverFinished, RefusesFinishedUnsent, RefusesFinishedAsWrite, RefusesTooLarge, RefusesCutShort, RefusesElsewhere, RefusesBehindEnd, RefusesOtherOctets, RefusesKeptBehindEnd, RefusesUnaskedAccept, RefusesWrongRefusal, RefusesSameStag};
+ghost use Rattle.iw_world.specs.WrongRuns.{RefusesFramesBehindFault, RefusesFramesUnopened, RefusesRestWithReply, RefusesNeverFinished, RefusesFinishedUnsent, RefusesFinishedAsWrite, RefusesTooLarge, RefusesCutShort, RefusesElsewhere, RefusesBehindEnd, RefusesOtherOctets, RefusesKeptBehindEnd, RefusesUnaskedAccept, RefusesWrongRefusal, RefusesSameStag, RefusesFetchInvalid, RefusesReadUnanswered};
 
 /// A frame is not placed behind a fault, though its region was registered since.
 pub fn refuses_frames_behind_fault()
@@ -75,4 +75,14 @@ pub fn refuses_wrong_refusal()
 /// A registration is not answered by an STag that names a region.
 pub fn refuses_same_stag()
     ensures { RefusesSameStag }
+{}
+
+/// No more of a response is sent once its source was invalidated.
+pub fn refuses_fetch_invalid()
+    ensures { RefusesFetchInvalid }
+{}
+
+/// A Read is not finished before its response had its turn.
+pub fn refuses_read_unanswered()
+    ensures { RefusesReadUnanswered }
 {}

@@ -7,7 +7,7 @@ use Rattle.iw_world.specs.Words.{Octets, other, acts}
 use Rattle.iw_world.specs.Rules.{State, start, state_after, after_entry, end_of, Rule, Follows}
 use Rattle.iw_world.specs.Bounds.{IsShortState, LacksStream, AsksTooMuch}
 use Rattle.iw_world.proofs.Whole.{follows_push, state_after-push, seen_after}
-use Rattle.iw_world.proofs.Laws.{in_order, covered, emission, sized_all, speaks_all, nothing_at_rest, finished_all, turns_all, idle_at_rest, within_all, shows_memory, answered_all, keeps_octets, carries_octets, names_no_stream, names_streams, asks_not_sent}
+use Rattle.iw_world.proofs.Laws.{in_order, covered, emission, sized_all, speaks_all, nothing_at_rest, finished_all, turns_all, idle_at_rest, within_all, shows_memory, answered_all, keeps_octets, carries_octets, fetched_all, few_reads, names_no_stream, names_streams, asks_not_sent}
 use Rattle.iw_world.proofs.Shorts.{short_state}
 use Rattle.iw_world.proofs.world.World.run.Goals as goal
 
@@ -57,6 +57,12 @@ returns-clause-kept g c = keeps_octets c.loop-event.trace.items c.loop-event.inv
 
 pub returns-clause-carried : goal.returns-clause-carried
 returns-clause-carried g c = carries_octets c.loop-event.trace.items c.loop-event.invariant.follows
+
+pub returns-clause-faithful : goal.returns-clause-faithful
+returns-clause-faithful g c = fetched_all c.loop-event.trace.items c.loop-event.invariant.follows
+
+pub returns-clause-few_reads : goal.returns-clause-few_reads
+returns-clause-few_reads g c = few_reads c.loop-event.trace.items c.loop-event.invariant.follows
 
 pub returns-clause-turns : goal.returns-clause-turns
 returns-clause-turns g c = turns_all c.loop-event.trace.items c.loop-event.invariant.follows
