@@ -6,6 +6,8 @@ mod queues;
 #[cfg(test)]
 mod rdmap;
 #[cfg(test)]
+mod reads;
+#[cfg(test)]
 mod schedules;
 #[cfg(test)]
 mod tagged;

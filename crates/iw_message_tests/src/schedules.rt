@@ -21,6 +21,8 @@ const TEXTS: &str = "0 | #
 1 | a recv 0 20000000
 1 | a send 0 plain - 6869
 1 | a write 0 01000000 0 -
+1 | a read 255 ffFFffFF 18446744073709551615 4294967295 00000000 18446744073709551615
+1 | a read 0 01000000 0 0 01000000 0
 1 | a mulpdu 0 4294967295
 1 | a deliver 0 18446744073709551615 18446744073709551615
 1 | a raw 0 18446744073709551615 00
@@ -53,7 +55,9 @@ line 1: BadOctets | a reject 0 00*513
 line 1: BadWord | a invalidate
 line 1: BadWord | a invalidate 01000000 0
 line 1: BadWord | a store 01000000 0
-line 1: BadWord | a read 0 01000000 0 4 01000000 0
+line 1: BadWord | a read 0 01000000 0 4 01000000
+line 1: BadWord | a read 0 01000000 0 4 01000000 0 0
+line 1: BadWord | a reads 0 01000000 0 4 01000000 0
 line 1: BadWord | a mulpdu 0
 line 1: BadWord | a mulpdu 0 128 1
 line 1: BadWord | a raws 0 0 aa
@@ -99,6 +103,13 @@ line 1: BadNumber | a send x solicited - aa
 line 1: BadNumber | a write 0 0x000000 0 aa
 line 1: BadNumber | a write 0 01000000 x aa
 line 1: BadNumber | a write 0 01000000 0x10 a
+line 1: BadNumber | a read 256 - 0 4 01000000 0
+line 1: BadNumber | a read 0 - x 4 01000000 0
+line 1: BadNumber | a read 0 01000000 18446744073709551616 4294967296 01000000 0
+line 1: BadNumber | a read 0 01000000 0 4294967296 01000000 0
+line 1: BadNumber | a read 0 01000000 0 -1 0100000 0
+line 1: BadNumber | a read 0 01000000 0 4 0100000
+line 1: BadNumber | a read 0 01000000 0 4 01000000 x y
 line 1: BadNumber | a emit 0 0
 line 1: BadNumber | a emit 0 100001
 line 1: BadNumber | a emit 0\x20

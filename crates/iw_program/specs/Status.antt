@@ -5,6 +5,8 @@ use Rattle.iw_events.specs.declared.act.Act.{Act}
 use Rattle.iw_events.specs.declared.act.Act.TheVariants as acts
 use Rattle.iw_events.specs.declared.act.StreamAct.{StreamAct}
 use Rattle.iw_events.specs.declared.act.StreamAct.TheVariants as stream_acts
+use Rattle.iw_events.specs.declared.act.Shown.{Shown}
+use Rattle.iw_events.specs.declared.act.Shown.TheVariants as shown
 use Rattle.iw_events.specs.declared.act.Seen.{Seen}
 use Rattle.iw_events.specs.declared.act.Seen.TheVariants as seen
 use Rattle.iw_events.specs.declared.act.Entry.{Entry}
@@ -26,15 +28,23 @@ sees_fault (seen.Opened agreed private) = false
 sees_fault (seen.Closed fault) = true
 sees_fault (seen.Placed right stag to octets) = false
 sees_fault (seen.Buffered msn mo len) = false
+sees_fault (seen.Requested size stag to) = false
 sees_fault seen.Passed = false
 sees_fault (seen.Received octets solicited invalidate) = false
 sees_fault (seen.Fault fault) = true
 sees_fault seen.Idle = false
 
+-- the source of a Read was denied as its octets were to be sent
+abbrev pub shows_fault : Shown (List ℕ) → Bool
+shows_fault (shown.Frame from octets) = false
+shows_fault (shown.Fetched from frame stag to octets) = false
+shows_fault (shown.Fault fault) = true
+shows_fault shown.Nothing = false
+
 abbrev pub stream_faults : StreamAct (List ℕ) → Bool
 stream_faults (stream_acts.Recv len refused) = false
 stream_faults (stream_acts.Post message refused) = false
-stream_faults (stream_acts.Emit shown) = false
+stream_faults (stream_acts.Emit shown) = shows_fault shown
 stream_faults (stream_acts.Deliver from octets delivery) = false
 stream_faults (stream_acts.Raw from octets delivery) = false
 stream_faults (stream_acts.Mulpdu size refused) = false

@@ -1,8 +1,8 @@
 ghost use Rattle.std.specs.Prelude.{◌≡◌};
-ghost use Rattle.iw_program.specs.Status.{code_of, sees_fault, is_fault, status_of};
+ghost use Rattle.iw_program.specs.Status.{code_of, sees_fault, shows_fault, is_fault, status_of};
 
 use bytes::Bytes;
-use iw_events::{Act, Entry, Seen, StreamAct};
+use iw_events::{Act, Entry, Seen, Shown, StreamAct};
 use std::alloc::Allocator;
 
 /// How a run of the program ends.
@@ -40,9 +40,20 @@ fn is_fault_seen<A: Allocator>(seen: &Seen<Bytes<A>>) -> bool
         | Seen::Opened { .. }
         | Seen::Placed { .. }
         | Seen::Buffered { .. }
+        | Seen::Requested { .. }
         | Seen::Passed
         | Seen::Received { .. }
         | Seen::Idle => false,
+    }
+}
+
+// Whether a call to emit found that the source of a Read is denied.
+fn is_fault_shown<A: Allocator>(shown: &Shown<Bytes<A>>) -> bool
+    ensures { result ≡ shows_fault shown.now }
+{
+    match shown {
+        Shown::Fault(_) => true,
+        Shown::Frame { .. } | Shown::Fetched { .. } | Shown::Nothing => false,
     }
 }
 
@@ -51,6 +62,10 @@ fn is_fault_entry<A: Allocator>(entry: &Entry<Bytes<A>>) -> bool
     ensures { result ≡ is_fault entry.now }
 {
     match &entry.act {
+        Act::Stream {
+            act: StreamAct::Emit(shown),
+            ..
+        } => is_fault_shown(shown),
         Act::Stream {
             act: StreamAct::Work(seen),
             ..

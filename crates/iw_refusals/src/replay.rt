@@ -104,6 +104,39 @@ b store 01000000 refused 2 Outside
 b deregister 01000000 ok 0000aabbcc000000
 ";
 
+// A Read of two octets.
+const READS: &str = "a domain 1
+b domain 1
+a register 1 0 s 00*2
+b register 1 0 r aabb
+a open 0 1 preset - -
+b open 0 1 preset - -
+a read 0 01000000 0 2 01000000 0
+a emit 0
+b deliver 0 0 52
+b work 0
+b emit 0
+a deliver 0 0 24
+a work 0 3
+";
+
+const READS_TRACE: &str = "a domain 1 ok
+b domain 1 ok
+a register 01000000
+b register 01000000
+a open 0 ok
+b open 0 ok
+a read 0 ok
+a emit 0 frame 0 002e4141000000000000000100000001000000000100000000000000000000000000000201000000000000000000000000000000
+b deliver 0 kept
+b work 0 requested 2 01000000 0
+b emit 0 fetched 0 0010c142010000000000000000000000aabb000000000000 01000000 0 aabb
+a deliver 0 kept
+a work 0 placed sink 01000000 0 aabb
+a work 0 passed
+a work 0 done read
+";
+
 /// The most octets of a read and of a write.
 const READ: usize = 16;
 
@@ -222,6 +255,7 @@ fn a_refused_allocation_leaves_nothing_written(rt: HostRuntime) -> Result<(), Fa
         (SCHEDULE, TRACE, Status::Completed),
         (START_UP, START_UP_TRACE, Status::Completed),
         (INVALIDATED, INVALIDATED_TRACE, Status::Failed),
+        (READS, READS_TRACE, Status::Completed),
     ] {
         let refusals = refusals_of(&rt, rt.alloc(), schedule, trace, status)?;
         assert!(rt; refusals > 10);

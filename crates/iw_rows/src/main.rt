@@ -21,7 +21,7 @@ enum Ending {
 }
 
 /// The schedules, by the names of their files, `NAME.schedule`. The trace of one that has a trace is in `NAME.trace`.
-const ROWS: [(&str, Ending); 40] = [
+const ROWS: [(&str, Ending); 46] = [
     ("first", Ending::Completed),
     ("one-write", Ending::Completed),
     ("empty-messages", Ending::Completed),
@@ -51,6 +51,12 @@ const ROWS: [(&str, Ending); 40] = [
     ("start-up", Ending::Completed),
     ("many-segments", Ending::Completed),
     ("capture", Ending::Completed),
+    ("reads", Ending::Faulted),
+    ("a-seventeenth-read-waits", Ending::Completed),
+    ("a-source-is-invalidated-between-two-parts", Ending::Faulted),
+    ("read-requests-that-are-denied", Ending::Faulted),
+    ("a-request-too-many", Ending::Faulted),
+    ("a-response-that-ends-too-early", Ending::Faulted),
     ("refusals-of-memory", Ending::Completed),
     ("refusals-of-streams", Ending::Faulted),
     ("options-out-of-order", Ending::Refused("line 1: BadOctets")),
