@@ -1,121 +1,228 @@
-// Times Writes that go from one stream to another, beside two copies in cache of the same octets and, with CRCs, two CRCs of
-// them. It prints the ratios, and ends with status 1 where the time of an octet grows by more than the limit. It reads the
-// processor's time of this thread, in which other work shows little.
+//! Carries messages from stream to stream: by `iw_stream`, by a peer in plain Rust, and by copies and CRCs alone. It prints
+//! ratios of their times, and ends with status 1 where one is below what is wanted. It reads the processor's time of this
+//! thread, in which other work shows little, and takes the least time of many short runs that go by turns: what else the
+//! machine does harms all of them alike.
+
 #[path = "../clock.rs"]
 mod clock;
+mod copies;
+mod heap;
+mod held;
+mod load;
+mod ours;
+mod peer;
+mod row;
+mod rows;
 
-use clock::now;
+use held::Held;
+use load::Load;
+use row::Row;
 use std::hint::black_box;
 
-unsafe extern "C" {
-    fn stream_writes(framed: bool, swapped: bool, compared: bool, pairs: usize, octets: *const u8, n: usize) -> u64;
-    fn stream_crc(octets: *const u8, n: usize) -> u32;
-}
+const TURNS: usize = 300;
 
-const WRITE: usize = 16_384;
-// The Writes have by turns the first octets and those from here on.
-const SHIFT: usize = 64;
-const PIECE: usize = 1_400;
-// 64 MiB, and 16 MiB.
-const WRITES: usize = 4_096;
-const FEWER: usize = WRITES / 4;
-const TURNS: usize = 21;
+/// How much more the time of an octet may be in a load that is longer.
 const MAX_GROWTH: f64 = 1.15;
+const MAX_GROWTH_APART: f64 = 1.3;
 
-struct Row {
-    name: &'static str,
-    framed: bool,
-    swapped: bool,
-    time: f64,
-    time_of_fewer: f64,
+const GROWTH_TRIES: usize = 5;
+
+/// How many octets an idle stream may hold.
+const MAX_IDLE: f64 = 2_560.0;
+
+/// What is wanted, and whether it is had.
+struct Wanted {
+    missed: usize,
 }
 
-/// The time of this work, where it is less than this.
-fn less(least: f64, mut work: impl FnMut()) -> f64 {
-    let start = now();
-    work();
-    least.min(now() - start)
+impl Wanted {
+    fn at_least(&mut self, what: &str, value: f64, least: f64) {
+        self.say(what, value, "at least", least, value >= least);
+    }
+
+    fn at_most(&mut self, what: &str, value: f64, most: f64) {
+        self.say(what, value, "at most", most, value <= most);
+    }
+
+    fn say(&mut self, what: &str, value: f64, bound: &str, limit: f64, met: bool) {
+        let verdict = if met { "reached" } else { "MISSED" };
+        self.missed += usize::from(!met);
+        println!("{what}: {value:.2}, wanted {bound} {limit}: {verdict}");
+    }
 }
 
-/// Copies the octets of all Writes, in pieces.
-fn copy(octets: &[u8], to: &mut [u8]) {
-    for i in 0..WRITES {
-        for piece in octets[i % 2 * SHIFT..][..WRITE].chunks(PIECE) {
-            to[..piece.len()].copy_from_slice(black_box(piece));
-            black_box(&mut *to);
+fn row<'a>(rows: &'a [Row], name: &str) -> &'a Row {
+    rows.iter().find(|row| row.name == name).unwrap_or_else(|| panic!("no row {name}"))
+}
+
+fn print_rows(rows: &[Row]) {
+    println!("| | ns a frame | peer | copies | in cache | peer to copies |");
+    println!("|---|---|---|---|---|---|");
+    for row in rows {
+        println!(
+            "| {} | {:.0} | {:.2} | {:.2} | {:.2} | {:.2} |",
+            row.name,
+            row.a_frame(),
+            row.to_peer(),
+            row.to_copies(),
+            row.to_cache(),
+            row.peer_to_copies()
+        );
+    }
+}
+
+fn print_held(held: &[Held]) {
+    for Held { name, ours, peer } in held {
+        println!("| {name} | {ours:.0} | {peer:.0} |");
+    }
+}
+
+/// How much more an octet takes in the second of these rows.
+fn growth(rows: &[Row], fewer: &str, more: &str) -> f64 {
+    row(rows, more).an_octet() / row(rows, fewer).an_octet()
+}
+
+fn judge_rows(rows: &[Row], wanted: &mut Wanted) {
+    let (plain, framed) = (row(rows, "plain"), row(rows, "markers and CRCs"));
+    wanted.at_least("peer's time to ours, plain", plain.to_peer(), 0.8);
+    wanted.at_least("peer's time to ours, markers and CRCs", framed.to_peer(), 0.95);
+    for name in ["receiving side, plain", "receiving side, markers", "receiving side, markers and CRCs"] {
+        wanted.at_least(&format!("peer's time to ours, {name}"), row(rows, name).to_peer(), 0.85);
+    }
+    for (name, without) in [
+        ("start-up frames, plain", "plain"),
+        ("start-up frames, markers", "markers"),
+        ("start-up frames, markers and CRCs", "markers and CRCs"),
+    ] {
+        wanted.at_most(&format!("{name}, to the same without"), growth(rows, without, name), 1.03);
+    }
+    wanted.at_least("two copies' time to ours, plain", plain.to_cache(), 0.25);
+    wanted.at_least("two copies' and CRCs' time to ours, markers and CRCs", framed.to_cache(), 0.72);
+    wanted.at_least("three copies' time to the peer's, plain", plain.peer_to_copies(), 0.55);
+    wanted.at_least("three copies' and two CRCs' time to the peer's, markers and CRCs", framed.peer_to_copies(), 0.75);
+}
+
+fn judge_limits(rows: &[Row], limits: &[Row], wanted: &mut Wanted) {
+    for (name, fewer, more) in [
+        ("first frame last, plain", "first frame last, 62,000 octets, plain", "first frame last, 225,000 octets, plain"),
+        ("first frame last, markers", "first frame last, 62,000 octets, markers", "first frame last, 225,000 octets, markers"),
+        (
+            "first frame last, markers, ULPDU 128",
+            "the same in ULPDUs of 128, 53,000 octets, markers",
+            "the same in ULPDUs of 128, 190,000 octets, markers",
+        ),
+        (
+            "every second first, 100 islands to 900",
+            "every second first, 100 islands, ULPDU 128, markers",
+            "every second first, 900 islands, ULPDU 128, markers",
+        ),
+    ] {
+        let (fewer, more) = (row(limits, fewer), row(limits, more));
+        let peer = more.peer_an_octet() / fewer.peer_an_octet();
+        println!("growth of the peer's time of an octet, {name}: {peer:.2}");
+        let ours = more.an_octet() / fewer.an_octet();
+        wanted.at_most(&format!("growth of the time of an octet, {name}"), ours, MAX_GROWTH_APART);
+    }
+    let fewest = row(rows, "plain").an_octet();
+    let longest = row(limits, "Writes of 16 MiB, plain").an_octet();
+    println!("an octet of a Write of 16 MiB, to one of 16 KiB, plain: {:.2}", longest / fewest);
+}
+
+/// Times 16 MiB and 64 MiB, and tells how much more an octet takes in these. Such long runs find little quiet on a machine
+/// that does other work: they get more turns where that seems to be too much.
+fn time_growth(name: &'static str, load: Load, turns: usize) -> f64 {
+    let [mut fewer, mut more] = [16 << 20, 64 << 20].map(|octets| Row::new(name, load.carrying(octets)));
+    let mut growth = f64::MAX;
+    for _ in 0..GROWTH_TRIES {
+        for _ in 0..turns {
+            fewer.turn_ours();
+            more.turn_ours();
+        }
+        growth = more.an_octet() / fewer.an_octet();
+        if growth <= MAX_GROWTH {
+            break;
         }
     }
+    growth
 }
 
-/// Takes the CRCs of the octets of all Writes, in pieces.
-fn sum(octets: &[u8]) {
-    for i in 0..WRITES {
-        for piece in octets[i % 2 * SHIFT..][..WRITE].chunks(PIECE) {
-            black_box(unsafe { stream_crc(piece.as_ptr(), piece.len()) });
+fn judge_growth(turns: usize, wanted: &mut Wanted) {
+    let swapped = |load| Load { batch: 2, late: 2, ..load };
+    for (name, load) in [
+        ("plain", Load::PLAIN),
+        ("plain, pairs swapped", swapped(Load::PLAIN)),
+        ("markers and CRCs", Load::FRAMED),
+        ("markers and CRCs, pairs swapped", swapped(Load::FRAMED)),
+    ] {
+        let growth = time_growth(name, load, turns);
+        wanted.at_most(&format!("growth from 16 MiB to 64 MiB, {name}"), growth, MAX_GROWTH);
+    }
+}
+
+/// Reads of 16 KiB beside Writes of as many octets, ours alone: the Writes' time to the Reads', and the Reads' growth.
+fn judge_reads(turns: usize, wanted: &mut Wanted) {
+    for (name, load) in [("plain", Load::PLAIN), ("markers and CRCs", Load::FRAMED)] {
+        let reading = Load { reads: true, ..load };
+        let [mut writes, mut reads] = [load, reading].map(|load| Row::new(name, load.carrying(16 << 20)));
+        reads.try_out_ours();
+        for _ in 0..turns {
+            writes.turn_ours();
+            reads.turn_ours();
         }
+        wanted.at_least(&format!("Writes' time to Reads', {name}"), writes.an_octet() / reads.an_octet(), 0.8);
+        let growth = time_growth(name, reading, turns);
+        wanted.at_most(&format!("growth from 16 MiB to 64 MiB, Reads, {name}"), growth, MAX_GROWTH);
     }
 }
 
-impl Row {
-    const fn new(name: &'static str, framed: bool, swapped: bool) -> Row {
-        Row { name, framed, swapped, time: f64::MAX, time_of_fewer: f64::MAX }
-    }
-
-    /// Carries so many Writes, and sees that all their octets were placed.
-    fn carry(&self, octets: &[u8], compared: bool, writes: usize) {
-        let placed = unsafe { stream_writes(self.framed, self.swapped, compared, writes / 2, octets.as_ptr(), octets.len()) };
-        assert_eq!(placed, (writes * WRITE) as u64, "{}", self.name);
-    }
-
-    /// Times 64 MiB once, and 16 MiB four times.
-    fn turn(&mut self, octets: &[u8]) {
-        self.time = less(self.time, || self.carry(octets, false, WRITES));
-        self.time_of_fewer = less(self.time_of_fewer, || (0..WRITES / FEWER).for_each(|_| self.carry(octets, false, FEWER)));
+fn take_crcs(crc32c: fn(&[u8]) -> u32, octets: &[u8]) {
+    for _ in 0..100 {
+        black_box(crc32c(black_box(octets)));
     }
 }
 
-/// Octets with no pattern, so that no Write has what stood in the region before.
-fn octets() -> Vec<u8> {
-    let mut state = 1u64;
-    let octets = (0..WRITE + SHIFT).map(|_| {
-        state = state.wrapping_mul(6_364_136_223_846_793_005).wrapping_add(1_442_695_040_888_963_407);
-        (state >> 56) as u8
-    });
-    octets.collect()
+/// How fast the peer's CRC is: its time to that of `iw_octets`.
+fn judge_crc(turns: usize, wanted: &mut Wanted) {
+    let octets: Vec<u8> = (0..1_400u32).map(|i| (i * i) as u8).collect();
+    let (mut ours, mut peer) = (f64::MAX, f64::MAX);
+    for n in 0..octets.len() {
+        assert_eq!(ours::crc32c(&octets[..n]), peer::crc::crc32c(&octets[..n]));
+    }
+    for _ in 0..turns {
+        row::less(&mut ours, || take_crcs(ours::crc32c, &octets));
+        row::less(&mut peer, || take_crcs(peer::crc::crc32c, &octets));
+    }
+    wanted.at_least("CRC of 1,400 octets, our time to the peer's", ours / peer, 0.9);
 }
 
 fn main() {
-    let octets = octets();
-    let mut rows = [
-        Row::new("plain, in order", false, false),
-        Row::new("plain, pairs swapped", false, true),
-        Row::new("markers and CRCs, in order", true, false),
-        Row::new("markers and CRCs, pairs swapped", true, true),
-    ];
-    let mut to = vec![0u8; PIECE];
-    let (mut copies, mut sums) = (f64::MAX, f64::MAX);
-    // Each Write once compared with what then stands in the region.
-    for row in &rows {
-        row.carry(&octets, true, WRITES);
+    let turns = std::env::args().nth(1).map_or(TURNS, |word| word.parse().expect("a number of turns"));
+    let (mut rows, mut limits) = (rows::rows(), rows::limits());
+    for row in rows.iter().chain(&limits) {
+        row.try_out();
     }
-    for _ in 0..TURNS {
-        copies = less(copies, || (0..2).for_each(|_| copy(&octets, &mut to)));
-        sums = less(sums, || (0..2).for_each(|_| sum(&octets)));
-        for row in &mut rows {
-            row.turn(&octets);
+    for turn in 0..turns {
+        for row in rows.iter_mut().chain(&mut limits) {
+            row.turn(turn);
         }
     }
-    let count = (WRITES * WRITE) as f64;
-    println!("two copies {:.3} ns an octet, two CRCs {:.3} ns", copies / count, sums / count);
-    let mut missed = 0;
-    for row in rows {
-        let measure = if row.framed { copies + sums } else { copies };
-        let growth = row.time / row.time_of_fewer;
-        println!("{}: ratio {:.2}, growth {growth:.2}, {:.2} GB/s", row.name, measure / row.time, count / row.time);
-        if growth > MAX_GROWTH {
-            println!("  missed: a growth of at most {MAX_GROWTH}");
-            missed += 1;
-        }
+    println!("Ratios: the time of the peer, of the copies and of the copies in cache (each with the CRCs) to ours.\n");
+    print_rows(&rows);
+    println!("\nNear the limits:\n");
+    print_rows(&limits);
+    println!("\nOctets that are held:\n\n| | ours | peer |\n|---|---|---|");
+    let idle = held::idle();
+    print_held(&idle);
+    print_held(&held::used());
+    println!();
+    let mut wanted = Wanted { missed: 0 };
+    judge_rows(&rows, &mut wanted);
+    for held in &idle {
+        wanted.at_most(&format!("octets of {}", held.name), held.ours, MAX_IDLE);
     }
-    std::process::exit(if missed == 0 { 0 } else { 1 });
+    judge_limits(&rows, &limits, &mut wanted);
+    judge_growth(turns / 10 + 1, &mut wanted);
+    judge_reads(turns / 10 + 1, &mut wanted);
+    judge_crc(turns, &mut wanted);
+    std::process::exit(if wanted.missed == 0 { 0 } else { 1 });
 }

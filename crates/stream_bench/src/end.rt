@@ -1,16 +1,18 @@
+use crate::load::Load;
 use bytes::Bytes;
-use iw_memory::{Memory, Rights, Stag};
-use iw_octets::{Message, Octets};
-use iw_stream::{Config, Delivery, Emission, PrivateData, Role, Step, Stream};
-use std::alloc::{AllocError, Global};
+use iw_memory::{Memory, Stag};
+use iw_octets::{Message, Octets, ReadRequest};
+use iw_stream::{Config, Delivery, Emission, PrivateData, Request, Role, Step, Stream};
+use std::alloc::{AllocError, AllocFailed, Global};
 
-const DOMAIN: u8 = 1;
+/// The domain of all streams and regions.
+pub(crate) const DOMAIN: u8 = 1;
 
-// How many octets an end emits at most before its last frame, and takes at most before its last step.
+// How many octets a stream emits at most before its last frame, and takes at most before its last step.
 const MAX_PLACE: u64 = 1 << 62;
 
-// How many steps are done at most for one frame.
-const STEPS_A_FRAME: u32 = 100;
+// How many steps are done at most for one delivery.
+const MAX_STEPS: u32 = 10_000;
 
 /// Something went otherwise than it is to.
 #[derive(Clone, Copy, Debug, PartialEq, Eq)]
@@ -22,122 +24,152 @@ impl From<AllocError> for Stop {
     }
 }
 
-/// One end: a stream, and the regions of its domain.
+impl From<AllocFailed<Vec<u8>>> for Stop {
+    fn from(_error: AllocFailed<Vec<u8>>) -> Self {
+        Stop
+    }
+}
+
+/// One end of a connection.
 #[derive(Drop)]
 pub(crate) struct End {
     stream: Stream,
-    memory: Memory,
 }
 
 impl End {
-    /// An end whose stream is open, with markers and CRCs or without both.
-    pub(crate) fn new(alloc: Global, framed: bool) -> Result<End, Stop> {
-        let mut memory = Memory::new(alloc)?;
-        if memory.add_domain(DOMAIN).is_err() {
-            return Err(Stop);
-        }
+    /// An end with the load's markers, CRCs and ULPDU size.
+    pub(crate) fn new(alloc: Global, load: Load, role: Role) -> Result<End, Stop> {
         let config = Config {
-            markers: framed,
-            crc: framed,
+            markers: load.markers,
+            crc: load.crc,
             private: PrivateData::new(),
         };
-        Ok(End {
-            stream: Stream::new(alloc, DOMAIN, Role::Preset, config)?,
-            memory,
-        })
-    }
-
-    /// Registers a region of zeros that the other end may write to.
-    pub(crate) fn register(&mut self, alloc: Global, len: usize) -> Result<Stag, Stop> {
-        let rights = Rights {
-            write: true,
-            read: false,
-            sink: false,
-            invalidate: false,
-        };
-        let octets = vec![in alloc; 0; len]?;
-        match self.memory.register(DOMAIN, 0, octets, rights) {
-            Ok(stag) => Ok(stag),
-            Err(_) => Err(Stop),
+        let mut stream = Stream::new(alloc, DOMAIN, role, config)?;
+        if stream.set_mulpdu(load.mulpdu).is_err() {
+            return Err(Stop);
         }
+        Ok(End { stream })
     }
 
-    /// Whether a region has these octets.
-    pub(crate) fn holds(&self, stag: Stag, octets: &[u8]) -> bool {
-        match self.memory.local(stag) {
-            Some(region) => region == octets,
-            None => false,
-        }
-    }
-
-    /// Posts a Write to the beginning of a region.
-    pub(crate) fn post(&mut self, stag: Stag, octets: Bytes) -> Result<(), Stop> {
-        let message = Message::Write {
-            stag,
-            to: 0,
-            octets,
-        };
-        match self.stream.post(message) {
+    fn post(&mut self, request: Request<Bytes>) -> Result<(), Stop> {
+        match self.stream.post(request) {
             Ok(()) => Ok(()),
             Err(_) => Err(Stop),
         }
     }
 
-    // Appends what is to be emitted next.
-    fn emit(&mut self, out: &mut Vec<u8>) -> Result<Emission, Stop> {
+    /// Posts a Write to the beginning of a region.
+    pub(crate) fn post_write(&mut self, stag: Stag, octets: Bytes) -> Result<(), Stop> {
+        self.post(Request::Message(Message::Write {
+            stag,
+            to: 0,
+            octets,
+        }))
+    }
+
+    /// Posts a Send.
+    pub(crate) fn post_send(&mut self, octets: Bytes) -> Result<(), Stop> {
+        self.post(Request::Message(Message::Send {
+            octets,
+            solicited: false,
+            invalidate: None,
+        }))
+    }
+
+    /// Posts a Read.
+    pub(crate) fn post_read(&mut self, request: ReadRequest) -> Result<(), Stop> {
+        self.post(Request::Read(request))
+    }
+
+    /// Posts a receive buffer.
+    pub(crate) fn post_recv(&mut self, buffer: Vec<u8>) -> Result<(), Stop> {
+        match self.stream.post_recv(buffer) {
+            Ok(()) => Ok(()),
+            Err(_) => Err(Stop),
+        }
+    }
+
+    /// Appends the frame that is to be emitted next, and tells its place, if one is due.
+    pub(crate) fn emit(&mut self, memory: &Memory, out: &mut Vec<u8>) -> Result<Option<u64>, Stop> {
         if self.stream.sent() > MAX_PLACE {
             return Err(Stop);
         }
-        Ok(self.stream.emit(out)?)
-    }
-
-    /// Emits the next frame into `frame` alone, and tells its place, if one is due.
-    pub(crate) fn next_frame(&mut self, frame: &mut Vec<u8>) -> Result<Option<u64>, Stop> {
-        frame.clear();
-        match self.emit(frame)? {
-            Emission::Frame { from, .. } => Ok(Some(from)),
+        match self.stream.emit(memory, out)? {
+            Emission::Frame { from, .. } | Emission::Fetched { from, .. } => Ok(Some(from)),
             Emission::Nothing => Ok(None),
+            Emission::Fault(_) => Err(Stop),
         }
     }
 
-    // Takes a frame that came.
-    fn deliver(&mut self, from: u64, frame: &[u8]) -> Result<(), Stop> {
-        match self.stream.deliver(from, frame)? {
+    /// Takes octets that came.
+    pub(crate) fn deliver(&mut self, from: u64, octets: &[u8]) -> Result<(), Stop> {
+        match self.stream.deliver(from, octets)? {
             Delivery::Kept => Ok(()),
             Delivery::Dropped => Err(Stop),
         }
     }
 
-    // Does one step.
-    fn work(&mut self) -> Result<Step<Octets>, Stop> {
+    /// Accepts the peer's start-up frame.
+    pub(crate) fn accept(&mut self) -> Result<(), Stop> {
+        match self.stream.accept(PrivateData::new()) {
+            Ok(_) => Ok(()),
+            Err(_) => Err(Stop),
+        }
+    }
+
+    // Does one step, and tells how many octets it placed: `None` where there was nothing to do. The buffer of a Send that is
+    // complete is added to `spare`.
+    #[inline(always)]
+    fn step(&mut self, memory: &mut Memory, spare: &mut Vec<Vec<u8>>) -> Result<Option<u64>, Stop> {
         if self.stream.in_order_point() > MAX_PLACE {
             return Err(Stop);
         }
-        Ok(self.stream.work(&mut self.memory))
+        match self.stream.work(memory) {
+            Step::Placed { len, .. } | Step::Buffered { len, .. } => Ok(Some(len as u64)),
+            Step::Received { buffer, .. } => keep(spare, buffer),
+            Step::Done(_) | Step::Passed | Step::Asked | Step::Opened(_) | Step::Requested { .. } =>
+                Ok(Some(0)),
+            Step::Idle => Ok(None),
+            Step::Closed(_) | Step::Fault(_) => Err(Stop),
+        }
     }
 
     /// Does all that there is to do, and tells how many octets were placed.
-    pub(crate) fn settle(&mut self) -> Result<u64, Stop> {
+    #[inline(never)]
+    pub(crate) fn settle(
+        &mut self,
+        memory: &mut Memory,
+        spare: &mut Vec<Vec<u8>>,
+    ) -> Result<u64, Stop> {
         let mut placed = 0u64;
-        for _ in 0..STEPS_A_FRAME {
-            match self.work()? {
-                Step::Placed { len, .. } => placed = placed.wrapping_add(len as u64),
-                Step::Done(_) | Step::Passed => {}
-                Step::Idle => return Ok(placed),
-                Step::Asked
-                | Step::Opened(_)
-                | Step::Closed(_)
-                | Step::Buffered { .. }
-                | Step::Received { .. }
-                | Step::Fault(_) => return Err(Stop),
-            }
+        for _ in 0..MAX_STEPS {
+            let Some(more) = self.step(memory, spare)? else {
+                return Ok(placed);
+            };
+            placed = placed.wrapping_add(more);
         }
         Err(Stop)
     }
 
-    /// Takes a frame that came, does all that there is to do then, and tells how many octets were placed.
-    pub(crate) fn take(&mut self, from: u64, frame: &[u8]) -> Result<u64, Stop> {
-        self.deliver(from, frame)?;
-        self.settle()
+    /// The same, which calls `work` from a place of its own: so no step can be compiled into its only caller.
+    #[inline(never)]
+    pub(crate) fn settle_too(
+        &mut self,
+        memory: &mut Memory,
+        spare: &mut Vec<Vec<u8>>,
+    ) -> Result<u64, Stop> {
+        let mut placed = 0u64;
+        for _ in 0..MAX_STEPS {
+            match self.step(memory, spare)? {
+                Some(more) => placed = placed.wrapping_add(more),
+                None => return Ok(placed),
+            }
+        }
+        Err(Stop)
     }
+}
+
+fn keep(spare: &mut Vec<Vec<u8>>, buffer: Octets) -> Result<Option<u64>, Stop> {
+    spare.push(buffer.into_vec())?;
+    Ok(Some(0))
 }

@@ -1,29 +1,27 @@
-//! Writes that go from one stream to another, for the driver beside this crate.
+//! Messages that go from streams to others, for the driver beside this crate.
 #![tactic(auto)]
 
 mod end;
+mod ends;
+mod load;
 mod run;
+mod wire;
 
-use run::{Run, carry};
+pub use load::Load;
+use run::{carry, receive};
 use std::alloc::Global;
 
-/// Carries pairs of Writes from one new stream to another, and tells how many octets were placed: none where something went otherwise.
+/// Carries messages from new streams to others, and tells how many octets were placed: none where something went otherwise.
 #[unsafe(no_mangle)]
-pub extern "C" fn stream_writes(
-    alloc: Global,
-    framed: bool,
-    swapped: bool,
-    compared: bool,
-    pairs: usize,
-    octets: &[u8],
-) -> u64 {
-    let run = Run {
-        framed,
-        swapped,
-        compared,
-        pairs,
-    };
-    carry(alloc, run, octets).unwrap_or(0)
+pub extern "C" fn stream_carry(alloc: Global, load: &Load, octets: &[u8]) -> u64 {
+    carry(alloc, *load, octets).unwrap_or(0)
+}
+
+/// Delivers the frames of one round of messages again and again to a new stream, and tells how many octets were placed: none
+/// where something went otherwise.
+#[unsafe(no_mangle)]
+pub extern "C" fn stream_receive(alloc: Global, load: &Load, octets: &[u8]) -> u64 {
+    receive(alloc, *load, octets).unwrap_or(0)
 }
 
 /// The CRC-32C of the octets.

@@ -1,0 +1,110 @@
+//! The loads of the table.
+
+use crate::load::Load;
+use crate::row::Row;
+
+const PLAIN: Load = Load::PLAIN;
+const MARKERS: Load = Load::MARKERS;
+const FRAMED: Load = Load::FRAMED;
+
+/// The second frame of each pair first.
+const fn swapped(load: Load) -> Load {
+    Load { batch: 2, late: 2, ..load }
+}
+
+const fn started(load: Load) -> Load {
+    Load { start_up: true, ..load }
+}
+
+const fn by_two(load: Load) -> Load {
+    Load { two_callers: true, ..load }
+}
+
+/// Messages of so many octets in ULPDUs of so many, 4 MiB together.
+fn sized(load: Load, mulpdu: u32, message: usize) -> Load {
+    Load { mulpdu, message, ..load }.carrying(4 << 20)
+}
+
+/// Writes of 1 KiB, so many posted at a time.
+fn posted(load: Load, count: usize) -> Load {
+    Load { message: 1_024, posted: count, ..load }.carrying(2 << 20)
+}
+
+fn sends(load: Load) -> Load {
+    Load { sends: true, ..load }
+}
+
+fn hundreds(load: Load) -> Load {
+    Load { delivery: 100, ..load }.carrying(1 << 20)
+}
+
+fn by_turns(load: Load) -> Load {
+    Load { pairs: 64, ..load }.carrying(4 << 20)
+}
+
+/// Writes whose frames have 31 times 512 octets, markers among them: the same octets can come again behind.
+fn again(load: Load) -> Load {
+    Load { message: 15_486, ..load }.carrying(4 << 20)
+}
+
+/// All frames of a message are emitted, and the first is delivered last.
+fn first_last(load: Load, mulpdu: u32, message: usize) -> Load {
+    Load { batch: usize::MAX, late: usize::MAX, ..sized(load, mulpdu, message) }
+}
+
+/// All frames of a message are emitted, and every second is delivered first.
+fn scattered(load: Load, mulpdu: u32, message: usize) -> Load {
+    Load { batch: usize::MAX, late: 2, ..sized(load, mulpdu, message) }
+}
+
+pub fn rows() -> Vec<Row> {
+    vec![
+        Row::new("plain", PLAIN),
+        Row::new("plain, pairs swapped", swapped(PLAIN)),
+        Row::new("markers", MARKERS),
+        Row::new("markers, pairs swapped", swapped(MARKERS)),
+        Row::new("markers and CRCs", FRAMED),
+        Row::new("markers and CRCs, pairs swapped", swapped(FRAMED)),
+        Row::new("start-up frames, plain", started(PLAIN)),
+        Row::new("start-up frames, markers", started(MARKERS)),
+        Row::new("start-up frames, markers and CRCs", started(FRAMED)),
+        Row::new("work by turns from two places, plain", by_two(PLAIN)),
+        Row::new("work by turns from two places, markers and CRCs", by_two(FRAMED)),
+        Row::receiving("receiving side, plain", again(PLAIN)),
+        Row::receiving("receiving side, markers", again(MARKERS)),
+        Row::receiving("receiving side, markers and CRCs", again(FRAMED)),
+        Row::new("Sends, plain", sends(PLAIN)),
+        Row::new("Sends, markers and CRCs", sends(FRAMED)),
+        Row::new("ULPDU 128, plain", sized(PLAIN, 128, 16_384)),
+        Row::new("ULPDU 128, markers and CRCs", sized(FRAMED, 128, 16_384)),
+        Row::new("ULPDU 8,900, plain", sized(PLAIN, 8_900, 65_536)),
+        Row::new("ULPDU 8,900, markers and CRCs", sized(FRAMED, 8_900, 65_536)),
+        Row::new("ULPDU 64,512, plain", sized(PLAIN, 64_512, 262_144)),
+        Row::new("ULPDU 64,512, markers and CRCs", sized(FRAMED, 64_512, 262_144)),
+        Row::new("deliveries of 100 octets, plain", hundreds(PLAIN)),
+        Row::new("deliveries of 100 octets, markers and CRCs", hundreds(FRAMED)),
+        Row::new("1 message of 1 KiB posted, plain", posted(PLAIN, 1)),
+        Row::new("64 posted, plain", posted(PLAIN, 64)),
+        Row::new("255 posted, plain", posted(PLAIN, 255)),
+        Row::new("255 posted, markers and CRCs", posted(FRAMED, 255)),
+        Row::new("64 streams by turns, plain", by_turns(PLAIN)),
+        Row::new("64 streams by turns, markers and CRCs", by_turns(FRAMED)),
+    ]
+}
+
+/// What is near the limits: the longest message, the widest window, the most islands.
+pub fn limits() -> Vec<Row> {
+    let longest = |load| Load { message: 16 << 20, rounds: 8, ..load };
+    vec![
+        Row::new("Writes of 16 MiB, plain", longest(PLAIN)),
+        Row::new("Writes of 16 MiB, markers and CRCs", longest(FRAMED)),
+        Row::new("first frame last, 62,000 octets, plain", first_last(PLAIN, 1_400, 62_000)),
+        Row::new("first frame last, 225,000 octets, plain", first_last(PLAIN, 1_400, 225_000)),
+        Row::new("first frame last, 62,000 octets, markers", first_last(MARKERS, 1_400, 62_000)),
+        Row::new("first frame last, 225,000 octets, markers", first_last(MARKERS, 1_400, 225_000)),
+        Row::new("the same in ULPDUs of 128, 53,000 octets, markers", first_last(MARKERS, 128, 53_000)),
+        Row::new("the same in ULPDUs of 128, 190,000 octets, markers", first_last(MARKERS, 128, 190_000)),
+        Row::new("every second first, 100 islands, ULPDU 128, markers", scattered(MARKERS, 128, 22_800)),
+        Row::new("every second first, 900 islands, ULPDU 128, markers", scattered(MARKERS, 128, 205_200)),
+    ]
+}

@@ -1,0 +1,391 @@
+use crate::end::{DOMAIN, End, Stop};
+use crate::load::Load;
+use crate::wire::Wire;
+use bytes::Bytes;
+use iw_memory::{Memory, Rights, Stag};
+use iw_octets::{InPieces, ReadRequest};
+use iw_stream::Role;
+use std::alloc::Global;
+
+/// How many frames are emitted for a round at most.
+const MAX_FRAMES: usize = 1_000_000;
+
+fn memory(alloc: Global) -> Result<Memory, Stop> {
+    let mut memory = Memory::new(alloc)?;
+    if memory.add_domain(DOMAIN).is_err() {
+        return Err(Stop);
+    }
+    Ok(memory)
+}
+
+// What peers may do with the region that is written to, or into which is read, and with that which is read.
+const TO_PLACE: Rights = Rights {
+    write: true,
+    read: false,
+    sink: true,
+    invalidate: false,
+};
+
+const TO_READ: Rights = Rights {
+    write: false,
+    read: true,
+    sink: false,
+    invalidate: false,
+};
+
+fn register(memory: &mut Memory, octets: Vec<u8>, rights: Rights) -> Result<Stag, Stop> {
+    match memory.register(DOMAIN, 0, octets, rights) {
+        Ok(stag) => Ok(stag),
+        Err(_) => Err(Stop),
+    }
+}
+
+/// What the receiving streams share.
+#[derive(Drop)]
+struct Receiving {
+    memory: Memory,
+    /// Receive buffers that are not posted.
+    spare: Vec<Vec<u8>>,
+    /// How many octets a delivery has at most.
+    delivery: usize,
+    /// The steps are called from the other place.
+    too: bool,
+}
+
+impl Receiving {
+    fn settle(&mut self, end: &mut End) -> Result<u64, Stop> {
+        if self.too {
+            end.settle_too(&mut self.memory, &mut self.spare)
+        } else {
+            end.settle(&mut self.memory, &mut self.spare)
+        }
+    }
+
+    // Delivers octets, and does all that there is to do then.
+    fn take_piece(&mut self, end: &mut End, from: u64, octets: &[u8]) -> Result<u64, Stop> {
+        end.deliver(from, octets)?;
+        self.settle(end)
+    }
+
+    // Delivers the octets of a frame, and tells how many octets were placed.
+    fn take(&mut self, end: &mut End, from: u64, octets: &[u8]) -> Result<u64, Stop> {
+        let mut placed = 0u64;
+        let mut place = from;
+        for piece in InPieces::new(octets, self.delivery.max(1)) {
+            let more = self.take_piece(end, place, piece)?;
+            placed = placed.wrapping_add(more);
+            place = place.wrapping_add(piece.len() as u64);
+        }
+        Ok(placed)
+    }
+
+    // Delivers frames: of each `late` the first behind all others.
+    fn take_all(&mut self, end: &mut End, wire: &Wire, late: usize) -> Result<u64, Stop> {
+        let mut others = 0u64;
+        if late > 1 {
+            others = self.take_some(end, wire, late, false)?;
+        }
+        let first = self.take_some(end, wire, late, true)?;
+        Ok(others.wrapping_add(first))
+    }
+
+    // Delivers frames: of each `late` the first, or all others.
+    fn take_some(
+        &mut self,
+        end: &mut End,
+        wire: &Wire,
+        late: usize,
+        first: bool,
+    ) -> Result<u64, Stop> {
+        let mut placed = 0u64;
+        let mut index = 0usize;
+        for frame in wire.frames() {
+            if (index == 0) == first {
+                let more = self.take(end, frame.from, wire.octets_of(*frame)?)?;
+                placed = placed.wrapping_add(more);
+            }
+            index = if index.wrapping_add(1) >= late {
+                0
+            } else {
+                index.wrapping_add(1)
+            };
+        }
+        Ok(placed)
+    }
+
+    // Has room for a message that is sent.
+    fn post_recv(&mut self, end: &mut End) -> Result<(), Stop> {
+        match self.spare.pop() {
+            Some(buffer) => end.post_recv(buffer),
+            None => Err(Stop),
+        }
+    }
+
+    // Whether what is free and what is registered has these octets.
+    fn holds(&self, stag: Stag, sends: bool, octets: &[u8]) -> bool {
+        if sends {
+            return self.spare.iter().all(|buffer| buffer.as_slice() == octets);
+        }
+        match self.memory.local(stag) {
+            Some(region) => region == octets,
+            None => false,
+        }
+    }
+}
+
+/// Two ends of a connection.
+#[derive(Drop)]
+struct Pair {
+    sender: End,
+    receiver: End,
+}
+
+impl Pair {
+    fn new(alloc: Global, load: Load) -> Result<Pair, Stop> {
+        let (sends, receives) = if load.start_up {
+            (Role::Initiator, Role::Responder)
+        } else {
+            (Role::Preset, Role::Preset)
+        };
+        Ok(Pair {
+            sender: End::new(alloc, load, sends)?,
+            receiver: End::new(alloc, load, receives)?,
+        })
+    }
+
+    fn post(
+        &mut self,
+        load: Load,
+        stag: Stag,
+        octets: &Bytes,
+        receiving: &mut Receiving,
+    ) -> Result<(), Stop> {
+        if load.sends {
+            receiving.post_recv(&mut self.receiver)?;
+            self.sender.post_send(octets.clone()?)
+        } else {
+            self.sender.post_write(stag, octets.clone()?)
+        }
+    }
+}
+
+// Carries the next frame of a pair, and tells how many octets were placed.
+fn carry_frame(
+    pair: &mut Pair,
+    source: &Memory,
+    wire: &mut Wire,
+    receiving: &mut Receiving,
+) -> Result<u64, Stop> {
+    match wire.next(&mut pair.sender, source)? {
+        Some(from) => receiving.take(&mut pair.receiver, from, wire.octets()),
+        None => Ok(0),
+    }
+}
+
+// Carries the next frames of a pair, and tells how many octets were placed.
+fn carry_batch(
+    pair: &mut Pair,
+    source: &Memory,
+    wire: &mut Wire,
+    receiving: &mut Receiving,
+    load: Load,
+) -> Result<u64, Stop> {
+    wire.fill(&mut pair.sender, source, load.batch)?;
+    receiving.take_all(&mut pair.receiver, wire, load.late)
+}
+
+/// Streams, the regions and buffers of those that receive, and frames under way.
+#[derive(Drop)]
+pub(crate) struct Ends {
+    load: Load,
+    pairs: Vec<Pair>,
+    /// The sending side has one region, which is read, and gets no buffer back.
+    source: Memory,
+    source_stag: Stag,
+    none: Vec<Vec<u8>>,
+    receiving: Receiving,
+    stag: Stag,
+    wire: Wire,
+}
+
+impl Ends {
+    /// New streams, open, with the buffers for a round.
+    pub(crate) fn new(alloc: Global, load: Load, octets: &[u8]) -> Result<Ends, Stop> {
+        let mut memory = self::memory(alloc)?;
+        let stag = register(&mut memory, vec![in alloc; 0; load.message]?, TO_PLACE)?;
+        let mut source = self::memory(alloc)?;
+        let source_stag = register(&mut source, octets.to_vec(alloc)?, TO_READ)?;
+        let receiving = Receiving {
+            memory,
+            spare: Vec::new(alloc),
+            delivery: load.delivery,
+            too: false,
+        };
+        let mut ends = Ends {
+            load,
+            pairs: Vec::with_capacity(alloc, load.pairs)?,
+            source,
+            source_stag,
+            none: Vec::new(alloc),
+            receiving,
+            stag,
+            wire: Wire::new(alloc),
+        };
+        ends.add_pairs(alloc)?;
+        ends.add_buffers(alloc)?;
+        Ok(ends)
+    }
+
+    fn add_pairs(&mut self, alloc: Global) -> Result<(), Stop> {
+        for _ in 0..self.load.pairs {
+            let mut pair = Pair::new(alloc, self.load)?;
+            if self.load.start_up {
+                self.start_up(&mut pair)?;
+            }
+            if self.pairs.push(pair).is_err() {
+                return Err(Stop);
+            }
+        }
+        Ok(())
+    }
+
+    fn add_buffers(&mut self, alloc: Global) -> Result<(), Stop> {
+        if !self.load.sends {
+            return Ok(());
+        }
+        for _ in 0..self.load.posted.saturating_mul(self.load.pairs) {
+            let buffer = vec![in alloc; 0; self.load.message]?;
+            self.receiving.spare.push(buffer)?;
+        }
+        Ok(())
+    }
+
+    // The two ends exchange start-up frames.
+    fn start_up(&mut self, pair: &mut Pair) -> Result<(), Stop> {
+        self.wire.fill(&mut pair.sender, &self.source, 1)?;
+        self.receiving.take_all(&mut pair.receiver, &self.wire, 1)?;
+        pair.receiver.accept()?;
+        self.wire
+            .fill(&mut pair.receiver, &self.receiving.memory, 1)?;
+        self.receiving.take_all(&mut pair.sender, &self.wire, 1)?;
+        Ok(())
+    }
+
+    // Posts a Read of the source from an offset on at each receiving end, and hands over its request.
+    fn post_reads(&mut self, offset: u64) -> Result<(), Stop> {
+        let request = ReadRequest {
+            sink: self.stag,
+            sink_to: 0,
+            size: self.load.message.min(1 << 24) as u32,
+            source: self.source_stag,
+            source_to: offset,
+        };
+        for pair in self.pairs.iter_mut() {
+            pair.receiver.post_read(request)?;
+            let Some(from) = self.wire.next(&mut pair.receiver, &self.receiving.memory)? else {
+                return Err(Stop);
+            };
+            pair.sender.deliver(from, self.wire.octets())?;
+            pair.sender.settle(&mut self.source, &mut self.none)?;
+        }
+        Ok(())
+    }
+
+    fn post(&mut self, octets: &Bytes) -> Result<(), Stop> {
+        for pair in self.pairs.iter_mut() {
+            for _ in 0..self.load.posted {
+                pair.post(self.load, self.stag, octets, &mut self.receiving)?;
+            }
+        }
+        Ok(())
+    }
+
+    // Carries a batch of each pair.
+    fn turn(&mut self) -> Result<u64, Stop> {
+        let mut placed = 0u64;
+        for pair in self.pairs.iter_mut() {
+            let more = if self.load.batch == 1 {
+                carry_frame(pair, &self.source, &mut self.wire, &mut self.receiving)?
+            } else {
+                carry_batch(
+                    pair,
+                    &self.source,
+                    &mut self.wire,
+                    &mut self.receiving,
+                    self.load,
+                )?
+            };
+            placed = placed.wrapping_add(more);
+        }
+        Ok(placed)
+    }
+
+    fn settle_senders(&mut self) -> Result<(), Stop> {
+        for pair in self.pairs.iter_mut() {
+            pair.sender.settle(&mut self.source, &mut self.none)?;
+        }
+        Ok(())
+    }
+
+    /// Carries a round of messages, and tells how many octets were placed. They stand at the offset in what is read.
+    pub(crate) fn carry(&mut self, octets: &Bytes, offset: u64) -> Result<u64, Stop> {
+        if self.load.reads {
+            self.post_reads(offset)?;
+        } else {
+            self.post(octets)?;
+        }
+        let mut placed = 0u64;
+        for _ in 0..MAX_FRAMES {
+            let more = self.turn()?;
+            if more == 0 {
+                self.settle_senders()?;
+                return self.end_round(octets, placed);
+            }
+            placed = placed.wrapping_add(more);
+        }
+        Err(Stop)
+    }
+
+    // The other place calls the steps of the next round.
+    fn end_round(&mut self, octets: &Bytes, placed: u64) -> Result<u64, Stop> {
+        if self.load.two_callers {
+            self.receiving.too = !self.receiving.too;
+        }
+        self.compare(octets)?;
+        Ok(placed)
+    }
+
+    /// Compares what came with what was posted, where the load says so.
+    pub(crate) fn compare(&self, octets: &Bytes) -> Result<(), Stop> {
+        let octets = octets.as_slice();
+        if self.load.compared && !self.receiving.holds(self.stag, self.load.sends, octets) {
+            return Err(Stop);
+        }
+        Ok(())
+    }
+
+    /// Emits a round of messages, for `repeat`.
+    pub(crate) fn emit(&mut self, octets: &Bytes) -> Result<(), Stop> {
+        self.post(octets)?;
+        match self.pairs.get_mut(0) {
+            Some(pair) => self.wire.fill(&mut pair.sender, &self.source, MAX_FRAMES),
+            None => Err(Stop),
+        }
+    }
+
+    /// Delivers the frames that were emitted, so many octets further on, and tells how many octets were placed.
+    pub(crate) fn repeat(&mut self, round: u64) -> Result<u64, Stop> {
+        let further = round.wrapping_mul(self.wire.len() as u64);
+        let Some(pair) = self.pairs.get_mut(0) else {
+            return Err(Stop);
+        };
+        let mut placed = 0u64;
+        for frame in self.wire.frames() {
+            let octets = self.wire.octets_of(*frame)?;
+            let from = frame.from.wrapping_add(further);
+            let more = self.receiving.take(&mut pair.receiver, from, octets)?;
+            placed = placed.wrapping_add(more);
+        }
+        Ok(placed)
+    }
+}

@@ -1,0 +1,35 @@
+/// What is carried, and how.
+#[repr(C)]
+#[derive(Clone, Copy, Debug, PartialEq, Eq)]
+pub struct Load {
+    /// The frames have markers.
+    pub markers: bool,
+    /// The frames have CRCs.
+    pub crc: bool,
+    /// The streams begin with start-up frames.
+    pub start_up: bool,
+    /// The messages are Sends, and not Writes.
+    pub sends: bool,
+    /// The receiving ends read the messages, one at a time each, in place of that the others write them.
+    pub reads: bool,
+    /// After each round what came is compared with what was posted.
+    pub compared: bool,
+    /// The receiving streams' steps are called from two places, round by round.
+    pub two_callers: bool,
+    /// The maximum ULPDU, in octets.
+    pub mulpdu: u32,
+    /// How many octets a message has.
+    pub message: usize,
+    /// How many messages are posted at a time.
+    pub posted: usize,
+    /// How many pairs of streams go by turns.
+    pub pairs: usize,
+    /// How many frames of a stream are emitted at a time.
+    pub batch: usize,
+    /// Of each so many of these the first is delivered behind all others.
+    pub late: usize,
+    /// How many octets a delivery has at most.
+    pub delivery: usize,
+    /// How often all that is done.
+    pub rounds: usize,
+}

@@ -1,0 +1,79 @@
+use crate::end::{End, Stop};
+use iw_memory::Memory;
+use std::alloc::Global;
+
+/// A frame under way: its place in the stream, and where its octets lie.
+#[derive(Clone, Copy, Debug, PartialEq, Eq)]
+pub(crate) struct Frame {
+    pub(crate) from: u64,
+    at: usize,
+    len: usize,
+}
+
+/// Frames that were emitted and not yet delivered.
+#[derive(Drop)]
+pub(crate) struct Wire {
+    octets: Vec<u8>,
+    frames: Vec<Frame>,
+}
+
+impl Wire {
+    pub(crate) fn new(alloc: Global) -> Wire {
+        Wire {
+            octets: Vec::new(alloc),
+            frames: Vec::new(alloc),
+        }
+    }
+
+    pub(crate) fn frames(&self) -> &[Frame] {
+        self.frames.as_slice()
+    }
+
+    /// How many octets all frames have.
+    pub(crate) fn len(&self) -> usize {
+        self.octets.len()
+    }
+
+    /// The octets of a frame.
+    pub(crate) fn octets_of(&self, frame: Frame) -> Result<&[u8], Stop> {
+        let all = self.octets.as_slice();
+        if frame.at > all.len() || frame.len > all.len() - frame.at {
+            return Err(Stop);
+        }
+        let (_, rest) = all.split_at(frame.at);
+        let (octets, _) = rest.split_at(frame.len);
+        Ok(octets)
+    }
+
+    /// Emits the next frame of an end alone, if one is due, and tells its place.
+    pub(crate) fn next(&mut self, end: &mut End, memory: &Memory) -> Result<Option<u64>, Stop> {
+        self.octets.clear();
+        end.emit(memory, &mut self.octets)
+    }
+
+    pub(crate) fn octets(&self) -> &[u8] {
+        self.octets.as_slice()
+    }
+
+    /// Emits so many frames of an end at most, in place of those that were here.
+    pub(crate) fn fill(&mut self, end: &mut End, memory: &Memory, most: usize) -> Result<(), Stop> {
+        self.octets.clear();
+        self.frames.clear();
+        for _ in 0..most {
+            let at = self.octets.len();
+            let Some(from) = end.emit(memory, &mut self.octets)? else {
+                return Ok(());
+            };
+            let len = self.octets.len().saturating_sub(at);
+            self.add(Frame { from, at, len })?;
+        }
+        Ok(())
+    }
+
+    fn add(&mut self, frame: Frame) -> Result<(), Stop> {
+        match self.frames.push(frame) {
+            Ok(()) => Ok(()),
+            Err(_) => Err(Stop),
+        }
+    }
+}
