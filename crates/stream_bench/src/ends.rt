@@ -33,6 +33,15 @@ const TO_READ: Rights = Rights {
     invalidate: false,
 };
 
+// The octets that are read, if any are.
+fn to_read(alloc: Global, load: Load, octets: &[u8]) -> Result<Vec<u8>, Stop> {
+    if load.reads {
+        Ok(octets.to_vec(alloc)?)
+    } else {
+        Ok(Vec::new(alloc))
+    }
+}
+
 fn register(memory: &mut Memory, octets: Vec<u8>, rights: Rights) -> Result<Stag, Stop> {
     match memory.register(DOMAIN, 0, octets, rights) {
         Ok(stag) => Ok(stag),
@@ -214,7 +223,7 @@ impl Ends {
         let mut memory = self::memory(alloc)?;
         let stag = register(&mut memory, vec![in alloc; 0; load.message]?, TO_PLACE)?;
         let mut source = self::memory(alloc)?;
-        let source_stag = register(&mut source, octets.to_vec(alloc)?, TO_READ)?;
+        let source_stag = register(&mut source, to_read(alloc, load, octets)?, TO_READ)?;
         let receiving = Receiving {
             memory,
             spare: Vec::new(alloc),
