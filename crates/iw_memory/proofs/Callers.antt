@@ -1,6 +1,6 @@
 -- What the crates above cite of the memory.
-use Rattle.std.proofs.Common.{◌≡◌, ◌≢◌, ℕ, ◌+◌, ◌-◌, ◌<◌, ◌==◌, ◌^◌, ◌||◌, nat_lt, if◌then◌else◌, not, IsSomeAnd, Bool, true, false, cond, List, [], ◌∷◌, length, Option, Some, None, refl, sym, ap, ◌∙◌, arith, inl, inr, get_or-set_same, get_or-set_other, rules}
-use Rattle.std.proofs.lemmas.List.{length-set}
+use Rattle.std.proofs.Common.{◌≡◌, ◌≢◌, ℕ, ◌+◌, ◌-◌, ◌<◌, ◌==◌, ◌^◌, ◌||◌, nat_lt, if◌then◌else◌, not, IsSomeAnd, Bool, true, false, cond, List, [], ◌∷◌, length, Option, Some, None, refl, sym, ap, ◌∙◌, arith, inl, inr, get_or-set_same, get_or-set_other, rules, length-drop, drop}
+use Rattle.std.proofs.lemmas.List.{length-set, length-take}
 use Rattle.std.proofs.lemmas.Bool.{eqb-true}
 use Rattle.std.proofs.lemmas.Bool.Decides.{eqb_tells}
 use Rattle.std.proofs.lemmas.Option.{none-some, same_Some}
@@ -41,6 +41,24 @@ denies_rest table pd stag to n right = search rules
 -- what is not denied is allowed
 pub allows : (table : Table) (pd : ℕ) (stag : Stag) (to n : ℕ) (right : Right) → denial table pd stag to n right ≡ None → Allows table pd stag to n right
 allows table pd stag to n right none = (denies_rest table pd stag to n right).0 none
+
+served : (r : Region) (to n : ℕ) (right : Right) → Serves r to n right → length (octets_from r to n) ≡ n
+served r to n right serves = grind (arith, length-take, length-drop, serves.from_base, serves.to_end)
+
+-- a part that may be used has as many octets as were asked for
+pub length-octets_at : (table : Table) (pd : ℕ) (stag : Stag) (to n : ℕ) (right : Right) → denial table pd stag to n right ≡ None → length (octets_at table stag to n) ≡ n
+length-octets_at table pd stag to n right none = elim (allows table pd stag to n right none) [
+  | inl nothing ↦ empty (region_at table stag) nothing
+  | inr allowed ↦ found (region_at table stag) allowed.1
+]
+  where
+    empty : (o : Option Region) → n ≡ 0 → length (option_map_or (λ r. octets_from r to n) o []) ≡ n
+    empty None e = sym e
+    empty (Some r) e = omega (arith, length-take n (drop (to - r.base) r.octets))
+
+    found : (o : Option Region) → IsSomeAnd o (λ r. Serves r to n right) → length (option_map_or (λ r. octets_from r to n) o []) ≡ n
+    found None holds = absurd holds
+    found (Some r) holds = served r to n right holds
 
 -- what is allowed is not denied
 pub denial-none : (table : Table) (pd : ℕ) (stag : Stag) (to n : ℕ) (right : Right) → Allows table pd stag to n right → denial table pd stag to n right ≡ None

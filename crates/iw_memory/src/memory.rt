@@ -112,11 +112,7 @@ impl<A: Allocator> Memory<A> {
             Err(refusal) => Err((refusal, octets)),
             Ok(slot) => match self.hold(pd, slot, base, octets, rights) {
                 Err(octets) => Err((RegisterRefusal::NoMemory, octets)),
-                Ok(key) => Ok(Stag {
-                    domain: pd,
-                    slot: slot as u16,
-                    key,
-                }),
+                Ok(key) => Ok(Stag::new(pd, slot as u16, key)),
             },
         }
     }
@@ -193,10 +189,10 @@ impl<A: Allocator> Memory<A> {
             return Err(NoRegion);
         };
         let free = Slot {
-            key: stag.key.wrapping_add(1),
+            key: stag.key().wrapping_add(1),
             at: None,
         };
-        set_slot(&mut self.domains, stag.domain, stag.slot as usize, free);
+        set_slot(&mut self.domains, stag.domain(), stag.slot() as usize, free);
         Ok(stored.into_octets())
     }
 
@@ -222,7 +218,7 @@ impl<A: Allocator> Memory<A> {
         ensures ok { OnOk result (self.new ≡ invalidated self.old stag) }
         ensures err { OnErr result (self.new ≡ self.old) }
     {
-        if pd != stag.domain {
+        if pd != stag.domain() {
             return Err(InvalidateDeny::NotAssociated);
         }
         let Some(stored) = self.stored(stag) else {
@@ -344,7 +340,7 @@ impl<A: Allocator> Memory<A> {
         ensures at { IfOk result (λ place. place.1 ≡ to - place.0.now.region.base) }
         ensures within { IfOk result (λ place. place.1 + n ≤ length place.0.now.region.octets) }
     {
-        if stag.domain != pd {
+        if stag.domain() != pd {
             return Err(Deny::NotAssociated);
         }
         let Some(stored) = self.stored(stag) else {

@@ -17,11 +17,15 @@ pub(crate) struct Slot {
 pub(crate) fn find<A: Allocator>(domains: &[Option<Vec<Slot, A>>], stag: Stag) -> Option<usize>
     ensures { result ≡ link_of domains.now stag }
 {
-    let Some(Some(slots)) = domains.get(stag.domain as usize) else {
+    let Some(Some(slots)) = domains.get(stag.domain() as usize) else {
         return None;
     };
-    let slot = slots.get(stag.slot as usize)?;
-    if slot.key == stag.key { slot.at } else { None }
+    let slot = slots.get(stag.slot() as usize)?;
+    if slot.key == stag.key() {
+        slot.at
+    } else {
+        None
+    }
 }
 
 // The domain's lowest slot with no region, which may be the one past its last.

@@ -23,11 +23,15 @@ impl<'a> Segment<&'a [u8]> {
             return Err(Short);
         }
         if is_tagged(octets[0]) {
-            let (head, payload) = TaggedHead::read(octets)?;
-            Ok(Segment::Tagged(head, payload))
+            match TaggedHead::read(octets) {
+                Ok((head, payload)) => Ok(Segment::Tagged(head, payload)),
+                Err(short) => Err(short),
+            }
         } else {
-            let (head, payload) = UntaggedHead::read(octets)?;
-            Ok(Segment::Untagged(head, payload))
+            match UntaggedHead::read(octets) {
+                Ok((head, payload)) => Ok(Segment::Untagged(head, payload)),
+                Err(short) => Err(short),
+            }
         }
     }
 }

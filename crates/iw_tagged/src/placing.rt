@@ -56,8 +56,8 @@ pub fn place<'a, A: Allocator, I: Iterator<Item = &'a [u8]>>(
     ensures ok { OnOk result ((octets : List ℕ) × JoinTo I.next_gives pieces octets × (memory.new ≡ put memory.old head.stag head.to octets)) }
     ensures err { OnErr result (memory.new ≡ memory.old) }
 {
-    check(head, n, memory, pd, right)?;
     let TaggedHead { stag, to, .. } = head;
+    check(head, n, memory, pd, right)?;
     gather(pieces, memory.part_mut(pd, stag, to, n, right));
     Ok(Placed { stag, to, n })
 }

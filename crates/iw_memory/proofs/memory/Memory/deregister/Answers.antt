@@ -5,14 +5,14 @@ use Rattle.iw_memory.proofs.memory.Memory.deregister.Goals as goal
 
 pub invariant_of-self-2 : goal.invariant_of-self-2
 invariant_of-self-2 g c = record {
-  sound = IsSound-taken c.self.invariant.sound c.args.stag c.in-Some.at _ (found_at c.args.stag c.deref.ensures.value c.find.ensures c.in-Some.is) c.try_remove.ensures.updates c.set_slot.ensures;
+  sound = IsSound-taken c.self.invariant.sound c.args.stag c.in-Some.at _ (found_at c.args.stag c.deref.ensures.value c.find.ensures c.in-Some.is) c.try_remove.ensures.updates (rw (c.domain.ensures, c.slot.ensures, c.key.ensures) at c.set_slot.ensures);
   no_octets = c.self.invariant.no_octets;
 }
 
 pub returns-clause-after : goal.returns-clause-after
 returns-clause-after g c =
     table_of-taken c.self.invariant.sound c.args.stag c.in-Some.at c.in-Some-try_remove.stored (found_at c.args.stag c.deref.ensures.value c.find.ensures c.in-Some.is) (sym c.try_remove.ensures.value ∙ c.in-Some-try_remove.is)
-    c.try_remove.ensures.updates c.set_slot.ensures c.self.view_is
+    c.try_remove.ensures.updates (rw (c.domain.ensures, c.slot.ensures, c.key.ensures) at c.set_slot.ensures) c.self.view_is
 
 pub returns-clause-octets : goal.returns-clause-octets
 returns-clause-octets g c =
