@@ -58,6 +58,7 @@ fn do_markers_agree(start: u64, len: u16, octets: &[u8]) -> bool
 
 /// Judges the octets of a frame's span.
 #[tactic(auto, unfolding(crate::specs::Reading::mismatch_at))]
+#[inline(never)]
 pub(crate) fn check_span(
     layout: Layout,
     start: u64,

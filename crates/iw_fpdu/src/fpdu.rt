@@ -58,10 +58,13 @@ fn all_came<A: Allocator>(islands: &Islands<A>, base: u64, from: u64, to: u64) -
 {
     // Its contract has the limits: nothing comes as far behind the in-order point as the end of all places.
     let _ = islands.floor();
-    match base.checked_add(to) {
-        Some(end) => islands.came(base + from, end),
-        None => false,
+    let Some(end) = base.checked_add(to) else {
+        return false;
+    };
+    if end <= islands.missing() {
+        return true;
     }
+    islands.came(base + from, end)
 }
 
 impl<'a, A: Allocator> Fpdu<'a, A> {
@@ -158,7 +161,7 @@ impl<'a, A: Allocator> Fpdu<'a, A> {
     }
 
     /// Judges a frame whatever its layout.
-    #[inline(never)]
+    #[inline(always)]
     fn check_octets(&self) -> Result<(), Mismatch>
         requires { HoldsSpan self.now }
         ensures { result_err result ≡ mismatch self.now }

@@ -7,7 +7,7 @@ ghost use Rattle.iw_fpdu.specs.Laying.{HasRoom, IsEdge, marker_before, marker_be
 ghost use Rattle.iw_fpdu.specs.Places.{data_place, data_index, frame_start, place_after};
 
 use crate::layout::{Layout, MARKER, SPACING, end_of, index_of, pad_of, place_of, run_at};
-use iw_octets::{Crc, MAX_ULPDU};
+use iw_octets::{Crc, MAX_ULPDU, TAGGED_HEADER};
 use std::alloc::Allocator;
 
 /// Why a frame isn't written.
@@ -39,6 +39,22 @@ fn append<A: Allocator>(out: &mut Vec<u8, A>, octets: &[u8])
     ensures capacity { vec_capacity out.old ≤ vec_capacity out.new }
 {
     let _ = out.extend_from_slice(octets);
+}
+
+/// Appends a piece of a ULPDU, for which there is room. One as long as the header of a tagged segment is copied in place.
+#[inline(always)]
+fn append_piece<A: Allocator>(out: &mut Vec<u8, A>, octets: &[u8])
+    requires { vec_len out.old + length octets.now ≤ vec_capacity out.old }
+    ensures items { out.new.items ≡ out.old.items ++ octets.now }
+    ensures len { vec_len out.new ≡ vec_len out.old + length octets.now }
+    ensures capacity { vec_capacity out.old ≤ vec_capacity out.new }
+{
+    if octets.len() == TAGGED_HEADER {
+        let (header, _) = octets.split_at(TAGGED_HEADER);
+        append(out, header);
+    } else {
+        append(out, octets);
+    }
 }
 
 /// Appends the marker at `at`, if there is one. Gives the place of the data octet that comes next.
@@ -167,7 +183,7 @@ fn append_all<A: Allocator>(parts: &[&[u8]], out: &mut Vec<u8, A>)
     ensures capacity { vec_capacity out.old ≤ vec_capacity out.new }
 {
     for part in parts {
-        append(out, part);
+        append_piece(out, part);
     }
 }
 

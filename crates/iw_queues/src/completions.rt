@@ -131,6 +131,7 @@ impl<A: Allocator> Completions<A> {
     }
 
     /// Hands out the oldest message, if it is finished: messages complete in posting order (RFC 5040 5.5).
+    #[inline(always)]
     pub fn next(&mut self) -> Option<Done>
         ensures done { result ≡ done self.old.outstanding }
         ensures after { self.new.outstanding ≡ handed_out self.old.outstanding result }
@@ -143,6 +144,7 @@ impl<A: Allocator> Completions<A> {
     }
 
     /// Gives up the oldest message, finished or not.
+    #[inline(never)]
     pub fn flush(&mut self) -> Option<Done>
         ensures done { result ≡ oldest self.old.outstanding }
         ensures after { self.new.outstanding ≡ handed_out self.old.outstanding result }

@@ -143,6 +143,7 @@ impl<A: Allocator> SendQueue<A> {
     ///
     /// `max` is the largest ULPDU that may be sent, in octets. A part is as long as the ULPDU allows behind the header, and
     /// the last one what is left: none is empty but that of an empty message. A Read is one part without octets.
+    #[inline(always)]
     pub fn next_part(&self, max: usize) -> Option<Part<&Request<Bytes<A>>>>
         requires { 128 ≤ max }
         ensures part { shown result ≡ next_part self.now max }
@@ -197,6 +198,7 @@ impl<A: Allocator> SendQueue<A> {
     }
 
     /// Hands out the oldest message, if it is finished: messages complete in posting order (RFC 5040 5.5).
+    #[inline(always)]
     pub fn next(&mut self) -> Option<Done>
         ensures done { result ≡ done_in self.old }
         ensures after { self.new ≡ handed_from self.old result }

@@ -1,5 +1,6 @@
-pub mod Built
 pub mod Causes
 pub mod Fronts
+pub mod Listed
 pub mod Told
 pub mod Whole
+pub mod Writes

@@ -12,12 +12,10 @@ use Rattle.iw_octets.specs.declared.operation.UntaggedOperation.TheVariants.{Sen
 use Rattle.iw_octets.specs.declared.payload.TerminateWord.{TerminateWord}
 use Rattle.iw_octets.specs.Head.{is_tagged, untagged_fields}
 use Rattle.iw_octets.specs.Payload.{request_fields, word_fields}
-use Rattle.iw_octets.specs.Segment.{read_segment}
 use Rattle.iw_octets.proofs.Front.{read_segment-long_tagged, read_segment-long_untagged, read_segment-append}
 use Rattle.iw_rdmap.specs.declared.head.Head.{Head}
 use Rattle.iw_rdmap.specs.declared.head.Head.TheVariants as heads
 use Rattle.iw_rdmap.specs.Judging.{IsFront, judged, judged_segment, judged_untagged, untagged_checked, terminate_fault, fault_or}
-use Rattle.iw_rdmap.specs.Unbuilt.{is_unbuilt, judged_built}
 
 -- the first fault of a Read Request's checks that fail
 abbrev first_request_fault : Bool → Bool → Bool → Bool → Bool → Option Fault
@@ -95,27 +93,3 @@ front_judged first (b ∷ bs) next unanswered front = go (is_tagged (get_or firs
         ap (λ s. judged_segment s len next unanswered) read
         ∙ untagged_front (untagged_fields first) (drop 18 first) (b ∷ bs) (len - 18) next unanswered (untagged_checked (untagged_fields first)) (omega arith) (omega (arith, length-drop 18 first))
         ∙ sym (ap (λ s. judged_segment s len next unanswered) whole)
-
--- whether the stream lacks the operation is told by the header
-front_unbuilt : (first behind : List ℕ) → IsFront 46 first (length (first ++ behind)) → is_unbuilt (read_segment first) ≡ is_unbuilt (read_segment (first ++ behind))
-front_unbuilt first [] front = ap (λ xs. is_unbuilt (read_segment xs)) (sym (append-nil first))
-front_unbuilt first (b ∷ bs) front = go (is_tagged (get_or first 0 0)) refl
-  where
-    long : 46 ≤ length first
-    long = front_long first b bs front
-
-    go : (tagged : Bool) → is_tagged (get_or first 0 0) ≡ tagged → is_unbuilt (read_segment first) ≡ is_unbuilt (read_segment (first ++ (b ∷ bs)))
-    go true tagged =
-        let read = read_segment-long_tagged first (omega (arith, long)) tagged in
-        ap is_unbuilt read ∙ sym (ap is_unbuilt (read_segment-append first (b ∷ bs) _ read))
-    go false untagged =
-        let read = read_segment-long_untagged first (omega (arith, long)) untagged in
-        ap is_unbuilt read ∙ sym (ap is_unbuilt (read_segment-append first (b ∷ bs) _ read))
-
--- the first octets of a ULPDU are judged as the whole of it is
-pub front_built : (first behind : List ℕ) (next unanswered : ℕ) →
-    let ulpdu = first ++ behind in
-    IsFront 46 first (length ulpdu) → judged_built first (length ulpdu) next unanswered ≡ judged_built ulpdu (length ulpdu) next unanswered
-front_built first behind next unanswered front =
-    ap (λ (unbuilt : Bool). if unbuilt then Err faults.OPERATION_UNEXPECTED else judged first (length (first ++ behind)) next unanswered) (front_unbuilt first behind front)
-    ∙ ap (λ (head : Result Head Fault). if is_unbuilt (read_segment (first ++ behind)) then Err faults.OPERATION_UNEXPECTED else head) (front_judged first behind next unanswered front)

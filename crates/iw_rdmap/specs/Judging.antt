@@ -102,3 +102,14 @@ judged_segment (Some (Untagged head payload)) len next unanswered =
 -- a ULPDU of `len` octets that begins with these, `next` being the number of the Read Request that is due and `unanswered` how many wait for their responses
 abbrev pub judged : List ℕ → ℕ → ℕ → ℕ → Result Head Fault
 judged first len next unanswered = judged_segment (read_segment first) len next unanswered
+
+-- the header of a Write that passes its checks; none of any other segment
+abbrev pub write_by : TaggedHead → Result TaggedOperation Fault → Option TaggedHead
+write_by head (Err fault) = None
+write_by head (Ok Write) = Some head
+write_by head (Ok ReadResponse) = None
+
+abbrev pub write_in : Option (Segment (List ℕ)) → Option TaggedHead
+write_in None = None
+write_in (Some (Tagged head payload)) = write_by head (tagged_checked head)
+write_in (Some (Untagged head payload)) = None

@@ -2,4 +2,3 @@ pub mod Head
 pub mod Judging
 pub mod Laws
 pub mod Terminate
-pub mod Unbuilt

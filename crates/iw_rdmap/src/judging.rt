@@ -1,6 +1,7 @@
 ghost use Rattle.std.specs.Prelude.{◌≡◌, ◌≤◌, Bool, IfOk, IfErr};
+ghost use Rattle.iw_octets.specs.Segment.{read_segment};
 ghost use Rattle.iw_rdmap.specs.Head.{header_octets};
-ghost use Rattle.iw_rdmap.specs.Judging.{IsFront, judged, tagged_checked, untagged_checked, judged_request, judged_terminate};
+ghost use Rattle.iw_rdmap.specs.Judging.{IsFront, judged, tagged_checked, untagged_checked, judged_request, judged_terminate, write_in};
 ghost use Rattle.iw_rdmap.specs.Terminate.{FitsFault, HasCause, HasHeaders};
 
 use crate::head::Head;
@@ -8,7 +9,7 @@ use crate::sizes::{FIRST_OCTETS, MAX_TERMINATE};
 use iw_octets::{
     DDP_VERSION, Fault, RDMAP_VERSION, READ_REQUEST_HEADER, ReadRequest, Segment, Short,
     TaggedHead, TaggedOperation, TerminateWord, UNTAGGED_HEADER, UntaggedHead, UntaggedOperation,
-    rdmap_version,
+    is_tagged, rdmap_version,
 };
 
 // The number of a queue's first message.
@@ -160,5 +161,25 @@ fn judge_segment(first: &[u8], len: u16, next: u32, unanswered: usize) -> Result
                 UntaggedOperation::Terminate => judge_terminate(head, payload, n),
             }
         }
+    }
+}
+
+/// The header of a Write, where a ULPDU begins with one that passes its checks: those for which [`judge`] answers a Write.
+///
+/// `first` are its first octets, as there; a Write is told by 14 of them.
+#[tactic(auto, unfolding(iw_octets::specs::Segment::read_segment))]
+#[inline(always)]
+pub fn write_head(first: &[u8]) -> Option<TaggedHead>
+    ensures { result ≡ write_in (read_segment first.now) }
+{
+    if first.is_empty() || !is_tagged(first[0]) {
+        return None;
+    }
+    match TaggedHead::read(first) {
+        Err(Short) => None,
+        Ok((head, _)) => match tagged_operation(&head) {
+            Ok(TaggedOperation::Write) => Some(head),
+            Ok(TaggedOperation::ReadResponse) | Err(_) => None,
+        },
     }
 }

@@ -1,4 +1,4 @@
-ghost use Rattle.iw_rdmap.specs.Laws.{BuiltIsJudged, FrontWillDo, TerminatesAreTold};
+ghost use Rattle.iw_rdmap.specs.Laws.{ChecksAreListed, FrontWillDo, TerminatesAreTold};
 
 /// A ULPDU's first 46 octets, or all of fewer, are judged as the whole ULPDU is.
 pub fn front_will_do()
@@ -10,8 +10,7 @@ pub fn terminates_are_told()
     ensures { TerminatesAreTold }
 {}
 
-/// What the stream has is judged as ever, by the checks of one list for each kind of header, and a ULPDU's first octets
-/// as the whole of it.
-pub fn built_is_judged()
-    ensures { BuiltIsJudged }
+/// A segment is judged by the checks of one list for each kind of header.
+pub fn checks_are_listed()
+    ensures { ChecksAreListed }
 {}

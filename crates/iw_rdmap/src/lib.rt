@@ -8,12 +8,10 @@ mod judging;
 mod laws;
 mod sizes;
 mod terminating;
-mod unbuilt;
 
 pub use head::{Head, early};
 pub use iw_octets::{TaggedOperation, UntaggedOperation};
-pub use judging::judge;
-pub use laws::{built_is_judged, front_will_do, terminates_are_told};
+pub use judging::{judge, write_head};
+pub use laws::{checks_are_listed, front_will_do, terminates_are_told};
 pub use sizes::{FIRST_OCTETS, MAX_TERMINATE};
 pub use terminating::terminate;
-pub use unbuilt::judge_built;

@@ -49,3 +49,9 @@ part_in_range (first ∷ behind) fetched asked is ranges begun some =
     let less : fetched < first.request.size = begun some in
     let within : first.request.source_to + first.request.size ≤ 2 ^ 64 = range (omega arith) in
     subst (λ (asked : Asked). asked.request.source_to + fetched < 2 ^ 64) (same_Some first asked is) (omega arith)
+
+-- the header of the oldest request is whole
+pub header_whole : (unanswered : List Asked) (asked : Asked) → slice_get unanswered 0 ≡ Some asked → All (λ asked. length asked.header.items ≡ 18) unanswered → length asked.header.items ≡ 18
+header_whole [] asked is whole = absurd (none-some asked is)
+header_whole (first ∷ behind) asked is whole =
+    subst (λ (asked : Asked). length asked.header.items ≡ 18) (same_Some first asked is) (All-head (λ asked. length asked.header.items ≡ 18) first behind whole)

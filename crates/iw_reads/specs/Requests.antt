@@ -1,7 +1,9 @@
 -- The Read Requests of the peer: which is due, and which wait for their responses.
-use Rattle.std.specs.Prelude.{ℕ, ◌≡◌, ◌+◌, ◌-◌, ◌%◌, ◌^◌, ◌<◌, ◌≤◌, List, [], ◌∷◌, ◌++◌, length, drop, All, if◌then◌else◌, Option, Some, None}
+use Rattle.std.specs.Prelude.{ℕ, ◌≡◌, ◌+◌, ◌-◌, ◌%◌, ◌^◌, ◌<◌, ◌≤◌, List, [], ◌∷◌, ◌++◌, length, drop, slice_get, All, if◌then◌else◌, Option, Some, None}
+use Rattle.std.specs.Option.{option_map_or}
 use Rattle.iw_octets.specs.declared.constants.TheConstants.{TAGGED_HEADER}
 use Rattle.iw_octets.specs.Parts.{part_at}
+use Rattle.iw_octets.specs.Payload.{request_octets}
 use Rattle.iw_reads.specs.declared.requests.Asked.{Asked}
 use Rattle.iw_reads.specs.declared.response.ResponsePart.{ResponsePart}
 use Rattle.iw_reads.specs.Response.{part_of_response}
@@ -41,6 +43,14 @@ part_fetched s (Some part) =
     if part.head.last then record s { unanswered = drop 1 s.unanswered; fetched = 0 }
     else record s { fetched = s.fetched + part.n }
 
+-- the headers of a request: DDP's, as it came, and the Read Request's behind it
+abbrev pub headers_of : Asked → List ℕ
+headers_of asked = asked.header.items ++ request_octets asked.request
+
+-- those of the oldest request; no octets where none waits
+abbrev pub oldest_headers : Requested → List ℕ
+oldest_headers s = option_map_or headers_of (slice_get s.unanswered 0) []
+
 -- ---- limits
 
 -- of a response that was begun octets are left
@@ -51,5 +61,6 @@ IsBegun (asked ∷ behind) fetched = 0 < fetched → fetched < asked.request.siz
 pub record HoldsLimits (s : Requested) : Type 0 where
   pub few : length s.unanswered ≤ most_unanswered
   pub next : s.next < 2 ^ 32
+  pub headers : All (λ asked. length asked.header.items ≡ 18) s.unanswered
   pub ranges : All (λ asked. IsInRange asked.request) s.unanswered
   pub begun : IsBegun s.unanswered s.fetched

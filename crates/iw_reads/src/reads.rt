@@ -9,19 +9,17 @@ use std::marker::Model;
 /// How many Reads may be outstanding at one end of a stream.
 pub const MAX_READS: usize = 16;
 
-const NO_STAG: Stag = Stag {
-    domain: 0,
-    slot: 0,
-    key: 0,
-};
-
-pub(crate) const NO_REQUEST: ReadRequest = ReadRequest {
-    sink: NO_STAG,
-    sink_to: 0,
-    size: 0,
-    source: NO_STAG,
-    source_to: 0,
-};
+// What a place of a list holds that no request was put in.
+pub(crate) fn no_request() -> ReadRequest {
+    let stag = Stag::new(0, 0, 0);
+    ReadRequest {
+        sink: stag,
+        sink_to: 0,
+        size: 0,
+        source: stag,
+        source_to: 0,
+    }
+}
 
 /// A Read whose request was sent, and the last segment of whose response had no turn yet.
 #[derive(Clone, Copy, Debug, PartialEq, Eq)]
@@ -37,7 +35,7 @@ impl Default for Outstanding {
     fn default() -> Outstanding {
         Outstanding {
             ticket: 0,
-            request: NO_REQUEST,
+            request: no_request(),
             turned: 0,
         }
     }
@@ -108,8 +106,8 @@ impl Reads {
     /// outstanding with the header's STag as its sink, and the octets lie inside the sink, whose tagged offsets count
     /// modulo 2^64; with no octets any tagged offset will do. Otherwise it is [`Fault::OPERATION_UNEXPECTED`]. It only
     /// looks, and says nothing of the region (RFC 5040 4.8, 5.2.2).
-    pub fn check(&self, head: TaggedHead, n: usize) -> Result<(), Fault>
-        ensures { result_err result ≡ sink_fault self.now head n }
+    pub fn check(&self, head: &TaggedHead, n: usize) -> Result<(), Fault>
+        ensures { result_err result ≡ sink_fault self.now head.now n }
     {
         if is_asked(self.reads.as_slice(), head, n) {
             return Ok(());
@@ -124,39 +122,48 @@ impl Reads {
     /// oldest Read, at the tagged offset behind the octets that had their turn. It may not run past the Read's size,
     /// and is its response's last only where the size is reached; without octets, it may come behind it. Otherwise, and
     /// where no Read is outstanding, it is [`Fault::PROTECTION_BOUNDS`], which changes nothing.
-    pub fn turn(&mut self, head: TaggedHead, n: usize) -> Result<Option<u64>, Fault>
-        ensures refused { result_err result ≡ response_turn_fault self.old head n }
-        ensures finished { IfOk result (λ finished. finished ≡ finished_read self.old head) }
-        ensures ok { OnOk result (self.new ≡ reads_turned self.old head n) }
+    pub fn turn(&mut self, head: &TaggedHead, n: usize) -> Result<Option<u64>, Fault>
+        ensures refused { result_err result ≡ response_turn_fault self.old head.now n }
+        ensures finished { IfOk result (λ finished. finished ≡ finished_read self.old head.now) }
+        ensures ok { OnOk result (self.new ≡ reads_turned self.old head.now n) }
         ensures err { OnErr result (self.new ≡ self.old) }
     {
-        let Some(&read) = self.reads.as_slice().first() else {
+        let Some(read) = self.reads.as_slice().first() else {
             return Err(Fault::PROTECTION_BOUNDS);
         };
         if !goes_on(read, head, n) {
             return Err(Fault::PROTECTION_BOUNDS);
         }
         if head.last {
+            let ticket = read.ticket;
             let _ = self.reads.remove(0);
-            return Ok(Some(read.ticket));
+            return Ok(Some(ticket));
         }
-        self.reads[0] = Outstanding {
-            turned: read.turned + n as u32,
-            ..read
-        };
+        self.reads[0] = turned_by(*read, n);
         Ok(None)
     }
 }
 
-fn same_stag(a: Stag, b: Stag) -> bool
-    ensures { result ≡ same_stag a b }
+// The Read with `n` octets more that had their turn.
+fn turned_by(read: Outstanding, n: usize) -> Outstanding
+    requires { read.turned + n ≤ read.request.size }
+    ensures { result ≡ record read { turned = read.turned + n } }
 {
-    a.domain == b.domain && a.slot == b.slot && a.key == b.key
+    Outstanding {
+        turned: read.turned + n as u32,
+        ..read
+    }
+}
+
+fn same_stag(a: &Stag, b: &Stag) -> bool
+    ensures { result ≡ same_stag a.now b.now }
+{
+    a.domain() == b.domain() && a.slot() == b.slot() && a.key() == b.key()
 }
 
 // The `n` octets from tagged offset `to` on lie inside the sink.
-fn is_inside(request: ReadRequest, to: u64, n: usize) -> bool
-    ensures { result ≡ is_inside request to n }
+fn is_inside(request: &ReadRequest, to: u64, n: usize) -> bool
+    ensures { result ≡ is_inside request.now to n }
 {
     let size = request.size as u64;
     let offset = to.wrapping_sub(request.sink_to);
@@ -164,37 +171,39 @@ fn is_inside(request: ReadRequest, to: u64, n: usize) -> bool
 }
 
 // The response of the Read goes on with this segment.
-fn goes_on(read: Outstanding, head: TaggedHead, n: usize) -> bool
-    requires { read.turned ≤ read.request.size }
-    ensures goes_on { result ≡ goes_on read head n }
+fn goes_on(read: &Outstanding, head: &TaggedHead, n: usize) -> bool
+    requires { read.now.turned ≤ read.now.request.size }
+    ensures goes_on { result ≡ goes_on read.now head.now n }
     ensures small { IsTrue result → n < 2 ^ 32 }
 {
     let next = read.request.sink_to.wrapping_add(read.turned as u64);
-    same_stag(read.request.sink, head.stag) && head.to == next && fits(read, head.last, n)
+    same_stag(&read.request.sink, &head.stag)
+        && head.to == next
+        && fits(read.request.size, read.turned, head.last, n)
 }
 
-// The `n` octets are not past the size of the Read, and reach it where they are the last.
-fn fits(read: Outstanding, last: bool, n: usize) -> bool
-    requires { read.turned ≤ read.request.size }
+// The `n` octets behind those that had their turn are not past the size, and reach it where they are the last.
+fn fits(size: u32, turned: u32, last: bool, n: usize) -> bool
+    requires { turned ≤ size }
     ensures small { IsTrue result → n < 2 ^ 32 }
-    ensures fits { result ≡ (nat_le (read.turned + n) read.request.size && (not last || (read.turned + n == read.request.size))) }
+    ensures fits { result ≡ (nat_le (turned + n) size && (not last || (turned + n == size))) }
 {
-    let left = (read.request.size - read.turned) as usize;
+    let left = (size - turned) as usize;
     n <= left && (!last || n == left)
 }
 
 // The Read asked for what the segment brings.
-fn asks_for(head: TaggedHead, n: usize, read: Outstanding) -> bool
-    ensures { result ≡ asks_for head n read }
+fn asks_for(head: &TaggedHead, n: usize, read: &Outstanding) -> bool
+    ensures { result ≡ asks_for head.now n read.now }
 {
-    same_stag(read.request.sink, head.stag) && is_inside(read.request, head.to, n)
+    same_stag(&read.request.sink, &head.stag) && is_inside(&read.request, head.to, n)
 }
 
-fn is_asked(reads: &[Outstanding], head: TaggedHead, n: usize) -> bool
-    ensures { result ≡ is_asked reads.now head n }
+fn is_asked(reads: &[Outstanding], head: &TaggedHead, n: usize) -> bool
+    ensures { result ≡ is_asked reads.now head.now n }
 {
     for read in reads {
-        if asks_for(head, n, *read) {
+        if asks_for(head, n, read) {
             return true;
         }
     }

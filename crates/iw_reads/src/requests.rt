@@ -1,17 +1,20 @@
 ghost use Rattle.std.specs.Prelude.{◌≡◌, ◌↔◌, ◌+◌, ◌<◌, ◌≤◌, [], length, IsTrue, IsSome, IfSome};
 ghost use Rattle.iw_octets.specs.Head.{FitsTagged};
 ghost use Rattle.iw_octets.specs.Parts.{part_at};
-ghost use Rattle.iw_reads.specs.Requests.{most_unanswered, nothing_asked, taken_up, response_part, part_fetched, HoldsLimits};
+ghost use Rattle.iw_reads.specs.Requests.{most_unanswered, nothing_asked, taken_up, response_part, part_fetched, oldest_headers, HoldsLimits};
 ghost use Rattle.iw_reads.specs.Source.{IsInRange};
 
-use crate::reads::NO_REQUEST;
+use crate::reads::no_request;
 use crate::response::{ResponsePart, part_of_response};
 use arrayvec::ArrayVec;
-use iw_octets::{Part, ReadRequest, TAGGED_HEADER};
+use iw_octets::{Part, READ_REQUEST_HEADER, ReadRequest, TAGGED_HEADER, UNTAGGED_HEADER};
 use std::marker::Model;
 
 /// How many Read Requests may wait for their responses at one end of a stream.
 pub const MAX_UNANSWERED: usize = 16;
+
+/// How many octets the headers of a Read Request have: DDP's, and its own behind it.
+pub const REQUEST_HEADERS: usize = UNTAGGED_HEADER + READ_REQUEST_HEADER;
 
 /// A Read Request of the peer that was taken: its DDP header as it came, 18 octets, which a later Terminate takes along,
 /// and the request behind it.
@@ -25,7 +28,7 @@ impl Default for Asked {
     fn default() -> Asked {
         Asked {
             header: ArrayVec::new(),
-            request: NO_REQUEST,
+            request: no_request(),
         }
     }
 }
@@ -84,10 +87,25 @@ impl Requests {
         self.unanswered.is_empty()
     }
 
+    /// The headers of the request that has waited longest, 46 octets: DDP's, as it came, and the Read Request's behind it.
+    /// No octets where none waits.
+    pub fn oldest_headers(&self) -> ArrayVec<u8, REQUEST_HEADERS>
+        ensures octets { result.items ≡ oldest_headers self.now }
+        ensures len { 0 < length self.now.unanswered → length result.items ≡ REQUEST_HEADERS }
+    {
+        let mut headers = ArrayVec::new();
+        if let Some(asked) = self.unanswered.as_slice().first() {
+            let _ = headers.try_extend_from_slice(asked.header.as_slice());
+            let _ = headers.try_extend_from_slice(asked.request.write().as_slice());
+        }
+        headers
+    }
+
     /// Takes the request that is due: it waits behind the others, and the next number is due. There must be room for it,
-    /// and the offsets of its source may not wrap, as [`check_source`](crate::check_source) tells.
+    /// its header must be whole, and the offsets of its source may not wrap, as [`check_source`](crate::check_source) tells.
     pub fn take(&mut self, asked: Asked)
         requires room { length self.old.unanswered < most_unanswered }
+        requires header { length asked.header.items ≡ UNTAGGED_HEADER }
         requires range { IsInRange asked.request }
         ensures { self.new ≡ taken_up self.old asked }
     {
@@ -107,7 +125,7 @@ impl Requests {
     {
         let asked = self.unanswered.as_slice().first()?;
         Some(part_of_response(
-            asked.request,
+            &asked.request,
             part_at(
                 asked.request.size as usize,
                 max - TAGGED_HEADER,

@@ -22,8 +22,8 @@ pub struct ResponsePart {
 }
 
 /// The header of a segment of the response whose octets stand from `offset` on in what was asked for.
-fn response_head(request: ReadRequest, offset: usize, last: bool) -> TaggedHead
-    ensures head { result ≡ response_head request offset last }
+fn response_head(request: &ReadRequest, offset: usize, last: bool) -> TaggedHead
+    ensures head { result ≡ response_head request.now offset last }
     ensures fits { FitsTagged result }
 {
     let stag = request.sink;
@@ -38,9 +38,9 @@ fn response_head(request: ReadRequest, offset: usize, last: bool) -> TaggedHead
 }
 
 /// A part of what was asked for, with its header and its place in the source.
-pub(crate) fn part_of_response(request: ReadRequest, part: Part) -> ResponsePart
-    requires { 0 < part.offset → request.source_to + part.offset < 2 ^ 64 }
-    ensures part { result ≡ part_of_response request part }
+pub(crate) fn part_of_response(request: &ReadRequest, part: Part) -> ResponsePart
+    requires { 0 < part.offset → request.now.source_to + part.offset < 2 ^ 64 }
+    ensures part { result ≡ part_of_response request.now part }
     ensures fits { FitsTagged result.head }
 {
     ResponsePart {
@@ -54,13 +54,13 @@ pub(crate) fn part_of_response(request: ReadRequest, part: Part) -> ResponsePart
 /// Fetches a part's octets, lent by the region, for a stream of domain `pd`. What may be read is checked again at each
 /// part (RFC 5040 7.2): the fault is the first that [`check_source`](crate::check_source) names, for these octets.
 pub fn fetch<'a, A: Allocator>(
-    part: ResponsePart,
+    part: &ResponsePart,
     memory: &'a Memory<A>,
     pd: u8,
 ) -> Result<&'a [u8], Fault>
-    ensures denied { result_err result ≡ fetch_fault memory.now pd part }
-    ensures octets { IfOk result (λ octets. octets.now ≡ fetched_octets memory.now part) }
-    ensures len { IfOk result (λ octets. length octets.now ≡ part.n) }
+    ensures denied { result_err result ≡ fetch_fault memory.now pd part.now }
+    ensures octets { IfOk result (λ octets. octets.now ≡ fetched_octets memory.now part.now) }
+    ensures len { IfOk result (λ octets. length octets.now ≡ part.now.n) }
 {
     readable(memory, pd, part.stag, part.to, part.n)
 }

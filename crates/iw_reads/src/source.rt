@@ -12,12 +12,12 @@ use std::alloc::Allocator;
 /// region, or the region does not grant the right to read (RFC 5040 5.2.1, 7.2). Of a Read of no octets nothing is
 /// checked, and the STag may name nothing.
 pub fn check_source<A: Allocator>(
-    request: ReadRequest,
+    request: &ReadRequest,
     memory: &Memory<A>,
     pd: u8,
 ) -> Result<(), Fault>
-    ensures fault { result_err result ≡ source_fault memory.now pd request }
-    ensures range { OnOk result (IsInRange request) }
+    ensures fault { result_err result ≡ source_fault memory.now pd request.now }
+    ensures range { OnOk result (IsInRange request.now) }
 {
     match memory.check(
         pd,

@@ -8,11 +8,13 @@ use Rattle.iw_octets.specs.declared.segment.Segment.TheVariants.{Tagged, Untagge
 use Rattle.iw_octets.specs.Head.{is_tagged, tagged_fields, untagged_fields}
 use Rattle.iw_octets.specs.Segment.{read_segment}
 use Rattle.iw_octets.proofs.Front.{tagged_fields-append, untagged_fields-append, read_segment-long_tagged, read_segment-long_untagged, read_segment-short_tagged, read_segment-short_untagged}
+use Rattle.iw_rdmap.specs.Terminate.{header_len}
 use Rattle.iw_untagged.specs.Receiving.{Receiving}
 use Rattle.iw_stream.specs.Frames.{Frame, header_in, payload_len, payload_of, placed, segment_in}
 use Rattle.iw_reads.specs.declared.reads.Outstanding.{Outstanding}
 use Rattle.iw_stream.specs.Judging.{Standing, segment_turn, turn_of, turned_by, receiving_turned, left_by_turn, reads_left}
 use Rattle.iw_stream.specs.Kept.{HasBuffer}
+use Rattle.iw_stream.proofs.Heads.{header_of}
 
 -- the header alone
 abbrev pub bare : Segment (List ℕ) → Segment (List ℕ)
@@ -20,6 +22,8 @@ bare (Tagged head payload) = Tagged head []
 bare (Untagged head payload) = Untagged head []
 
 pub record IsHeader (u : List ℕ) (segment : Segment (List ℕ)) : Type 0 where
+  pub len : length (header_in u) ≡ header_of segment
+  pub whole : header_len (header_in u) ≡ header_of segment
   pub read : read_segment (header_in u) ≡ Some (bare segment)
   pub rest : length u - length (header_in u) ≡ length (payload_of (Some segment))
 
@@ -42,6 +46,8 @@ header_read u segment e = go (is_tagged (get_or u 0 0)) refl
           let is : header_in u ≡ take 14 u = ap (λ b. take (if b then 14 else 18) u) tagged in
           let fields : tagged_fields (take 14 u) ≡ tagged_fields u = sym (ap tagged_fields (sym (take-append-drop 14 u)) ∙ tagged_fields-append (take 14 u) (drop 14 u) (omega (arith, n))) in
           subst (IsHeader u) (same_Some _ _ (sym (read_segment-long_tagged u long tagged) ∙ e)) (record {
+            len = ap length is ∙ n;
+            whole = ap header_len is ∙ ap (λ b. if b then 14 else 18) first;
             read = ap read_segment is ∙ read_segment-long_tagged (take 14 u) (omega (arith, n)) first ∙ (λ i. Some (Tagged (fields i) (none_left 14 (take 14 u) n i)));
             rest = omega (arith, ap length is, n, length-drop 14 u);
           })
@@ -54,6 +60,8 @@ header_read u segment e = go (is_tagged (get_or u 0 0)) refl
           let is : header_in u ≡ take 18 u = ap (λ b. take (if b then 14 else 18) u) untagged in
           let fields : untagged_fields (take 18 u) ≡ untagged_fields u = sym (ap untagged_fields (sym (take-append-drop 18 u)) ∙ untagged_fields-append (take 18 u) (drop 18 u) (omega (arith, n))) in
           subst (IsHeader u) (same_Some _ _ (sym (read_segment-long_untagged u long untagged) ∙ e)) (record {
+            len = ap length is ∙ n;
+            whole = ap header_len is ∙ ap (λ b. if b then 14 else 18) first;
             read = ap read_segment is ∙ read_segment-long_untagged (take 18 u) (omega (arith, n)) first ∙ (λ i. Some (Untagged (fields i) (none_left 18 (take 18 u) n i)));
             rest = omega (arith, ap length is, n, length-drop 18 u);
           })
@@ -81,13 +89,14 @@ kept_buffer r u has = go (read_segment u) refl has
 pub payload_kept : (frame : Frame) (segment : Segment (List ℕ)) → segment_in frame ≡ Some segment → payload_len (placed frame) ≡ length (payload_of (Some segment))
 payload_kept frame segment e = (header_read frame.ulpdu segment e).rest
 
-bare_turn : (r : Receiving) (reads : List Outstanding) (n : ℕ) (segment : Segment (List ℕ)) → segment_turn r reads n (Some (bare segment)) ≡ segment_turn r reads n (Some segment)
-bare_turn r reads n (Tagged head payload) = refl
-bare_turn r reads n (Untagged head payload) = refl
+bare_turn : (at : Standing) (n : ℕ) (segment : Segment (List ℕ)) → segment_turn at.table at.domain at.receiving at.reads n (Some (bare segment)) ≡ segment_turn at.table at.domain at.receiving at.reads n (Some segment)
+bare_turn at n (Tagged head payload) = refl
+bare_turn at n (Untagged head payload) = refl
 
-pub turn_kept : (at : Standing) (frame : Frame) (segment : Segment (List ℕ)) → segment_in frame ≡ Some segment → turn_of at (placed frame) ≡ segment_turn at.receiving at.reads (length (payload_of (Some segment))) (Some segment)
+pub turn_kept : (at : Standing) (frame : Frame) (segment : Segment (List ℕ)) → segment_in frame ≡ Some segment
+    → turn_of at (placed frame) ≡ segment_turn at.table at.domain at.receiving at.reads (length (payload_of (Some segment))) (Some segment)
 turn_kept at frame segment e =
-    (λ i. segment_turn at.receiving at.reads (payload_kept frame segment e i) ((header_read frame.ulpdu segment e).read i)) ∙ bare_turn at.receiving at.reads (length (payload_of (Some segment))) segment
+    (λ i. segment_turn at.table at.domain at.receiving at.reads (payload_kept frame segment e i) ((header_read frame.ulpdu segment e).read i)) ∙ bare_turn at (length (payload_of (Some segment))) segment
 
 bare_turned : (r : Receiving) (n : ℕ) (segment : Segment (List ℕ)) → turned_by r n (Some (bare segment)) ≡ turned_by r n (Some segment)
 bare_turned r n (Tagged head payload) = refl

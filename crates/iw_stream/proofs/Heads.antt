@@ -9,8 +9,8 @@ use Rattle.iw_octets.specs.declared.segment.Segment.TheVariants.{Tagged, Untagge
 use Rattle.iw_octets.specs.Head.{is_tagged}
 use Rattle.iw_octets.specs.Segment.{read_segment}
 use Rattle.iw_octets.proofs.Front.{read_segment-long_tagged, read_segment-long_untagged, read_segment-short_tagged, read_segment-short_untagged}
-use Rattle.iw_rdmap.specs.Unbuilt.{judged_built}
-use Rattle.iw_rdmap.proofs.Whole.{front_built}
+use Rattle.iw_rdmap.specs.Judging.{judged}
+use Rattle.iw_rdmap.proofs.Whole.{front_judged}
 use Rattle.iw_stream.specs.Frames.{header_in}
 use Rattle.iw_stream.specs.Judging.{IsFirst}
 
@@ -58,13 +58,13 @@ all_first u first f few =
     f.whole ∙ ap (λ xs. first ++ xs) (no_octets f.behind (omega (arith, long, few))) ∙ append-nil first
 
 -- a header is judged by them as by all
-pub judged_front : (u first : List ℕ) (len next unanswered : ℕ) → IsFirst u first → len ≡ length u → judged_built first len next unanswered ≡ judged_built u (length u) next unanswered
+pub judged_front : (u first : List ℕ) (len next unanswered : ℕ) → IsFirst u first → len ≡ length u → judged first len next unanswered ≡ judged u (length u) next unanswered
 judged_front u first len next unanswered f same =
     let all : length u ≡ length first + length f.behind = ap length f.whole ∙ length-append first f.behind in
     let whole : length (first ++ f.behind) ≡ length u = sym (ap length f.whole) in
-    (λ i. judged_built first ((same ∙ sym whole) i) next unanswered)
-    ∙ front_built first f.behind next unanswered (record { enough = omega (arith, f.enough, whole); within = omega (arith, whole, all) })
-    ∙ (λ i. judged_built (sym f.whole i) (whole i) next unanswered)
+    (λ i. judged first ((same ∙ sym whole) i) next unanswered)
+    ∙ front_judged first f.behind next unanswered (record { enough = omega (arith, f.enough, whole); within = omega (arith, whole, all) })
+    ∙ (λ i. judged (sym f.whole i) (whole i) next unanswered)
 
 -- ---- the header as it came
 front_octet : (xs ys : List ℕ) → 1 ≤ length xs → get_or (xs ++ ys) 0 0 ≡ get_or xs 0 0

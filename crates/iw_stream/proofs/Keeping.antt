@@ -1,14 +1,15 @@
 -- What a stream keeps of its fields stays so from call to call.
 use Rattle.std.proofs.Common.{◌≡◌, ℕ, ◌+◌, ◌-◌, ◌<◌, ◌≤◌, ◌%◌, ◌^◌, Bool, true, false, max, nat_le, nat_lt, if◌then◌else◌, List, [], length, Option, Some, None, Ok, Err, refl, sym, ap, ◌∙◌, subst, arith}
-use Rattle.std.specs.Prelude.{Result, OnOk, OnErr, IfSome, not}
+use Rattle.std.specs.Prelude.{Result, OnOk, OnErr, IfSome, IsSome, not, ◌&&◌}
 use Rattle.std.specs.Option.{option_map_or}
 use Rattle.iw_fpdu.specs.declared.fpdu.Mismatch.{Mismatch}
-use Rattle.std.proofs.lemmas.Bool.{true≢false}
+use Rattle.std.proofs.lemmas.Bool.{false≢true, true≢false}
 use Rattle.std.proofs.lemmas.Bool.Decides.{nat_tests}
 use Rattle.std.proofs.lemmas.List.{get_or-set_same, length-set}
 use Rattle.iw_octets.specs.declared.fault.Fault.{Fault}
 use Rattle.iw_octets.specs.declared.fault.TheConstants.Fault as faults
 use Rattle.iw_octets.specs.Octets.{splice}
+use Rattle.iw_octets.specs.declared.segment.Segment.TheVariants.{Tagged, Untagged}
 use Rattle.iw_octets.specs.Segment.{read_segment}
 use Rattle.iw_memory.specs.Table.{Table}
 use Rattle.iw_ranges.specs.Arrived.{Arrived, delivered, taken_in, advanced, cell_at, has_come, first_copy, is_missing, is_dropped, Cell, Missing, Here, Gone}
@@ -22,6 +23,7 @@ use Rattle.iw_fpdu.specs.Found.{Found, ulpdu, ulpdu_len}
 use Rattle.iw_fpdu.specs.Laws.{IsBetween}
 use Rattle.iw_fpdu.proofs.Follows.{ends, frames_follow, starts}
 use Rattle.iw_fpdu.proofs.Sequences.{length_written}
+use Rattle.iw_rdmap.specs.Terminate.{header_len}
 use Rattle.iw_rdmap.specs.declared.head.Head.{Head}
 use Rattle.iw_rdmap.specs.declared.head.Head.TheVariants as heads
 use Rattle.iw_reads.specs.declared.reads.Outstanding.{Outstanding}
@@ -35,13 +37,16 @@ use Rattle.iw_untagged.proofs.Splices.{length-splice}
 use Rattle.iw_stream.specs.declared.judging.Landing.{Landing}
 use Rattle.iw_stream.specs.declared.judging.Landing.TheVariants as landings
 use Rattle.iw_stream.specs.declared.judging.PlacedFrame.{PlacedFrame}
-use Rattle.iw_stream.specs.Frames.{IsNext, frame_by, payload_of, placed, head_in, payload_len}
-use Rattle.iw_stream.specs.Judging.{Standing, mismatch_fault, fault_or, judged_head, place_verdict, head_verdict, segment_verdict, verdict, receiving_landed}
+use Rattle.iw_stream.specs.Frames.{IsNext, frame_by, header_in, payload_of, placed, head_in, payload_len}
+use Rattle.iw_stream.specs.Judging.{Standing, mismatch_fault, fault_or, fault_told, judged_head, place_verdict, head_verdict, segment_verdict, verdict, receiving_landed}
+use Rattle.iw_stream.specs.declared.ending.Ending.{Ending}
+use Rattle.iw_stream.specs.declared.ending.Ending.TheVariants.{Runs, Over, Broken}
+use Rattle.iw_stream.specs.Ending.{has_ended, is_broken, last_word}
 use Rattle.iw_stream.specs.Kept.{HasBuffer, Stands, IsPlaced, AreAwaited, Keeps}
 use Rattle.iw_stream.specs.Starting.{is_open, expecting, first_place_in, first_place_out}
-use Rattle.iw_stream.specs.Stream.{StreamState, owes_frame}
+use Rattle.iw_stream.specs.Stream.{StreamState, ended, owes_frame}
 use Rattle.iw_stream.specs.Work.{place_behind, standing}
-use Rattle.iw_stream.proofs.Headers.{header_short, kept_buffer}
+use Rattle.iw_stream.proofs.Headers.{header_read, header_short, kept_buffer}
 use Rattle.iw_stream.proofs.Reading.{in_range}
 use Rattle.iw_stream.proofs.Landings.{Judges, judges, length_ulpdu}
 
@@ -59,7 +64,7 @@ keeps_taken : (s : StreamState) (place : ℕ) (octets : List ℕ) → Keeps s �
 keeps_taken s place octets k =
     let floor = floor_takes s.arrived place octets in record {
       started = record {
-        unopened = λ e. (floor ∙ (k.started.unopened e).0, (k.started.unopened e).1);
+        unopened = λ e. (floor ∙ (k.started.unopened e).0, (k.started.unopened e).1, (k.started.unopened e).2);
         unsent = k.started.unsent;
         alone = k.started.alone;
         behind = omega (arith, floor, k.started.behind);
@@ -69,7 +74,7 @@ keeps_taken s place octets k =
       aligned = k.aligned;
       enough = k.enough;
       few = k.few;
-      is_placed = go s.front k.is_placed;
+      is_placed = λ e. go s.front (k.is_placed e);
       first = k.first;
       awaited = k.awaited;
     }
@@ -81,6 +86,7 @@ keeps_taken s place octets k =
         let at = p.stands in record {
           stands = record {
             low = omega (arith, floor, at.low);
+            whole = at.whole;
             header = at.header;
             on = omega (arith, floor, at.on);
             near = omega (arith, floor, at.near);
@@ -119,13 +125,37 @@ keeps_behind s frame place after r queue reads asked running p there moved first
       aligned = k.aligned;
       enough = k.enough;
       few = k.few;
-      is_placed = tt;
+      is_placed = λ e. tt;
       first = first;
-      awaited = awaited;
+      awaited = λ e. awaited;
     }
 
-pub stands_placed : (s : StreamState) (frame : PlacedFrame) → s.front ≡ Some frame → Keeps s → Stands s frame
-stands_placed s frame is k = let p : IsPlaced s frame = subst (λ o. IfSome o (IsPlaced s)) is k.is_placed in p.stands
+pub placed_front : (s : StreamState) (frame : PlacedFrame) → ended s ≡ false → s.front ≡ Some frame → Keeps s → IsPlaced s frame
+placed_front s frame runs is k = subst (λ o. IfSome o (IsPlaced s)) is (k.is_placed runs)
+
+-- ---- the end
+-- nothing is asked of the frame and the Reads of a stream that has ended
+pub keeps_ended : (s : StreamState) (ending : Ending) → has_ended ending ≡ true → (is_open s.start ≡ false → last_word ending ≡ None) → Keeps s → Keeps (record s { ending = ending })
+keeps_ended s ending over silent k = record {
+  started = record {
+    unopened = λ e. ((k.started.unopened e).0, (k.started.unopened e).1, silent e);
+    unsent = k.started.unsent;
+    alone = k.started.alone;
+    behind = k.started.behind;
+  };
+  between = k.between;
+  held = k.held;
+  aligned = k.aligned;
+  enough = k.enough;
+  few = k.few;
+  is_placed = λ e. absurd (true≢false (sym over ∙ e));
+  first = k.first;
+  awaited = λ e. absurd (true≢false (sym over ∙ e));
+}
+
+-- an open stream ends with a Terminate or without one
+pub keeps_over : (s : StreamState) (ending : Ending) → is_open s.start ≡ true → has_ended ending ≡ true → Keeps s → Keeps (record s { ending = ending })
+keeps_over s ending running over k = keeps_ended s ending over (λ e. absurd (true≢false (sym running ∙ e))) k
 
 -- ---- how far the in-order point moves
 pub reaches : (s t : StreamState) (after : Arrived) (to : ℕ) → after ≡ advanced s.arrived to → to ≤ s.arrived.floor + 2 ^ 18 → s ≡ t → after.floor ≤ t.arrived.floor + 2 ^ 18
@@ -141,6 +171,7 @@ placed_still s t (Some frame) start arrived receiving p =
     let floor : s.arrived.floor ≡ t.arrived.floor = ap (λ (a : Arrived). a.floor) arrived in record {
       stands = record {
         low = omega (arith, floor, at.low);
+        whole = at.whole;
         header = at.header;
         on = omega (arith, floor, there, at.on);
         near = omega (arith, floor, there, at.near);
@@ -150,7 +181,7 @@ placed_still s t (Some frame) start arrived receiving p =
       buffer = subst (λ r. HasBuffer r (payload_len frame) (head_in frame)) receiving p.buffer;
     }
 
-pub keeps_queue : (s : StreamState) (queue : Queue) → queue.sent.first < 2 ^ 64 → AreAwaited queue.sent s.reads → Keeps s → Keeps (record s { queue = queue })
+pub keeps_queue : (s : StreamState) (queue : Queue) → queue.sent.first < 2 ^ 64 → (ended s ≡ false → AreAwaited queue.sent s.reads) → Keeps s → Keeps (record s { queue = queue })
 keeps_queue s queue first awaited k = record {
   started = record {
     unopened = k.started.unopened;
@@ -163,9 +194,36 @@ keeps_queue s queue first awaited k = record {
   aligned = k.aligned;
   enough = k.enough;
   few = k.few;
-  is_placed = placed_still s (record s { queue = queue }) s.front refl refl refl k.is_placed;
+  is_placed = λ e. placed_still s (record s { queue = queue }) s.front refl refl refl (k.is_placed e);
   first = first;
   awaited = awaited;
+}
+
+-- only an open stream has a Terminate due
+pub opened_last : (s : StreamState) → IsSome (last_word s.ending) → Keeps s → is_open s.start ≡ true
+opened_last s due k = go (is_open s.start) refl
+  where
+    go : (b : Bool) → is_open s.start ≡ b → b ≡ true
+    go true e = refl
+    go false e = absurd (false≢true (subst IsSome (k.started.unopened e).2 due))
+
+-- an ended stream may lose its buffers
+pub keeps_flushed : (s : StreamState) (r : Receiving) → ended s ≡ true → Keeps s → Keeps (record s { receiving = r })
+keeps_flushed s r over k = record {
+  started = record {
+    unopened = k.started.unopened;
+    unsent = k.started.unsent;
+    alone = k.started.alone;
+    behind = k.started.behind;
+  };
+  between = k.between;
+  held = k.held;
+  aligned = k.aligned;
+  enough = k.enough;
+  few = k.few;
+  is_placed = λ e. absurd (true≢false (sym over ∙ e));
+  first = k.first;
+  awaited = k.awaited;
 }
 
 -- ---- a part that was sent
@@ -178,32 +236,39 @@ aligned_behind layout at u aligned =
     let there : end % 4 ≡ 0 = ap (λ n. n % 4) (sym same) ∙ next.aligned in
     omega (arith, there, aligned, length_written layout at u)
 
-not_owed : (sent n first : ℕ) → nat_lt sent first ≡ false → nat_lt (sent + n) first ≡ true → ⊥
-not_owed sent n first e f = grind (arith, nat_tests)
+-- whatever is due but a start-up frame is sent behind that
+pub sent_first : (s : StreamState) → owes_frame s ≡ false → is_broken s.ending ≡ false → first_place_out s.start ≤ s.sent
+sent_first s owes whole = go (nat_lt s.sent (first_place_out s.start)) refl (ap (λ b. not b && nat_lt s.sent (first_place_out s.start)) (sym whole) ∙ owes)
+  where
+    go : (b : Bool) → nat_lt s.sent (first_place_out s.start) ≡ b → b ≡ false → first_place_out s.start ≤ s.sent
+    go true is e = absurd (true≢false e)
+    go false is e = grind (arith, nat_tests)
 
-first_sent : (sent first : ℕ) → nat_lt sent first ≡ false → first ≤ sent
-first_sent sent first e = grind (arith, nat_tests)
+-- neither does a stream that has not ended owe one
+pub runs_whole : (ending : Ending) → has_ended ending ≡ false → (is_broken ending ≡ false) × (last_word ending ≡ None)
+runs_whole Runs e = (refl, refl)
+runs_whole (Over terminate) e = absurd (true≢false e)
+runs_whole Broken e = absurd (true≢false e)
 
-pub keeps_sent : (s : StreamState) (queue : Queue) (numbers : Numbers) (n : ℕ) (reads : List Outstanding) (asked : Requested) → is_open s.start ≡ true → owes_frame s ≡ false → (s.sent - first_place_out s.start + n) % 4 ≡ 0
-    → queue.sent.first < 2 ^ 64 → AreAwaited queue.sent reads → Keeps s
+pub keeps_sent : (s : StreamState) (queue : Queue) (numbers : Numbers) (n : ℕ) (reads : List Outstanding) (asked : Requested) → is_open s.start ≡ true → first_place_out s.start ≤ s.sent → (s.sent - first_place_out s.start + n) % 4 ≡ 0
+    → queue.sent.first < 2 ^ 64 → (ended s ≡ false → AreAwaited queue.sent reads) → Keeps s
     → Keeps (record s { queue = queue; numbers = numbers; sent = s.sent + n; reads = reads; asked = asked })
-keeps_sent s queue numbers n reads asked running owes aligned first awaited k =
-    let low = first_sent s.sent (first_place_out s.start) owes in record {
-      started = record {
-        unopened = k.started.unopened;
-        unsent = λ e. absurd (not_owed s.sent n (first_place_out s.start) owes e);
-        alone = λ e. absurd (true≢false (sym running ∙ e));
-        behind = k.started.behind;
-      };
-      between = k.between;
-      held = k.held;
-      aligned = λ e. ap (λ m. m % 4) (let same : s.sent + n - first_place_out s.start ≡ s.sent - first_place_out s.start + n = omega (arith, low) in same) ∙ aligned;
-      enough = k.enough;
-      few = k.few;
-      is_placed = placed_still s (record s { queue = queue; numbers = numbers; sent = s.sent + n; reads = reads; asked = asked }) s.front refl refl refl k.is_placed;
-      first = first;
-      awaited = awaited;
-    }
+keeps_sent s queue numbers n reads asked running low aligned first awaited k = record {
+  started = record {
+    unopened = k.started.unopened;
+    unsent = λ lt. absurd (omega (arith, low, lt));
+    alone = λ e. absurd (true≢false (sym running ∙ e));
+    behind = k.started.behind;
+  };
+  between = k.between;
+  held = k.held;
+  aligned = ap (λ m. m % 4) (let same : s.sent + n - first_place_out s.start ≡ s.sent - first_place_out s.start + n = omega (arith, low) in same) ∙ aligned;
+  enough = k.enough;
+  few = k.few;
+  is_placed = λ e. placed_still s (record s { queue = queue; numbers = numbers; sent = s.sent + n; reads = reads; asked = asked }) s.front refl refl refl (k.is_placed e);
+  first = first;
+  awaited = awaited;
+}
 
 -- ---- a segment in its buffer
 buffer_there : (r : Receiving) (msn mo n : ℕ) → buffer_fault r msn mo n ≡ None → (ahead_of r.due msn < length r.buffers) × (mo + n ≤ length (buffer_of r msn))
@@ -242,6 +307,7 @@ IsPlacing (landings.Write at) = Unit {0}
 IsPlacing (landings.Response at) = Unit {0}
 IsPlacing (landings.Send msn mo len) = Unit {0}
 IsPlacing (landings.Request request) = ⊥
+IsPlacing (landings.Terminate fault) = ⊥
 
 -- a Send's segment that was placed has its buffer
 segment_placed : (at : Standing) (u : List ℕ) (unanswered : ℕ) (head : Head) (x : Landing) → Judges u unanswered head → place_verdict at head (length (payload_of (read_segment u))) ≡ Ok x → IsPlacing x
@@ -254,7 +320,7 @@ segment_placed at u unanswered (heads.Send head) x j e p =
     (subst (λ o. HasBuffer (written at.receiving head.msn head.mo (payload_of (read_segment u))) (length (payload_of (read_segment u))) o) (sym j.is)
     (buffer_written at.receiving head.msn head.mo (payload_of (read_segment u)) parts.0))
 segment_placed at u unanswered (heads.Request head request) x j e p = absurd (subst IsPlacing (sym (passes _ _ _ e).1) p)
-segment_placed at u unanswered (heads.Terminate head word) x j e p = absurd j
+segment_placed at u unanswered (heads.Terminate head word) x j e p = absurd (subst IsPlacing (let same : x ≡ landings.Terminate (fault_told word) = cc in same) p)
 
 -- ---- a frame that passed its checks
 pub record IsJudged (at : Standing) (u : List ℕ) (x : Landing) : Type 0 where
@@ -276,13 +342,25 @@ frame_judged at found x e = go (frame_by found).mismatch e
     go None h = ulpdu_judged at (ulpdu found) x h
     go (Some m) h = absurd (let no : ⊥ = cc in no)
 
+-- its header is whole
+judged_whole : (u : List ℕ) (unanswered : ℕ) (head : Head) → Judges u unanswered head → header_len (header_in u) ≤ length (header_in u)
+judged_whole u unanswered (heads.Write head) j = let h = header_read u (Tagged head j.payload) j.is in omega (arith, h.len, h.whole)
+judged_whole u unanswered (heads.Response head) j = let h = header_read u (Tagged head j.payload) j.is in omega (arith, h.len, h.whole)
+judged_whole u unanswered (heads.Send head) j = let h = header_read u (Untagged head j.payload) j.is in omega (arith, h.len, h.whole)
+judged_whole u unanswered (heads.Request head request) j = let h = header_read u (Untagged head j.0.payload) j.0.is in omega (arith, h.len, h.whole)
+judged_whole u unanswered (heads.Terminate head word) j = let h = header_read u (Untagged head j.payload) j.is in omega (arith, h.len, h.whole)
+
+pub whole_judged : (at : Standing) (found : Found) (x : Landing) → verdict at (frame_by found) ≡ Ok x → header_len (header_in (ulpdu found)) ≤ length (header_in (ulpdu found))
+whole_judged at found x e = let j = frame_judged at found x e in judged_whole (ulpdu found) (length at.asked.unanswered) j.head j.judged
+
 -- a frame that is whole stands at the in-order point
-pub stands_next : (s : StreamState) (found : Found) → IsNext (expecting s.start) s.arrived (first_place_in s.start) found → Stands s (placed (frame_by found))
-stands_next s found n =
+pub stands_next : (s : StreamState) (found : Found) → IsNext (expecting s.start) s.arrived (first_place_in s.start) found → header_len (header_in (ulpdu found)) ≤ length (header_in (ulpdu found)) → Stands s (placed (frame_by found))
+stands_next s found n whole =
     let m : Bool = (expecting s.start).markers in
     let base : ℕ = first_place_in s.start in
     let long : length (ulpdu found) ≡ ulpdu_len found = length_ulpdu found in record {
       low = n.low;
+      whole = whole;
       header = header_short (ulpdu found);
       on = subst (λ z. s.arrived.floor < base + frame_end m found.start z) (sym long) n.on;
       near = subst (λ z. base + frame_end m found.start z ≤ s.arrived.floor + 2 ^ 18) (sym long) n.near;
@@ -299,7 +377,7 @@ pub keeps_judged : (s : StreamState) (table : Table) (found : Found) (after : Re
 keeps_judged s table found after x running n ok placing there k =
     let at : Standing = standing table s in
     let sound = frame_judged at found x ok in
-    let has = stands_next s found n in
+    let has = stands_next s found n (whole_judged at found x ok) in
     record {
       started = record {
         unopened = λ e. absurd (true≢false (sym running ∙ e));
@@ -312,8 +390,8 @@ keeps_judged s table found after x running n ok placing there k =
       aligned = k.aligned;
       enough = k.enough;
       few = k.few;
-      is_placed = record {
-        stands = record { low = has.low; header = has.header; on = has.on; near = has.near; come = has.come; next = has.next };
+      is_placed = λ e. record {
+        stands = record { low = has.low; whole = has.whole; header = has.header; on = has.on; near = has.near; come = has.come; next = has.next };
         buffer = subst (λ r. HasBuffer r (payload_len (placed (frame_by found))) (head_in (placed (frame_by found)))) (sym there)
             (kept_buffer (receiving_landed s.receiving (payload_of (read_segment (ulpdu found))) x) (ulpdu found) (segment_placed at (ulpdu found) (length s.asked.unanswered) sound.head x sound.judged sound.placed placing));
       };
@@ -322,19 +400,20 @@ keeps_judged s table found after x running n ok placing there k =
     }
 
 -- one more request may wait where one was judged, and its source has a range
-pub record MayTake (asked : Requested) (request : ReadRequest) : Type 0 where
+pub record MayTake (asked : Requested) (u : List ℕ) (request : ReadRequest) : Type 0 where
+  pub header : length (header_in u) ≡ 18
   pub room : length asked.unanswered < 16
   pub range : IsInRange request
 
-pub may_take : (at : Standing) (found : Found) (request : ReadRequest) → verdict at (frame_by found) ≡ Ok (landings.Request request) → MayTake at.asked request
+pub may_take : (at : Standing) (found : Found) (request : ReadRequest) → verdict at (frame_by found) ≡ Ok (landings.Request request) → MayTake at.asked (ulpdu found) request
 may_take at found request e = let j = frame_judged at found (landings.Request request) e in go j.head j.judged j.placed
   where
-    go : (head : Head) → Judges (ulpdu found) (length at.asked.unanswered) head → place_verdict at head (length (payload_of (read_segment (ulpdu found)))) ≡ Ok (landings.Request request) → MayTake at.asked request
+    go : (head : Head) → Judges (ulpdu found) (length at.asked.unanswered) head → place_verdict at head (length (payload_of (read_segment (ulpdu found)))) ≡ Ok (landings.Request request) → MayTake at.asked (ulpdu found) request
     go (heads.Write head) j h = absurd (let w = (passes _ _ _ h).1 in let no : ⊥ = cc in no)
     go (heads.Response head) j h = absurd (let w = (passes _ _ _ h).1 in let no : ⊥ = cc in no)
     go (heads.Send head) j h = absurd (let w = (passes _ _ _ h).1 in let no : ⊥ = cc in no)
     go (heads.Request head asked) j h =
         let parts = passes _ _ _ h in
         let same : asked ≡ request = let w = parts.1 in cc in
-        record { room = j.1; range = subst IsInRange same (in_range at.table at.domain asked parts.0) }
-    go (heads.Terminate head word) j h = absurd j
+        record { header = (header_read (ulpdu found) (Untagged head j.0.payload) j.0.is).len; room = j.1; range = subst IsInRange same (in_range at.table at.domain asked parts.0) }
+    go (heads.Terminate head word) j h = absurd (let no : ⊥ = cc in no)

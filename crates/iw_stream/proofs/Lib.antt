@@ -1,6 +1,7 @@
 pub mod Heads
 pub mod Headers
 pub mod Landings
+pub mod Writes
 pub mod Fronts
 pub mod Reading
 pub mod Keeping
@@ -8,3 +9,6 @@ pub mod Opening
 pub mod Started
 pub mod Tasks
 pub mod Dues
+pub mod Handing
+pub mod Origins
+pub mod Stags

@@ -1,9 +1,8 @@
 -- What a stream keeps of its start-up.
-use Rattle.std.proofs.Common.{◌≡◌, ℕ, ◌-◌, ◌<◌, ◌%◌, Bool, true, false, max, nat_lt, List, [], ◌∷◌, length, Option, Some, None, refl, sym, ap, ◌∙◌, subst, arith}
+use Rattle.std.proofs.Common.{◌≡◌, ℕ, ◌-◌, ◌<◌, ◌%◌, Bool, true, false, max, List, [], ◌∷◌, length, Option, Some, None, refl, sym, ap, ◌∙◌, subst, arith}
 use Rattle.std.specs.Prelude.{IfSome, is_some}
 use Rattle.std.specs.Option.{option_map_or}
 use Rattle.std.proofs.lemmas.Bool.{true≢false, false≢true}
-use Rattle.std.proofs.lemmas.Bool.Decides.{nat_tests}
 use Rattle.arrayvec.specs.ArrayVec.{ArrayVec}
 use Rattle.iw_ranges.specs.Arrived.{Arrived, nothing, advanced}
 use Rattle.iw_ranges.proofs.InOrder.{floor_moves, held_moves, held_nothing}
@@ -34,7 +33,8 @@ use Rattle.iw_stream.specs.Fields.{IsStart, start_of}
 use Rattle.iw_stream.specs.Kept.{IsPlaced, Keeps}
 use Rattle.iw_stream.specs.Starting.{StartState, AtOnce, Unheard, Heard, IsFresh, start_by, start_at_first, is_open, expecting, own_frame, awaits_frame, heard, answered_with, agreed_in, agreement_in, first_place_in, first_place_out}
 use Rattle.iw_stream.specs.Starting as starting
-use Rattle.iw_stream.specs.Stream.{StreamState, owes_frame}
+use Rattle.iw_stream.specs.declared.ending.Ending.TheVariants.{Runs}
+use Rattle.iw_stream.specs.Stream.{StreamState}
 
 -- ---- lengths of start-up frames
 request_long : (fl : ℕ) (private : List ℕ) → 0 < length (start_frame request_key fl private)
@@ -68,12 +68,6 @@ waits_at config (sides.Responder (Some reply)) octets e = cc
 pub waits : (u : StartupState) → awaits_answer u ≡ true → Waits u
 waits u e = waits_at u.config u.side u.octets e
 
-not_owing : (n : ℕ) → nat_lt 0 n ≡ false → 0 ≡ n
-not_owing n e = grind (arith, nat_tests)
-
-owing : (sent n : ℕ) → sent ≡ 0 → 0 < n → nat_lt sent n ≡ false → ⊥
-owing sent n none long e = grind (arith, nat_tests)
-
 -- ---- a stream to which nothing has happened
 abbrev pub fresh : ℕ → StartState → Queue → Numbers → Receiving → List Outstanding → Requested → Arrived → StreamState
 fresh domain start queue numbers receiving reads asked arrived = record {
@@ -88,7 +82,7 @@ fresh domain start queue numbers receiving reads asked arrived = record {
   asked = asked;
   arrived = arrived;
   front = None;
-  ended = false;
+  ending = Runs;
 }
 
 none_read : (role : Role) (config : Config) → first_place_in (start_at_first role config) ≡ 0
@@ -100,19 +94,19 @@ keeps_nothing : (role : Role) (config : Config) (domain : ℕ) (numbers : Number
 keeps_nothing role config domain numbers receiving asked =
     let start = start_at_first role config in record {
       started = record {
-        unopened = λ e. (sym (none_read role config), refl);
-        unsent = λ e. refl;
-        alone = λ e f. not_owing (first_place_out start) f;
+        unopened = λ e. (sym (none_read role config), refl, refl);
+        unsent = λ lt. refl;
+        alone = λ e. omega arith;
         behind = omega (arith, none_read role config);
       };
       between = subst (IsBetween (expecting start).markers) (let at : 0 ≡ 0 - first_place_in start = omega arith in at) (frames_follow.first (expecting start).markers);
       held = held_nothing;
-      aligned = λ e. ap (λ n. n % 4) (let at : 0 - first_place_out start ≡ 0 = omega arith in at);
+      aligned = ap (λ n. n % 4) (let at : 0 - first_place_out start ≡ 0 = omega arith in at);
       enough = omega arith;
       few = omega arith;
-      is_placed = tt;
+      is_placed = λ e. tt;
       first = omega arith;
-      awaited = tt;
+      awaited = λ e. tt;
     }
 
 pub keeps_fresh : (role : Role) (config : Config) (domain : ℕ) (start : StartState) (queue : Queue) (numbers : Numbers) (receiving : Receiving) (reads : List Outstanding) (asked : Requested) (arrived : Arrived)
@@ -124,43 +118,42 @@ keeps_fresh role config domain start queue numbers receiving reads asked arrived
 none_placed : (s t : StreamState) → s.front ≡ None → IfSome s.front (IsPlaced t)
 none_placed s t e = subst (λ o. IfSome o (IsPlaced t)) (sym e) tt
 
-answers : (s : StreamState) (u : StartupState) (reply : Reply) (ended : Bool) → s.start ≡ Heard u → awaits_answer u ≡ true → Keeps s → Keeps (record s { start = Heard (answered u reply); ended = ended })
-answers s u reply ended is asked k =
+answers : (s : StreamState) (u : StartupState) (reply : Reply) → s.start ≡ Heard u → awaits_answer u ≡ true → Keeps s → Keeps (record s { start = Heard (answered u reply) })
+answers s u reply is asked k =
     let w : Waits u = waits u asked in
     let closed : is_open s.start ≡ false = ap is_open is ∙ w.closed in
     let rest = k.started.unopened closed in
     let place : first_place_in s.start ≡ length u.octets = ap first_place_in is in
     let mute : first_place_out s.start ≡ 0 = ap first_place_out is ∙ ap length w.mute in
-    let silent : owes_frame s ≡ false = (let n : first_place_out s.start ≡ 0 = mute in grind (arith, nat_tests)) in
-    let none : s.sent ≡ 0 = k.started.alone closed silent ∙ mute in record {
+    let none : s.sent ≡ 0 = omega (arith, k.started.alone closed, mute) in record {
       started = record {
-        unopened = λ e. (rest.0 ∙ place, rest.1);
-        unsent = λ e. none;
-        alone = λ e f. absurd (owing s.sent (length (frame_of (answered u reply))) none (answered_long u reply) f);
+        unopened = λ e. (rest.0 ∙ place, rest.1, rest.2);
+        unsent = λ lt. none;
+        alone = λ e. omega (arith, none);
         behind = omega (arith, rest.0, place);
       };
       between = subst (IsBetween (expecting (Heard (answered u reply))).markers) (let at : 0 ≡ s.arrived.floor - length u.octets = omega (arith, rest.0, place) in at) (frames_follow.first (expecting (Heard (answered u reply))).markers);
       held = k.held;
-      aligned = λ e. absurd (owing s.sent (length (frame_of (answered u reply))) none (answered_long u reply) e);
+      aligned = ap (λ n. n % 4) (let at : s.sent - length (frame_of (answered u reply)) ≡ 0 = omega (arith, none) in at);
       enough = k.enough;
       few = k.few;
-      is_placed = none_placed s (record s { start = Heard (answered u reply); ended = ended }) rest.1;
+      is_placed = λ e. none_placed s (record s { start = Heard (answered u reply) }) rest.1;
       first = k.first;
       awaited = k.awaited;
     }
 
-pub keeps_answered : (s : StreamState) (reply : Reply) (ended : Bool) → starting.is_asked s.start ≡ true → Keeps s → Keeps (record s { start = answered_with s.start reply; ended = ended })
-keeps_answered s reply ended asked k = go s.start refl asked
+pub keeps_answered : (s : StreamState) (reply : Reply) → starting.is_asked s.start ≡ true → Keeps s → Keeps (record s { start = answered_with s.start reply })
+keeps_answered s reply asked k = go s.start refl asked
   where
-    go : (x : StartState) → s.start ≡ x → starting.is_asked x ≡ true → Keeps (record s { start = answered_with x reply; ended = ended })
+    go : (x : StartState) → s.start ≡ x → starting.is_asked x ≡ true → Keeps (record s { start = answered_with x reply })
     go (AtOnce layout) is e = absurd (false≢true e)
     go (Unheard u) is e = absurd (false≢true e)
-    go (Heard u) is e = answers s u reply ended is e k
+    go (Heard u) is e = answers s u reply is e k
 
 -- ---- the peer's frame is read
-hears : (s : StreamState) (u : StartupState) (octets : List ℕ) (ended : Bool) → s.start ≡ Unheard u → Keeps s
-    → Keeps (record s { start = Heard (pushed u octets); arrived = advanced s.arrived (length (pushed u octets).octets); ended = ended })
-hears s u octets ended is k =
+hears : (s : StreamState) (u : StartupState) (octets : List ℕ) → s.start ≡ Unheard u → Keeps s
+    → Keeps (record s { start = Heard (pushed u octets); arrived = advanced s.arrived (length (pushed u octets).octets) })
+hears s u octets is k =
     let closed : is_open s.start ≡ false = ap is_open is in
     let rest = k.started.unopened closed in
     let begin : s.arrived.floor ≡ 0 = rest.0 ∙ ap first_place_in is in
@@ -169,32 +162,32 @@ hears s u octets ended is k =
     let own : first_place_out s.start ≡ length (frame_of (pushed u octets)) = ap first_place_out is ∙ ap length (sym (frame_of-pushed u octets)) in
     record {
       started = record {
-        unopened = λ e. (omega (arith, floor, begin), rest.1);
-        unsent = λ e. k.started.unsent (ap (nat_lt s.sent) own ∙ e);
-        alone = λ e f. k.started.alone closed (ap (nat_lt s.sent) own ∙ f) ∙ own;
+        unopened = λ e. (omega (arith, floor, begin), rest.1, rest.2);
+        unsent = λ lt. k.started.unsent (omega (arith, own, lt));
+        alone = λ e. omega (arith, own, k.started.alone closed);
         behind = omega (arith, floor, begin);
       };
       between = subst (IsBetween (expecting (Heard (pushed u octets))).markers) (let at : 0 ≡ (advanced s.arrived n).floor - n = omega (arith, floor, begin) in at) (frames_follow.first (expecting (Heard (pushed u octets))).markers);
       held = held_moves s.arrived n k.held;
-      aligned = λ e. ap (λ m. (s.sent - m) % 4) (sym own) ∙ k.aligned (ap (nat_lt s.sent) own ∙ e);
+      aligned = ap (λ m. (s.sent - m) % 4) (sym own) ∙ k.aligned;
       enough = k.enough;
       few = k.few;
-      is_placed = none_placed s (record s { start = Heard (pushed u octets); arrived = advanced s.arrived n; ended = ended }) rest.1;
+      is_placed = λ e. none_placed s (record s { start = Heard (pushed u octets); arrived = advanced s.arrived n }) rest.1;
       first = k.first;
       awaited = k.awaited;
     }
 
-pub keeps_heard : (s : StreamState) (octets : List ℕ) (start : StartState) (arrived : Arrived) (ended : Bool) → awaits_frame s.start ≡ true
+pub keeps_heard : (s : StreamState) (octets : List ℕ) (start : StartState) (arrived : Arrived) → awaits_frame s.start ≡ true
     → start ≡ heard s.start octets → arrived ≡ advanced s.arrived (first_place_in start) → Keeps s
-    → Keeps (record s { start = start; arrived = arrived; ended = ended })
-keeps_heard s octets start arrived ended awaits now moved k = go s.start refl awaits now
+    → Keeps (record s { start = start; arrived = arrived })
+keeps_heard s octets start arrived awaits now moved k = go s.start refl awaits now
   where
-    go : (x : StartState) → s.start ≡ x → awaits_frame x ≡ true → start ≡ heard x octets → Keeps (record s { start = start; arrived = arrived; ended = ended })
+    go : (x : StartState) → s.start ≡ x → awaits_frame x ≡ true → start ≡ heard x octets → Keeps (record s { start = start; arrived = arrived })
     go (AtOnce layout) is e n = absurd (false≢true e)
     go (Heard u) is e n = absurd (false≢true e)
     go (Unheard u) is e n =
-        subst (λ a. Keeps (record s { start = start; arrived = a; ended = ended })) (sym moved)
-        (subst (λ x. Keeps (record s { start = x; arrived = advanced s.arrived (first_place_in x); ended = ended })) (sym n) (hears s u octets ended is k))
+        subst (λ a. Keeps (record s { start = start; arrived = a })) (sym moved)
+        (subst (λ x. Keeps (record s { start = x; arrived = advanced s.arrived (first_place_in x) })) (sym n) (hears s u octets is k))
 
 -- ---- what is kept of a start-up
 pub fresh_octets : (frames : Option StartupState) (was : Bool) (layout : Layout) (u : StartupState) → frames ≡ Some u → awaits_frame (start_by frames was layout) ≡ true → IsFresh (start_by frames was layout) → u.octets ≡ []

@@ -9,6 +9,8 @@ use Rattle.iw_octets.specs.declared.head.TaggedHead.{TaggedHead}
 use Rattle.iw_octets.specs.declared.segment.Segment.{Segment}
 use Rattle.iw_octets.specs.declared.segment.Segment.TheVariants.{Tagged, Untagged}
 use Rattle.iw_octets.specs.declared.payload.ReadRequest.{ReadRequest}
+use Rattle.iw_octets.specs.declared.stag.Stag.{Stag}
+use Rattle.iw_octets.specs.Operation.{opcode_of, untagged_operation}
 use Rattle.iw_memory.specs.declared.refusal.Deny.{Deny}
 use Rattle.iw_memory.specs.declared.refusal.Deny.TheVariants as denials
 use Rattle.iw_memory.specs.declared.rights.Right.TheVariants as rights
@@ -30,7 +32,7 @@ use Rattle.iw_reads.specs.Outstanding.{response_turn_fault, reads_turned, finish
 use Rattle.iw_reads.specs.Source.{IsInRange, denial_fault, source_fault}
 use Rattle.iw_untagged.specs.Receiving.{Receiving, turn_fault}
 use Rattle.iw_stream.specs.declared.judging.Turning.TheVariants as turnings
-use Rattle.iw_stream.specs.Judging.{fault_or, turning_by, answering_by, is_response, segment_turn, left_by_turn}
+use Rattle.iw_stream.specs.Judging.{or_else, fault_or, answering_by, is_response, is_solicited, stag_to_invalidate, send_turning, invalidation_fault, segment_turn, left_by_turn}
 use Rattle.iw_stream.specs.Kept.{AreOthers, AreAwaited}
 use Rattle.iw_stream.specs.Stream.{reads_with}
 
@@ -160,15 +162,16 @@ by_answering None None ticket e = absurd (let no : ⊥ = cc in no)
 by_answering None (Some other) ticket e = cc
 by_answering (Some fault) o ticket e = absurd (let no : ⊥ = cc in no)
 
-no_answer : (fault : Option Fault) (last : Bool) (ticket : ℕ) → fault_or fault (turning_by last) ≡ Ok (turnings.Answered ticket) → ⊥
-no_answer None true ticket e = cc
-no_answer None false ticket e = cc
-no_answer (Some fault) last ticket e = cc
+no_answer : (fault : Option Fault) (last solicited : Bool) (invalidate : Option Stag) (ticket : ℕ) → fault_or fault (if last then turnings.Completed solicited invalidate else turnings.Passed) ≡ Ok (turnings.Answered ticket) → ⊥
+no_answer None true solicited invalidate ticket e = cc
+no_answer None false solicited invalidate ticket e = cc
+no_answer (Some fault) last solicited invalidate ticket e = cc
 
-is_answer : (r : Receiving) (reads : List Outstanding) (n : ℕ) (o : Option (Segment (List ℕ))) (ticket : ℕ) → segment_turn r reads n o ≡ Ok (turnings.Answered ticket) → IsAnswer reads n o ticket
-is_answer r reads n None ticket e = absurd (let no : ⊥ = cc in no)
-is_answer r reads n (Some (Untagged head payload)) ticket e = absurd (no_answer (turn_fault r head.msn head.mo) head.last ticket e)
-is_answer r reads n (Some (Tagged head payload)) ticket e = go (is_response head) refl e
+is_answer : (table : Table) (domain : ℕ) (r : Receiving) (reads : List Outstanding) (n : ℕ) (o : Option (Segment (List ℕ))) (ticket : ℕ) → segment_turn table domain r reads n o ≡ Ok (turnings.Answered ticket) → IsAnswer reads n o ticket
+is_answer table domain r reads n None ticket e = absurd (let no : ⊥ = cc in no)
+is_answer table domain r reads n (Some (Untagged head payload)) ticket e =
+    absurd (no_answer (or_else (turn_fault r head.msn head.mo) (invalidation_fault table domain (send_turning head))) head.last (is_solicited (untagged_operation (opcode_of head.control))) (stag_to_invalidate head) ticket e)
+is_answer table domain r reads n (Some (Tagged head payload)) ticket e = go (is_response head) refl e
   where
     go : (b : Bool) → is_response head ≡ b → (if b then fault_or (response_turn_fault reads head n) (answering_by (finished_read reads head)) else Ok turnings.Passed) ≡ Ok (turnings.Answered ticket)
         → IsAnswer reads n (Some (Tagged head payload)) ticket
@@ -179,14 +182,14 @@ is_answer r reads n (Some (Tagged head payload)) ticket e = go (is_response head
     }
     go false is h = absurd (let no : ⊥ = cc in no)
 
-pub awaits_answered : (c : completions.Outstanding) (r : Receiving) (reads : List Outstanding) (n : ℕ) (o : Option (Segment (List ℕ))) (ticket : ℕ) → AreAwaited c reads
-    → segment_turn r reads n o ≡ Ok (turnings.Answered ticket) → IsAwaited c ticket
-awaits_answered c r reads n o ticket a e = let is = is_answer r reads n o ticket e in awaits_oldest c reads is.head ticket a is.finished
+pub awaits_answered : (c : completions.Outstanding) (table : Table) (domain : ℕ) (r : Receiving) (reads : List Outstanding) (n : ℕ) (o : Option (Segment (List ℕ))) (ticket : ℕ) → AreAwaited c reads
+    → segment_turn table domain r reads n o ≡ Ok (turnings.Answered ticket) → IsAwaited c ticket
+awaits_answered c table domain r reads n o ticket a e = let is = is_answer table domain r reads n o ticket e in awaits_oldest c reads is.head ticket a is.finished
 
-pub awaited_answered : (c : completions.Outstanding) (r : Receiving) (reads : List Outstanding) (n : ℕ) (o : Option (Segment (List ℕ))) (ticket : ℕ) → c.first < 2 ^ 64 → AreAwaited c reads
-    → segment_turn r reads n o ≡ Ok (turnings.Answered ticket) → AreAwaited (completions.finished c ticket) (left_by_turn reads n o)
-awaited_answered c r reads n o ticket first a e =
-    let is = is_answer r reads n o ticket e in
+pub awaited_answered : (c : completions.Outstanding) (table : Table) (domain : ℕ) (r : Receiving) (reads : List Outstanding) (n : ℕ) (o : Option (Segment (List ℕ))) (ticket : ℕ) → c.first < 2 ^ 64 → AreAwaited c reads
+    → segment_turn table domain r reads n o ≡ Ok (turnings.Answered ticket) → AreAwaited (completions.finished c ticket) (left_by_turn reads n o)
+awaited_answered c table domain r reads n o ticket first a e =
+    let is = is_answer table domain r reads n o ticket e in
     subst (AreAwaited (completions.finished c ticket)) (sym is.left) (awaited_finished c reads is.head n ticket first a is.finished)
 
 -- ---- the source of a request

@@ -1,32 +1,36 @@
 -- Which task is next, and what follows for a call to work.
 use Rattle.std.proofs.Common.{◌≡◌, ℕ, Bool, true, false, cond, List, Option, Some, None, refl, ap, ◌∙◌}
-use Rattle.std.specs.Prelude.{not, is_some}
+use Rattle.std.specs.Prelude.{not, is_some, slice_get}
 use Rattle.std.specs.Option.{option_map_or}
 use Rattle.std.proofs.lemmas.Bool.{false≢true}
 use Rattle.iw_memory.specs.Table.{Table}
 use Rattle.iw_queues.specs.declared.completions.Done.{Done}
-use Rattle.iw_queues.specs.Queue.{done_in}
+use Rattle.iw_queues.specs.Queue.{done_in, oldest_in}
 use Rattle.iw_stream.specs.declared.answer.Step.{Step}
 use Rattle.iw_stream.specs.declared.judging.PlacedFrame.{PlacedFrame}
 use Rattle.iw_stream.specs.Frames.{Frame}
 use Rattle.iw_stream.specs.Starting.{is_open, awaits_frame}
-use Rattle.iw_stream.specs.Stream.{StreamState}
-use Rattle.iw_stream.specs.Work.{Task, HandOut, Hear, Turn, Judge, Rest, task, next_frame, step_of, left_by, table_left, work_step, worked, table_worked}
+use Rattle.iw_stream.specs.Stream.{StreamState, ended}
+use Rattle.iw_stream.specs.Work.{Task, HandOut, GiveUp, GiveBack, Hear, Turn, Judge, Rest, task, handing_back, next_frame, step_of, left_by, table_left, work_step, worked, table_worked}
 
 -- a stream that runs, at which no message is finished
-runs : (s : StreamState) → done_in s.queue ≡ None → s.ended ≡ false
+runs : (s : StreamState) → done_in s.queue ≡ None → ended s ≡ false
     → task s ≡ cond (awaits_frame s.start) Hear (cond (not (is_open s.start)) Rest (option_map_or Turn s.front (option_map_or Judge (next_frame s) Rest)))
-runs s none running = (λ i. option_map_or HandOut (none i) (cond (running i) Rest (cond (awaits_frame s.start) Hear (cond (not (is_open s.start)) Rest (option_map_or Turn s.front (option_map_or Judge (next_frame s) Rest))))))
+runs s none running = (λ i. option_map_or HandOut (none i) (cond (running i) (handing_back s) (cond (awaits_frame s.start) Hear (cond (not (is_open s.start)) Rest (option_map_or Turn s.front (option_map_or Judge (next_frame s) Rest))))))
 
-pub task_hears : (s : StreamState) → done_in s.queue ≡ None → s.ended ≡ false → awaits_frame s.start ≡ true → task s ≡ Hear
+pub task_hands_back : (s : StreamState) → done_in s.queue ≡ None → ended s ≡ true → task s ≡ handing_back s
+task_hands_back s none over =
+    (λ i. option_map_or HandOut (none i) (cond (over i) (handing_back s) (cond (awaits_frame s.start) Hear (cond (not (is_open s.start)) Rest (option_map_or Turn s.front (option_map_or Judge (next_frame s) Rest))))))
+
+pub task_hears : (s : StreamState) → done_in s.queue ≡ None → ended s ≡ false → awaits_frame s.start ≡ true → task s ≡ Hear
 task_hears s none running awaits = runs s none running ∙ ap (λ b. cond b Hear (cond (not (is_open s.start)) Rest (option_map_or Turn s.front (option_map_or Judge (next_frame s) Rest)))) awaits
 
 -- it is open, and was heard
-pub task_frame : (s : StreamState) → done_in s.queue ≡ None → s.ended ≡ false → awaits_frame s.start ≡ false → is_open s.start ≡ true → task s ≡ option_map_or Turn s.front (option_map_or Judge (next_frame s) Rest)
+pub task_frame : (s : StreamState) → done_in s.queue ≡ None → ended s ≡ false → awaits_frame s.start ≡ false → is_open s.start ≡ true → task s ≡ option_map_or Turn s.front (option_map_or Judge (next_frame s) Rest)
 task_frame s none running heard started =
     runs s none running ∙ (λ i. cond (heard i) Hear (cond (not (started i)) Rest (option_map_or Turn s.front (option_map_or Judge (next_frame s) Rest))))
 
-pub task_turns : (s : StreamState) → done_in s.queue ≡ None → s.ended ≡ false → awaits_frame s.start ≡ false → is_open s.start ≡ true → is_some s.front ≡ true → task s ≡ option_map_or Turn s.front Rest
+pub task_turns : (s : StreamState) → done_in s.queue ≡ None → ended s ≡ false → awaits_frame s.start ≡ false → is_open s.start ≡ true → is_some s.front ≡ true → task s ≡ option_map_or Turn s.front Rest
 task_turns s none running heard started placed = task_frame s none running heard started ∙ go s.front placed
   where
     go : (o : Option PlacedFrame) → is_some o ≡ true → option_map_or Turn o (option_map_or Judge (next_frame s) Rest) ≡ option_map_or Turn o Rest
@@ -37,14 +41,14 @@ task_turns s none running heard started placed = task_frame s none running heard
 -- frames go both ways, and no message is finished
 pub record IsRunning (s : StreamState) : Type 0 where
   pub finished : done_in s.queue ≡ None
-  pub running : s.ended ≡ false
+  pub running : ended s ≡ false
   pub heard : awaits_frame s.start ≡ false
   pub started : is_open s.start ≡ true
 
 -- why there is nothing to do
 pub data IsResting (s : StreamState) : Type 0 where
-  Ended : s.ended ≡ true → IsResting s
-  Unanswered : s.ended ≡ false → awaits_frame s.start ≡ false → is_open s.start ≡ false → IsResting s
+  Ended : ended s ≡ true → oldest_in s.queue ≡ None → slice_get s.receiving.buffers 0 ≡ None → IsResting s
+  Unanswered : ended s ≡ false → awaits_frame s.start ≡ false → is_open s.start ≡ false → IsResting s
   Without : IsRunning s → s.front ≡ None → next_frame s ≡ None → IsResting s
 
 abbrev pub OfTask : (Step (List ℕ) → StreamState → Table → Type 0) → Table → StreamState → Task → Type 0
@@ -53,12 +57,14 @@ OfTask P table s t = P (step_of table s t) (left_by table s t) (table_left table
 -- what is so of each task's answer, and of what it leaves, is so of a call's
 pub by_task : (P : Step (List ℕ) → StreamState → Table → Type 0) (table : Table) (s : StreamState)
     → ((done : Done) → done_in s.queue ≡ Some done → OfTask P table s (HandOut done))
-    → (done_in s.queue ≡ None → s.ended ≡ false → awaits_frame s.start ≡ true → OfTask P table s Hear)
+    → ((done : Done) → done_in s.queue ≡ None → ended s ≡ true → oldest_in s.queue ≡ Some done → OfTask P table s (GiveUp done))
+    → ((buffer : List ℕ) → done_in s.queue ≡ None → ended s ≡ true → oldest_in s.queue ≡ None → slice_get s.receiving.buffers 0 ≡ Some buffer → OfTask P table s (GiveBack buffer))
+    → (done_in s.queue ≡ None → ended s ≡ false → awaits_frame s.start ≡ true → OfTask P table s Hear)
     → ((frame : PlacedFrame) → IsRunning s → s.front ≡ Some frame → OfTask P table s (Turn frame))
     → ((frame : Frame) → IsRunning s → s.front ≡ None → next_frame s ≡ Some frame → OfTask P table s (Judge frame))
     → (done_in s.queue ≡ None → IsResting s → OfTask P table s Rest)
     → P (work_step table s) (worked table s) (table_worked table s)
-by_task P table s hands hears turns judges rests = go (done_in s.queue) refl
+by_task P table s hands gives returns hears turns judges rests = go (done_in s.queue) refl
   where
     frame : IsRunning s → s.front ≡ None → (o : Option Frame) → next_frame s ≡ o → OfTask P table s (option_map_or Judge o Rest)
     frame r none None e = rests r.finished (Without r none e)
@@ -68,14 +74,22 @@ by_task P table s hands hears turns judges rests = go (done_in s.queue) refl
     front r None e = frame r e (next_frame s) refl
     front r (Some f) e = turns f r e
 
-    on : (ended awaits started : Bool) → done_in s.queue ≡ None → s.ended ≡ ended → awaits_frame s.start ≡ awaits → is_open s.start ≡ started
-        → OfTask P table s (cond ended Rest (cond awaits Hear (cond (not started) Rest (option_map_or Turn s.front (option_map_or Judge (next_frame s) Rest)))))
-    on true awaits started none e a o = rests none (Ended e)
+    given_back : done_in s.queue ≡ None → ended s ≡ true → oldest_in s.queue ≡ None → (o : Option (List ℕ)) → slice_get s.receiving.buffers 0 ≡ o → OfTask P table s (option_map_or GiveBack o Rest)
+    given_back none e old None is = rests none (Ended e old is)
+    given_back none e old (Some buffer) is = returns buffer none e old is
+
+    given_up : done_in s.queue ≡ None → ended s ≡ true → (o : Option Done) → oldest_in s.queue ≡ o → OfTask P table s (option_map_or GiveUp o (option_map_or GiveBack (slice_get s.receiving.buffers 0) Rest))
+    given_up none e None is = given_back none e is (slice_get s.receiving.buffers 0) refl
+    given_up none e (Some done) is = gives done none e is
+
+    on : (over awaits started : Bool) → done_in s.queue ≡ None → ended s ≡ over → awaits_frame s.start ≡ awaits → is_open s.start ≡ started
+        → OfTask P table s (cond over (handing_back s) (cond awaits Hear (cond (not started) Rest (option_map_or Turn s.front (option_map_or Judge (next_frame s) Rest)))))
+    on true awaits started none e a o = given_up none e (oldest_in s.queue) refl
     on false true started none e a o = hears none e a
     on false false false none e a o = rests none (Unanswered e a o)
     on false false true none e a o = front (record { finished = none; running = e; heard = a; started = o }) s.front refl
 
     go : (done : Option Done) → done_in s.queue ≡ done
-        → OfTask P table s (option_map_or HandOut done (cond s.ended Rest (cond (awaits_frame s.start) Hear (cond (not (is_open s.start)) Rest (option_map_or Turn s.front (option_map_or Judge (next_frame s) Rest))))))
-    go None e = on s.ended (awaits_frame s.start) (is_open s.start) e refl refl refl
+        → OfTask P table s (option_map_or HandOut done (cond (ended s) (handing_back s) (cond (awaits_frame s.start) Hear (cond (not (is_open s.start)) Rest (option_map_or Turn s.front (option_map_or Judge (next_frame s) Rest))))))
+    go None e = on (ended s) (awaits_frame s.start) (is_open s.start) e refl refl refl
     go (Some done) e = hands done e

@@ -30,7 +30,7 @@ state_of {A} s = record {
   asked = s.asked;
   arrived = s.arrived.arrived;
   front = s.front;
-  ended = s.ended;
+  ending = s.ending;
 }
 
 abbrev pub IsSound : {A : Type 0} → stream.Inside A → Type 0

@@ -1,22 +1,29 @@
 -- How a frame is judged, and what its turn comes to.
-use Rattle.std.specs.Prelude.{◌≡◌, ℕ, ◌≤◌, ◌++◌, min, List, length, Bool, true, false, if◌then◌else◌, Option, Some, None, Result, Ok, Err}
-use Rattle.std.specs.Option.{option_map_or}
+use Rattle.std.specs.Prelude.{◌≡◌, ℕ, ◌/◌, ◌%◌, ◌≤◌, ◌++◌, min, List, length, Bool, true, false, if◌then◌else◌, Option, Some, None, Result, Ok, Err}
+use Rattle.std.specs.Option.{option_map, option_map_or}
 use Rattle.iw_octets.specs.declared.fault.Fault.{Fault}
 use Rattle.iw_octets.specs.declared.fault.TheConstants.Fault as faults
 use Rattle.iw_octets.specs.declared.head.TaggedHead.{TaggedHead}
+use Rattle.iw_octets.specs.declared.head.UntaggedHead.{UntaggedHead}
 use Rattle.iw_octets.specs.declared.operation.TaggedOperation.{TaggedOperation}
 use Rattle.iw_octets.specs.declared.operation.TaggedOperation.TheVariants as tagged
+use Rattle.iw_octets.specs.declared.operation.UntaggedOperation.{UntaggedOperation}
+use Rattle.iw_octets.specs.declared.operation.UntaggedOperation.TheVariants as untagged
+use Rattle.iw_octets.specs.declared.payload.TerminateWord.{TerminateWord}
 use Rattle.iw_octets.specs.declared.segment.Segment.{Segment}
 use Rattle.iw_octets.specs.declared.segment.Segment.TheVariants.{Tagged, Untagged}
-use Rattle.iw_octets.specs.Operation.{opcode_of, tagged_operation}
+use Rattle.iw_octets.specs.declared.stag.Stag.{Stag}
+use Rattle.iw_octets.specs.Operation.{opcode_of, tagged_operation, untagged_operation}
 use Rattle.iw_octets.specs.Segment.{read_segment}
+use Rattle.iw_memory.specs.declared.refusal.InvalidateDeny.{InvalidateDeny}
+use Rattle.iw_memory.specs.declared.refusal.InvalidateDeny.TheVariants.{NotAssociated, Invalid, NotAllowed}
 use Rattle.iw_memory.specs.declared.rights.Right.TheVariants as rights
-use Rattle.iw_memory.specs.Table.{Table, put}
+use Rattle.iw_memory.specs.Table.{Table, put, invalidate_denial, invalidated}
 use Rattle.iw_fpdu.specs.declared.fpdu.Mismatch.{Mismatch}
 use Rattle.iw_fpdu.specs.declared.fpdu.Mismatch.TheVariants.{CrcMismatch, MarkerMismatch}
 use Rattle.iw_rdmap.specs.declared.head.Head.{Head}
 use Rattle.iw_rdmap.specs.declared.head.Head.TheVariants as heads
-use Rattle.iw_rdmap.specs.Unbuilt.{judged_built}
+use Rattle.iw_rdmap.specs.Judging.{judged}
 use Rattle.iw_reads.specs.declared.reads.Outstanding.{Outstanding}
 use Rattle.iw_reads.specs.Outstanding.{sink_fault, response_turn_fault, reads_turned, finished_read}
 use Rattle.iw_reads.specs.Requests.{Requested}
@@ -26,7 +33,7 @@ use Rattle.iw_tagged.specs.Placing.{placing_fault}
 use Rattle.iw_untagged.specs.Receiving.{Receiving, buffer_fault, turn_fault, written}
 use Rattle.iw_untagged.specs.Receiving as receiving
 use Rattle.iw_stream.specs.declared.judging.Landing.{Landing}
-use Rattle.iw_stream.specs.declared.judging.Landing.TheVariants.{Write, Response, Send, Request}
+use Rattle.iw_stream.specs.declared.judging.Landing.TheVariants.{Write, Response, Send, Request, Terminate}
 use Rattle.iw_stream.specs.declared.judging.PlacedFrame.{PlacedFrame}
 use Rattle.iw_stream.specs.declared.judging.Turning.{Turning}
 use Rattle.iw_stream.specs.declared.judging.Turning.TheVariants.{Passed, Completed, Answered}
@@ -64,7 +71,7 @@ pub record IsFirst (ulpdu first : List ℕ) : Type 0 where
 
 -- what the header of a ULPDU says, or the first of its checks that fails
 abbrev pub judged_head : Standing → List ℕ → Result Head Fault
-judged_head at ulpdu = judged_built ulpdu (length ulpdu) at.asked.next (length at.asked.unanswered)
+judged_head at ulpdu = judged ulpdu (length ulpdu) at.asked.next (length at.asked.unanswered)
 
 -- n octets of a region, from the header's place on
 abbrev pub place_in : TaggedHead → ℕ → Placed
@@ -78,13 +85,17 @@ abbrev pub response_verdict : Table → ℕ → List Outstanding → TaggedHead 
 response_verdict table domain reads head n =
     fault_or (or_else (sink_fault reads head n) (placing_fault table domain head n rights.Sink)) (Response (place_in head n))
 
+-- the fault that the peer's Terminate tells (RFC 5040 4.8)
+abbrev pub fault_told : TerminateWord → Fault
+fault_told word = record { layer = word.layer; kind = word.kind; code = word.code }
+
 -- where a segment with this header goes, or the first check of its sink, region, buffer or source that fails
 abbrev pub place_verdict : Standing → Head → ℕ → Result Landing Fault
 place_verdict at (heads.Write head) n = write_verdict at.table at.domain head n
 place_verdict at (heads.Response head) n = response_verdict at.table at.domain at.reads head n
 place_verdict at (heads.Send head) n = fault_or (buffer_fault at.receiving head.msn head.mo n) (Send head.msn head.mo n)
 place_verdict at (heads.Request head request) n = fault_or (source_fault at.table at.domain request) (Request request)
-place_verdict at (heads.Terminate head word) n = Err faults.OPERATION_UNEXPECTED  -- no header is judged to be one's yet
+place_verdict at (heads.Terminate head word) n = Ok (Terminate (fault_told word))
 
 abbrev pub head_verdict : Standing → Result Head Fault → ℕ → Result Landing Fault
 head_verdict at (Err fault) n = Err fault
@@ -98,24 +109,70 @@ segment_verdict at ulpdu = head_verdict at (judged_head at ulpdu) (length (paylo
 abbrev pub verdict : Standing → Frame → Result Landing Fault
 verdict at frame = option_map_or (λ m. Err (mismatch_fault m)) frame.mismatch (segment_verdict at frame.ulpdu)
 
+-- of a Write's frame: where its payload was placed, or the first check that failed
+abbrev pub as_write : Result Placed Fault → Result Landing Fault
+as_write (Ok at) = Ok (Write at)
+as_write (Err fault) = Err fault
+
 -- what the placement leaves of the regions, and of the receive buffers
 abbrev pub table_landed : Table → List ℕ → Landing → Table
 table_landed table payload (Write at) = put table at.stag at.to payload
 table_landed table payload (Response at) = put table at.stag at.to payload
 table_landed table payload (Send msn mo len) = table
 table_landed table payload (Request request) = table
+table_landed table payload (Terminate fault) = table
 
 abbrev pub receiving_landed : Receiving → List ℕ → Landing → Receiving
 receiving_landed r payload (Write at) = r
 receiving_landed r payload (Response at) = r
 receiving_landed r payload (Send msn mo len) = written r msn mo payload
 receiving_landed r payload (Request request) = r
+receiving_landed r payload (Terminate fault) = r
 
 -- ---- its turn
 
-abbrev pub turning_by : Bool → Turning
-turning_by true = Completed
-turning_by false = Passed
+-- what a Send does to its receiver beside the message, by its opcode (RFC 5040 4.3): it is solicited, and it has an STag to invalidate
+abbrev pub is_solicited : Option UntaggedOperation → Bool
+is_solicited None = false
+is_solicited (Some untagged.ReadRequest) = false
+is_solicited (Some (untagged.Send solicited invalidates)) = solicited
+is_solicited (Some untagged.Terminate) = false
+
+abbrev pub has_stag : Option UntaggedOperation → Bool
+has_stag None = false
+has_stag (Some untagged.ReadRequest) = false
+has_stag (Some (untagged.Send solicited invalidates)) = invalidates
+has_stag (Some untagged.Terminate) = false
+
+-- the STag that a number of 32 bits is
+abbrev pub stag_of : ℕ → Stag
+stag_of number = record { domain = number / 0x1000000; slot = number / 0x100 % 0x10000; key = number % 0x100 }
+
+abbrev pub stag_to_invalidate : UntaggedHead → Option Stag
+stag_to_invalidate head = if has_stag (untagged_operation (opcode_of head.control)) then Some (stag_of head.tail) else None
+
+-- a Send is complete with its last segment, whose opcode and STag count
+abbrev pub send_turning : UntaggedHead → Turning
+send_turning head =
+    if head.last then Completed (is_solicited (untagged_operation (opcode_of head.control))) (stag_to_invalidate head) else Passed
+
+-- what a denial is reported as (RFC 5040 4.8)
+abbrev pub invalidate_fault : InvalidateDeny → Fault
+invalidate_fault NotAssociated = faults.PROTECTION_NOT_ASSOCIATED
+invalidate_fault Invalid = faults.PROTECTION_INVALID_STAG
+invalidate_fault NotAllowed = faults.PROTECTION_CANNOT_INVALIDATE
+
+-- the first check that fails of the region which a Send's last segment has to invalidate (RFC 5040 5.3)
+abbrev pub invalidation_fault : Table → ℕ → Turning → Option Fault
+invalidation_fault table domain Passed = None
+invalidation_fault table domain (Completed solicited None) = None
+invalidation_fault table domain (Completed solicited (Some stag)) = option_map invalidate_fault (invalidate_denial table domain stag)
+invalidation_fault table domain (Answered ticket) = None
+
+-- a Send's segment is the next one of the message that is due, and the region that it has to invalidate may go
+abbrev pub send_turn : Table → ℕ → Receiving → UntaggedHead → Result Turning Fault
+send_turn table domain r head =
+    fault_or (or_else (turn_fault r head.msn head.mo) (invalidation_fault table domain (send_turning head))) (send_turning head)
 
 abbrev pub answering_by : Option ℕ → Turning
 answering_by None = Passed
@@ -136,13 +193,20 @@ tagged_turn reads head n =
 
 -- what the turn of a segment with n octets of payload comes to, by the checks of a turn alone: no check of a frame, a header or a region is
 -- made again
-abbrev pub segment_turn : Receiving → List Outstanding → ℕ → Option (Segment (List ℕ)) → Result Turning Fault
-segment_turn r reads n None = Err faults.SEGMENT_SHORT
-segment_turn r reads n (Some (Tagged head payload)) = tagged_turn reads head n
-segment_turn r reads n (Some (Untagged head payload)) = fault_or (turn_fault r head.msn head.mo) (turning_by head.last)
+abbrev pub segment_turn : Table → ℕ → Receiving → List Outstanding → ℕ → Option (Segment (List ℕ)) → Result Turning Fault
+segment_turn table domain r reads n None = Err faults.SEGMENT_SHORT
+segment_turn table domain r reads n (Some (Tagged head payload)) = tagged_turn reads head n
+segment_turn table domain r reads n (Some (Untagged head payload)) = send_turn table domain r head
 
 abbrev pub turn_of : Standing → PlacedFrame → Result Turning Fault
-turn_of at frame = segment_turn at.receiving at.reads (payload_len frame) (head_in frame)
+turn_of at frame = segment_turn at.table at.domain at.receiving at.reads (payload_len frame) (head_in frame)
+
+-- what a turn leaves of the regions: that of a Send which is complete and invalidates goes out of use
+abbrev pub table_turned : Table → Turning → Table
+table_turned table Passed = table
+table_turned table (Completed solicited None) = table
+table_turned table (Completed solicited (Some stag)) = invalidated table stag
+table_turned table (Answered ticket) = table
 
 -- what it leaves of the message that is due, where that is not complete
 abbrev pub turned_by : Receiving → ℕ → Option (Segment (List ℕ)) → Receiving

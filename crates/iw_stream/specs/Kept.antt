@@ -10,15 +10,19 @@ use Rattle.iw_untagged.specs.Receiving.{Receiving, HoldsLimits, ahead_of, buffer
 use Rattle.iw_queues.specs.Completions as completions
 use Rattle.iw_queues.specs.Completions.{IsAwaited}
 use Rattle.iw_queues.specs.Queue as queues
+use Rattle.iw_rdmap.specs.Terminate.{header_len}
 use Rattle.iw_reads.specs.declared.reads.Outstanding.{Outstanding}
 use Rattle.iw_reads.specs.Outstanding as outstanding
 use Rattle.iw_reads.specs.Requests as requests
 use Rattle.iw_stream.specs.declared.answer.Step.{Step}
-use Rattle.iw_stream.specs.declared.answer.Step.TheVariants.{Done, Asked, Opened, Closed, Placed, Buffered, Requested, Passed, Received, Fault, Idle}
+use Rattle.iw_stream.specs.declared.answer.Step.TheVariants.{Done, Flushed, FlushedRecv, Asked, Opened, Closed, Placed, Buffered, Requested, Passed, Received, Terminated, Fault, Idle}
 use Rattle.iw_stream.specs.declared.judging.PlacedFrame.{PlacedFrame}
+use Rattle.iw_stream.specs.declared.judging.Turning.{Turning}
+use Rattle.iw_stream.specs.declared.judging.Turning.TheVariants as turnings
+use Rattle.iw_stream.specs.Ending.{last_word}
 use Rattle.iw_stream.specs.Frames.{head_in, payload_len}
 use Rattle.iw_stream.specs.Starting.{is_open, expecting, first_place_in, first_place_out}
-use Rattle.iw_stream.specs.Stream.{StreamState, owes_frame}
+use Rattle.iw_stream.specs.Stream.{StreamState, ended}
 use Rattle.iw_stream.specs.Work.{place_behind}
 
 -- a Send's segment of n octets that was placed has its buffer, with room for it
@@ -27,9 +31,16 @@ HasBuffer r n None = ⊥
 HasBuffer r n (Some (Tagged head payload)) = Unit {0}
 HasBuffer r n (Some (Untagged head payload)) = (ahead_of r.due head.msn < length r.buffers) × (head.mo + n ≤ length (buffer_of r head.msn))
 
+-- a Send that is complete has its buffer
+abbrev pub IsPosted : Turning → Receiving → Type 0
+IsPosted turnings.Passed r = Unit {0}
+IsPosted (turnings.Completed solicited invalidate) r = 0 < length r.buffers
+IsPosted (turnings.Answered ticket) r = Unit {0}
+
 -- the frame at the in-order point: it came whole, and the next one begins where it ends
 pub record Stands (s : StreamState) (frame : PlacedFrame) : Type 0 where
   pub low : frame.start ≤ s.arrived.floor + 4
+  pub whole : header_len frame.header.items ≤ length frame.header.items
   pub header : length frame.header.items ≤ frame.len
   pub on : s.arrived.floor < place_behind s frame
   pub near : place_behind s frame ≤ s.arrived.floor + 2 ^ 18
@@ -43,11 +54,11 @@ pub record IsPlaced (s : StreamState) (frame : PlacedFrame) : Type 0 where
 
 -- how far the start-up has come
 pub record IsStarted (s : StreamState) : Type 0 where
-  -- before the stream is open no frame had its turn, or was placed
-  pub unopened : is_open s.start ≡ false → (s.arrived.floor ≡ first_place_in s.start) × (s.front ≡ None)
-  -- this end's start-up frame is the first that it emits, and the only one before the stream is open
-  pub unsent : owes_frame s ≡ true → s.sent ≡ 0
-  pub alone : is_open s.start ≡ false → owes_frame s ≡ false → s.sent ≡ first_place_out s.start
+  -- before the stream is open no frame had its turn, or was placed, and no Terminate is due
+  pub unopened : is_open s.start ≡ false → (s.arrived.floor ≡ first_place_in s.start) × (s.front ≡ None) × (last_word s.ending ≡ None)
+  -- this end's start-up frame is the first that it emits, whole, and the only one before the stream is open
+  pub unsent : s.sent < first_place_out s.start → s.sent ≡ 0
+  pub alone : is_open s.start ≡ false → s.sent ≤ first_place_out s.start
   -- the peer's frames stand behind its start-up frame
   pub behind : first_place_in s.start ≤ s.arrived.floor
 
@@ -65,12 +76,12 @@ pub record Keeps (s : StreamState) : Type 0 where
   pub started : IsStarted s
   pub between : IsBetween (expecting s.start).markers (s.arrived.floor - first_place_in s.start)
   pub held : IsHeld s.arrived
-  pub aligned : owes_frame s ≡ false → (s.sent - first_place_out s.start) % 4 ≡ 0
+  pub aligned : (s.sent - first_place_out s.start) % 4 ≡ 0
   pub enough : 128 ≤ s.mulpdu
   pub few : s.mulpdu ≤ 64512
-  pub is_placed : IfSome s.front (IsPlaced s)
+  pub is_placed : ended s ≡ false → IfSome s.front (IsPlaced s)
   pub first : s.queue.sent.first < 2 ^ 64
-  pub awaited : AreAwaited s.queue.sent s.reads
+  pub awaited : ended s ≡ false → AreAwaited s.queue.sent s.reads
 
 -- at most 1,024 islands and 262,144 octets behind the in-order point, 256 messages of 16,777,216 octets, 256 receive buffers, 16 outstanding
 -- Reads each way, a maximum ULPDU of 128 to 64,512 octets
@@ -87,6 +98,8 @@ pub record IsWithin (s : StreamState) : Type 0 where
 abbrev pub IsWithinBuffer : Step (List ℕ) → Type 0
 IsWithinBuffer (Received buffer len solicited invalidate) = len ≤ length buffer
 IsWithinBuffer (Done kind) = Unit {0}
+IsWithinBuffer (Flushed kind) = Unit {0}
+IsWithinBuffer (FlushedRecv buffer) = Unit {0}
 IsWithinBuffer Asked = Unit {0}
 IsWithinBuffer (Opened agreed) = Unit {0}
 IsWithinBuffer (Closed fault) = Unit {0}
@@ -94,5 +107,6 @@ IsWithinBuffer (Placed right stag to len) = Unit {0}
 IsWithinBuffer (Buffered msn mo len) = Unit {0}
 IsWithinBuffer (Requested size stag to) = Unit {0}
 IsWithinBuffer Passed = Unit {0}
+IsWithinBuffer (Terminated fault) = Unit {0}
 IsWithinBuffer (Fault fault) = Unit {0}
 IsWithinBuffer Idle = Unit {0}

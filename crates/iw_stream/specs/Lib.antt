@@ -1,6 +1,8 @@
+pub mod Ending
 pub mod Starting
 pub mod Frames
 pub mod Judging
+pub mod Terminating
 pub mod Stream
 pub mod Work
 pub mod Kept

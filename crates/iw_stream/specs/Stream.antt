@@ -3,7 +3,7 @@ use Rattle.std.specs.Prelude.{ℕ, ◌+◌, ◌-◌, ◌==◌, nat_lt, nat_le, B
 use Rattle.std.specs.Option.{option_map, option_map_or}
 use Rattle.iw_octets.specs.declared.fault.Fault.{Fault}
 use Rattle.iw_octets.specs.declared.segment.Segment.{Segment}
-use Rattle.iw_octets.specs.declared.segment.Segment.TheVariants.{Tagged}
+use Rattle.iw_octets.specs.declared.segment.Segment.TheVariants.{Tagged, Untagged}
 use Rattle.iw_octets.specs.Segment.{segment_octets}
 use Rattle.iw_memory.specs.Table.{Table}
 use Rattle.iw_ranges.specs.declared.Delivery.{Delivery}
@@ -22,6 +22,7 @@ use Rattle.iw_queues.specs.declared.send_queue.Part.{Part}
 use Rattle.iw_queues.specs.Queue.{Queue, nothing_posted, posted, next_part, part_sent}
 use Rattle.iw_queues.specs.Queue as queues
 use Rattle.iw_queues.specs.Segments.{Numbers, first_numbers, segment_of, numbers_behind}
+use Rattle.iw_rdmap.specs.Laws.{terminate_head}
 use Rattle.iw_reads.specs.declared.reads.Outstanding.{Outstanding}
 use Rattle.iw_reads.specs.declared.response.ResponsePart.{ResponsePart}
 use Rattle.iw_reads.specs.Outstanding.{most_reads, asked_for}
@@ -40,7 +41,11 @@ use Rattle.iw_stream.specs.declared.answer.RecvRefusal.TheVariants as recv_refus
 use Rattle.iw_stream.specs.declared.answer.SizeRefusal.{SizeRefusal}
 use Rattle.iw_stream.specs.declared.answer.SizeRefusal.TheVariants.{BadSize}
 use Rattle.iw_stream.specs.declared.judging.PlacedFrame.{PlacedFrame}
+use Rattle.iw_stream.specs.declared.ending.Ending.{Ending}
+use Rattle.iw_stream.specs.declared.ending.Ending.TheVariants.{Runs, Over, Broken}
+use Rattle.iw_stream.specs.Ending.{has_ended, is_broken, last_word, with_last_word}
 use Rattle.iw_stream.specs.Judging.{fault_or}
+use Rattle.iw_stream.specs.Terminating.{terminate_fetched}
 use Rattle.iw_stream.specs.Starting.{StartState, start_at_first, is_open, sending, own_frame, first_place_in, first_place_out, is_responder, is_asked, answered_with}
 
 pub record StreamState : Type 0 where
@@ -55,7 +60,7 @@ pub record StreamState : Type 0 where
   pub asked : Requested  -- the peer's Read Requests
   pub arrived : Arrived  -- what came, from the in-order point on
   pub front : Option PlacedFrame  -- the frame at the in-order point, once it was placed
-  pub ended : Bool
+  pub ending : Ending
 
 -- a stream of a domain to which nothing has happened
 abbrev pub opened : ℕ → Role → Config → StreamState
@@ -71,35 +76,58 @@ opened domain role config = record {
   asked = nothing_asked;
   arrived = nothing;
   front = None;
-  ended = false;
+  ending = Runs;
 }
+
+-- ---- the end
+
+abbrev pub ended : StreamState → Bool
+ended s = has_ended s.ending
+
+-- a responder sends no frame before a frame of the peer had its turn (RFC 5044 7.1.2): the in-order point lies where those begin
+abbrev pub is_silent : StartState → Arrived → Bool
+is_silent start arrived = is_responder start && (arrived.floor == first_place_in start)
+
+abbrev pub keeps_silent : StreamState → Bool
+keeps_silent s = is_silent s.start s.arrived
+
+-- it has ended, and no Terminate is due
+abbrev pub ends : StreamState → StreamState
+ends s = record s { ending = Over None }
+
+-- the end by a fault: a Terminate with this payload is due (RFC 5040 5.4), but of a responder that keeps silent
+abbrev pub over : StartState → Arrived → List ℕ → Ending
+over start arrived payload = if is_silent start arrived then Over None else with_last_word payload
+
+abbrev pub ends_by : StreamState → List ℕ → StreamState
+ends_by s payload = record s { ending = over s.start s.arrived payload }
+
+-- its link broke
+abbrev pub breaks : StreamState → StreamState
+breaks s = record s { ending = Broken }
 
 -- ---- a responder's answer
 
 -- the user may answer the Request
 abbrev pub may_answer : StreamState → Bool
-may_answer s = not s.ended && is_asked s.start
+may_answer s = not (ended s) && is_asked s.start
 
 abbrev pub accepted : StreamState → ArrayVec ℕ → StreamState
 accepted s private = record s { start = answered_with s.start (Accept private) }
 
 -- the stream has ended; the Reply is still to be emitted
 abbrev pub rejected : StreamState → ArrayVec ℕ → StreamState
-rejected s private = record s { start = answered_with s.start (Reject private); ended = true }
+rejected s private = record s { start = answered_with s.start (Reject private); ending = Over None }
 
 -- ---- emission
 
 -- this end's start-up frame is to be emitted
 abbrev pub owes_frame : StreamState → Bool
-owes_frame s = nat_lt s.sent (first_place_out s.start)
-
--- a responder sends no frame before a frame of the peer had its turn (RFC 5044 7.1.2): the in-order point lies where those begin
-abbrev pub keeps_silent : StreamState → Bool
-keeps_silent s = is_responder s.start && (s.arrived.floor == first_place_in s.start)
+owes_frame s = not (is_broken s.ending) && nat_lt s.sent (first_place_out s.start)
 
 -- no frame may be sent: the stream has ended or is not open, or a responder keeps silent
 abbrev pub is_mute : StreamState → Bool
-is_mute s = s.ended || (not (is_open s.start) || keeps_silent s)
+is_mute s = ended s || (not (is_open s.start) || keeps_silent s)
 
 abbrev pub is_read : Request (List ℕ) → Bool
 is_read (requests.Message m) = false
@@ -122,6 +150,7 @@ response_due s = if nat_lt 0 s.queue.offset then None else response_part s.asked
 -- what is to be emitted next
 pub data Due : Type 0 where
   StartUp : Due  -- this end's start-up frame
+  LastWord : List ℕ → Due  -- the Terminate with this payload
   Response : ResponsePart → Due  -- the frame of a part of a response, if its source is not denied
   NextPart : Part (Request (List ℕ)) → Due  -- the frame of a part of what was posted
   NoneDue : Due
@@ -129,12 +158,17 @@ pub data Due : Type 0 where
 abbrev pub due : StreamState → Due
 due s =
     if owes_frame s then StartUp
-    else if is_mute s then NoneDue
-    else option_map_or Response (response_due s) (option_map_or NextPart (part_due s) NoneDue)
+    else option_map_or LastWord (last_word s.ending)
+    (if is_mute s then NoneDue
+    else option_map_or Response (response_due s) (option_map_or NextPart (part_due s) NoneDue))
 
 -- the frame that carries a segment, at the place that is next
 abbrev pub frame_of : StreamState → Segment (List ℕ) → List ℕ
 frame_of s segment = frame_octets (sending s.start) (s.sent - first_place_out s.start) (segment_octets segment)
+
+-- a Terminate: its queue's first message, in one segment (RFC 5040 5.4)
+abbrev pub frame_of_terminate : StreamState → List ℕ → List ℕ
+frame_of_terminate s payload = frame_of s (Untagged terminate_head payload)
 
 abbrev pub frame_of_part : StreamState → Part (Request (List ℕ)) → List ℕ
 frame_of_part s part = frame_of s (segment_of s.numbers part)
@@ -150,6 +184,7 @@ octets_fetched (Err fault) = []
 
 abbrev pub octets_due : Table → StreamState → Due → List ℕ
 octets_due table s StartUp = own_frame s.start
+octets_due table s (LastWord payload) = frame_of_terminate s payload
 octets_due table s (Response part) = octets_fetched (frame_fetched table s part)
 octets_due table s (NextPart part) = frame_of_part s part
 octets_due table s NoneDue = []
@@ -160,6 +195,7 @@ emission_fetched s part (Err fault) = emissions.Fault fault
 
 abbrev pub emission_due : Table → StreamState → Due → Emission
 emission_due table s StartUp = emissions.Frame s.sent (length (own_frame s.start))
+emission_due table s (LastWord payload) = emissions.Frame s.sent (length (frame_of_terminate s payload))
 emission_due table s (Response part) = emission_fetched s part (frame_fetched table s part)
 emission_due table s (NextPart part) = emissions.Frame s.sent (length (frame_of_part s part))
 emission_due table s NoneDue = emissions.Nothing
@@ -171,10 +207,11 @@ reads_with reads ticket (requests.Read request) = asked_for reads ticket request
 
 abbrev pub left_fetched : StreamState → ResponsePart → Result (List ℕ) Fault → StreamState
 left_fetched s part (Ok frame) = record s { asked = part_fetched s.asked (Some part); sent = s.sent + length frame }
-left_fetched s part (Err fault) = record s { ended = true }
+left_fetched s part (Err fault) = ends_by s (terminate_fetched s.asked fault)
 
 abbrev pub left_due : Table → StreamState → Due → StreamState
 left_due table s StartUp = record s { sent = s.sent + length (own_frame s.start) }
+left_due table s (LastWord payload) = record s { sent = s.sent + length (frame_of_terminate s payload); ending = Over None }
 left_due table s (Response part) = left_fetched s part (frame_fetched table s part)
 left_due table s (NextPart part) = record s {
   queue = part_sent s.queue (Some part);
@@ -198,7 +235,7 @@ after_emit table s = left_due table s (due s)
 
 -- what becomes of n octets that come from a place on
 abbrev pub delivery_of : StreamState → ℕ → ℕ → Delivery
-delivery_of s from n = if s.ended then Dropped else delivery s.arrived from n
+delivery_of s from n = if ended s then Dropped else delivery s.arrived from n
 
 -- of an octet that came before, the first copy stays
 abbrev pub after_deliver : StreamState → ℕ → List ℕ → Delivery → StreamState
@@ -215,7 +252,7 @@ post_refusal_of refusals.NoMemory = post_refusals.NoMemory
 -- why a posting is refused, if it is
 abbrev pub post_refusal : StreamState → Request (List ℕ) → Option PostRefusal
 post_refusal s request =
-    if s.ended || not (is_open s.start) then Some post_refusals.NotOpen else option_map post_refusal_of (queues.post_refusal s.queue request)
+    if ended s || not (is_open s.start) then Some post_refusals.NotOpen else option_map post_refusal_of (queues.post_refusal s.queue request)
 
 abbrev pub with_request : StreamState → Request (List ℕ) → StreamState
 with_request s request = record s { queue = posted s.queue request }
@@ -226,7 +263,7 @@ recv_refusal_of buffer_refusals.NoMemory = recv_refusals.NoMemory
 
 -- why a receive buffer is refused, if it is
 abbrev pub recv_refusal : StreamState → Option RecvRefusal
-recv_refusal s = if s.ended then Some recv_refusals.Ended else option_map recv_refusal_of (full_refusal s.receiving)
+recv_refusal s = if ended s then Some recv_refusals.Ended else option_map recv_refusal_of (full_refusal s.receiving)
 
 abbrev pub with_buffer : StreamState → List ℕ → StreamState
 with_buffer s buffer = record s { receiving = receiving.with_buffer s.receiving buffer }

@@ -3,6 +3,18 @@ use iw_octets::{Fault, Stag};
 use iw_queues::Kind;
 use iw_startup::{Agreed, StartupFault};
 
+/// Why a stream is not opened: the first reason that holds.
+#[derive(Clone, Copy, Debug, PartialEq, Eq)]
+pub enum OpenRefusal {
+    /// The number was opened before.
+    NumberTaken,
+    /// No stream has this number.
+    BadNumber,
+    /// The domain was not added.
+    NoDomain,
+    NoMemory,
+}
+
 /// Why a message or a Read is not posted: the first reason that holds, in the order `NotOpen`, `Full`, `TooLong`,
 /// `NoMemory`.
 #[derive(Clone, Copy, Debug, PartialEq, Eq)]
@@ -70,6 +82,10 @@ pub enum Role {
 pub enum Step<O> {
     /// The oldest posted message is finished.
     Done(Kind),
+    /// The stream has ended: the oldest posted message is given up.
+    Flushed(Kind),
+    /// The stream has ended: its oldest receive buffer is handed back, whole, with what was placed in it.
+    FlushedRecv(O),
     /// The peer's Request is complete: the stream's user is to accept or to reject it.
     Asked,
     /// The peer's Reply has accepted: the stream is open.
@@ -97,13 +113,16 @@ pub enum Step<O> {
     },
     /// A frame had its turn, and there is nothing more to say of it.
     Passed,
-    /// A Send is complete: its buffer, of which the first `len` octets are the message.
+    /// A Send is complete: its buffer, of which the first `len` octets are the message, whether it is solicited, and the
+    /// STag of the region that it has invalidated.
     Received {
         buffer: O,
         len: usize,
         solicited: bool,
         invalidate: Option<Stag>,
     },
+    /// The stream has ended by the peer's Terminate, which tells this fault.
+    Terminated(Fault),
     /// The stream has ended by this fault.
     Fault(Fault),
     /// There is nothing to do.

@@ -1,17 +1,18 @@
 ghost use Rattle.std.specs.Prelude.{◌≡◌, ◌+◌, ◌-◌, ◌<◌, ◌≤◌, ◌%◌, ◌^◌, ◌++◌, length, OnOk, OnErr};
-ghost use Rattle.iw_octets.specs.declared.segment.Segment.TheVariants.{Tagged};
+ghost use Rattle.iw_octets.specs.declared.segment.Segment.TheVariants.{Tagged, Untagged};
 ghost use Rattle.iw_octets.specs.Segment.{segment_octets};
 ghost use Rattle.iw_fpdu.specs.Frame.{frame_octets, max_sent};
 ghost use Rattle.iw_queues.specs.Request.{payload, header_len};
 ghost use Rattle.iw_queues.specs.Segments.{first_numbers, segment_of, numbers_behind};
 ghost use Rattle.iw_queues.specs.Shown.{shown_part};
+ghost use Rattle.iw_rdmap.specs.Laws.{terminate_head};
 ghost use Rattle.iw_stream.specs.Emitting.{numbers_of, write_head, send_head, request_head};
 
 use bytes::Bytes;
 use iw_fpdu::{Layout, WriteRefusal, write_fpdu};
 use iw_octets::{DDP_VERSION, Message, Stag, TaggedHead, UntaggedHead};
 use iw_queues::{Part, Request};
-use iw_rdmap::{TaggedOperation, UntaggedOperation};
+use iw_rdmap::{MAX_TERMINATE, TaggedOperation, UntaggedOperation};
 use std::alloc::{AllocError, Allocator};
 
 /// The message sequence numbers of the next Send and of the next Read: each queue counts its own (RFC 5041 4.3).
@@ -195,4 +196,39 @@ pub(crate) fn write_response<A: Allocator>(
 {
     let head = head.write();
     write_frame(layout, at, head.as_slice(), octets, out)
+}
+
+// The header of a Terminate: its queue's first message, in one segment (RFC 5040 5.4).
+fn terminate_head() -> UntaggedHead
+    ensures { result ≡ terminate_head }
+{
+    UntaggedHead {
+        last: true,
+        ddp_version: DDP_VERSION,
+        control: UntaggedOperation::Terminate.control(),
+        tail: 0,
+        queue: UntaggedOperation::Terminate.queue(),
+        msn: 1,
+        mo: 0,
+    }
+}
+
+/// Appends the frame of a Terminate with this payload, to stand at frame place `at`.
+///
+/// An `Err` leaves `out` as it was.
+#[tactic(auto, unfolding(iw_octets::specs::Segment::segment_octets))]
+pub(crate) fn write_terminate<A: Allocator>(
+    layout: Layout,
+    at: u64,
+    payload: &[u8],
+    out: &mut Vec<u8, A>,
+) -> Result<(), AllocError>
+    requires place { at < 2 ^ 63 }
+    requires aligned { at % 4 ≡ 0 }
+    requires short { length payload.now ≤ MAX_TERMINATE }
+    ensures ok { OnOk result (out.new.items ≡ out.old.items ++ frame_octets layout at (segment_octets (Untagged terminate_head payload.now))) }
+    ensures err { OnErr result (out.new.items ≡ out.old.items) }
+{
+    let head = terminate_head().write();
+    write_frame(layout, at, head.as_slice(), payload, out)
 }

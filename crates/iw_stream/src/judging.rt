@@ -1,25 +1,29 @@
-ghost use Rattle.std.specs.Prelude.{◌≡◌, ◌+◌, ◌-◌, ◌<◌, ◌≤◌, ◌++◌, ℕ, List, take, drop, length, Ok, IfOk, IfSome, OnOk, OnErr};
+ghost use Rattle.std.specs.Result.{result_err};
+ghost use Rattle.std.specs.Option.{option_map};
+ghost use Rattle.std.specs.Prelude.{◌≡◌, ◌+◌, ◌-◌, ◌<◌, ◌≤◌, ◌++◌, ℕ, List, [], take, drop, length, slice_index, true, Some, Ok, IfOk, IfSome, OnOk, OnErr};
+ghost use Rattle.iw_octets.specs.Head.{is_tagged};
 ghost use Rattle.iw_octets.specs.Segment.{read_segment};
-ghost use Rattle.iw_memory.specs.Table.{Table, put};
+ghost use Rattle.iw_memory.specs.Table.{Table, put, invalidate_denial, invalidated};
 ghost use Rattle.iw_fpdu.specs.Found.{HoldsSpan, ulpdu, ulpdu_len};
 ghost use Rattle.iw_rdmap.specs.Head.{header_octets};
+ghost use Rattle.iw_rdmap.specs.Judging.{write_in};
 ghost use Rattle.iw_reads.specs.Outstanding.{response_turn_fault, reads_turned, finished_read};
 ghost use Rattle.iw_reads.specs.Requests.{Requested};
 ghost use Rattle.iw_reads.specs.Source.{source_fault};
 ghost use Rattle.iw_tagged.specs.Placing.{placing_fault};
-ghost use Rattle.iw_untagged.specs.Receiving.{Receiving, HasRoom, written, buffer_fault, turn_fault, turned};
+ghost use Rattle.iw_untagged.specs.Receiving.{Receiving, HasRoom, written, buffer_fault, turned};
 ghost use Rattle.iw_stream.specs.Frames.{frame_by, payload_of, placed, header_in, head_in, payload_len};
-ghost use Rattle.iw_stream.specs.Judging.{IsFirst, mismatch_fault, fault_or, place_in, write_verdict, response_verdict, place_verdict, segment_verdict, verdict, table_landed, receiving_landed, turning_by, answering_by, is_response, tagged_turn, tagged_left, segment_turn, receiving_turned, reads_left};
-ghost use Rattle.iw_stream.specs.Kept.{HasBuffer};
+ghost use Rattle.iw_stream.specs.Judging.{Standing, IsFirst, as_write, mismatch_fault, fault_or, place_in, write_verdict, response_verdict, place_verdict, segment_verdict, verdict, table_landed, receiving_landed, answering_by, is_response, stag_of, send_turning, invalidate_fault, send_turn, table_turned, tagged_turn, tagged_left, segment_turn, receiving_turned, reads_left};
+ghost use Rattle.iw_stream.specs.Kept.{HasBuffer, IsPosted};
 
 use arrayvec::ArrayVec;
 use iw_fpdu::{Fpdu, Mismatch};
-use iw_memory::{Memory, Right};
+use iw_memory::{InvalidateDeny, Memory, Right};
 use iw_octets::{
-    Fault, ReadRequest, Segment, Short, TAGGED_HEADER, TaggedHead, TaggedOperation,
+    Fault, ReadRequest, Segment, Short, Stag, TAGGED_HEADER, TaggedHead, TaggedOperation,
     UNTAGGED_HEADER, UntaggedHead, is_tagged,
 };
-use iw_rdmap::{FIRST_OCTETS, Head, judge_built};
+use iw_rdmap::{FIRST_OCTETS, Head, UntaggedOperation, judge};
 use iw_reads::{Reads, Requests, check_source};
 use iw_tagged::Placed;
 use iw_untagged::RecvQueue;
@@ -36,6 +40,8 @@ pub enum Landing {
     Send { msn: u32, mo: u32, len: usize },
     /// A Read Request's: it is taken up.
     Request(ReadRequest),
+    /// A Terminate's: it tells why the peer has ended the stream.
+    Terminate(Fault),
 }
 
 /// What the turn of a frame comes to.
@@ -43,8 +49,11 @@ pub enum Landing {
 pub enum Turning {
     /// There is nothing more to say of it.
     Passed,
-    /// A Send is complete with it.
-    Completed,
+    /// A Send is complete with it. It may be solicited, and may have invalidated a region.
+    Completed {
+        solicited: bool,
+        invalidate: Option<Stag>,
+    },
     /// The response to a Read is complete with it: the Read with this ticket is finished.
     Answered(u64),
 }
@@ -53,9 +62,9 @@ pub enum Turning {
 /// octets of its DDP header as they came.
 #[derive(Debug, Drop)]
 pub struct PlacedFrame {
+    pub header: ArrayVec<u8, 18>,
     pub start: u64,
     pub len: u16,
-    pub header: ArrayVec<u8, 18>,
 }
 
 impl PlacedFrame {
@@ -87,8 +96,8 @@ fn fill(first: &mut ArrayVec<u8, FIRST_OCTETS>, octets: &[u8])
     let _ = first.try_extend_from_slice(front);
 }
 
-// The octets of a ULPDU at which its header is judged, copied.
-fn first_octets<A: Allocator>(fpdu: &Fpdu<'_, A>) -> ArrayVec<u8, FIRST_OCTETS>
+/// The octets of a ULPDU at which its header is judged, copied.
+pub(crate) fn first_octets<A: Allocator>(fpdu: &Fpdu<'_, A>) -> ArrayVec<u8, FIRST_OCTETS>
     requires { HoldsSpan fpdu.now }
     ensures { result.items ≡ take 46 (ulpdu fpdu.now) }
 {
@@ -102,14 +111,21 @@ fn first_octets<A: Allocator>(fpdu: &Fpdu<'_, A>) -> ArrayVec<u8, FIRST_OCTETS>
     first
 }
 
-// These octets where they lie in one piece among those that came.
+/// The octets of a ULPDU up to the first marker among them: none where it has none.
 #[inline(always)]
+pub(crate) fn front<'a, A: Allocator>(fpdu: &Fpdu<'a, A>) -> Option<&'a [u8]>
+    requires { HoldsSpan fpdu.now }
+    ensures { IfSome result (λ front. (behind : List ℕ) × (ulpdu fpdu.now ≡ front.now ++ behind)) }
+{
+    fpdu.pieces(0).next()
+}
+
+// The octets at which a header is judged, where they lie in one piece among those that came.
 fn first_piece<'a, A: Allocator>(fpdu: &Fpdu<'a, A>) -> Option<&'a [u8]>
     requires { HoldsSpan fpdu.now }
     ensures { IfSome result (λ first. IsFirst (ulpdu fpdu.now) first.now) }
 {
-    let mut pieces = fpdu.pieces(0);
-    let first = pieces.next()?;
+    let first = front(fpdu)?;
     if first.len() < FIRST_OCTETS.min(fpdu.len()) {
         return None;
     }
@@ -136,6 +152,28 @@ fn place_tagged<A: Allocator, B: Allocator>(
     let placed = iw_tagged::place(head, n, pieces, memory, domain, right)?;
     Ok(placed)
 }
+
+/// Judges a whole frame that begins with this header of a Write, what is wrong with the frame itself first, and places its
+/// payload (RFC 5044 8, RFC 5041 7.1). An `Err` changes nothing.
+#[inline(always)]
+pub(crate) fn land_write<A: Allocator, B: Allocator>(
+    head: TaggedHead,
+    fpdu: &Fpdu<'_, A>,
+    domain: u8,
+    memory: &mut Memory<B>,
+) -> Result<Placed, Fault>
+    requires holds { HoldsSpan fpdu.now }
+    requires write { Some head ≡ write_in (read_segment (ulpdu fpdu.now)) }
+    ensures landed { (at : Standing) → at.table ≡ memory.old → at.domain ≡ domain → as_write result ≡ verdict at (frame_by fpdu.now) }
+    ensures memory { IfOk result (λ at. memory.new ≡ put memory.old at.stag at.to (payload_of (read_segment (ulpdu fpdu.now)))) }
+    ensures err { OnErr result (memory.new ≡ memory.old) }
+{
+    if let Err(wrong) = fpdu.check() {
+        return Err(fault_of(wrong));
+    }
+    place_tagged(head, Right::Write, fpdu, domain, memory)
+}
+
 // Places the payload of a Write's segment. An `Err` changes nothing.
 #[inline(always)]
 fn place_write<A: Allocator, B: Allocator>(
@@ -172,7 +210,7 @@ fn place_response<A: Allocator, B: Allocator>(
     ensures receiving { (r : Receiving) → IfOk result (λ at. r ≡ receiving_landed r (drop 14 (ulpdu fpdu.now)) at) }
     ensures err { OnErr result (memory.new ≡ memory.old) }
 {
-    if let Err(fault) = reads.check(head, fpdu.len() - TAGGED_HEADER) {
+    if let Err(fault) = reads.check(&head, fpdu.len() - TAGGED_HEADER) {
         return Err(fault);
     }
     match place_tagged(head, Right::Sink, fpdu, domain, memory) {
@@ -210,7 +248,7 @@ fn place_request<A: Allocator>(
     ensures memory { (table : Table) → (payload : List ℕ) → IfOk result (λ at. table ≡ table_landed table payload at) }
     ensures receiving { (r : Receiving) → (payload : List ℕ) → IfOk result (λ at. r ≡ receiving_landed r payload at) }
 {
-    check_source(request, memory, domain)?;
+    check_source(&request, memory, domain)?;
     Ok(Landing::Request(request))
 }
 
@@ -236,7 +274,7 @@ fn land<A: Allocator, B: Allocator>(
         Head::Response(head) => place_response(head, fpdu, domain, reads, memory),
         Head::Send(head) => place_send(head, fpdu, receiving),
         Head::Request(_, request) => place_request(request, domain, memory),
-        Head::Terminate(..) => Err(Fault::OPERATION_UNEXPECTED),
+        Head::Terminate(_, word) => Ok(Landing::Terminate(word.fault())),
     }
 }
 
@@ -258,7 +296,7 @@ fn land_by<A: Allocator, B: Allocator>(
     ensures receiving { IfOk result (λ at. receiving.new ≡ receiving_landed receiving.old (payload_of (read_segment (ulpdu fpdu.now))) at) }
     ensures err { OnErr result ((memory.new ≡ memory.old) × (receiving.new ≡ receiving.old)) }
 {
-    match judge_built(first, fpdu.len() as u16, asked.next_msn(), asked.len()) {
+    match judge(first, fpdu.len() as u16, asked.next_msn(), asked.len()) {
         Err(fault) => Err(fault),
         Ok(head) => land(head, fpdu, domain, reads, memory, receiving),
     }
@@ -301,30 +339,41 @@ pub(crate) fn land_frame<A: Allocator, B: Allocator>(
     }
 }
 
-// DDP's header at the front of these octets.
+// Appends DDP's header at the front of these octets.
 #[inline(always)]
-fn header_in(octets: &[u8]) -> ArrayVec<u8, 18>
-    ensures { result.items ≡ header_in octets.now }
+fn append_header(header: &mut ArrayVec<u8, 18>, octets: &[u8])
+    requires { header.old.items ≡ [] }
+    ensures { header.new.items ≡ header_in octets.now }
 {
-    let len = match octets {
-        [first, ..] if is_tagged(*first) => TAGGED_HEADER,
-        _ => UNTAGGED_HEADER,
-    };
-    let (front, _) = octets.split_at(len.min(octets.len()));
-    let mut header = ArrayVec::new();
-    let _ = header.try_extend_from_slice(front);
-    header
+    match octets {
+        [first, ..] if is_tagged(*first) => append_front::<TAGGED_HEADER>(header, octets),
+        _ => append_front::<UNTAGGED_HEADER>(header, octets),
+    }
 }
 
-// DDP's header at the front of a ULPDU.
+// Appends the first `N` of these octets, or all where they are fewer.
 #[inline(always)]
-fn header_of<A: Allocator>(fpdu: &Fpdu<'_, A>) -> ArrayVec<u8, 18>
-    requires { HoldsSpan fpdu.now }
-    ensures { result.items ≡ header_in (ulpdu fpdu.now) }
+fn append_front<const N: usize>(header: &mut ArrayVec<u8, 18>, octets: &[u8])
+    requires empty { header.old.items ≡ [] }
+    requires few { N ≤ 18 }
+    ensures { header.new.items ≡ take N octets.now }
+{
+    let _ = match octets.first_chunk::<N>() {
+        Some(front) => header.try_extend_from_slice(front),
+        None => header.try_extend_from_slice(octets),
+    };
+}
+
+// Appends DDP's header at the front of a ULPDU.
+#[inline(always)]
+fn keep_header<A: Allocator>(header: &mut ArrayVec<u8, 18>, fpdu: &Fpdu<'_, A>)
+    requires empty { header.old.items ≡ [] }
+    requires holds { HoldsSpan fpdu.now }
+    ensures { header.new.items ≡ header_in (ulpdu fpdu.now) }
 {
     match first_piece(fpdu) {
-        Some(first) => header_in(first),
-        None => header_in(first_octets(fpdu).as_slice()),
+        Some(first) => append_header(header, first),
+        None => append_header(header, first_octets(fpdu).as_slice()),
     }
 }
 
@@ -335,36 +384,147 @@ pub(crate) fn placed_frame<A: Allocator>(fpdu: &Fpdu<'_, A>, start: u64) -> Plac
     requires start { start ≡ fpdu.now.start }
     ensures { result ≡ placed (frame_by fpdu.now) }
 {
+    let mut header = ArrayVec::new();
+    keep_header(&mut header, fpdu);
     PlacedFrame {
+        header,
         start,
         len: fpdu.len() as u16,
-        header: header_of(fpdu),
     }
 }
 
-fn turning_by(last: bool) -> Turning
-    ensures { result ≡ turning_by last }
+/// Keeps what is kept of a frame that was placed, in place of what was kept; it begins at frame place `start`.
+#[inline(always)]
+pub(crate) fn keep_frame<A: Allocator>(
+    kept: &mut Option<PlacedFrame>,
+    fpdu: &Fpdu<'_, A>,
+    start: u64,
+)
+    requires holds { HoldsSpan fpdu.now }
+    requires start { start ≡ fpdu.now.start }
+    ensures { kept.new ≡ Some (placed (frame_by fpdu.now)) }
 {
-    if last {
-        Turning::Completed
-    } else {
-        Turning::Passed
+    let frame = kept.insert(PlacedFrame {
+        header: ArrayVec::new(),
+        start,
+        len: fpdu.len() as u16,
+    });
+    keep_header(&mut frame.header, fpdu);
+}
+
+/// Keeps what is kept of a Write's frame that was placed, in place of what was kept. It begins at frame place `start`, and
+/// its ULPDU with these octets, the header among them.
+#[inline(always)]
+pub(crate) fn keep_write<A: Allocator>(
+    kept: &mut Option<PlacedFrame>,
+    fpdu: &Fpdu<'_, A>,
+    front: &[u8],
+    start: u64,
+)
+    requires start { start ≡ fpdu.now.start }
+    requires front { (behind : List ℕ) × (ulpdu fpdu.now ≡ front.now ++ behind) }
+    requires tagged { is_tagged (slice_index front.now 0) ≡ true }
+    requires long { 14 ≤ length front.now }
+    ensures { kept.new ≡ Some (placed (frame_by fpdu.now)) }
+{
+    let frame = kept.insert(PlacedFrame {
+        header: ArrayVec::new(),
+        start,
+        len: fpdu.len() as u16,
+    });
+    let (header, _) = front.split_at(TAGGED_HEADER);
+    let _ = frame.header.try_extend_from_slice(header);
+}
+
+// The STag that a number is.
+fn stag_of(number: u32) -> Stag
+    ensures { result ≡ stag_of number }
+{
+    let stag = Stag::from(number);
+    stag.known();
+    stag
+}
+
+// A Send is complete with its last segment, whose opcode and STag count.
+fn send_turning(head: &UntaggedHead) -> Turning
+    ensures { result ≡ send_turning head.now }
+{
+    if !head.last {
+        return Turning::Passed;
+    }
+    match UntaggedOperation::of(head.control) {
+        Some(
+            UntaggedOperation::Send {
+                solicited,
+                invalidates,
+            },
+        ) => {
+            let invalidate = if invalidates {
+                Some(stag_of(head.tail))
+            } else {
+                None
+            };
+            Turning::Completed {
+                solicited,
+                invalidate,
+            }
+        }
+        _ => Turning::Completed {
+            solicited: false,
+            invalidate: None,
+        },
+    }
+}
+
+// What a denial is reported as.
+fn invalidate_fault(deny: InvalidateDeny) -> Fault
+    ensures { result ≡ invalidate_fault deny }
+{
+    match deny {
+        InvalidateDeny::NotAssociated => Fault::PROTECTION_NOT_ASSOCIATED,
+        InvalidateDeny::Invalid => Fault::PROTECTION_INVALID_STAG,
+        InvalidateDeny::NotAllowed => Fault::PROTECTION_CANNOT_INVALIDATE,
+    }
+}
+
+// Invalidates a region for a peer in this domain. An `Err` changes nothing.
+fn invalidate<A: Allocator>(stag: Stag, domain: u8, memory: &mut Memory<A>) -> Result<(), Fault>
+    ensures denied { result_err result ≡ option_map invalidate_fault (invalidate_denial memory.old domain stag) }
+    ensures ok { OnOk result (memory.new ≡ invalidated memory.old stag) }
+    ensures err { OnErr result (memory.new ≡ memory.old) }
+{
+    match memory.invalidate_remote(domain, stag) {
+        Ok(()) => Ok(()),
+        Err(deny) => Err(invalidate_fault(deny)),
     }
 }
 
 // Gives a Send's segment of `n` octets that was placed its turn. An `Err` changes nothing.
-fn turn_send<A: Allocator>(
+fn turn_send<A: Allocator, B: Allocator>(
     head: UntaggedHead,
     n: usize,
+    domain: u8,
+    memory: &mut Memory<B>,
     receiving: &mut RecvQueue<A>,
 ) -> Result<Turning, Fault>
     requires { head.msn ≡ receiving.old.due → HasRoom receiving.old (head.mo + n) }
-    ensures turn { result ≡ fault_or (turn_fault receiving.old head.msn head.mo) (turning_by head.last) }
+    ensures turn { result ≡ send_turn memory.old domain receiving.old head }
     ensures ok { OnOk result (receiving.new ≡ turned receiving.old n) }
-    ensures err { OnErr result (receiving.new ≡ receiving.old) }
+    ensures memory { IfOk result (λ turning. memory.new ≡ table_turned memory.old turning) }
+    ensures err { OnErr result ((receiving.new ≡ receiving.old) × (memory.new ≡ memory.old)) }
 {
+    let turning = send_turning(&head);
+    if let Turning::Completed {
+        invalidate: Some(stag),
+        ..
+    } = turning
+    {
+        // With no octets a turn is its checks alone.
+        receiving.turn(head.msn, head.mo, 0)?;
+        invalidate(stag, domain, memory)?;
+    }
     receiving.turn(head.msn, head.mo, n)?;
-    Ok(turning_by(head.last))
+    Ok(turning)
 }
 
 fn answering_by(finished: Option<u64>) -> Turning
@@ -393,7 +553,7 @@ fn turn_response(head: TaggedHead, n: usize, reads: &mut Reads) -> Result<Turnin
     ensures ok { OnOk result (reads.new ≡ reads_turned reads.old head n) }
     ensures err { OnErr result (reads.new ≡ reads.old) }
 {
-    let finished = reads.turn(head, n)?;
+    let finished = reads.turn(&head, n)?;
     Ok(answering_by(finished))
 }
 
@@ -413,25 +573,28 @@ fn turn_tagged(head: TaggedHead, n: usize, reads: &mut Reads) -> Result<Turning,
 
 /// Gives a frame that was placed its turn. An `Err` changes nothing.
 #[inline(always)]
-pub(crate) fn turn_frame<A: Allocator>(
+pub(crate) fn turn_frame<A: Allocator, B: Allocator>(
     frame: &PlacedFrame,
+    domain: u8,
     reads: &mut Reads,
+    memory: &mut Memory<B>,
     receiving: &mut RecvQueue<A>,
 ) -> Result<Turning, Fault>
     requires header { length frame.now.header.items ≤ frame.now.len }
     requires placed { HasBuffer receiving.old (payload_len frame.now) (head_in frame.now) }
-    ensures turn { result ≡ segment_turn receiving.old reads.old (payload_len frame.now) (head_in frame.now) }
+    ensures turn { result ≡ segment_turn memory.old domain receiving.old reads.old (payload_len frame.now) (head_in frame.now) }
     ensures receiving { OnOk result (receiving.new ≡ receiving_turned receiving.old frame.now) }
     ensures reads { OnOk result (reads.new ≡ reads_left reads.old frame.now) }
-    ensures err { OnErr result ((receiving.new ≡ receiving.old) × (reads.new ≡ reads.old)) }
-    ensures posted { result ≡ Ok Turning.Completed → 0 < length receiving.new.buffers }
+    ensures memory { IfOk result (λ turning. memory.new ≡ table_turned memory.old turning) }
+    ensures err { OnErr result ((receiving.new ≡ receiving.old) × (reads.new ≡ reads.old) × (memory.new ≡ memory.old)) }
+    ensures posted { IfOk result (λ turning. IsPosted turning receiving.new) }
 {
     match Segment::read(frame.header.as_slice()) {
         Err(Short) => Err(Fault::SEGMENT_SHORT),
         Ok(Segment::Tagged(head, _)) => turn_tagged(head, frame.payload_len(), reads),
         Ok(Segment::Untagged(head, _)) => {
             receiving.limits();
-            turn_send(head, frame.payload_len(), receiving)
+            turn_send(head, frame.payload_len(), domain, memory, receiving)
         }
     }
 }

@@ -10,6 +10,9 @@
 //! 4. calls `work` until it answers [`Step::Idle`]: each call does one step and says what it did. Where it is
 //!    [`Step::Asked`], the owner accepts or rejects the peer's Request.
 //!
+//! A stream ends by a fault, by the peer's Terminate, in its start-up, or where its owner says that the link broke
+//! (`break_link`). After a fault `emit` appends one Terminate, and nothing more; `work` hands back what was posted.
+//!
 //! After 3 and 4 there may be more to emit. The regions that the peer may use are an `iw_memory::Memory`, lent to each call
 //! of `work`, and of `emit`, which answers the peer's Reads from them. No call does input or output; `post`, `post_recv`,
 //! `deliver` and `emit` may want memory, and then change nothing; `work` takes none.
@@ -17,12 +20,15 @@
 
 mod answer;
 mod emitting;
+mod ending;
 mod incoming;
 mod judging;
 mod starting;
 mod stream;
+mod terminating;
 
-pub use answer::{Emission, PostRefusal, RecvRefusal, Role, SizeRefusal, Step};
+pub use answer::{Emission, OpenRefusal, PostRefusal, RecvRefusal, Role, SizeRefusal, Step};
+pub use ending::Ending;
 pub use iw_queues::{Kind, Request};
 pub use iw_ranges::Delivery;
 pub use iw_reads::{Asked, Outstanding, ResponsePart};

@@ -11,15 +11,21 @@ ghost use Rattle.iw_reads.specs.Source.{IsInRange};
 ghost use Rattle.iw_stream.specs.Stream.{post_refusal_of, recv_refusal_of, is_read, reads_with};
 
 use crate::answer::{Emission, PostRefusal, RecvRefusal, Role, SizeRefusal, Step};
-use crate::emitting::{Numbers, write_part, write_response};
+use crate::emitting::{Numbers, write_part, write_response, write_terminate};
+use crate::ending::Ending;
 use crate::incoming::frame_at;
-use crate::judging::{Landing, PlacedFrame, Turning, land_frame, placed_frame, turn_frame};
+use crate::judging::{
+    Landing, PlacedFrame, Turning, front, keep_frame, keep_write, land_frame, land_write,
+    placed_frame, turn_frame,
+};
 use crate::starting::{Start, octets_in_order};
+use crate::terminating::{end_judged, over, terminate_fetched, terminate_turned};
 use bytes::Bytes;
 use iw_memory::{Memory, Right};
-use iw_octets::{Octets, ReadRequest};
+use iw_octets::{Fault, Octets, ReadRequest, UNTAGGED_HEADER};
 use iw_queues::{Refusal, Request, SendQueue};
 use iw_ranges::{Delivery, Islands};
+use iw_rdmap::write_head;
 use iw_reads::{Asked, Reads, Requests, ResponsePart, fetch};
 use iw_startup::{Agreed, Config, NotAsked, PrivateData, Progress};
 use iw_tagged::Placed;
@@ -41,7 +47,7 @@ pub struct Stream<A: Allocator = Global> {
     arrived: Islands<A>,
     // The frame at the in-order point, once it was placed.
     front: Option<PlacedFrame>,
-    ended: bool,
+    ending: Ending,
     domain: u8,
     mulpdu: usize,
     sent: u64,
@@ -118,8 +124,9 @@ fn placed_step<A: Allocator>(right: Right, placed: Placed) -> Step<Octets<A>>
 }
 
 impl<A: Allocator> Stream<A> {
-    ghost use Rattle.iw_stream.specs.Stream.{opened, owes_frame, is_mute, keeps_silent, may_answer, accepted, rejected, post_refusal, with_request, recv_refusal, with_buffer, delivery_of, after_deliver, part_due, response_due, frame_of, StartUp, Response, NextPart, NoneDue, octets_due, emission_due, left_due, emission_fetched, left_fetched, emission_of, emitted, after_emit, size_refusal, with_mulpdu};
-    ghost use Rattle.iw_stream.specs.Work.{Hear, Judge, Turn, Rest, next_frame, judged_step, takes_up, step_of, left_by, table_left, work_step, worked, table_worked};
+    ghost use Rattle.iw_stream.specs.Ending.{last_word};
+    ghost use Rattle.iw_stream.specs.Stream.{opened, ended, ends, breaks, owes_frame, is_mute, keeps_silent, may_answer, accepted, rejected, post_refusal, with_request, recv_refusal, with_buffer, delivery_of, after_deliver, part_due, response_due, frame_of, StartUp, LastWord, Response, NextPart, NoneDue, octets_due, emission_due, left_due, emission_fetched, left_fetched, emission_of, emitted, after_emit, size_refusal, with_mulpdu};
+    ghost use Rattle.iw_stream.specs.Work.{Hear, Judge, Turn, Rest, next_frame, judged_step, takes_up, behind, handing_back, step_of, left_by, table_left, work_step, worked, table_worked};
     ghost use Rattle.iw_stream.specs.Kept.{IsWithin, IsWithinBuffer, Stands};
 
     /// A stream of this domain with a ULPDU size of 1,400 octets, which begins as its role says: open at once, with the
@@ -136,7 +143,7 @@ impl<A: Allocator> Stream<A> {
         Ok(Stream {
             arrived,
             front: None,
-            ended: false,
+            ending: Ending::Runs,
             domain,
             mulpdu: FIRST_MULPDU,
             sent: 0,
@@ -181,7 +188,7 @@ impl<A: Allocator> Stream<A> {
     fn owes_frame(&self) -> bool
         ensures { result ≡ owes_frame self.now }
     {
-        self.sent < self.start.first_place_out()
+        !self.ending.is_broken() && self.sent < self.start.first_place_out()
     }
 
     // A responder sends no frame before a frame of the peer had its turn (RFC 5044 7.1.2).
@@ -195,7 +202,7 @@ impl<A: Allocator> Stream<A> {
     fn is_mute(&self) -> bool
         ensures { result ≡ is_mute self.now }
     {
-        self.ended || !self.start.is_open() || self.keeps_silent()
+        self.ending.has_ended() || !self.start.is_open() || self.keeps_silent()
     }
 
     /// Accepts the peer's Request; the Reply carries this private data. The stream is open from then on, and as a responder
@@ -208,7 +215,7 @@ impl<A: Allocator> Stream<A> {
         ensures ok { OnOk result (self.new ≡ accepted self.old private) }
         ensures err { OnErr result (self.new ≡ self.old) }
     {
-        if self.ended {
+        if self.ending.has_ended() {
             return Err(NotAsked);
         }
         self.start.accept(private)
@@ -222,11 +229,11 @@ impl<A: Allocator> Stream<A> {
         ensures ok { OnOk result (self.new ≡ rejected self.old private) }
         ensures err { OnErr result (self.new ≡ self.old) }
     {
-        if self.ended {
+        if self.ending.has_ended() {
             return Err(NotAsked);
         }
         self.start.reject(private)?;
-        self.ended = true;
+        self.ending = Ending::Over(None);
         Ok(())
     }
 
@@ -249,7 +256,7 @@ impl<A: Allocator> Stream<A> {
         ensures err { OnErr result (self.new ≡ self.old) }
         ensures ok { OnOk result (self.new ≡ with_request self.old request) }
     {
-        if self.ended || !self.start.is_open() {
+        if self.ending.has_ended() || !self.start.is_open() {
             return Err((PostRefusal::NotOpen, request));
         }
         match self.queue.post(request) {
@@ -267,7 +274,7 @@ impl<A: Allocator> Stream<A> {
         ensures err { OnErr result (self.new ≡ self.old) }
         ensures ok { OnOk result (self.new ≡ with_buffer self.old buffer.items) }
     {
-        if self.ended {
+        if self.ending.has_ended() {
             return Err((RecvRefusal::Ended, buffer));
         }
         match self.receiving.post(buffer) {
@@ -299,17 +306,18 @@ impl<A: Allocator> Stream<A> {
         ensures delivery { IfOk result (λ delivery. delivery ≡ delivery_of self.old from (length octets.now)) }
         ensures after { IfOk result (λ delivery. self.new ≡ after_deliver self.old from octets.now delivery) }
         ensures err { OnErr result (self.new ≡ self.old) }
-        ensures memory { OnErr result ((self.old.ended ≡ false) × BringsOctets self.old.arrived from (length octets.now)) }
+        ensures memory { OnErr result ((ended self.old ≡ false) × BringsOctets self.old.arrived from (length octets.now)) }
     {
-        if self.ended {
+        if self.ending.has_ended() {
             return Ok(Delivery::Dropped);
         }
         self.arrived.add(from, octets)
     }
 
-    /// Appends to `out` what is to be emitted next: this end's start-up frame, or else, if frames may be sent, the frame of
-    /// the next part of a message that is begun, of the response to the peer's oldest Read Request, or of the next message.
-    /// A Read is not begun while 16 are outstanding, and what was posted behind it waits too.
+    /// Appends to `out` what is to be emitted next: this end's start-up frame, or else, where the stream has ended by a fault,
+    /// its Terminate, after which there is nothing more, or else, if frames may be sent, the frame of the next part of a message
+    /// that is begun, of the response to the peer's oldest Read Request, or of the next message. A Read is not begun while 16
+    /// are outstanding, and what was posted behind it waits too.
     ///
     /// The octets of a response are fetched as they are sent; where the peer may not read them, nothing is appended and the
     /// stream has ended. An `Err` is want of memory, comes only where something is appended, and changes nothing.
@@ -324,6 +332,9 @@ impl<A: Allocator> Stream<A> {
     {
         if self.owes_frame() {
             return self.emit_startup(out);
+        }
+        if let Ending::Over(Some(_)) = &self.ending {
+            return self.emit_last_word(out);
         }
         if self.is_mute() {
             return Ok(Emission::Nothing);
@@ -349,6 +360,30 @@ impl<A: Allocator> Stream<A> {
         Ok(Emission::Frame { from, len })
     }
 
+    // Appends the frame of the Terminate that is due.
+    #[inline(never)]
+    fn emit_last_word(&mut self, out: &mut Vec<u8, A>) -> Result<Emission, AllocError>
+        requires place { self.old.sent ≤ 2 ^ 62 }
+        requires owed { first_place_out self.old.start ≤ self.old.sent }
+        requires due { IsSome (last_word self.old.ending) }
+        ensures emission { (table : Table) → IfOk result (λ emission. emission ≡ emission_due table self.old (option_map_or LastWord (last_word self.old.ending) NoneDue)) }
+        ensures out { (table : Table) → OnOk result (out.new.items ≡ out.old.items ++ octets_due table self.old (option_map_or LastWord (last_word self.old.ending) NoneDue)) }
+        ensures after { (table : Table) → OnOk result (self.new ≡ left_due table self.old (option_map_or LastWord (last_word self.old.ending) NoneDue)) }
+        ensures err { OnErr result ((self.new ≡ self.old) × (out.new.items ≡ out.old.items)) }
+    {
+        let Ending::Over(Some(terminate)) = &self.ending else {
+            return Ok(Emission::Nothing);
+        };
+        let place = self.sent - self.start.first_place_out();
+        let before = out.len();
+        write_terminate(self.start.sending(), place, terminate.as_slice(), out)?;
+        let len = out.len() - before;
+        let from = self.sent;
+        self.ending = Ending::Over(None);
+        self.sent += len as u64;
+        Ok(Emission::Frame { from, len })
+    }
+
     // The part of a response that is to be sent next: none while a message is begun.
     fn response_due(&self) -> Option<ResponsePart>
         ensures { result ≡ response_due self.now }
@@ -368,7 +403,7 @@ impl<A: Allocator> Stream<A> {
     ) -> Result<Emission, AllocError>
         requires place { self.old.sent ≤ 2 ^ 62 }
         requires open { is_open self.old.start ≡ true }
-        requires owed { owes_frame self.old ≡ false }
+        requires owed { first_place_out self.old.start ≤ self.old.sent }
         requires due { response_due self.old ≡ Some part }
         ensures emission { IfOk result (λ emission. emission ≡ emission_due memory.now self.old (Response part)) }
         ensures out { OnOk result (out.new.items ≡ out.old.items ++ octets_due memory.now self.old (Response part)) }
@@ -376,10 +411,11 @@ impl<A: Allocator> Stream<A> {
         ensures err { OnErr result ((self.new ≡ self.old) × (out.new.items ≡ out.old.items)) }
         ensures denied { (fault : Fault) → emission_due memory.now self.old (Response part) ≡ Emission.Fault fault → is_ok result ≡ true }
     {
-        match fetch(part, memory, self.domain) {
+        match fetch(&part, memory, self.domain) {
             Ok(octets) => self.emit_fetched(part, octets, out),
             Err(fault) => {
-                self.ended = true;
+                let terminate = terminate_fetched(&self.asked, fault);
+                self.ending = over(terminate, &self.start, &self.arrived);
                 Ok(Emission::Fault(fault))
             }
         }
@@ -394,7 +430,7 @@ impl<A: Allocator> Stream<A> {
     ) -> Result<Emission, AllocError>
         requires place { self.old.sent ≤ 2 ^ 62 }
         requires open { is_open self.old.start ≡ true }
-        requires owed { owes_frame self.old ≡ false }
+        requires owed { first_place_out self.old.start ≤ self.old.sent }
         requires due { response_due self.old ≡ Some part }
         requires octets { length octets.now ≡ part.n }
         ensures emission { IfOk result (λ emission. emission ≡ emission_fetched self.old part (Ok (frame_of self.old (Tagged part.head octets.now)))) }
@@ -423,7 +459,7 @@ impl<A: Allocator> Stream<A> {
     fn emit_part(&mut self, out: &mut Vec<u8, A>) -> Result<Emission, AllocError>
         requires place { self.old.sent ≤ 2 ^ 62 }
         requires open { is_open self.old.start ≡ true }
-        requires owed { owes_frame self.old ≡ false }
+        requires owed { first_place_out self.old.start ≤ self.old.sent }
         ensures emission { (table : Table) → IfOk result (λ emission. emission ≡ emission_due table self.old (option_map_or NextPart (part_due self.old) NoneDue)) }
         ensures out { (table : Table) → OnOk result (out.new.items ≡ out.old.items ++ octets_due table self.old (option_map_or NextPart (part_due self.old) NoneDue)) }
         ensures after { (table : Table) → OnOk result (self.new ≡ left_due table self.old (option_map_or NextPart (part_due self.old) NoneDue)) }
@@ -450,8 +486,20 @@ impl<A: Allocator> Stream<A> {
         Ok(Emission::Frame { from, len })
     }
 
+    /// The link broke: the stream has ended, and nothing more is emitted, a Terminate or a start-up frame that was due
+    /// neither. What was posted is handed back by [`Stream::work`].
+    pub fn break_link(&mut self)
+        ensures { self.new ≡ breaks self.old }
+    {
+        self.ending = Ending::Broken;
+    }
+
     /// Does one step: hands out a finished message, or reads the peer's start-up frame, or gives the frame at the in-order
-    /// point, where it was placed, its turn, or judges and places it. A Read Request has its turn as it is judged.
+    /// point, where it was placed, its turn, or judges and places it. A Read Request and a Terminate have their turn as they
+    /// are judged. A region that a Send invalidates goes out of use in the step that completes the Send.
+    ///
+    /// Where the stream has ended, each posted message is handed out in posting order, as finished or as given up, and then
+    /// each receive buffer.
     #[inline(always)]
     pub fn work(&mut self, memory: &mut Memory<A>) -> Step<Octets<A>>
         requires { self.old.arrived.floor + 2 ^ 18 ≤ 2 ^ 63 }
@@ -465,8 +513,8 @@ impl<A: Allocator> Stream<A> {
         if let Some(done) = self.queue.next() {
             return Step::Done(done.kind);
         }
-        if self.ended {
-            return Step::Idle;
+        if self.ending.has_ended() {
+            return self.hand_back();
         }
         if self.start.awaits_frame() {
             return self.hear();
@@ -475,14 +523,27 @@ impl<A: Allocator> Stream<A> {
             return Step::Idle;
         }
         if self.front.is_some() {
-            self.turn()
+            self.turn(memory)
         } else {
             self.judge(memory)
         }
     }
 
     // Reads the peer's start-up frame off the octets that came, once it is whole or at fault.
+    #[inline(always)]
     fn hear(&mut self) -> Step<Octets<A>>
+        requires { awaits_frame self.old.start ≡ true }
+        ensures step { (table : Table) → result ≡ step_of table self.old Hear }
+        ensures after { (table : Table) → self.new ≡ left_by table self.old Hear }
+        ensures reach { self.new.arrived.floor ≤ self.old.arrived.floor + 2 ^ 18 }
+        ensures within { IsWithinBuffer result }
+    {
+        self.hear_apart()
+    }
+
+    // The same, in a call of its own.
+    #[inline(never)]
+    fn hear_apart(&mut self) -> Step<Octets<A>>
         requires { awaits_frame self.old.start ≡ true }
         ensures step { (table : Table) → result ≡ step_of table self.old Hear }
         ensures after { (table : Table) → self.new ≡ left_by table self.old Hear }
@@ -501,16 +562,100 @@ impl<A: Allocator> Stream<A> {
             }
             Progress::Faulted(fault) => {
                 self.start.hear(&mut self.arrived);
-                self.ended = true;
+                self.ending = Ending::Over(None);
                 Step::Closed(fault)
             }
         }
     }
 
-    // Judges the frame at the in-order point, where it is whole.
+    // Hands out the oldest message, which is not finished, or behind them all the oldest receive buffer.
+    #[inline(always)]
+    fn hand_back(&mut self) -> Step<Octets<A>>
+        requires ended { ended self.old ≡ true }
+        ensures step { (table : Table) → result ≡ step_of table self.old (handing_back self.old) }
+        ensures after { (table : Table) → self.new ≡ left_by table self.old (handing_back self.old) }
+        ensures floor { self.new.arrived.floor ≡ self.old.arrived.floor }
+        ensures within { IsWithinBuffer result }
+    {
+        self.hand_back_apart()
+    }
+
+    // The same, in a call of its own.
+    #[inline(never)]
+    fn hand_back_apart(&mut self) -> Step<Octets<A>>
+        requires ended { ended self.old ≡ true }
+        ensures step { (table : Table) → result ≡ step_of table self.old (handing_back self.old) }
+        ensures after { (table : Table) → self.new ≡ left_by table self.old (handing_back self.old) }
+        ensures floor { self.new.arrived.floor ≡ self.old.arrived.floor }
+        ensures within { IsWithinBuffer result }
+    {
+        if let Some(message) = self.queue.flush() {
+            return Step::Flushed(message.kind);
+        }
+        self.receiving.limits();
+        match self.receiving.flush() {
+            Some(buffer) => Step::FlushedRecv(Octets::from_vec(buffer)),
+            None => Step::Idle,
+        }
+    }
+
+    // Judges the frame at the in-order point, where it is whole. Most are Writes.
     #[inline(always)]
     fn judge(&mut self, memory: &mut Memory<A>) -> Step<Octets<A>>
         requires open { is_open self.old.start ≡ true }
+        requires runs { ended self.old ≡ false }
+        requires place { self.old.arrived.floor + 2 ^ 18 ≤ 2 ^ 63 }
+        ensures step { result ≡ step_of memory.old self.old (option_map_or Judge (next_frame self.old) Rest) }
+        ensures after { self.new ≡ left_by memory.old self.old (option_map_or Judge (next_frame self.old) Rest) }
+        ensures memory { memory.new ≡ table_left memory.old self.old (option_map_or Judge (next_frame self.old) Rest) }
+        ensures reach { self.new.arrived.floor ≤ self.old.arrived.floor + 2 ^ 18 }
+        ensures within { IsWithinBuffer result }
+    {
+        if self.arrived.missing() <= self.arrived.floor() {
+            return Step::Idle;
+        }
+        let base = self.start.first_place_in();
+        let layout = self.start.expecting();
+        let start = layout.start_of(self.arrived.floor() - base);
+        let Some(fpdu) = frame_at(layout, &self.arrived, base, start) else {
+            return Step::Idle;
+        };
+        let Some(front) = front(&fpdu) else {
+            return self.judge_any(memory);
+        };
+        let Some(head) = write_head(front) else {
+            return self.judge_any(memory);
+        };
+        match land_write(head, &fpdu, self.domain, memory) {
+            // Nothing has changed: it is judged again, apart.
+            Err(_) => self.judge_any(memory),
+            Ok(placed) => {
+                keep_write(&mut self.front, &fpdu, front, start);
+                placed_step(Right::Write, placed)
+            }
+        }
+    }
+
+    // Judges the frame at the in-order point, whatever it is, where it is whole.
+    #[inline(always)]
+    fn judge_any(&mut self, memory: &mut Memory<A>) -> Step<Octets<A>>
+        requires open { is_open self.old.start ≡ true }
+        requires runs { ended self.old ≡ false }
+        requires place { self.old.arrived.floor + 2 ^ 18 ≤ 2 ^ 63 }
+        ensures step { result ≡ step_of memory.old self.old (option_map_or Judge (next_frame self.old) Rest) }
+        ensures after { self.new ≡ left_by memory.old self.old (option_map_or Judge (next_frame self.old) Rest) }
+        ensures memory { memory.new ≡ table_left memory.old self.old (option_map_or Judge (next_frame self.old) Rest) }
+        ensures reach { self.new.arrived.floor ≤ self.old.arrived.floor + 2 ^ 18 }
+        ensures within { IsWithinBuffer result }
+    {
+        self.judge_apart(memory)
+    }
+
+    // The same, in a call of its own.
+    #[inline(never)]
+    fn judge_apart(&mut self, memory: &mut Memory<A>) -> Step<Octets<A>>
+        requires open { is_open self.old.start ≡ true }
+        requires runs { ended self.old ≡ false }
         requires place { self.old.arrived.floor + 2 ^ 18 ≤ 2 ^ 63 }
         ensures step { result ≡ step_of memory.old self.old (option_map_or Judge (next_frame self.old) Rest) }
         ensures after { self.new ≡ left_by memory.old self.old (option_map_or Judge (next_frame self.old) Rest) }
@@ -533,33 +678,47 @@ impl<A: Allocator> Stream<A> {
             &mut self.receiving,
         ) {
             Err(fault) => {
-                self.ended = true;
+                end_judged(
+                    &fpdu,
+                    fault,
+                    &self.asked,
+                    &self.start,
+                    &self.arrived,
+                    &mut self.ending,
+                );
                 Step::Fault(fault)
             }
             Ok(Landing::Write(placed)) => {
-                self.front = Some(placed_frame(&fpdu, start));
+                keep_frame(&mut self.front, &fpdu, start);
                 placed_step(Right::Write, placed)
             }
             Ok(Landing::Response(placed)) => {
-                self.front = Some(placed_frame(&fpdu, start));
+                keep_frame(&mut self.front, &fpdu, start);
                 placed_step(Right::Sink, placed)
             }
             Ok(Landing::Send { msn, mo, len }) => {
-                self.front = Some(placed_frame(&fpdu, start));
+                keep_frame(&mut self.front, &fpdu, start);
                 Step::Buffered { msn, mo, len }
             }
             Ok(Landing::Request(request)) => {
                 let frame = placed_frame(&fpdu, start);
                 self.take_up(frame, request)
             }
+            Ok(Landing::Terminate(fault)) => {
+                let frame = placed_frame(&fpdu, start);
+                self.hear_out(frame, fault)
+            }
         }
     }
 
     // Takes up the Read Request in the frame at the in-order point, which has its turn at once.
+    #[inline(never)]
     fn take_up(&mut self, frame: PlacedFrame, request: ReadRequest) -> Step<Octets<A>>
         requires open { is_open self.old.start ≡ true }
         requires place { self.old.arrived.floor + 2 ^ 18 ≤ 2 ^ 63 }
+        requires runs { ended self.old ≡ false }
         requires stands { Stands self.old frame }
+        requires header { length frame.header.items ≡ UNTAGGED_HEADER }
         requires room { length self.old.asked.unanswered < 16 }
         requires range { IsInRange request }
         ensures step { result ≡ judged_step (Ok (Landing.Request request)) }
@@ -572,22 +731,93 @@ impl<A: Allocator> Stream<A> {
         let place = self.start.first_place_in() + end;
         self.front = None;
         self.arrived.advance(place);
+        let ReadRequest {
+            size,
+            source,
+            source_to,
+            ..
+        } = request;
         self.asked.take(Asked { header, request });
         Step::Requested {
-            size: request.size,
-            stag: request.source,
-            to: request.source_to,
+            size,
+            stag: source,
+            to: source_to,
         }
     }
 
-    // Gives the frame at the in-order point, which was placed, its turn.
-    #[inline(always)]
-    fn turn(&mut self) -> Step<Octets<A>>
+    // Ends by the Terminate in the frame at the in-order point, which has its turn at once.
+    #[inline(never)]
+    fn hear_out(&mut self, frame: PlacedFrame, fault: Fault) -> Step<Octets<A>>
         requires open { is_open self.old.start ≡ true }
+        requires place { self.old.arrived.floor + 2 ^ 18 ≤ 2 ^ 63 }
+        requires runs { ended self.old ≡ false }
+        requires stands { Stands self.old frame }
+        ensures step { result ≡ judged_step (Ok (Landing.Terminate fault)) }
+        ensures after { self.new ≡ ends (behind self.old frame) }
+        ensures reach { self.new.arrived.floor ≤ self.old.arrived.floor + 2 ^ 18 }
+        ensures within { IsWithinBuffer result }
+    {
+        let PlacedFrame { start, len, .. } = frame;
+        let end = self.start.expecting().end_of(start, len);
+        let place = self.start.first_place_in() + end;
+        self.front = None;
+        self.arrived.advance(place);
+        self.ending = Ending::Over(None);
+        Step::Terminated(fault)
+    }
+
+    // Gives the frame at the in-order point, which was placed, its turn. That of a Write has no check.
+    #[inline(always)]
+    fn turn(&mut self, memory: &mut Memory<A>) -> Step<Octets<A>>
+        requires open { is_open self.old.start ≡ true }
+        requires runs { ended self.old ≡ false }
         requires placed { IsSome self.old.front }
         requires place { self.old.arrived.floor + 2 ^ 18 ≤ 2 ^ 63 }
-        ensures step { (table : Table) → result ≡ step_of table self.old (option_map_or Turn self.old.front Rest) }
-        ensures after { (table : Table) → self.new ≡ left_by table self.old (option_map_or Turn self.old.front Rest) }
+        ensures step { result ≡ step_of memory.old self.old (option_map_or Turn self.old.front Rest) }
+        ensures after { self.new ≡ left_by memory.old self.old (option_map_or Turn self.old.front Rest) }
+        ensures memory { memory.new ≡ table_left memory.old self.old (option_map_or Turn self.old.front Rest) }
+        ensures reach { self.new.arrived.floor ≤ self.old.arrived.floor + 2 ^ 18 }
+        ensures within { IsWithinBuffer result }
+    {
+        let Some(frame) = &self.front else {
+            return Step::Idle;
+        };
+        if write_head(frame.header.as_slice()).is_none() {
+            return self.turn_any(memory);
+        }
+        let end = self.start.expecting().end_of(frame.start, frame.len);
+        let place = self.start.first_place_in() + end;
+        self.front = None;
+        self.arrived.advance(place);
+        Step::Passed
+    }
+
+    // Gives the frame at the in-order point, which was placed, its turn, whatever it is.
+    #[inline(always)]
+    fn turn_any(&mut self, memory: &mut Memory<A>) -> Step<Octets<A>>
+        requires open { is_open self.old.start ≡ true }
+        requires runs { ended self.old ≡ false }
+        requires placed { IsSome self.old.front }
+        requires place { self.old.arrived.floor + 2 ^ 18 ≤ 2 ^ 63 }
+        ensures step { result ≡ step_of memory.old self.old (option_map_or Turn self.old.front Rest) }
+        ensures after { self.new ≡ left_by memory.old self.old (option_map_or Turn self.old.front Rest) }
+        ensures memory { memory.new ≡ table_left memory.old self.old (option_map_or Turn self.old.front Rest) }
+        ensures reach { self.new.arrived.floor ≤ self.old.arrived.floor + 2 ^ 18 }
+        ensures within { IsWithinBuffer result }
+    {
+        self.turn_apart(memory)
+    }
+
+    // The same, in a call of its own.
+    #[inline(never)]
+    fn turn_apart(&mut self, memory: &mut Memory<A>) -> Step<Octets<A>>
+        requires open { is_open self.old.start ≡ true }
+        requires runs { ended self.old ≡ false }
+        requires placed { IsSome self.old.front }
+        requires place { self.old.arrived.floor + 2 ^ 18 ≤ 2 ^ 63 }
+        ensures step { result ≡ step_of memory.old self.old (option_map_or Turn self.old.front Rest) }
+        ensures after { self.new ≡ left_by memory.old self.old (option_map_or Turn self.old.front Rest) }
+        ensures memory { memory.new ≡ table_left memory.old self.old (option_map_or Turn self.old.front Rest) }
         ensures reach { self.new.arrived.floor ≤ self.old.arrived.floor + 2 ^ 18 }
         ensures within { IsWithinBuffer result }
     {
@@ -596,30 +826,37 @@ impl<A: Allocator> Stream<A> {
         };
         let end = self.start.expecting().end_of(frame.start, frame.len);
         let place = self.start.first_place_in() + end;
-        match turn_frame(frame, &mut self.reads, &mut self.receiving) {
+        let turning = match turn_frame(
+            frame,
+            self.domain,
+            &mut self.reads,
+            memory,
+            &mut self.receiving,
+        ) {
+            Ok(turning) => turning,
             Err(fault) => {
-                self.ended = true;
-                Step::Fault(fault)
+                let terminate = terminate_turned(frame, fault);
+                self.ending = over(terminate, &self.start, &self.arrived);
+                return Step::Fault(fault);
             }
-            Ok(Turning::Passed) => {
-                self.front = None;
-                self.arrived.advance(place);
-                Step::Passed
-            }
-            Ok(Turning::Completed) => {
-                self.front = None;
-                self.arrived.advance(place);
+        };
+        self.front = None;
+        self.arrived.advance(place);
+        match turning {
+            Turning::Passed => Step::Passed,
+            Turning::Completed {
+                solicited,
+                invalidate,
+            } => {
                 let Received { buffer, len, .. } = self.receiving.finish();
                 Step::Received {
                     buffer,
                     len,
-                    solicited: false,
-                    invalidate: None,
+                    solicited,
+                    invalidate,
                 }
             }
-            Ok(Turning::Answered(ticket)) => {
-                self.front = None;
-                self.arrived.advance(place);
+            Turning::Answered(ticket) => {
                 self.queue.finish(ticket);
                 Step::Passed
             }

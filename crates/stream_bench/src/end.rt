@@ -130,7 +130,8 @@ impl End {
             Step::Done(_) | Step::Passed | Step::Asked | Step::Opened(_) | Step::Requested { .. } =>
                 Ok(Some(0)),
             Step::Idle => Ok(None),
-            Step::Closed(_) | Step::Fault(_) => Err(Stop),
+            Step::Closed(_) | Step::Terminated(_) | Step::Fault(_) => Err(Stop),
+            Step::Flushed(_) | Step::FlushedRecv(_) => Err(Stop),
         }
     }
 

@@ -282,15 +282,15 @@ impl Ends {
 
     // Posts a Read of the source from an offset on at each receiving end, and hands over its request.
     fn post_reads(&mut self, offset: u64) -> Result<(), Stop> {
-        let request = ReadRequest {
-            sink: self.stag,
-            sink_to: 0,
-            size: self.load.message.min(1 << 24) as u32,
-            source: self.source_stag,
-            source_to: offset,
-        };
+        let size = self.load.message.min(1 << 24) as u32;
         for pair in self.pairs.iter_mut() {
-            pair.receiver.post_read(request)?;
+            pair.receiver.post_read(ReadRequest {
+                sink: self.stag,
+                sink_to: 0,
+                size,
+                source: self.source_stag,
+                source_to: offset,
+            })?;
             let Some(from) = self.wire.next(&mut pair.receiver, &self.receiving.memory)? else {
                 return Err(Stop);
             };

@@ -13,7 +13,7 @@ use Rattle.iw_stream.proofs.stream.Stream.accept.Goals as goal
 keeps : {D E : Type 0} (s : StreamState) (reply : Reply) (result : Result D E) (new : StartState) → is_ok result ≡ is_asked s.start → OnOk result (new ≡ answered_with s.start reply) → OnErr result (new ≡ s.start) → Keeps s
     → Keeps (record s { start = new })
 keeps s reply (Err e) new asked ok err k = subst (λ x. Keeps (record s { start = x })) (sym err) k
-keeps s reply (Ok d) new asked ok err k = subst (λ x. Keeps (record s { start = x })) (sym ok) (keeps_answered s reply s.ended (sym asked) k)
+keeps s reply (Ok d) new asked ok err k = subst (λ x. Keeps (record s { start = x })) (sym ok) (keeps_answered s reply (sym asked) k)
 
 pub invariant_of-self : goal.invariant_of-self
 invariant_of-self g c =

@@ -1,52 +1,110 @@
-use Rattle.std.proofs.Common.{◌≡◌, true, Some, Ok, ap, sym, ◌∙◌, subst}
+use Rattle.std.proofs.Common.{◌≡◌, true, Some, Ok, refl, ap, sym, ◌∙◌, subst}
+use Rattle.std.specs.Option.{option_map_or}
+use Rattle.iw_fpdu.specs.Found.{ulpdu}
+use Rattle.iw_rdmap.proofs.Writes.{IsWrite, is_write}
+use Rattle.iw_stream.specs.declared.judging.Landing.TheVariants as landings
 use Rattle.iw_stream.specs.Fields.{state_of}
-use Rattle.iw_stream.specs.Frames.{IsNext}
-use Rattle.iw_stream.specs.Kept.{Keeps, Stands}
+use Rattle.iw_stream.specs.Frames.{IsNext, frame_by}
+use Rattle.iw_stream.specs.Judging.{verdict}
+use Rattle.iw_stream.specs.Kept.{Keeps}
 use Rattle.iw_stream.specs.Starting.{is_open, expecting, first_place_in}
 use Rattle.iw_stream.specs.Stream.{StreamState}
-use Rattle.iw_stream.specs.Work.{standing}
-use Rattle.iw_stream.proofs.Keeping.{IsPlacing, keeps_judged, may_take, stands_next}
+use Rattle.iw_stream.specs.Work.{Judge, Rest, standing, next_frame, step_of, left_by, table_left, judged_step, after_judging, table_judged}
+use Rattle.iw_stream.proofs.Keeping.{keeps_judged}
+use Rattle.iw_stream.proofs.Writes.{next_is, none_next, write_front, write_there, write_tagged, write_long}
 use Rattle.iw_stream.proofs.stream.Stream.judge.Goals as goal
 
-pub invariant_of-self-in-Ok-Write : goal.invariant_of-self-in-Ok-Write
-invariant_of-self-in-Ok-Write g c =
+pub returns-then-missing-floor-clause-step : goal.returns-then-missing-floor-clause-step
+returns-then-missing-floor-clause-step g c =
+    let s = state_of c.self.inside in
+    let table = c.args.memory.now in
+    let none = none_next s c.missing.result c.floor.result c.self.invariant c.missing.ensures.missing c.floor.ensures.floor c.if-missing-floor.true in
+    ap (λ o. step_of table s (option_map_or Judge o Rest)) (sym none) ∙ ap (λ t. step_of table t (option_map_or Judge (next_frame t) Rest)) c.self.view_is
+
+pub returns-then-missing-floor-clause-after : goal.returns-then-missing-floor-clause-after
+returns-then-missing-floor-clause-after g c =
+    let s = state_of c.self.inside in
+    let table = c.args.memory.now in
+    let none = none_next s c.missing.result c.floor.result c.self.invariant c.missing.ensures.missing c.floor.ensures.floor c.if-missing-floor.true in
+    sym c.self.view_is
+    ∙ ap (λ o. left_by table s (option_map_or Judge o Rest)) (sym none) ∙ ap (λ t. left_by table t (option_map_or Judge (next_frame t) Rest)) c.self.view_is
+
+pub returns-then-missing-floor-clause-memory : goal.returns-then-missing-floor-clause-memory
+returns-then-missing-floor-clause-memory g c =
+    let s = state_of c.self.inside in
+    let table = c.args.memory.now in
+    let none = none_next s c.missing.result c.floor.result c.self.invariant c.missing.ensures.missing c.floor.ensures.floor c.if-missing-floor.true in
+    ap (λ o. table_left table s (option_map_or Judge o Rest)) (sym none) ∙ ap (λ t. table_left table t (option_map_or Judge (next_frame t) Rest)) c.self.view_is
+
+pub land_write-requires-clause-write : goal.land_write-requires-clause-write
+land_write-requires-clause-write g c =
+    let u = ulpdu c.in-Some.fpdu in
+    let front = c.in-Some-front.front.now in
+    let head = c.in-Some-write_head.head in
+    let w : IsWrite c.in-Some-front.front.now c.in-Some-write_head.head = is_write front head c.in-Some-write_head.ensures in
+    write_there u head (write_front u front head c.in-Some-front.ensures w)
+
+pub keep_write-requires-clause-tagged : goal.keep_write-requires-clause-tagged
+keep_write-requires-clause-tagged g c =
+    let front = c.in-Some-front.front.now in
+    let head = c.in-Some-write_head.head in
+    write_tagged front head (is_write front head c.in-Some-write_head.ensures)
+
+pub keep_write-requires-clause-long : goal.keep_write-requires-clause-long
+keep_write-requires-clause-long g c =
+    let front = c.in-Some-front.front.now in
+    let head = c.in-Some-write_head.head in
+    write_long front head (is_write front head c.in-Some-write_head.ensures)
+
+pub invariant_of-self : goal.invariant_of-self
+invariant_of-self g c =
     let s = state_of c.self.inside in
     let running : is_open (state_of c.self.inside).start ≡ true = ap (λ (t : StreamState). is_open t.start) c.self.view_is ∙ c.requires.open in
     let next : IsNext (expecting c.self.inside.start) c.self.inside.arrived.arrived (first_place_in c.self.inside.start) c.in-Some.fpdu =
     subst (λ l. IsNext l c.self.inside.arrived.arrived (first_place_in c.self.inside.start) c.in-Some.fpdu) c.expecting-layout.ensures
     (subst (λ b. IsNext c.expecting-layout.result c.self.inside.arrived.arrived b c.in-Some.fpdu) c.first_place_in-base.ensures.place c.in-Some.ensures.next) in
-    subst (λ f. Keeps (record s { front = Some f; receiving = c.land_frame.new.receiving })) (sym c.placed_frame.ensures)
-    (keeps_judged s c.args.memory.now c.in-Some.fpdu c.land_frame.new.receiving c.in-Ok-Write.field-0 running next (sym c.land_frame.ensures.landed ∙ c.in-Ok-Write.is) (subst IsPlacing (sym c.in-Ok-Write.field-0-is) tt) c.in-Ok-Write.ensures.receiving c.self.invariant)
+    let ok : verdict (standing c.args.memory.now s) (frame_by c.in-Some.fpdu) ≡ Ok (landings.Write c.in-Ok.placed) = sym (c.in-Ok.ensures.landed (standing c.args.memory.now s) refl refl) in
+    subst (λ f. Keeps (record s { front = f })) (sym c.keep_write.ensures)
+    (keeps_judged s c.args.memory.now c.in-Some.fpdu c.self.inside.receiving (landings.Write c.in-Ok.placed) running next ok tt refl c.self.invariant)
 
-pub invariant_of-self-in-Ok-Response : goal.invariant_of-self-in-Ok-Response
-invariant_of-self-in-Ok-Response g c =
+pub returns-in-Err-clause-step : goal.returns-in-Err-clause-step
+returns-in-Err-clause-step g c =
+    c.judge_any-in-Err.ensures.step ∙ ap (λ table. step_of table c.args.self.now (option_map_or Judge (next_frame c.args.self.now) Rest)) c.in-Err.ensures.err
+
+pub returns-in-Err-clause-after : goal.returns-in-Err-clause-after
+returns-in-Err-clause-after g c =
+    c.judge_any-in-Err.ensures.after ∙ ap (λ table. left_by table c.args.self.now (option_map_or Judge (next_frame c.args.self.now) Rest)) c.in-Err.ensures.err
+
+pub returns-in-Err-clause-memory : goal.returns-in-Err-clause-memory
+returns-in-Err-clause-memory g c =
+    c.judge_any-in-Err.ensures.memory ∙ ap (λ table. table_left table c.args.self.now (option_map_or Judge (next_frame c.args.self.now) Rest)) c.in-Err.ensures.err
+
+pub returns-in-Ok-clause-step : goal.returns-in-Ok-clause-step
+returns-in-Ok-clause-step g c =
     let s = state_of c.self.inside in
-    let running : is_open (state_of c.self.inside).start ≡ true = ap (λ (t : StreamState). is_open t.start) c.self.view_is ∙ c.requires.open in
-    let next : IsNext (expecting c.self.inside.start) c.self.inside.arrived.arrived (first_place_in c.self.inside.start) c.in-Some.fpdu =
-    subst (λ l. IsNext l c.self.inside.arrived.arrived (first_place_in c.self.inside.start) c.in-Some.fpdu) c.expecting-layout.ensures
-    (subst (λ b. IsNext c.expecting-layout.result c.self.inside.arrived.arrived b c.in-Some.fpdu) c.first_place_in-base.ensures.place c.in-Some.ensures.next) in
-    subst (λ f. Keeps (record s { front = Some f; receiving = c.land_frame.new.receiving })) (sym c.placed_frame-in-Ok-Response.ensures)
-    (keeps_judged s c.args.memory.now c.in-Some.fpdu c.land_frame.new.receiving c.in-Ok-Response.field-0 running next (sym c.land_frame.ensures.landed ∙ c.in-Ok-Response.is) (subst IsPlacing (sym c.in-Ok-Response.field-0-is) tt) c.in-Ok-Response.ensures.receiving c.self.invariant)
+    let table = c.args.memory.now in
+    let frame = frame_by c.in-Some.fpdu in
+    let next = next_is s c.expecting-layout.result c.first_place_in-base.result c.start_of-start.result c.floor-2.result (Some (frame_by c.in-Some.fpdu)) c.expecting-layout.ensures c.first_place_in-base.ensures.place c.floor-2.ensures.floor c.start_of-start.ensures c.in-Some.ensures.frame in
+    let ok : verdict (standing table s) frame ≡ Ok (landings.Write c.in-Ok.placed) = sym (c.in-Ok.ensures.landed (standing table s) refl refl) in
+    c.placed_step.ensures ∙ ap judged_step (sym ok)
+    ∙ ap (λ o. step_of table s (option_map_or Judge o Rest)) (sym next) ∙ ap (λ t. step_of table t (option_map_or Judge (next_frame t) Rest)) c.self.view_is
 
-pub invariant_of-self-in-Ok-Send : goal.invariant_of-self-in-Ok-Send
-invariant_of-self-in-Ok-Send g c =
+pub returns-in-Ok-clause-after : goal.returns-in-Ok-clause-after
+returns-in-Ok-clause-after g c =
     let s = state_of c.self.inside in
-    let running : is_open (state_of c.self.inside).start ≡ true = ap (λ (t : StreamState). is_open t.start) c.self.view_is ∙ c.requires.open in
-    let next : IsNext (expecting c.self.inside.start) c.self.inside.arrived.arrived (first_place_in c.self.inside.start) c.in-Some.fpdu =
-    subst (λ l. IsNext l c.self.inside.arrived.arrived (first_place_in c.self.inside.start) c.in-Some.fpdu) c.expecting-layout.ensures
-    (subst (λ b. IsNext c.expecting-layout.result c.self.inside.arrived.arrived b c.in-Some.fpdu) c.first_place_in-base.ensures.place c.in-Some.ensures.next) in
-    subst (λ f. Keeps (record s { front = Some f; receiving = c.land_frame.new.receiving })) (sym c.placed_frame-in-Ok-Send.ensures)
-    (keeps_judged s c.args.memory.now c.in-Some.fpdu c.land_frame.new.receiving c.in-Ok-Send.field-0 running next (sym c.land_frame.ensures.landed ∙ c.in-Ok-Send.is) (subst IsPlacing (sym c.in-Ok-Send.field-0-is) tt) c.in-Ok-Send.ensures.receiving c.self.invariant)
+    let table = c.args.memory.now in
+    let frame = frame_by c.in-Some.fpdu in
+    let next = next_is s c.expecting-layout.result c.first_place_in-base.result c.start_of-start.result c.floor-2.result (Some (frame_by c.in-Some.fpdu)) c.expecting-layout.ensures c.first_place_in-base.ensures.place c.floor-2.ensures.floor c.start_of-start.ensures c.in-Some.ensures.frame in
+    let ok : verdict (standing table s) frame ≡ Ok (landings.Write c.in-Ok.placed) = sym (c.in-Ok.ensures.landed (standing table s) refl refl) in
+    ap (λ f. record s { front = f }) c.keep_write.ensures ∙ ap (after_judging s frame) (sym ok)
+    ∙ ap (λ o. left_by table s (option_map_or Judge o Rest)) (sym next) ∙ ap (λ t. left_by table t (option_map_or Judge (next_frame t) Rest)) c.self.view_is
 
-pub take_up-requires-clause-stands : goal.take_up-requires-clause-stands
-take_up-requires-clause-stands g c =
+pub returns-in-Ok-clause-memory : goal.returns-in-Ok-clause-memory
+returns-in-Ok-clause-memory g c =
     let s = state_of c.self.inside in
-    let next : IsNext (expecting c.self.inside.start) c.self.inside.arrived.arrived (first_place_in c.self.inside.start) c.in-Some.fpdu =
-    subst (λ l. IsNext l c.self.inside.arrived.arrived (first_place_in c.self.inside.start) c.in-Some.fpdu) c.expecting-layout.ensures
-    (subst (λ b. IsNext c.expecting-layout.result c.self.inside.arrived.arrived b c.in-Some.fpdu) c.first_place_in-base.ensures.place c.in-Some.ensures.next) in
-    subst (Stands (record s { receiving = c.land_frame.new.receiving })) (sym c.placed_frame-frame.ensures) (stands_next (record s { receiving = c.land_frame.new.receiving }) c.in-Some.fpdu next)
-
-pub take_up-requires-clause-range : goal.take_up-requires-clause-range
-take_up-requires-clause-range g c =
-    let m = may_take (standing c.args.memory.now (state_of c.self.inside)) c.in-Some.fpdu c.in-Ok-Request.request (sym c.land_frame.ensures.landed ∙ c.in-Ok-Request.is ∙ ap Ok c.in-Ok-Request.field-0-is) in
-    m.range
+    let table = c.args.memory.now in
+    let frame = frame_by c.in-Some.fpdu in
+    let next = next_is s c.expecting-layout.result c.first_place_in-base.result c.start_of-start.result c.floor-2.result (Some (frame_by c.in-Some.fpdu)) c.expecting-layout.ensures c.first_place_in-base.ensures.place c.floor-2.ensures.floor c.start_of-start.ensures c.in-Some.ensures.frame in
+    let ok : verdict (standing table s) frame ≡ Ok (landings.Write c.in-Ok.placed) = sym (c.in-Ok.ensures.landed (standing table s) refl refl) in
+    c.in-Ok.ensures.memory ∙ ap (table_judged table frame) (sym ok)
+    ∙ ap (λ o. table_left table s (option_map_or Judge o Rest)) (sym next) ∙ ap (λ t. table_left table t (option_map_or Judge (next_frame t) Rest)) c.self.view_is

@@ -13,14 +13,14 @@ pub returns-then-awaits_frame-clause-step : goal.returns-then-awaits_frame-claus
 returns-then-awaits_frame-clause-step g c =
     let s = state_of c.self.inside in
     let table = c.args.memory.now in
-    let hears = task_hears s (sym c.in_default.ensures.done) c.if-self.false (sym c.awaits_frame.ensures ∙ c.if-awaits_frame.true) in
+    let hears = task_hears s (sym c.in_default.ensures.done) (sym c.has_ended.ensures ∙ c.if-has_ended.false) (sym c.awaits_frame.ensures ∙ c.if-awaits_frame.true) in
     c.hear.ensures.step table ∙ ap (step_of table s) (sym hears) ∙ ap (work_step table) c.self.view_is
 
 pub returns-then-awaits_frame-clause-after : goal.returns-then-awaits_frame-clause-after
 returns-then-awaits_frame-clause-after g c =
     let s = state_of c.self.inside in
     let table = c.args.memory.now in
-    let hears = task_hears s (sym c.in_default.ensures.done) c.if-self.false (sym c.awaits_frame.ensures ∙ c.if-awaits_frame.true) in
+    let hears = task_hears s (sym c.in_default.ensures.done) (sym c.has_ended.ensures ∙ c.if-has_ended.false) (sym c.awaits_frame.ensures ∙ c.if-awaits_frame.true) in
     c.hear.ensures.after table ∙ ap (λ q. left_by table (record s { queue = q }) Hear) c.in_default.ensures.after ∙ ap (left_by table s) (sym hears) ∙ ap (worked table) c.self.view_is
 
 pub returns-then-is_some-clause-step : goal.returns-then-is_some-clause-step
@@ -28,8 +28,8 @@ returns-then-is_some-clause-step g c =
     let s = state_of c.self.inside in
     let table = c.args.memory.now in
     let turns =
-    task_turns s (sym c.in_default.ensures.done) c.if-self.false (sym c.awaits_frame.ensures ∙ c.if-awaits_frame.false) (sym c.is_open.ensures ∙ c.if-not-is_open.false) (sym c.is_some.ensures ∙ c.if-is_some.true) in
-    c.turn.ensures.step table ∙ ap (λ q. step_of table (record s { queue = q }) (option_map_or Turn s.front Rest)) c.in_default.ensures.after ∙ ap (step_of table s) (sym turns) ∙ ap (work_step table) c.self.view_is
+    task_turns s (sym c.in_default.ensures.done) (sym c.has_ended.ensures ∙ c.if-has_ended.false) (sym c.awaits_frame.ensures ∙ c.if-awaits_frame.false) (sym c.is_open.ensures ∙ c.if-not-is_open.false) (sym c.is_some.ensures ∙ c.if-is_some.true) in
+    c.turn.ensures.step ∙ ap (λ q. step_of table (record s { queue = q }) (option_map_or Turn s.front Rest)) c.in_default.ensures.after ∙ ap (step_of table s) (sym turns) ∙ ap (work_step table) c.self.view_is
 
 pub invariant_of-self : goal.invariant_of-self
 invariant_of-self g c =
@@ -37,5 +37,5 @@ invariant_of-self g c =
     let after : c.next.new.self ≡ handed_from c.self.inside.queue (done_in c.self.inside.queue) = c.next.ensures.after ∙ ap (handed_from c.self.inside.queue) c.next.ensures.done in
     keeps_queue s c.next.new.self
     (subst (λ (q : Queue). q.sent.first < 2 ^ 64) (sym after) (first_handed s.queue (done_in s.queue) c.self.invariant.first))
-    (subst (λ (q : Queue). AreAwaited q.sent c.self.inside.reads) (sym after) (awaited_handed s.queue s.reads c.self.invariant.first c.self.invariant.awaited))
+    (λ runs. subst (λ (q : Queue). AreAwaited q.sent c.self.inside.reads) (sym after) (awaited_handed s.queue s.reads c.self.invariant.first (c.self.invariant.awaited runs)))
     c.self.invariant

@@ -1,4 +1,4 @@
-use Rattle.std.proofs.Common.{◌≡◌, true, Some, ap, sym, ◌∙◌, subst, arith}
+use Rattle.std.proofs.Common.{◌≡◌, true, Some, None, refl, ap, sym, ◌∙◌, subst, arith}
 use Rattle.std.specs.Prelude.{IfSome}
 use Rattle.iw_ranges.specs.Arrived.{in_order}
 use Rattle.iw_stream.specs.Fields.{state_of}
@@ -7,27 +7,29 @@ use Rattle.iw_stream.specs.declared.answer.Step.TheVariants as steps
 use Rattle.iw_stream.specs.Starting.{awaits_frame, first_place_in, progress_in, agreed_in, agreement_in}
 use Rattle.iw_stream.specs.Work.{heard_step}
 use Rattle.iw_stream.specs.Stream.{StreamState}
-use Rattle.iw_stream.proofs.Keeping.{reaches}
+use Rattle.iw_stream.specs.declared.ending.Ending.TheVariants.{Over}
+use Rattle.iw_stream.proofs.Keeping.{keeps_ended, reaches}
 use Rattle.iw_stream.proofs.Opening.{keeps_heard}
-use Rattle.iw_stream.proofs.stream.Stream.hear.Goals as goal
+use Rattle.iw_stream.proofs.stream.Stream.hear_apart.Goals as goal
 
 pub invariant_of-self : goal.invariant_of-self
 invariant_of-self g c =
     let s = state_of c.self.inside in
     let awaits : awaits_frame (state_of c.self.inside).start ≡ true = ap (λ (t : StreamState). awaits_frame t.start) c.self.view_is ∙ c.requires in
-    keeps_heard s (in_order s.arrived) c.hear.new.self c.hear.new.arrived.arrived s.ended awaits c.hear.ensures.after c.hear.ensures.arrived c.self.invariant
+    keeps_heard s (in_order s.arrived) c.hear.new.self c.hear.new.arrived.arrived awaits c.hear.ensures.after c.hear.ensures.arrived c.self.invariant
 
 pub invariant_of-self-in-Agreed : goal.invariant_of-self-in-Agreed
 invariant_of-self-in-Agreed g c =
     let s = state_of c.self.inside in
     let awaits : awaits_frame (state_of c.self.inside).start ≡ true = ap (λ (t : StreamState). awaits_frame t.start) c.self.view_is ∙ c.requires in
-    keeps_heard s (in_order s.arrived) c.hear-in-Agreed.new.self c.hear-in-Agreed.new.arrived.arrived s.ended awaits c.hear-in-Agreed.ensures.after c.hear-in-Agreed.ensures.arrived c.self.invariant
+    keeps_heard s (in_order s.arrived) c.hear-in-Agreed.new.self c.hear-in-Agreed.new.arrived.arrived awaits c.hear-in-Agreed.ensures.after c.hear-in-Agreed.ensures.arrived c.self.invariant
 
 pub invariant_of-self-in-Faulted : goal.invariant_of-self-in-Faulted
 invariant_of-self-in-Faulted g c =
     let s = state_of c.self.inside in
     let awaits : awaits_frame (state_of c.self.inside).start ≡ true = ap (λ (t : StreamState). awaits_frame t.start) c.self.view_is ∙ c.requires in
-    keeps_heard s (in_order s.arrived) c.hear-in-Faulted.new.self c.hear-in-Faulted.new.arrived.arrived true awaits c.hear-in-Faulted.ensures.after c.hear-in-Faulted.ensures.arrived c.self.invariant
+    keeps_ended (record s { start = c.hear-in-Faulted.new.self; arrived = c.hear-in-Faulted.new.arrived.arrived }) (Over None) refl (λ e. refl)
+    (keeps_heard s (in_order s.arrived) c.hear-in-Faulted.new.self c.hear-in-Faulted.new.arrived.arrived awaits c.hear-in-Faulted.ensures.after c.hear-in-Faulted.ensures.arrived c.self.invariant)
 
 pub returns-in-Agreed-clause-step : goal.returns-in-Agreed-clause-step
 returns-in-Agreed-clause-step g c = λ table.
