@@ -8,7 +8,7 @@ use Rattle.iw_events.specs.declared.call.Event.{Event}
 use Rattle.iw_events.specs.declared.act.Act.{Act}
 use Rattle.iw_events.specs.declared.act.Act.TheVariants.{Domain, Register, Deregister, Invalidate, Store, Open, Stream}
 use Rattle.iw_events.specs.declared.act.StreamAct.{StreamAct}
-use Rattle.iw_events.specs.declared.act.StreamAct.TheVariants.{Recv, Post, Emit, Deliver, Raw, Mulpdu, Accept, Reject, Work}
+use Rattle.iw_events.specs.declared.act.StreamAct.TheVariants.{Recv, Post, Emit, Deliver, Raw, Mulpdu, Accept, Reject, Work, Break}
 use Rattle.iw_events.specs.declared.act.Entry.{Entry}
 use Rattle.std.specs.Prelude.{ℕ}
 
@@ -22,6 +22,7 @@ stream_call_of (Mulpdu size refused) = stream_calls.Mulpdu size
 stream_call_of (Accept private answer) = stream_calls.Accept private
 stream_call_of (Reject private refused) = stream_calls.Reject private
 stream_call_of (Work seen) = stream_calls.Work
+stream_call_of Break = stream_calls.Break
 
 -- the call of an act
 abbrev pub call_of : Act (List ℕ) → Call (List ℕ)

@@ -45,6 +45,10 @@ pub enum Shown<O> {
 pub enum Seen<O> {
     /// The oldest posted message is finished.
     Done(Kind),
+    /// The stream has ended, and the oldest posted message, which is not finished, is given up.
+    Flushed(Kind),
+    /// The stream has ended, and the oldest receive buffer is handed back: all its octets, those included that were placed in it.
+    FlushedRecv(O),
     /// The peer's Request is complete: its private data.
     Asked {
         private: O,
@@ -83,6 +87,8 @@ pub enum Seen<O> {
         solicited: bool,
         invalidate: Option<Stag>,
     },
+    /// The peer's Terminate has ended the stream: the fault that it names (RFC 5040 4.8).
+    Terminated(Fault),
     /// The stream has ended by this fault.
     Fault(Fault),
     /// There is nothing to do.
@@ -126,6 +132,8 @@ pub enum StreamAct<O> {
         refused: Option<NotAsked>,
     },
     Work(Seen<O>),
+    /// The link broke: this call is never refused.
+    Break,
 }
 
 /// A call with its answer.

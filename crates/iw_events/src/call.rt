@@ -40,6 +40,8 @@ pub enum StreamCall<O> {
     Reject { private: O },
     /// Does one step of work.
     Work,
+    /// Breaks the link: the stream ends, and no Terminate is due.
+    Break,
 }
 
 /// A call at an end: of its memory, an opening, or a call of one of its streams.

@@ -6,11 +6,9 @@ use std::alloc::Global;
 use std::process::Abort;
 use std::test::Fail;
 
-const STAG: Stag = Stag {
-    domain: 1,
-    slot: 0,
-    key: 0,
-};
+fn stag() -> Stag {
+    Stag::new(1, 0, 0)
+}
 
 fn zeros(alloc: Global, n: usize) -> Result<Bytes, Fail> {
     Ok(Bytes::from_vec(Vec::from_elem(alloc, 0, n)?)?)
@@ -18,7 +16,7 @@ fn zeros(alloc: Global, n: usize) -> Result<Bytes, Fail> {
 
 fn write_of(octets: Bytes) -> Request<Bytes> {
     Request::Message(Message::Write {
-        stag: STAG,
+        stag: stag(),
         to: 0,
         octets,
     })
@@ -34,10 +32,10 @@ fn send_of(octets: Bytes) -> Request<Bytes> {
 
 fn read_of(size: u32) -> Request<Bytes> {
     Request::Read(ReadRequest {
-        sink: STAG,
+        sink: stag(),
         sink_to: 0,
         size,
-        source: STAG,
+        source: stag(),
         source_to: 0,
     })
 }

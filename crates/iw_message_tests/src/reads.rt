@@ -74,10 +74,10 @@ fn a_sink_is_looked_for(rt: HostRuntime) {
         } else {
             Err(Fault::OPERATION_UNEXPECTED)
         };
-        assert_eq!(rt; reads.check(head_of(SINK, to, false), n), outcome);
+        assert_eq!(rt; reads.check(&head_of(SINK, to, false), n), outcome);
     }
     assert_eq!(rt;
-        reads.check(head_of(0x01000001, 0, false), 0),
+        reads.check(&head_of(0x01000001, 0, false), 0),
         Err(Fault::OPERATION_UNEXPECTED)
     );
 }
@@ -99,7 +99,7 @@ fn a_response_has_its_turns(rt: HostRuntime) {
         (SINK, 2, 0, true, bounds),
     ];
     for (stag, to, n, last, outcome) in turns {
-        assert_eq!(rt; reads.turn(head_of(stag, to, last), n), outcome);
+        assert_eq!(rt; reads.turn(&head_of(stag, to, last), n), outcome);
     }
     assert!(rt; reads.is_empty());
 }
@@ -113,8 +113,8 @@ fn sixteen_are_outstanding_at_most(rt: HostRuntime) {
         }
     }
     assert_eq!(rt; reads.len(), 16);
-    assert_eq!(rt; reads.turn(head_of(SINK, 0, true), 0), Ok(Some(0)));
-    assert_eq!(rt; reads.turn(head_of(SINK, 0, true), 0), Ok(Some(1)));
+    assert_eq!(rt; reads.turn(&head_of(SINK, 0, true), 0), Ok(Some(0)));
+    assert_eq!(rt; reads.turn(&head_of(SINK, 0, true), 0), Ok(Some(1)));
 }
 
 // Regions of 120 octets: one of domain 1 that may be read, one that may not, and one of domain 2.
@@ -138,11 +138,10 @@ fn take(requests: &mut Requests, memory: &Memory, request: ReadRequest) -> Resul
     if requests.len() >= MAX_UNANSWERED {
         return Err("full".into());
     }
-    check_source(request, memory, 1)?;
-    requests.take(Asked {
-        header: ArrayVec::new(),
-        request,
-    });
+    check_source(&request, memory, 1)?;
+    let mut header = ArrayVec::new();
+    let _ = header.try_extend_from_slice(&[0x41; 18]);
+    requests.take(Asked { header, request });
     Ok(())
 }
 
@@ -151,7 +150,7 @@ fn fetched(requests: &mut Requests, memory: &Memory) -> Result<ResponsePart, Fai
     let Some(part) = requests.next_part(SIZE) else {
         return Err("all is answered".into());
     };
-    let octets = fetch(part, memory, 1)?;
+    let octets = fetch(&part, memory, 1)?;
     if octets.iter().any(|octet| *octet != 0x55) {
         return Err("other octets".into());
     }
@@ -176,9 +175,9 @@ fn sources_have_their_faults(rt: HostRuntime) -> Result<(), Fail> {
             kind: 1,
             code,
         };
-        let checked = check_source(reading(2, 0, source, source_to), &memory, 1);
+        let checked = check_source(&reading(2, 0, source, source_to), &memory, 1);
         assert_eq!(rt; checked, Err(fault));
-        let empty = check_source(reading(0, 0, source, source_to), &memory, 1);
+        let empty = check_source(&reading(0, 0, source, source_to), &memory, 1);
         assert_eq!(rt; empty, Ok(()));
     }
     Ok(())
@@ -202,7 +201,7 @@ fn the_source_is_checked_at_each_part(rt: HostRuntime) -> Result<(), Fail> {
     let last = part_of(115, 114, 5, true);
     assert!(rt; requests.next_part(SIZE) == Some(last));
     assert!(rt; memory.invalidate(last.stag).is_ok());
-    assert!(rt; fetch(last, &memory, 1) == Err(Fault::PROTECTION_INVALID_STAG));
+    assert!(rt; fetch(&last, &memory, 1) == Err(Fault::PROTECTION_INVALID_STAG));
     Ok(())
 }
 

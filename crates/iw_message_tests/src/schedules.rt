@@ -63,7 +63,9 @@ line 1: BadWord | a mulpdu 0 128 1
 line 1: BadWord | a raws 0 0 aa
 line 1: BadWord | a raw 0 0
 line 1: BadWord | a raw 0 0 aa bb
-line 1: BadWord | a break 0
+line 1: BadWord | a break
+line 1: BadWord | a break 0 0
+line 1: BadWord | a breaks 0
 line 1: BadWord | a open 0 1 Initiator - -
 line 1: BadWord | a open 0 1 responders - -
 line 1: BadWord | a open 0 1 opener x 00*513
@@ -71,8 +73,8 @@ line 1: BadOctets | a open 0 1 initiator x 00*513
 line 1: BadWord | a open 0 1 preset
 line 1: BadWord | a open 0 1 preset -
 line 1: BadWord | a open 0 1 preset - - -
-line 1: BadWord | a send 0 solicited - aa
-line 1: BadWord | a send 0 both 01000000 aa
+line 1: BadWord | a send 0 silent - aa
+line 1: BadWord | a send 0 Both 01000000 aa
 line 1: BadWord | a send 0 plain - aa bb
 line 1: BadWord | a emit 0 3 3
 line 1: BadWord | a deliver 0 0
@@ -99,6 +101,9 @@ line 1: BadNumber | a open 0 256 initiator - -
 line 1: BadNumber | a recv 0 20000001
 line 1: BadNumber | a recv 0 -
 line 1: BadNumber | a send 0 plain 01000000 aa
+line 1: BadNumber | a send 0 solicited 01000000 aa
+line 1: BadNumber | a send 0 invalidate - aa
+line 1: BadNumber | a send 0 both - aa
 line 1: BadNumber | a send x solicited - aa
 line 1: BadNumber | a write 0 0x000000 0 aa
 line 1: BadNumber | a write 0 01000000 x aa

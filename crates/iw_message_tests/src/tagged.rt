@@ -64,10 +64,15 @@ fn faults_have_their_numbers(rt: HostRuntime) -> Result<(), Fail> {
         (0x01000100, 0, 0, 1, 2),
     ];
     for (stag, to, layer, kind, code) in faults {
-        let head = head_of(stag, to);
         let fault = Fault { layer, kind, code };
-        assert_eq!(rt; check(head, 2, &memory, 1, Right::Write), Err(fault));
-        assert_eq!(rt; check(head, 0, &memory, 1, Right::Write), Ok(()));
+        assert_eq!(rt;
+            check(head_of(stag, to), 2, &memory, 1, Right::Write),
+            Err(fault)
+        );
+        assert_eq!(rt;
+            check(head_of(stag, to), 0, &memory, 1, Right::Write),
+            Ok(())
+        );
     }
     Ok(())
 }

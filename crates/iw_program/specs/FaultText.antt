@@ -2,8 +2,8 @@
 use Rattle.std.specs.Prelude.{ℕ, List, ◌++◌, codes}
 use Rattle.std.specs.Fmt.{decimal}
 use Rattle.iw_schedules.specs.FaultText as schedules
-use Rattle.iw_world.specs.declared.fault.WorldFault.{WorldFault}
-use Rattle.iw_world.specs.declared.fault.WorldFault.TheVariants as worlds
+use Rattle.iw_laws.specs.declared.fault.WorldFault.{WorldFault}
+use Rattle.iw_laws.specs.declared.fault.WorldFault.TheVariants as worlds
 use Rattle.iw_program.specs.declared.fault.Refusal.{Refusal}
 use Rattle.iw_program.specs.declared.fault.Refusal.TheVariants.{Schedule, World, NoMemory}
 use Rattle.iw_program.specs.declared.fault.ReplayFault.{ReplayFault}

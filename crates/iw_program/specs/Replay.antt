@@ -6,9 +6,9 @@ use Rattle.iw_events.specs.Events.{event_of}
 use Rattle.iw_schedules.specs.Schedule.{Events}
 use Rattle.iw_schedules.specs.Grammar.{IsSchedule, FirstFault}
 use Rattle.iw_schedules.specs.Trace.{trace_text}
-use Rattle.iw_world.specs.declared.fault.WorldFault.{WorldFault}
-use Rattle.iw_world.specs.Rules.{start, Follows}
-use Rattle.iw_world.specs.Stops.{StopsAt}
+use Rattle.iw_laws.specs.declared.fault.WorldFault.{WorldFault}
+use Rattle.iw_laws.specs.Rules.{start, Follows}
+use Rattle.iw_laws.specs.Stops.{StopsAt}
 use Rattle.iw_program.specs.declared.status.Status.{Status}
 use Rattle.iw_program.specs.declared.fault.Refusal.{Refusal}
 use Rattle.iw_program.specs.declared.fault.Refusal.TheVariants.{Schedule, World, NoMemory}

@@ -20,9 +20,11 @@ code_of Completed = 0
 code_of Failed = 1
 code_of Refused = 2
 
--- a step of work found a fault, or one in the peer's start-up frame
+-- a step of work found a fault, or one in the peer's start-up frame, or the peer's Terminate
 abbrev pub sees_fault : Seen (List ℕ) → Bool
 sees_fault (seen.Done kind) = false
+sees_fault (seen.Flushed kind) = false
+sees_fault (seen.FlushedRecv octets) = false
 sees_fault (seen.Asked private) = false
 sees_fault (seen.Opened agreed private) = false
 sees_fault (seen.Closed fault) = true
@@ -31,6 +33,7 @@ sees_fault (seen.Buffered msn mo len) = false
 sees_fault (seen.Requested size stag to) = false
 sees_fault seen.Passed = false
 sees_fault (seen.Received octets solicited invalidate) = false
+sees_fault (seen.Terminated fault) = true
 sees_fault (seen.Fault fault) = true
 sees_fault seen.Idle = false
 
@@ -51,6 +54,7 @@ stream_faults (stream_acts.Mulpdu size refused) = false
 stream_faults (stream_acts.Accept private answer) = false
 stream_faults (stream_acts.Reject private refused) = false
 stream_faults (stream_acts.Work seen) = sees_fault seen
+stream_faults stream_acts.Break = false
 
 abbrev pub act_faults : Act (List ℕ) → Bool
 act_faults (acts.Domain pd refused) = false
@@ -61,7 +65,7 @@ act_faults (acts.Store stag to octets refused) = false
 act_faults (acts.Open stream pd role options private refused) = false
 act_faults (acts.Stream stream act) = stream_faults act
 
--- a stream ended by a fault here
+-- a stream ended by a fault, here or at the peer
 abbrev pub is_fault : Entry (List ℕ) → Bool
 is_fault entry = act_faults entry.act
 

@@ -10,7 +10,7 @@ use std::alloc::Allocator;
 pub enum Status {
     /// It did what was asked.
     Completed,
-    /// A stream ended by a fault, also one of start-up, or input or output failed.
+    /// A stream ended by a fault, also one of start-up, or by the peer's Terminate, or input or output failed.
     Failed,
     /// What was asked was refused, and nothing was done.
     Refused,
@@ -29,13 +29,15 @@ impl Status {
     }
 }
 
-// Whether a step of work found a fault, or one in the peer's start-up frame.
+// Whether a step of work found a fault, or one in the peer's start-up frame, or the peer's Terminate.
 fn is_fault_seen<A: Allocator>(seen: &Seen<Bytes<A>>) -> bool
     ensures { result ≡ sees_fault seen.now }
 {
     match seen {
-        Seen::Closed(_) | Seen::Fault(_) => true,
+        Seen::Closed(_) | Seen::Terminated(_) | Seen::Fault(_) => true,
         Seen::Done(_)
+        | Seen::Flushed(_)
+        | Seen::FlushedRecv(_)
         | Seen::Asked { .. }
         | Seen::Opened { .. }
         | Seen::Placed { .. }
@@ -57,7 +59,7 @@ fn is_fault_shown<A: Allocator>(shown: &Shown<Bytes<A>>) -> bool
     }
 }
 
-// Whether a stream ended by a fault here, also one of start-up.
+// Whether a stream ended by a fault, also one of start-up, or by the peer's Terminate.
 fn is_fault_entry<A: Allocator>(entry: &Entry<Bytes<A>>) -> bool
     ensures { result ≡ is_fault entry.now }
 {

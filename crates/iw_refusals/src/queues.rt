@@ -6,19 +6,16 @@ use std::alloc::Allocator;
 use std::process::Abort;
 use std::test::Fail;
 
-const STAG: Stag = Stag {
-    domain: 1,
-    slot: 0,
-    key: 0,
-};
-
-const READ: ReadRequest = ReadRequest {
-    sink: STAG,
-    sink_to: 0,
-    size: 4,
-    source: STAG,
-    source_to: 0,
-};
+fn read() -> ReadRequest {
+    let stag = Stag::new(1, 0, 0);
+    ReadRequest {
+        sink: stag,
+        sink_to: 0,
+        size: 4,
+        source: stag,
+        source_to: 0,
+    }
+}
 
 const SIZE: usize = 1400;
 
@@ -39,7 +36,7 @@ fn posted<A: Allocator>(queue: &mut SendQueue<A>) -> Option<u64> {
     };
     let mut last = post(queue, Request::Message(send));
     for _ in 0..8 {
-        last = post(queue, Request::Read(READ));
+        last = post(queue, Request::Read(read()));
     }
     last
 }

@@ -21,7 +21,7 @@ enum Ending {
 }
 
 /// The schedules, by the names of their files, `NAME.schedule`. The trace of one that has a trace is in `NAME.trace`.
-const ROWS: [(&str, Ending); 46] = [
+const ROWS: [(&str, Ending); 60] = [
     ("first", Ending::Completed),
     ("one-write", Ending::Completed),
     ("empty-messages", Ending::Completed),
@@ -57,6 +57,18 @@ const ROWS: [(&str, Ending); 46] = [
     ("read-requests-that-are-denied", Ending::Faulted),
     ("a-request-too-many", Ending::Faulted),
     ("a-response-that-ends-too-early", Ending::Faulted),
+    ("a-send-that-no-buffer-takes", Ending::Faulted),
+    ("no-send-after-a-fault", Ending::Faulted),
+    ("solicited-and-invalidating-sends", Ending::Completed),
+    ("a-write-after-an-invalidation", Ending::Faulted),
+    ("an-invalidation-without-the-right", Ending::Faulted),
+    ("invalidations-that-are-denied", Ending::Faulted),
+    ("a-read-whose-source-was-invalidated", Ending::Faulted),
+    ("terminate", Ending::Faulted),
+    ("terminates-that-come", Ending::Faulted),
+    ("break", Ending::Completed),
+    ("a-break-in-the-middle-of-a-send", Ending::Completed),
+    ("a-broken-stream-hands-back", Ending::Completed),
     ("refusals-of-memory", Ending::Completed),
     ("refusals-of-streams", Ending::Faulted),
     ("options-out-of-order", Ending::Refused("line 1: BadOctets")),
@@ -65,6 +77,14 @@ const ROWS: [(&str, Ending); 46] = [
     ("number-too-large", Ending::Refused("line 1: BadNumber")),
     ("too-often", Ending::Refused("line 1: BadNumber")),
     ("odd-digits", Ending::Refused("line 1: BadOctets")),
+    (
+        "an-stag-where-the-kind-has-none",
+        Ending::Refused("line 1: BadNumber"),
+    ),
+    (
+        "no-stag-where-the-kind-has-one",
+        Ending::Refused("line 1: BadNumber"),
+    ),
     ("too-many-events", Ending::Refused("line 11: TooMany")),
     ("never-opened", Ending::Refused("event 1: NoSuchStream")),
     ("not-sent", Ending::Refused("event 5: NotSent")),

@@ -1,14 +1,12 @@
 -- The words behind an end are read as the grammar says, and no others are.
-use Rattle.std.proofs.Common.{◌≡◌, ◌⊎◌, inl, inr, ℕ, ◌-◌, ◌^◌, Bool, true, false, cond, List, [], ◌∷◌, replicate, Result, Ok, Err, refl, sym, ap, subst, ◌∙◌, codes}
-use Rattle.std.specs.Str.{bytes_eq}
-use Rattle.std.proofs.lemmas.Slice.Eq.{bytes_eq-Decides}
+use Rattle.std.proofs.Common.{◌≡◌, ◌⊎◌, inl, inr, ℕ, ◌-◌, ◌^◌, List, [], ◌∷◌, replicate, Result, Ok, Err, refl, sym, ap, subst, ◌∙◌, codes}
 use Rattle.iw_stream.specs.declared.answer.Role.{Role}
 use Rattle.iw_stream.specs.declared.answer.Role.TheVariants.{Preset, Initiator, Responder}
 use Rattle.iw_events.specs.declared.call.Call.{Call}
 use Rattle.iw_events.specs.declared.call.Call.TheVariants.{Domain, Register, Deregister, Invalidate, Store, Open, Stream}
 use Rattle.iw_octets.specs.declared.message.Message.TheVariants as messages
 use Rattle.iw_queues.specs.declared.request.Request.TheVariants as requests
-use Rattle.iw_events.specs.declared.call.StreamCall.TheVariants.{Recv, Deliver, Raw, Mulpdu, Accept, Reject}
+use Rattle.iw_events.specs.declared.call.StreamCall.TheVariants.{Recv, Deliver, Raw, Mulpdu, Accept, Reject, Break}
 use Rattle.iw_schedules.specs.declared.fault.FaultName.{FaultName}
 use Rattle.iw_schedules.specs.declared.kinds.TheConstants.{MAX_WORD_OCTETS}
 use Rattle.iw_schedules.specs.declared.words.CallWord.{CallWord}
@@ -17,15 +15,15 @@ use Rattle.iw_schedules.specs.declared.calls.Step.{Step}
 use Rattle.iw_schedules.specs.declared.calls.Step.TheVariants as steps
 use Rattle.iw_schedules.specs.Reading.{◌>>=◌}
 use Rattle.iw_schedules.specs.Kinds.{number_word, times_word, stag_word, octets_word, private_word}
-use Rattle.iw_schedules.specs.FirstPath.{kind_word, is_solicited, invalidated_word}
-use Rattle.iw_schedules.specs.FirstPath.IsKind.{plain}
+use Rattle.iw_schedules.specs.SendKind.{kind_word, is_solicited, invalidated_word}
 use Rattle.iw_schedules.specs.Rights.{rights_word}
 use Rattle.iw_schedules.specs.Options.{options_word}
-use Rattle.iw_schedules.specs.Words.{one_of, role_text, roles, role_word, call_text, call_words, call_word}
-use Rattle.iw_schedules.specs.Calls.{field, octet_number, long_number, size_number, times_at, step_call, one, posted, read_of, domain_at, register_at, deregister_at, invalidate_at, store_at, open_at, accept_at, reject_at, recv_at, send_at, write_at, read_at, steps_at, deliver_at, raw_at, mulpdu_at, behind, calls_at}
+use Rattle.iw_schedules.specs.Words.{role_text, roles, role_word, call_text, call_words, call_word}
+use Rattle.iw_schedules.specs.Calls.{field, octet_number, long_number, size_number, times_at, step_call, one, posted, read_of, domain_at, register_at, deregister_at, invalidate_at, store_at, open_at, accept_at, reject_at, recv_at, send_at, write_at, read_at, steps_at, deliver_at, raw_at, mulpdu_at, break_at, behind, calls_at}
 use Rattle.iw_schedules.specs.Grammar.{Word, IsOctetNumber, IsTimes, IsCall}
-use Rattle.iw_schedules.specs.Grammar.IsCall.{domain, register, deregister, invalidate, store, opening, accept, reject, recv, send, write, read, emit, emit_times, work, work_times, deliver, raw, mulpdu}
-use Rattle.iw_schedules.proofs.KindLaws.{bind_ok, okay, number_is, number_again, times_is, times_again, stag_is, stag_again, octets_is, octets_again, private_is, private_again, rights_is, rights_again, options_are, options_again, kind_is}
+use Rattle.iw_schedules.specs.Grammar.IsKind.{plain, solicited, invalidating, both as solicited_and_invalidating}
+use Rattle.iw_schedules.specs.Grammar.IsCall.{domain, register, deregister, invalidate, store, opening, accept, reject, recv, send, write, read, emit, emit_times, work, work_times, deliver, raw, mulpdu, breaking}
+use Rattle.iw_schedules.proofs.KindLaws.{bind_ok, okay, number_is, number_again, times_is, times_again, stag_is, stag_again, octets_is, octets_again, private_is, private_again, rights_is, rights_again, options_are, options_again, one_of_is, kind_is}
 
 abbrev Calls : Type 0
 Calls = List (Call (List ℕ))
@@ -67,17 +65,6 @@ finishes P calls made others e is =
     let same : made ≡ calls = ap (λ (p : Calls × List Word). p.0) pair in
     let none : others ≡ [] = ap (λ (p : Calls × List Word). p.1) pair in
     subst (λ ws. P ws calls) (sym none) (subst (P []) same is)
-
--- ---- fixed words
-
-one_of_told : {X : Type 0} (text : X → Word) (x : X) (xs : List X) (word : Word) (y : X) (b : Bool) → bytes_eq word (text x) ≡ b → (one_of text xs word ≡ Ok y → word ≡ text y) → cond b (Ok x) (one_of text xs word) ≡ Ok y → word ≡ text y
-one_of_told text x xs word y true same others e = let is : x ≡ y = cc in (bytes_eq-Decides word (text x)).0 same ∙ ap text is
-one_of_told text x xs word y false same others e = others e
-
--- the word of what was found by it
-pub one_of_is : {X : Type 0} (text : X → Word) (xs : List X) (word : Word) (y : X) → one_of text xs word ≡ Ok y → word ≡ text y
-one_of_is text [] word y e = absurd cc
-one_of_is text (x ∷ xs) word y e = one_of_told text x xs word y (bytes_eq word (text x)) refl (one_of_is text xs word y) e
 
 -- ---- each call
 
@@ -203,6 +190,12 @@ mulpdu_is words calls e =
     reads size_number behind_a _ (calls, []) (λ ws. IsCall (codes "mulpdu" ∷ a ∷ ws) calls) then_a (λ b size others is_b then_b.
     finishes (λ ws made. IsCall (codes "mulpdu" ∷ a ∷ b ∷ ws) made) calls (one (Stream stream (Mulpdu size))) others then_b (mulpdu (number_is 255 a stream is_a) (number_is (2 ^ 32 - 1) b size is_b))))
 
+pub break_is : (words : List Word) (calls : Calls) → break_at words ≡ Ok (calls, []) → IsCall (codes "break" ∷ words) calls
+unfolding break_at
+break_is words calls e =
+    reads octet_number words _ (calls, []) (λ ws. IsCall (codes "break" ∷ ws) calls) e (λ a stream others is_a then_a.
+    finishes (λ ws made. IsCall (codes "break" ∷ a ∷ ws) made) calls (one (Stream stream Break)) others then_a (breaking (number_is 255 a stream is_a)))
+
 -- ---- equal calls
 
 times_told : (words : List Word) (y : ℕ × List Word) → times_at words ≡ Ok y → ((words ≡ []) × (y.1 ≡ []) × (1 ≡ y.0)) ⊎ ((word : Word) × (words ≡ word ∷ y.1) × IsTimes word y.0)
@@ -264,6 +257,7 @@ behind_is named.Work words calls e = work_is words calls e
 behind_is named.Deliver words calls e = deliver_is words calls e
 behind_is named.Raw words calls e = raw_is words calls e
 behind_is named.Mulpdu words calls e = mulpdu_is words calls e
+behind_is named.Break words calls e = break_is words calls e
 
 pub calls_are : (words : List Word) (calls : Calls) → calls_at words ≡ Ok (calls, []) → IsCall words calls
 unfolding calls_at
@@ -279,7 +273,7 @@ role_again Initiator = refl
 role_again Responder = refl
 
 pub calls_again : (words : List Word) (calls : Calls) → IsCall words calls → calls_at words ≡ Ok (calls, [])
-unfolding calls_at call_word domain_at register_at deregister_at invalidate_at store_at open_at accept_at reject_at recv_at send_at write_at read_at steps_at deliver_at raw_at mulpdu_at
+unfolding calls_at call_word domain_at register_at deregister_at invalidate_at store_at open_at accept_at reject_at recv_at send_at write_at read_at steps_at deliver_at raw_at mulpdu_at break_at
 calls_again words calls (domain {a} {pd} p) = rw (number_again 255 a pd p) refl
 calls_again words calls (register {a} {b} {c} {d} {pd} {base} {rights} {octets} p q r s) = rw (number_again 255 a pd p, number_again (2 ^ 64 - 1) b base q, rights_again c rights r, octets_again d octets s) refl
 calls_again words calls (deregister {a} {stag} p) = rw (stag_again a stag p) refl
@@ -289,7 +283,10 @@ calls_again words calls (opening {a} {b} {d} {e} {stream} {pd} {role} {options} 
 calls_again words calls (accept {a} {b} {stream} {private} p q) = rw (number_again 255 a stream p, private_again b private q) refl
 calls_again words calls (reject {a} {b} {stream} {private} p q) = rw (number_again 255 a stream p, private_again b private q) refl
 calls_again words calls (recv {a} {b} {stream} {len} p q) = rw (number_again 255 a stream p, number_again MAX_WORD_OCTETS b len q) refl
-calls_again words calls (send {a} {b} {c} {d} {stream} {solicited} {invalidate} {octets} p plain r) = rw (number_again 255 a stream p, octets_again d octets r) refl
+calls_again words calls (send {a} {d} {stream} {octets} p plain r) = rw (number_again 255 a stream p, octets_again d octets r) refl
+calls_again words calls (send {a} {d} {stream} {octets} p solicited r) = rw (number_again 255 a stream p, octets_again d octets r) refl
+calls_again words calls (send {a} {d} {stream} {octets} p (invalidating {word} {stag} q) r) = rw (number_again 255 a stream p, stag_again word stag q, octets_again d octets r) refl
+calls_again words calls (send {a} {d} {stream} {octets} p (solicited_and_invalidating {word} {stag} q) r) = rw (number_again 255 a stream p, stag_again word stag q, octets_again d octets r) refl
 calls_again words calls (write {a} {b} {c} {d} {stream} {to} {stag} {octets} p q r s) = rw (number_again 255 a stream p, stag_again b stag q, number_again (2 ^ 64 - 1) c to r, octets_again d octets s) refl
 calls_again words calls (read {a} {b} {c} {d} {e} {f} {stream} {sink_to} {size} {source_to} {sink} {source} p q r s t u) =
     rw (number_again 255 a stream p, stag_again b sink q, number_again (2 ^ 64 - 1) c sink_to r, number_again (2 ^ 32 - 1) d size s, stag_again e source t, number_again (2 ^ 64 - 1) f source_to u) refl
@@ -300,3 +297,4 @@ calls_again words calls (work_times {a} {b} {stream} {n} p q) = rw (number_again
 calls_again words calls (deliver {a} {b} {c} {stream} {from} {len} p q r) = rw (number_again 255 a stream p, number_again (2 ^ 64 - 1) b from q, number_again (2 ^ 64 - 1) c len r) refl
 calls_again words calls (raw {a} {b} {c} {stream} {from} {octets} p q r) = rw (number_again 255 a stream p, number_again (2 ^ 64 - 1) b from q, octets_again c octets r) refl
 calls_again words calls (mulpdu {a} {b} {stream} {size} p q) = rw (number_again 255 a stream p, number_again (2 ^ 32 - 1) b size q) refl
+calls_again words calls (breaking {a} {stream} p) = rw (number_again 255 a stream p) refl

@@ -17,23 +17,24 @@ use Rattle.iw_octets.specs.declared.stag.Stag.{Stag}
 use Rattle.iw_octets.specs.Stag.{stag_at}
 use Rattle.iw_memory.specs.declared.rights.Rights.{Rights}
 use Rattle.iw_events.specs.declared.call.Options.{Options}
-use Rattle.iw_schedules.specs.declared.first_path.SendKind.{SendKind}
-use Rattle.iw_schedules.specs.declared.first_path.SendKind.TheVariants.{Plain}
+use Rattle.iw_schedules.specs.declared.send_kind.SendKind.{SendKind}
+use Rattle.iw_schedules.specs.declared.send_kind.SendKind.TheVariants.{Plain, Solicited, Invalidate, Both}
 use Rattle.iw_schedules.specs.declared.fault.FaultName.{FaultName}
-use Rattle.iw_schedules.specs.declared.fault.FaultName.TheVariants.{BadWord, BadNumber, BadOctets}
+use Rattle.iw_schedules.specs.declared.fault.FaultName.TheVariants.{BadNumber, BadOctets}
 use Rattle.iw_schedules.specs.declared.kinds.TheConstants.{MAX_WORD_OCTETS, MAX_TIMES}
 use Rattle.iw_schedules.specs.Reading.{◌>>=◌, or_fault}
 use Rattle.iw_schedules.specs.Pieces.{split_at_first}
 use Rattle.iw_schedules.specs.Kinds.{is_decimal, number_word, times_word, stag_word, hex_word, count_word, octets_word, private_word}
-use Rattle.iw_schedules.specs.FirstPath.{kind_word, is_solicited, invalidated_word, IsKind}
+use Rattle.iw_schedules.specs.Words.{one_of}
+use Rattle.iw_schedules.specs.SendKind.{send_text, send_kinds, kind_word, is_solicited, some_stag_word, invalidated_word}
 use Rattle.iw_schedules.specs.Letters.{letter_if, letter_at}
 use Rattle.iw_schedules.specs.Rights.{no_rights, letters_of, lettered, rights_word, IsRights}
 use Rattle.iw_schedules.specs.Rights.IsRights.{none_granted, granted}
 use Rattle.iw_schedules.specs.Options.{no_options, option_letters, optional, options_word, IsOptions}
 use Rattle.iw_schedules.specs.Options.IsOptions.{none_asked, asked}
-use Rattle.iw_schedules.specs.Grammar.{Word, IsNumber, IsTimes, IsHex, IsStag, IsOctets, IsPrivate}
+use Rattle.iw_schedules.specs.Grammar.{Word, IsNumber, IsTimes, IsHex, IsStag, IsOctets, IsPrivate, IsKind}
 use Rattle.iw_schedules.specs.Grammar.IsOctets.{none, once, repeated}
-use Rattle.iw_schedules.specs.FirstPath.IsKind.{plain}
+use Rattle.iw_schedules.specs.Grammar.IsKind.{plain, solicited, invalidating, both}
 
 -- ---- steps
 
@@ -341,15 +342,43 @@ pub options_again : (word : Word) (options : Options) → IsOptions word options
 options_again word all none_asked = refl
 options_again word all (asked {options} some) = asked_again options.markers options.crc some
 
--- ---- fixed words of the first path
+-- ---- fixed words
 
--- the only word that is read so
-fixed : {X : Type 0} (word text : Word) (b : Bool) (fault : FaultName) (x y : X) → bytes_eq word text ≡ b → cond b (Ok x) (Err fault) ≡ Ok y → (word ≡ text) × (x ≡ y)
-fixed word text true fault x y same e = ((bytes_eq-Decides word text).0 same, cc)
-fixed word text false fault x y same e = absurd cc
+one_of_told : {X : Type 0} (text : X → Word) (x : X) (xs : List X) (word : Word) (y : X) (b : Bool) → bytes_eq word (text x) ≡ b → (one_of text xs word ≡ Ok y → word ≡ text y) → cond b (Ok x) (one_of text xs word) ≡ Ok y → word ≡ text y
+one_of_told text x xs word y true same others e = let is : x ≡ y = cc in (bytes_eq-Decides word (text x)).0 same ∙ ap text is
+one_of_told text x xs word y false same others e = others e
+
+-- the word of what was found by it
+pub one_of_is : {X : Type 0} (text : X → Word) (xs : List X) (word : Word) (y : X) → one_of text xs word ≡ Ok y → word ≡ text y
+one_of_is text [] word y e = absurd cc
+one_of_is text (x ∷ xs) word y e = one_of_told text x xs word y (bytes_eq word (text x)) refl (one_of_is text xs word y) e
+
+-- ---- the kinds of Sends
+
+-- no STag
+no_stag_is : (word : Word) (b : Bool) (stag : Option Stag) → bytes_eq word (codes "-") ≡ b → cond b (Ok None) (Err BadNumber) ≡ Ok stag → (word ≡ codes "-") × (None ≡ stag)
+no_stag_is word true stag same e = ((bytes_eq-Decides word (codes "-")).0 same, cc)
+no_stag_is word false stag same e = absurd cc
+
+some_stag_is : (word : Word) (stag : Option Stag) → some_stag_word word ≡ Ok stag → (s : Stag) × IsStag word s × (Some s ≡ stag)
+some_stag_is word stag e =
+    let a = bind_ok (stag_word word) (λ s. Ok (Some s)) stag e in
+    (a.0, stag_is word a.0 a.1, cc (a.2))
+
+names_is : (kind : SendKind) (word : Word) (stag : Option Stag) → invalidated_word kind word ≡ Ok stag → IsKind (send_text kind) word (is_solicited kind) stag
+names_is Plain word stag e =
+    let n = no_stag_is word (bytes_eq word (codes "-")) stag refl e in
+    subst (λ w. IsKind (codes "plain") w false stag) (sym n.0) (subst (IsKind (codes "plain") (codes "-") false) n.1 plain)
+names_is Solicited word stag e =
+    let n = no_stag_is word (bytes_eq word (codes "-")) stag refl e in
+    subst (λ w. IsKind (codes "solicited") w true stag) (sym n.0) (subst (IsKind (codes "solicited") (codes "-") true) n.1 solicited)
+names_is Invalidate word stag e =
+    let s = some_stag_is word stag e in
+    subst (IsKind (codes "invalidate") word false) s.2 (invalidating s.1)
+names_is Both word stag e =
+    let s = some_stag_is word stag e in
+    subst (IsKind (codes "both") word true) s.2 (both s.1)
 
 pub kind_is : (word stag_word : Word) (kind : SendKind) (stag : Option Stag) → kind_word word ≡ Ok kind → invalidated_word kind stag_word ≡ Ok stag → IsKind word stag_word (is_solicited kind) stag
-kind_is word stag_word Plain stag k s =
-    let f = fixed word (codes "plain") (bytes_eq word (codes "plain")) BadWord Plain Plain refl k in
-    let g = fixed stag_word (codes "-") (bytes_eq stag_word (codes "-")) BadNumber None stag refl s in
-    subst (λ w. IsKind w stag_word false stag) (sym f.0) (subst (λ w. IsKind (codes "plain") w false stag) (sym g.0) (subst (λ o. IsKind (codes "plain") (codes "-") false o) g.1 plain))
+kind_is word stag_word kind stag k s =
+    subst (λ w. IsKind w stag_word (is_solicited kind) stag) (sym (one_of_is send_text send_kinds word kind k)) (names_is kind stag_word stag s)

@@ -7,3 +7,5 @@ pub mod KindLaws
 pub mod CallLaws
 pub mod ScheduleLaws
 pub mod PieceLaws
+pub mod Alike
+pub mod KnownLaws

@@ -18,8 +18,8 @@ use Rattle.iw_schedules.specs.Schedule.{Events, is_skipped, ended, event_at, eve
 use Rattle.iw_schedules.specs.Grammar.{Word, IsLine, AreLines, IsSchedule, IsFirstFault, FirstFault}
 use Rattle.iw_schedules.specs.Grammar.AreLines.{no_lines, skipped, spoken}
 use Rattle.iw_schedules.proofs.InPieces.{pieces-split}
-use Rattle.iw_schedules.proofs.KindLaws.{bind_ok, okay}
-use Rattle.iw_schedules.proofs.CallLaws.{field_is, one_of_is, calls_are, calls_again}
+use Rattle.iw_schedules.proofs.KindLaws.{bind_ok, okay, one_of_is}
+use Rattle.iw_schedules.proofs.CallLaws.{field_is, calls_are, calls_again}
 
 -- ---- lines
 

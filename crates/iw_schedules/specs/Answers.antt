@@ -1,5 +1,5 @@
 -- The words in which calls are answered.
-use Rattle.std.specs.Prelude.{ℕ, Bool, true, false, List, [], ◌∷◌, ◌++◌, Option, Some, None, Result, Ok, Err, codes}
+use Rattle.std.specs.Prelude.{ℕ, Bool, List, [], ◌∷◌, ◌++◌, Option, Some, None, Result, Ok, Err, codes}
 use Rattle.std.specs.Fmt.{decimal}
 use Rattle.hex.specs.Hex.{encode_lower}
 use Rattle.iw_octets.specs.declared.stag.Stag.{Stag}
@@ -34,6 +34,7 @@ use Rattle.iw_events.specs.declared.act.Shown.TheVariants as shown
 use Rattle.iw_events.specs.declared.act.Seen.{Seen}
 use Rattle.iw_events.specs.declared.act.Seen.TheVariants as seen
 use Rattle.iw_schedules.specs.Letters.{letter_if}
+use Rattle.iw_schedules.specs.SendKind.{send_text, kind_of}
 
 abbrev pub Words : Type 0
 Words = List (List ℕ)
@@ -130,13 +131,6 @@ right_text rights.Write = codes "write"
 right_text rights.Read = codes "read"
 right_text rights.Sink = codes "sink"
 
--- the kind of a Send: whether it is solicited, and whether it invalidates a region
-abbrev pub send_text : Bool → Option Stag → List ℕ
-send_text false None = codes "plain"
-send_text true None = codes "solicited"
-send_text false (Some stag) = codes "invalidate"
-send_text true (Some stag) = codes "both"
-
 abbrev pub delivery_text : Delivery → List ℕ
 delivery_text deliveries.Kept = codes "kept"
 delivery_text deliveries.Dropped = codes "dropped"
@@ -156,8 +150,15 @@ abbrev pub accepted_words : Result Agreed NotAsked → Words
 accepted_words (Ok agreed) = codes "ok" ∷ agreed_text agreed ∷ []
 accepted_words (Err refusal) = refused not_asked
 
+-- a word, then the layer, type and code of a fault
+abbrev pub with_fault : List ℕ → Fault → Words
+with_fault word fault = word ∷ decimal fault.layer ∷ decimal fault.kind ∷ decimal fault.code ∷ []
+
 abbrev pub fault_words : Fault → Words
-fault_words fault = codes "fault" ∷ decimal fault.layer ∷ decimal fault.kind ∷ decimal fault.code ∷ []
+fault_words fault = with_fault (codes "fault") fault
+
+abbrev pub terminated_words : Fault → Words
+terminated_words fault = with_fault (codes "terminated") fault
 
 -- a frame of the response to a Read, and the octets of a region that it carries
 abbrev pub fetched_words : ℕ → List ℕ → Stag → ℕ → List ℕ → Words
@@ -173,6 +174,13 @@ shown_words shown.Nothing = codes "nothing" ∷ []
 abbrev pub done_words : Kind → Words
 done_words kind = codes "done" ∷ kind_text kind ∷ []
 
+abbrev pub flushed_words : Kind → Words
+flushed_words kind = codes "flushed" ∷ kind_text kind ∷ []
+
+-- a receive buffer that is handed back
+abbrev pub flushed_recv_words : List ℕ → Words
+flushed_recv_words octets = codes "flushed" ∷ codes "recv" ∷ octets_text octets ∷ []
+
 abbrev pub placed_words : Right → Stag → ℕ → List ℕ → Words
 placed_words right stag to octets = codes "placed" ∷ right_text right ∷ stag_text stag ∷ decimal to ∷ octets_text octets ∷ []
 
@@ -183,7 +191,7 @@ abbrev pub requested_words : ℕ → Stag → ℕ → Words
 requested_words size stag to = codes "requested" ∷ decimal size ∷ stag_text stag ∷ decimal to ∷ []
 
 abbrev pub received_words : List ℕ → Bool → Option Stag → Words
-received_words octets solicited invalidate = codes "received" ∷ octets_text octets ∷ send_text solicited invalidate ∷ optional_stag_text invalidate ∷ []
+received_words octets solicited invalidate = codes "received" ∷ octets_text octets ∷ send_text (kind_of solicited invalidate) ∷ optional_stag_text invalidate ∷ []
 
 abbrev pub asked_words : List ℕ → Words
 asked_words private = codes "asked" ∷ octets_text private ∷ []
@@ -193,6 +201,8 @@ opened_words agreed private = codes "opened" ∷ agreed_text agreed ∷ octets_t
 
 abbrev pub seen_words : Seen (List ℕ) → Words
 seen_words (seen.Done kind) = done_words kind
+seen_words (seen.Flushed kind) = flushed_words kind
+seen_words (seen.FlushedRecv octets) = flushed_recv_words octets
 seen_words (seen.Asked private) = asked_words private
 seen_words (seen.Opened agreed private) = opened_words agreed private
 seen_words (seen.Closed fault) = numbered (codes "closed") (startup_fault fault)
@@ -201,5 +211,6 @@ seen_words (seen.Buffered msn mo len) = buffered_words msn mo len
 seen_words (seen.Requested size stag to) = requested_words size stag to
 seen_words seen.Passed = codes "passed" ∷ []
 seen_words (seen.Received octets solicited invalidate) = received_words octets solicited invalidate
+seen_words (seen.Terminated fault) = terminated_words fault
 seen_words (seen.Fault fault) = fault_words fault
 seen_words seen.Idle = codes "idle" ∷ []

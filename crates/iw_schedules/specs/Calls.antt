@@ -8,7 +8,7 @@ use Rattle.iw_queues.specs.declared.request.Request.TheVariants as requests
 use Rattle.iw_events.specs.declared.call.Call.{Call}
 use Rattle.iw_events.specs.declared.call.Call.TheVariants.{Domain, Register, Deregister, Invalidate, Store, Open, Stream}
 use Rattle.iw_events.specs.declared.call.StreamCall.{StreamCall}
-use Rattle.iw_events.specs.declared.call.StreamCall.TheVariants.{Recv, Post, Emit, Deliver, Raw, Mulpdu, Accept, Reject, Work}
+use Rattle.iw_events.specs.declared.call.StreamCall.TheVariants.{Recv, Post, Emit, Deliver, Raw, Mulpdu, Accept, Reject, Work, Break}
 use Rattle.iw_schedules.specs.declared.fault.FaultName.{FaultName}
 use Rattle.iw_schedules.specs.declared.fault.FaultName.TheVariants.{BadWord}
 use Rattle.iw_schedules.specs.declared.kinds.TheConstants.{MAX_WORD_OCTETS}
@@ -20,7 +20,7 @@ use Rattle.iw_schedules.specs.declared.calls.Step.{Step}
 use Rattle.iw_schedules.specs.declared.calls.Step.TheVariants as steps
 use Rattle.iw_schedules.specs.Reading.{◌>>=◌}
 use Rattle.iw_schedules.specs.Kinds.{number_word, times_word, stag_word, octets_word, private_word}
-use Rattle.iw_schedules.specs.FirstPath.{kind_word, is_solicited, invalidated_word}
+use Rattle.iw_schedules.specs.SendKind.{kind_word, is_solicited, invalidated_word}
 use Rattle.iw_schedules.specs.Rights.{rights_word}
 use Rattle.iw_schedules.specs.Options.{options_word}
 use Rattle.iw_schedules.specs.Words.{role_word, call_word}
@@ -179,6 +179,11 @@ mulpdu_at words = do
   size ← field size_number stream.1
   Ok (one (Stream stream.0 (Mulpdu size.0)), size.1)
 
+unfoldable pub break_at : List (List ℕ) → Taken (List (Call (List ℕ)))
+break_at words = do
+  stream ← field octet_number words
+  Ok (one (Stream stream.0 Break), stream.1)
+
 -- what stands behind each word that names a call
 abbrev pub behind : CallWord → List (List ℕ) → Taken (List (Call (List ℕ)))
 behind named.Domain words = domain_at words
@@ -198,6 +203,7 @@ behind named.Work words = steps_at steps.Work words
 behind named.Deliver words = deliver_at words
 behind named.Raw words = raw_at words
 behind named.Mulpdu words = mulpdu_at words
+behind named.Break words = break_at words
 
 unfoldable pub calls_at : List (List ℕ) → Taken (List (Call (List ℕ)))
 calls_at words = do

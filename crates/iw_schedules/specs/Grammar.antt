@@ -1,5 +1,5 @@
 -- The grammar of schedules, apart from how they are read: which texts stand for which events.
-use Rattle.std.specs.Prelude.{◌≡◌, ℕ, ◌+◌, ◌*◌, ◌-◌, ◌^◌, ◌<◌, ◌≤◌, Bool, true, List, [], ◌∷◌, ◌++◌, length, map, replicate, Option, Ok, Err, codes}
+use Rattle.std.specs.Prelude.{◌≡◌, ℕ, ◌+◌, ◌*◌, ◌-◌, ◌^◌, ◌<◌, ◌≤◌, Bool, true, false, List, [], ◌∷◌, ◌++◌, length, map, replicate, Option, Some, None, Ok, Err, codes}
 use Rattle.std.specs.List.{repeat}
 use Rattle.std.specs.Str.Parse.{digits_value}
 use Rattle.hex.specs.Hex.{decode_of}
@@ -14,7 +14,7 @@ use Rattle.iw_stream.specs.declared.answer.Role.{Role}
 use Rattle.iw_events.specs.declared.call.Options.{Options}
 use Rattle.iw_events.specs.declared.call.Call.{Call}
 use Rattle.iw_events.specs.declared.call.Call.TheVariants.{Domain, Register, Deregister, Invalidate, Store, Open, Stream}
-use Rattle.iw_events.specs.declared.call.StreamCall.TheVariants.{Recv, Emit, Deliver, Raw, Mulpdu, Accept, Reject, Work}
+use Rattle.iw_events.specs.declared.call.StreamCall.TheVariants.{Recv, Emit, Deliver, Raw, Mulpdu, Accept, Reject, Work, Break}
 use Rattle.iw_schedules.specs.declared.fault.FaultName.{FaultName}
 use Rattle.iw_schedules.specs.declared.fault.ScheduleFault.{ScheduleFault}
 use Rattle.iw_schedules.specs.declared.fault.ScheduleFault.TheVariants.{Line, NoMemory}
@@ -22,7 +22,6 @@ use Rattle.iw_schedules.specs.declared.kinds.TheConstants.{MAX_WORD_OCTETS, MAX_
 use Rattle.iw_schedules.specs.declared.schedule.TheConstants.{MAX_EVENTS}
 use Rattle.iw_schedules.specs.Pieces.{lines, words}
 use Rattle.iw_schedules.specs.Kinds.{is_decimal}
-use Rattle.iw_schedules.specs.FirstPath.{IsKind}
 use Rattle.iw_schedules.specs.Rights.{IsRights}
 use Rattle.iw_schedules.specs.Options.{IsOptions}
 use Rattle.iw_schedules.specs.Words.{end_text, role_text}
@@ -76,6 +75,13 @@ pub record IsPrivate (word : Word) (octets : List ℕ) : Type 0 where
   pub digits : IsOctets word octets
   pub few : length octets ≤ MAX_PRIVATE
 
+-- the kind of a Send and the word after it: whether the Send is solicited, and the STag that it invalidates
+pub data IsKind : Word → Word → Bool → Option Stag → Type 0 where
+  plain : IsKind (codes "plain") (codes "-") false None
+  solicited : IsKind (codes "solicited") (codes "-") true None
+  invalidating : {word : Word} {stag : Stag} → IsStag word stag → IsKind (codes "invalidate") word false (Some stag)
+  both : {word : Word} {stag : Stag} → IsStag word stag → IsKind (codes "both") word true (Some stag)
+
 -- ---- lines
 
 -- which calls these words stand for
@@ -109,6 +115,7 @@ pub data IsCall : List Word → List (Call (List ℕ)) → Type 0 where
   raw : {a b c : Word} {stream from : ℕ} {octets : List ℕ} → IsOctetNumber a stream → IsLongNumber b from → IsOctets c octets
       → IsCall (codes "raw" ∷ a ∷ b ∷ c ∷ []) (one (Stream stream (Raw from octets)))
   mulpdu : {a b : Word} {stream size : ℕ} → IsOctetNumber a stream → IsSize b size → IsCall (codes "mulpdu" ∷ a ∷ b ∷ []) (one (Stream stream (Mulpdu size)))
+  breaking : {a : Word} {stream : ℕ} → IsOctetNumber a stream → IsCall (codes "break" ∷ a ∷ []) (one (Stream stream Break))
 
 -- an end, and calls at it
 pub record IsLine (line : List ℕ) (events : Events) : Type 0 where

@@ -5,8 +5,8 @@ pub mod Letters
 pub mod Rights
 pub mod Options
 pub mod Words
-pub mod FirstPath
 pub mod Kinds
+pub mod SendKind
 pub mod Calls
 pub mod Schedule
 pub mod Answers
@@ -15,3 +15,4 @@ pub mod Appended
 pub mod Shown
 pub mod Grammar
 pub mod Laws
+pub mod Known

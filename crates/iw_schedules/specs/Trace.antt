@@ -12,7 +12,7 @@ use Rattle.iw_memory.specs.declared.refusal.NoRegion.{NoRegion}
 use Rattle.iw_events.specs.declared.act.Act.{Act}
 use Rattle.iw_events.specs.declared.act.Act.TheVariants.{Domain, Register, Deregister, Invalidate, Store, Open, Stream}
 use Rattle.iw_events.specs.declared.act.StreamAct.{StreamAct}
-use Rattle.iw_events.specs.declared.act.StreamAct.TheVariants.{Recv, Post, Emit, Deliver, Raw, Mulpdu, Accept, Reject, Work}
+use Rattle.iw_events.specs.declared.act.StreamAct.TheVariants.{Recv, Post, Emit, Deliver, Raw, Mulpdu, Accept, Reject, Work, Break}
 use Rattle.iw_events.specs.declared.act.Entry.{Entry}
 use Rattle.iw_schedules.specs.declared.words.CallWord.{CallWord}
 use Rattle.iw_schedules.specs.declared.words.CallWord.TheVariants as named
@@ -52,6 +52,7 @@ stream_word (Mulpdu size refusal) = named.Mulpdu
 stream_word (Accept private answer) = named.Accept
 stream_word (Reject private refusal) = named.Reject
 stream_word (Work seen) = named.Work
+stream_word Break = named.Break
 
 abbrev pub stream_answer : StreamAct (List ℕ) → Words
 stream_answer (Recv len refusal) = ok_or_refused (option_map recv_refusal refusal)
@@ -63,6 +64,7 @@ stream_answer (Mulpdu size refusal) = ok_or_refused (option_map size_refusal ref
 stream_answer (Accept private answer) = accepted_words answer
 stream_answer (Reject private refusal) = ok_or_refused (option_map (λ missing. not_asked) refusal)
 stream_answer (Work seen) = seen_words seen
+stream_answer Break = codes "ok" ∷ []
 
 abbrev pub stream_words : ℕ → StreamAct (List ℕ) → Words
 stream_words stream act = call_text (stream_word act) ∷ decimal stream ∷ stream_answer act

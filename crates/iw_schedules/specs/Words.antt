@@ -8,7 +8,7 @@ use Rattle.iw_stream.specs.declared.answer.Role.TheVariants.{Preset, Initiator, 
 use Rattle.iw_schedules.specs.declared.fault.FaultName.{FaultName}
 use Rattle.iw_schedules.specs.declared.fault.FaultName.TheVariants.{BadWord}
 use Rattle.iw_schedules.specs.declared.words.CallWord.{CallWord}
-use Rattle.iw_schedules.specs.declared.words.CallWord.TheVariants.{Domain, Register, Deregister, Invalidate, Store, Open, Accept, Reject, Recv, Send, Write, Read, Emit, Work, Deliver, Raw, Mulpdu}
+use Rattle.iw_schedules.specs.declared.words.CallWord.TheVariants.{Domain, Register, Deregister, Invalidate, Store, Open, Accept, Reject, Recv, Send, Write, Read, Emit, Work, Deliver, Raw, Mulpdu, Break}
 
 -- the one of these that has this text
 abbrev pub one_of : {X : Type 0} → (X → List ℕ) → List X → List ℕ → Result X FaultName
@@ -55,9 +55,10 @@ call_text Work = codes "work"
 call_text Deliver = codes "deliver"
 call_text Raw = codes "raw"
 call_text Mulpdu = codes "mulpdu"
+call_text Break = codes "break"
 
 abbrev pub call_words : List CallWord
-call_words = Domain ∷ Register ∷ Deregister ∷ Invalidate ∷ Store ∷ Open ∷ Accept ∷ Reject ∷ Recv ∷ Send ∷ Write ∷ Read ∷ Emit ∷ Work ∷ Deliver ∷ Raw ∷ Mulpdu ∷ []
+call_words = Domain ∷ Register ∷ Deregister ∷ Invalidate ∷ Store ∷ Open ∷ Accept ∷ Reject ∷ Recv ∷ Send ∷ Write ∷ Read ∷ Emit ∷ Work ∷ Deliver ∷ Raw ∷ Mulpdu ∷ Break ∷ []
 
 unfoldable pub call_word : List ℕ → Result CallWord FaultName
 call_word word = one_of call_text call_words word

@@ -3,17 +3,17 @@
 ghost use Rattle.std.specs.Prelude.{◌≡◌, length};
 ghost use Rattle.iw_schedules.specs.Reading.{Gives};
 ghost use Rattle.iw_schedules.specs.Kinds.{number_word, stag_word, octets_word, private_word};
-ghost use Rattle.iw_schedules.specs.FirstPath.{kind_word, invalidated_word};
+ghost use Rattle.iw_schedules.specs.SendKind.{kind_word, invalidated_word};
 ghost use Rattle.iw_schedules.specs.Rights.{rights_word};
 ghost use Rattle.iw_schedules.specs.Options.{options_word};
 ghost use Rattle.iw_schedules.specs.Words.{role_word, call_word};
-ghost use Rattle.iw_schedules.specs.Calls.{step_call, calls_of, next_word, field, octet_number, long_number, size_number, times_at, domain_at, register_at, deregister_at, invalidate_at, store_at, open_at, accept_at, reject_at, recv_at, send_at, write_at, read_at, steps_at, deliver_at, raw_at, mulpdu_at, behind, calls_at};
+ghost use Rattle.iw_schedules.specs.Calls.{step_call, calls_of, next_word, field, octet_number, long_number, size_number, times_at, domain_at, register_at, deregister_at, invalidate_at, store_at, open_at, accept_at, reject_at, recv_at, send_at, write_at, read_at, steps_at, deliver_at, raw_at, mulpdu_at, break_at, behind, calls_at};
 
 use crate::fault::{FaultName, ReadError};
-use crate::first_path::SendKind;
 use crate::options::read_options;
 use crate::pieces::Pieces;
 use crate::rights::read_rights;
+use crate::send_kind::SendKind;
 use crate::words::CallWord;
 use crate::{kinds, words};
 use bytes::Bytes;
@@ -354,6 +354,15 @@ fn mulpdu<A: Allocator>(words: &mut Pieces<'_>) -> Result<Calls<Bytes<A>>, ReadE
     Ok(Calls::One(Call::Stream { stream, call }))
 }
 
+#[tactic(auto, unfolding(crate::specs::Calls::break_at))]
+fn break_link<A: Allocator>(words: &mut Pieces<'_>) -> Result<Calls<Bytes<A>>, ReadError>
+    ensures { Gives (λ calls. (calls_of calls, words.new)) result (break_at words.old) }
+{
+    let stream = octet_number_in(words)?;
+    let call = StreamCall::Break;
+    Ok(Calls::One(Call::Stream { stream, call }))
+}
+
 // The calls that the words behind this one stand for.
 fn calls_behind<A: Allocator + Copy>(
     alloc: A,
@@ -380,6 +389,7 @@ fn calls_behind<A: Allocator + Copy>(
         CallWord::Deliver => deliver(words),
         CallWord::Raw => raw(alloc, words),
         CallWord::Mulpdu => mulpdu(words),
+        CallWord::Break => break_link(words),
     }
 }
 

@@ -7,7 +7,6 @@
 mod appending;
 mod calls;
 mod fault;
-mod first_path;
 mod kinds;
 mod laws;
 mod letters;
@@ -16,10 +15,11 @@ mod pieces;
 mod refusals;
 mod rights;
 mod schedule;
+mod send_kind;
 mod trace;
 mod words;
 
 pub use fault::{FaultName, ScheduleFault};
-pub use laws::{pieces_are_clear, schedules_are_clear};
+pub use laws::{known_lines, pieces_are_clear, schedules_are_clear, words_are_alike};
 pub use schedule::read_schedule;
 pub use trace::print_trace;

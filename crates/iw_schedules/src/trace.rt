@@ -3,11 +3,12 @@ ghost use Rattle.std.specs.Option.{option_map};
 ghost use Rattle.std.specs.Fmt.{decimal};
 ghost use Rattle.iw_schedules.specs.Shown.{shown_refusal};
 ghost use Rattle.iw_schedules.specs.Words.{call_text};
-ghost use Rattle.iw_schedules.specs.Answers.{stag_text, ok_or_refused, kind_text, right_text, send_text, delivery_text, agreed_text, accepted_words, asked_words, opened_words, fault_words, fetched_words, shown_words, done_words, placed_words, buffered_words, requested_words, received_words, seen_words};
+ghost use Rattle.iw_schedules.specs.Answers.{stag_text, ok_or_refused, kind_text, right_text, delivery_text, agreed_text, accepted_words, asked_words, opened_words, with_fault, fault_words, terminated_words, fetched_words, shown_words, done_words, flushed_words, flushed_recv_words, placed_words, buffered_words, requested_words, received_words, seen_words};
 ghost use Rattle.iw_schedules.specs.Trace.{registered, deregistered, post_word, call_on, call_of_stag, stream_word, stream_answer, stream_words, act_words, entry_text, trace_text};
 ghost use Rattle.iw_schedules.specs.Appended.{with_words};
 
 use crate::refusals::Refusal;
+use crate::send_kind::SendKind;
 use crate::words::{CallWord, end_name};
 use crate::{appending, refusals};
 use bytes::Bytes;
@@ -35,18 +36,6 @@ fn right_name(right: Right) -> &'static str
         Right::Write => "write",
         Right::Read => "read",
         Right::Sink => "sink",
-    }
-}
-
-// The kind of a Send.
-fn send_name(solicited: bool, invalidate: Option<Stag>) -> &'static str
-    ensures { result.now ≡ send_text solicited invalidate }
-{
-    match (solicited, invalidate) {
-        (false, None) => "plain",
-        (true, None) => "solicited",
-        (false, Some(_)) => "invalidate",
-        (true, Some(_)) => "both",
     }
 }
 
@@ -86,10 +75,11 @@ fn post_name<A: Allocator>(message: &Request<Bytes<A>>) -> CallWord
     }
 }
 
-fn add_fault<A: Allocator>(text: &mut String<A>, fault: Fault) -> Result<(), AllocError>
-    ensures { OnOk result (string_bytes text.new ≡ with_words (string_bytes text.old) (fault_words fault)) }
+// A word, then the layer, type and code of a fault.
+fn add_fault<A: Allocator>(text: &mut String<A>, word: &str, fault: Fault) -> Result<(), AllocError>
+    ensures { OnOk result (string_bytes text.new ≡ with_words (string_bytes text.old) (with_fault word.now fault)) }
 {
-    appending::word(text, "fault")?;
+    appending::word(text, word)?;
     appending::number(text, u64::from(fault.layer))?;
     appending::number(text, u64::from(fault.kind))?;
     appending::number(text, u64::from(fault.code))
@@ -140,7 +130,7 @@ fn add_shown<A: Allocator + Copy>(
             to,
             octets,
         } => add_fetched(text, *from, frame.as_slice(), *stag, *to, octets.as_slice()),
-        Shown::Fault(fault) => add_fault(text, *fault),
+        Shown::Fault(fault) => add_fault(text, "fault", *fault),
         Shown::Nothing => appending::word(text, "nothing"),
     }
 }
@@ -199,7 +189,7 @@ fn add_received<A: Allocator + Copy>(
 {
     appending::word(text, "received")?;
     appending::octets(text, octets)?;
-    appending::word(text, send_name(solicited, invalidate))?;
+    appending::word(text, SendKind::of(solicited, &invalidate).text())?;
     appending::optional_stag(text, invalidate)
 }
 
@@ -208,6 +198,25 @@ fn add_done<A: Allocator>(text: &mut String<A>, kind: Kind) -> Result<(), AllocE
 {
     appending::word(text, "done")?;
     appending::word(text, kind_name(kind))
+}
+
+fn add_flushed<A: Allocator>(text: &mut String<A>, kind: Kind) -> Result<(), AllocError>
+    ensures { OnOk result (string_bytes text.new ≡ with_words (string_bytes text.old) (flushed_words kind)) }
+{
+    appending::word(text, "flushed")?;
+    appending::word(text, kind_name(kind))
+}
+
+// A receive buffer that is handed back.
+fn add_flushed_recv<A: Allocator + Copy>(
+    text: &mut String<A>,
+    octets: &[u8],
+) -> Result<(), AllocError>
+    ensures { OnOk result (string_bytes text.new ≡ with_words (string_bytes text.old) (flushed_recv_words octets.now)) }
+{
+    appending::word(text, "flushed")?;
+    appending::word(text, "recv")?;
+    appending::octets(text, octets)
 }
 
 fn add_asked<A: Allocator + Copy>(text: &mut String<A>, private: &[u8]) -> Result<(), AllocError>
@@ -252,6 +261,8 @@ fn add_seen<A: Allocator + Copy>(
 {
     match seen {
         Seen::Done(kind) => add_done(text, *kind),
+        Seen::Flushed(kind) => add_flushed(text, *kind),
+        Seen::FlushedRecv(octets) => add_flushed_recv(text, octets.as_slice()),
         Seen::Asked { private } => add_asked(text, private.as_slice()),
         Seen::Opened { agreed, private } => add_opened(text, *agreed, private.as_slice()),
         Seen::Closed(fault) => appending::numbered(text, "closed", refusals::of_startup(*fault)),
@@ -269,7 +280,8 @@ fn add_seen<A: Allocator + Copy>(
             solicited,
             invalidate,
         } => add_received(text, octets.as_slice(), *solicited, *invalidate),
-        Seen::Fault(fault) => add_fault(text, *fault),
+        Seen::Terminated(fault) => add_fault(text, "terminated", *fault),
+        Seen::Fault(fault) => add_fault(text, "fault", *fault),
         Seen::Idle => appending::word(text, "idle"),
     }
 }
@@ -312,6 +324,7 @@ fn stream_name<A: Allocator>(act: &StreamAct<Bytes<A>>) -> CallWord
         StreamAct::Accept { .. } => CallWord::Accept,
         StreamAct::Reject { .. } => CallWord::Reject,
         StreamAct::Work(_) => CallWord::Work,
+        StreamAct::Break => CallWord::Break,
     }
 }
 
@@ -339,6 +352,7 @@ fn add_stream_answer<A: Allocator + Copy>(
             appending::outcome(text, refused.map(refusals::of_unasked))
         }
         StreamAct::Work(seen) => add_seen(text, seen),
+        StreamAct::Break => appending::word(text, "ok"),
     }
 }
 

@@ -26,11 +26,12 @@ pub(crate) enum CallWord {
     Deliver,
     Raw,
     Mulpdu,
+    Break,
 }
 
 impl CallWord {
     /// Every one of them.
-    pub(crate) const ALL: [CallWord; 17] = [
+    pub(crate) const ALL: [CallWord; 18] = [
         CallWord::Domain,
         CallWord::Register,
         CallWord::Deregister,
@@ -48,6 +49,7 @@ impl CallWord {
         CallWord::Deliver,
         CallWord::Raw,
         CallWord::Mulpdu,
+        CallWord::Break,
     ];
 
     pub(crate) fn text(self) -> &'static str
@@ -71,6 +73,7 @@ impl CallWord {
             CallWord::Deliver => "deliver",
             CallWord::Raw => "raw",
             CallWord::Mulpdu => "mulpdu",
+            CallWord::Break => "break",
         }
     }
 

@@ -1,0 +1,30 @@
+-- Worked lines, computed.
+use Rattle.std.proofs.Common.{refl}
+use Rattle.std.specs.Fmt.{digits}
+use Rattle.hex.specs.Hex.{decode_pairs, encode_with}
+use Rattle.iw_schedules.specs.Pieces.{pieces}
+use Rattle.iw_schedules.specs.Kinds.{number_word, stag_word, hex_word, octets_word}
+use Rattle.iw_schedules.specs.Words.{call_word}
+use Rattle.iw_schedules.specs.Calls.{send_at, break_at, calls_at}
+use Rattle.iw_schedules.specs.Schedule.{events_of, with_line, with_lines, schedule_of}
+use Rattle.iw_schedules.specs.Trace.{entry_text}
+use Rattle.iw_schedules.specs.Known.{KnownLines}
+
+pub known : KnownLines
+unfolding schedule_of with_lines with_line events_of calls_at send_at break_at call_word number_word stag_word hex_word octets_word pieces entry_text decode_pairs encode_with digits
+known = record {
+  link_break = refl;
+  plain = refl;
+  solicited = refl;
+  invalidating = refl;
+  both = refl;
+  no_kind = refl;
+  needless_stag = refl;
+  missing_stag = refl;
+  broken = refl;
+  flushed = refl;
+  flushed_recv = refl;
+  terminated = refl;
+  received = refl;
+  received_plain = refl;
+}
