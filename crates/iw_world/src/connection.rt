@@ -2,10 +2,10 @@ ghost use Rattle.std.specs.Prelude.{◌≡◌, ◌≢◌, ◌+◌, ◌<◌, ◌�
 ghost use Rattle.iw_memory.specs.Table.{Table};
 ghost use Rattle.iw_events.specs.Events.{stream_call_of};
 ghost use Rattle.iw_stream.specs.Stream.{emission_of, emitted, after_emit};
-ghost use Rattle.iw_world.specs.Bounds.{IsShort};
-ghost use Rattle.iw_world.specs.Rules.{shown_of};
+ghost use Rattle.iw_laws.specs.Bounds.{IsShort};
+ghost use Rattle.iw_laws.specs.Rules.{shown_of};
 
-use crate::copies::{known, message_in, private_data, shared, standing};
+use crate::copies::{known, message_in, private_data, shared, standing, whole};
 use crate::fault::Failure;
 use bytes::Bytes;
 use iw_events::{Seen, Shown, StreamAct, StreamCall};
@@ -25,7 +25,7 @@ pub(crate) struct Connection<A: Allocator = Global> {
 }
 
 impl<A: Allocator> Model for Connection<A> {
-    ghost use Rattle.iw_world.specs.Rules.{Connected};
+    ghost use Rattle.iw_laws.specs.Rules.{Connected};
 
     ghost Value = { Connected };
 
@@ -33,11 +33,11 @@ impl<A: Allocator> Model for Connection<A> {
 }
 
 impl<A: Allocator + Copy> Connection<A> {
-    ghost use Rattle.iw_world.specs.Words.{table_by_stream};
+    ghost use Rattle.iw_laws.specs.Words.{table_by_stream};
     ghost use Rattle.iw_stream.specs.Starting.{private_in};
     ghost use Rattle.iw_stream.specs.Stream.{post_refusal};
-    ghost use Rattle.iw_world.specs.Rules.{connected, connected_after, StreamRule, WireRule, seen_of, accept_answer, answer_refusal};
-    ghost use Rattle.iw_world.specs.Bounds.{AsksOver};
+    ghost use Rattle.iw_laws.specs.Rules.{connected, connected_after, StreamRule, WireRule, seen_of, accept_answer, answer_refusal};
+    ghost use Rattle.iw_laws.specs.Bounds.{AsksOver};
 
     pub(crate) fn new(
         alloc: A,
@@ -61,7 +61,7 @@ impl<A: Allocator + Copy> Connection<A> {
     }
 
     /// Makes a call; peer is what the other end has emitted.
-    #[tactic(auto, using(crate::proofs::Seeing::own_octets))]
+    #[tactic(auto, using(iw_laws::proofs::Seeing::own_octets))]
     pub(crate) fn act(
         &mut self,
         alloc: A,
@@ -89,6 +89,7 @@ impl<A: Allocator + Copy> Connection<A> {
             StreamCall::Accept { private } => self.accept(private),
             StreamCall::Reject { private } => self.reject(private),
             StreamCall::Work => self.work(alloc, memory),
+            StreamCall::Break => Ok(self.break_link()),
         }
     }
 
@@ -255,7 +256,7 @@ impl<A: Allocator + Copy> Connection<A> {
         self.stream.reject(private_data(private)).err()
     }
 
-    #[tactic(auto, using(crate::proofs::Seeing::table_of_seen))]
+    #[tactic(auto, using(iw_laws::proofs::Seeing::table_of_seen))]
     fn work(&mut self, alloc: A, memory: &mut Memory<A>) -> Result<StreamAct<Bytes<A>>, Failure>
         requires { IsShort self.old.stream }
         ensures rule { IfOk result (λ act. StreamRule memory.old self.old.stream act) }
@@ -269,6 +270,16 @@ impl<A: Allocator + Copy> Connection<A> {
         Ok(StreamAct::Work(seen))
     }
 
+    fn break_link(&mut self) -> StreamAct<Bytes<A>>
+        ensures rule { (table : Table) → StreamRule table self.old.stream result }
+        ensures call { stream_call_of result ≡ StreamCall.Break }
+        ensures state { (table : Table) → self.new ≡ connected_after table self.old result }
+        ensures memory { (table : Table) → table_by_stream table result ≡ table }
+    {
+        self.stream.break_link();
+        StreamAct::Break
+    }
+
     // What is shown of a step that left the stream and the memory so.
     fn seen(
         &self,
@@ -280,6 +291,8 @@ impl<A: Allocator + Copy> Connection<A> {
     {
         match step {
             Step::Done(kind) => Ok(Seen::Done(kind)),
+            Step::Flushed(kind) => Ok(Seen::Flushed(kind)),
+            Step::FlushedRecv(buffer) => Ok(Seen::FlushedRecv(whole(buffer)?)),
             Step::Asked => Ok(Seen::Asked {
                 private: self.private(alloc)?,
             }),
@@ -312,6 +325,7 @@ impl<A: Allocator + Copy> Connection<A> {
                 solicited,
                 invalidate,
             }),
+            Step::Terminated(fault) => Ok(Seen::Terminated(fault)),
             Step::Fault(fault) => Ok(Seen::Fault(fault)),
             Step::Idle => Ok(Seen::Idle),
         }

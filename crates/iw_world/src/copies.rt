@@ -1,11 +1,11 @@
 //! Copies for the trace, and facts that reading a value tells.
 
 ghost use Rattle.std.specs.Prelude.{◌≡◌, ◌+◌, ◌-◌, ◌≤◌, ◌<◌, take, drop, length, Some, IfOk};
-ghost use Rattle.iw_world.specs.Rules.{FitsPosted};
+ghost use Rattle.iw_laws.specs.Rules.{FitsPosted};
 ghost use Rattle.iw_octets.specs.Payload.{FitsRequest};
 ghost use Rattle.iw_octets.specs.Stag.{FitsStag};
 ghost use Rattle.iw_memory.specs.Table.{octets_at};
-ghost use Rattle.iw_world.specs.Rules.{private_data};
+ghost use Rattle.iw_laws.specs.Rules.{private_data};
 
 use bytes::Bytes;
 use iw_memory::{Memory, Stag};
@@ -47,11 +47,7 @@ pub(crate) fn shared<A: Allocator>(
 fn known_stag(stag: Stag)
     ensures { FitsStag stag }
 {
-    let Stag {
-        domain: _,
-        slot: _,
-        key: _,
-    } = stag;
+    stag.known();
 }
 
 // So do those of a Read.
@@ -124,4 +120,11 @@ pub(crate) fn message_in<A: Allocator + Copy>(
     let mut octets = Bytes::from_vec(buffer.into_vec())?;
     octets.truncate(len);
     Ok(octets)
+}
+
+/// All octets of a buffer.
+pub(crate) fn whole<A: Allocator + Copy>(buffer: Octets<A>) -> Result<Bytes<A>, AllocError>
+    ensures { IfOk result (λ octets. octets ≡ buffer) }
+{
+    Ok(Bytes::from_vec(buffer.into_vec())?)
 }

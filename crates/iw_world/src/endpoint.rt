@@ -1,7 +1,7 @@
 ghost use Rattle.std.specs.Prelude.{◌≡◌, ◌≤◌, ◌^◌, true, false, length, is_some, unwrap_or, IfOk, IfErr, OnErr, Some, None, slice_index_or};
-ghost use Rattle.iw_world.specs.Words.{table_by_stream, config_for};
-ghost use Rattle.iw_world.specs.Rules.{unconnected, connected_after, StreamRule, WireRule, needs_peer};
-ghost use Rattle.iw_world.specs.Bounds.{IsShort, AsksOver};
+ghost use Rattle.iw_laws.specs.Words.{table_by_stream, config_for};
+ghost use Rattle.iw_laws.specs.Rules.{unconnected, connected_after, StreamRule, WireRule, needs_peer};
+ghost use Rattle.iw_laws.specs.Bounds.{IsShort, AsksOver};
 ghost use Rattle.std.specs.Option.{option_copied};
 ghost use Rattle.iw_events.specs.Events.{call_of, stream_call_of};
 
@@ -25,7 +25,7 @@ pub(crate) struct Endpoint<A: Allocator = Global> {
 }
 
 impl<A: Allocator> Model for Endpoint<A> {
-    ghost use Rattle.iw_world.specs.Rules.{EndState};
+    ghost use Rattle.iw_laws.specs.Rules.{EndState};
 
     ghost Value = { EndState };
 
@@ -33,9 +33,9 @@ impl<A: Allocator> Model for Endpoint<A> {
 }
 
 impl<A: Allocator + Copy> Endpoint<A> {
-    ghost use Rattle.iw_world.specs.Rules.{fresh, end_after, EndRule, PeerRule, has_stream, stream_at, register_answer, open_refusal, opened_end};
-    ghost use Rattle.iw_world.specs.Calls.{deregister_answer};
-    ghost use Rattle.iw_world.specs.Bounds.{IsShortEnd, LacksStream, AsksTooMuch};
+    ghost use Rattle.iw_laws.specs.Rules.{fresh, end_after, EndRule, PeerRule, has_stream, stream_at, register_answer, open_refusal, opened_end};
+    ghost use Rattle.iw_laws.specs.Calls.{deregister_answer};
+    ghost use Rattle.iw_laws.specs.Bounds.{IsShortEnd, LacksStream, AsksTooMuch};
 
     pub(crate) fn new(alloc: A) -> Result<Endpoint<A>, AllocError>
         ensures { IfOk result (λ endpoint. endpoint ≡ fresh) }
@@ -324,7 +324,8 @@ fn needs_peer<A: Allocator>(call: &StreamCall<Bytes<A>>) -> bool
         | StreamCall::Mulpdu { .. }
         | StreamCall::Accept { .. }
         | StreamCall::Reject { .. }
-        | StreamCall::Work => false,
+        | StreamCall::Work
+        | StreamCall::Break => false,
     }
 }
 

@@ -1,8 +1,8 @@
-//! Two ends, runs of events at them, and what holds of every trace.
+//! Two ends, and runs of events at them.
 //!
 //! [`World::run`] takes a list of events, each a call at one of two ends, and gives a trace: each call with its answer. Its
-//! clauses are the laws of the endpoint, in words of the trace alone; docs/DEFINITIONS.md says them in plain English.
-//! [`wrong_runs`] has for each law a run that the law alone is false of.
+//! clauses are the laws of the endpoint, in words of the trace alone, which stand in `iw_laws`; docs/DEFINITIONS.md says
+//! them in plain English.
 #![tactic(auto)]
 
 mod connection;
@@ -10,7 +10,6 @@ mod copies;
 mod endpoint;
 mod fault;
 mod world;
-pub mod wrong_runs;
 
-pub use fault::WorldFault;
+pub use iw_laws::WorldFault;
 pub use world::World;

@@ -2,21 +2,23 @@
 
 ghost use Rattle.std.specs.Prelude.{◌≡◌, ℕ, ◌+◌, ◌<◌, ◌≤◌, ◌^◌, map, length, IfOk, IfErr};
 ghost use Rattle.iw_events.specs.Events.{event_of};
-ghost use Rattle.iw_world.specs.Words.{other};
-ghost use Rattle.iw_world.specs.Rules.{start, after_entry, end_of, Rule, Follows};
-ghost use Rattle.iw_world.specs.Safe.{InOrder, Covered, Within};
-ghost use Rattle.iw_world.specs.Faithful.{Faithful};
-ghost use Rattle.iw_world.specs.Sends.{Emission, Sized, Speaks, NothingOnlyAtRest, Finished, FewReads};
-ghost use Rattle.iw_world.specs.Turns.{Turns};
-ghost use Rattle.iw_world.specs.Rest.{IdleOnlyAtRest};
-ghost use Rattle.iw_world.specs.Calls.{ShowsMemory, Answered, KeepsOctets, CarriesOctets};
-ghost use Rattle.iw_world.specs.Bounds.{IsShortState, LacksStream, AsksTooMuch};
-ghost use Rattle.iw_world.specs.Stops.{StopsAt};
+ghost use Rattle.iw_laws.specs.Words.{other};
+ghost use Rattle.iw_laws.specs.Rules.{start, after_entry, end_of, Rule, Follows};
+ghost use Rattle.iw_laws.specs.Safe.{InOrder, Covered, Within};
+ghost use Rattle.iw_laws.specs.Faithful.{Faithful, Answering};
+ghost use Rattle.iw_laws.specs.Sends.{Emission, Sized, Speaks, NothingOnlyAtRest, Finished, FewReads};
+ghost use Rattle.iw_laws.specs.Turns.{Turns};
+ghost use Rattle.iw_laws.specs.Rest.{IdleOnlyAtRest};
+ghost use Rattle.iw_laws.specs.Ends.{Ends};
+ghost use Rattle.iw_laws.specs.Calls.{ShowsMemory, Answered, KeepsOctets, CarriesOctets};
+ghost use Rattle.iw_laws.specs.Bounds.{IsShortState, LacksStream, AsksTooMuch};
+ghost use Rattle.iw_laws.specs.Stops.{StopsAt};
 
 use crate::endpoint::Endpoint;
-use crate::fault::{Failure, WorldFault};
+use crate::fault::Failure;
 use bytes::Bytes;
 use iw_events::{End, Entry, Event};
+use iw_laws::WorldFault;
 use std::alloc::{AllocError, Allocator, Global};
 use std::marker::Model;
 
@@ -29,7 +31,7 @@ pub struct World<A: Allocator = Global> {
 }
 
 impl<A: Allocator> Model for World<A> {
-    ghost use Rattle.iw_world.specs.Rules.{State};
+    ghost use Rattle.iw_laws.specs.Rules.{State};
 
     ghost Value = { State };
 
@@ -80,15 +82,17 @@ impl<A: Allocator + Copy> World<A> {
         ensures in_order { IfOk result (λ trace. InOrder trace.items) }
         // When a Send is received, each octet of the Writes before it was placed, and none too often.
         ensures covered { IfOk result (λ trace. Covered trace.items) }
-        // What was sent is the frames of what was posted and of the responses to the peer's Reads, no two of them mingled.
+        // What was sent is the frames of what was posted and of the responses to the peer's Reads, no two of them mingled; and
+        // past them a Terminate, where one went out.
         ensures emission { IfOk result (λ trace. Emission trace.items) }
         // Each frame stands behind what was sent before, and has the size that was set last.
         ensures sized { IfOk result (λ trace. Sized trace.items) }
-        // But for the start-up frame, a frame is sent only where the stream is open, has not ended and need not keep silent.
+        // But for the start-up frame and the Terminate that is due, a frame is sent only where the stream is open, has not ended
+        // and need not keep silent.
         ensures speaks { IfOk result (λ trace. Speaks trace.items) }
-        // Nothing is emitted only where all was sent, or all before a Read that waits.
+        // Nothing is emitted only where all was sent, or all before a Read that waits, and no Terminate is due.
         ensures nothing { IfOk result (λ trace. NothingOnlyAtRest trace.items) }
-        // The k-th message that is finished is the k-th that was posted, and was sent to its last segment.
+        // A message that is finished is the oldest that was not handed back, and was sent to its last segment; a Read was answered.
         ensures finished { IfOk result (λ trace. Finished trace.items) }
         // Octets that are delivered are those that the other end sent.
         ensures carried { IfOk result (λ trace. CarriesOctets trace.items) }
@@ -98,10 +102,14 @@ impl<A: Allocator + Copy> World<A> {
         ensures turns { IfOk result (λ trace. Turns trace.items) }
         // There is nothing to do only where every frame that came had its turn, and no message can be finished.
         ensures idle { IfOk result (λ trace. IdleOnlyAtRest trace.items) }
+        // A stream that has ended hands back what was posted, the messages first, and sends only what is due.
+        ensures ended { IfOk result (λ trace. Ends trace.items) }
         // What changed lay where it was allowed.
         ensures within { IfOk result (λ trace. Within trace.items) }
         // What is fetched for a Read is what the peer asked for, where it may be read, as it stands there.
         ensures faithful { IfOk result (λ trace. Faithful trace.items) }
+        // When a Read is done, each octet of its response was placed, and none too often.
+        ensures answering { IfOk result (λ trace. Answering trace.items) }
         // No Read goes out while 16 are outstanding.
         ensures few_reads { IfOk result (λ trace. FewReads trace.items) }
         // Each call of an end is answered by what the entries made of its regions and streams.

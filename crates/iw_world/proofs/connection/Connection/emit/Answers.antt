@@ -3,9 +3,9 @@ use Rattle.std.proofs.Common.{◌≡◌, ◌++◌, ap, sym, ◌∙◌}
 use Rattle.iw_memory.specs.Table.{Table}
 use Rattle.iw_stream.specs.Stream.{StreamState, emitted}
 use Rattle.iw_events.specs.declared.act.StreamAct.TheVariants.{Emit}
-use Rattle.iw_world.specs.Words.{sent_by}
-use Rattle.iw_world.specs.Rules.{Connected, connected_after}
-use Rattle.iw_world.proofs.Seeing.{shown_sends}
+use Rattle.iw_laws.specs.Words.{sent_by}
+use Rattle.iw_laws.specs.Rules.{Connected, connected_after}
+use Rattle.iw_laws.proofs.Seeing.{shown_sends}
 use Rattle.iw_world.proofs.connection.Connection.emit.Goals as goal
 
 pub returns-clause-state : goal.returns-clause-state

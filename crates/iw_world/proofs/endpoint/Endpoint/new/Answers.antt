@@ -1,6 +1,6 @@
 use Rattle.std.proofs.Common.{◌≡◌, ◌++◌, ◌∷◌, [], ap, ◌∙◌, sym, None, replicate, arith}
-use Rattle.iw_world.specs.Rules.{no_streams}
-use Rattle.iw_world.proofs.Lists.{replicate-push}
+use Rattle.iw_laws.specs.Rules.{no_streams}
+use Rattle.iw_laws.proofs.Lists.{replicate-push}
 use Rattle.iw_world.proofs.endpoint.Endpoint.new.Goals as goal
 
 pub loop-i-preserved : goal.loop-i-preserved

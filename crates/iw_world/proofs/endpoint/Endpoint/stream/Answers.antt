@@ -2,7 +2,7 @@ use Rattle.std.proofs.Common.{rules, ◌≡◌, ◌<◌, ◌≤◌, ◌∙◌, a
 use Rattle.std.specs.Option.{option_copied}
 use Rattle.std.proofs.lemmas.Bool.Decides.{nat_tests}
 use Rattle.std.proofs.lemmas.List.{get_or_default, get_or_past}
-use Rattle.iw_world.specs.Rules.{EndState}
+use Rattle.iw_laws.specs.Rules.{EndState}
 use Rattle.iw_world.proofs.endpoint.Endpoint.stream.Goals as goal
 
 pub returns : goal.returns

@@ -1,7 +1,7 @@
 use Rattle.std.proofs.Common.{sym, subst}
 use Rattle.iw_events.specs.declared.call.End.TheVariants.{A, B}
-use Rattle.iw_world.specs.Rules.{State, end_of}
-use Rattle.iw_world.specs.Bounds.{IsShortEnd}
+use Rattle.iw_laws.specs.Rules.{State, end_of}
+use Rattle.iw_laws.specs.Bounds.{IsShortEnd}
 use Rattle.iw_world.proofs.world.World.happen.Goals as goal
 
 pub act-requires-clause-short : goal.act-requires-clause-short

@@ -3,12 +3,12 @@ use Rattle.std.proofs.lemmas.List.{map_push, take_more, drop_more, take-append-d
 use Rattle.iw_events.specs.declared.call.Event.{Event}
 use Rattle.iw_events.specs.declared.act.Entry.{Entry}
 use Rattle.iw_events.specs.Events.{event_of}
-use Rattle.iw_world.specs.Words.{Octets, other, acts}
-use Rattle.iw_world.specs.Rules.{State, start, state_after, after_entry, end_of, Rule, Follows}
-use Rattle.iw_world.specs.Bounds.{IsShortState, LacksStream, AsksTooMuch}
-use Rattle.iw_world.proofs.Whole.{follows_push, state_after-push, seen_after}
-use Rattle.iw_world.proofs.Laws.{in_order, covered, emission, sized_all, speaks_all, nothing_at_rest, finished_all, turns_all, idle_at_rest, within_all, shows_memory, answered_all, keeps_octets, carries_octets, fetched_all, few_reads, names_no_stream, names_streams, asks_not_sent}
-use Rattle.iw_world.proofs.Shorts.{short_state}
+use Rattle.iw_laws.specs.Words.{Octets, other, acts}
+use Rattle.iw_laws.specs.Rules.{State, start, state_after, after_entry, end_of, Rule, Follows}
+use Rattle.iw_laws.specs.Bounds.{IsShortState, LacksStream, AsksTooMuch}
+use Rattle.iw_laws.proofs.Whole.{follows_push, state_after-push, seen_after}
+use Rattle.iw_laws.proofs.Laws.{in_order, covered, emission, sized_all, speaks_all, nothing_at_rest, finished_all, turns_all, idle_at_rest, ends_all, within_all, shows_memory, answered_all, keeps_octets, carries_octets, fetched_all, answering_all, few_reads, names_no_stream, names_streams, asks_not_sent}
+use Rattle.iw_laws.proofs.Shorts.{short_state}
 use Rattle.iw_world.proofs.world.World.run.Goals as goal
 
 pub happen-requires : goal.happen-requires
@@ -61,6 +61,9 @@ returns-clause-carried g c = carries_octets c.loop-event.trace.items c.loop-even
 pub returns-clause-faithful : goal.returns-clause-faithful
 returns-clause-faithful g c = fetched_all c.loop-event.trace.items c.loop-event.invariant.follows
 
+pub returns-clause-answering : goal.returns-clause-answering
+returns-clause-answering g c = answering_all c.loop-event.trace.items c.loop-event.invariant.follows
+
 pub returns-clause-few_reads : goal.returns-clause-few_reads
 returns-clause-few_reads g c = few_reads c.loop-event.trace.items c.loop-event.invariant.follows
 
@@ -72,6 +75,9 @@ returns-clause-nothing g c = nothing_at_rest c.loop-event.trace.items c.loop-eve
 
 pub returns-clause-idle : goal.returns-clause-idle
 returns-clause-idle g c = idle_at_rest c.loop-event.trace.items c.loop-event.invariant.follows
+
+pub returns-clause-ended : goal.returns-clause-ended
+returns-clause-ended g c = ends_all c.loop-event.trace.items c.loop-event.invariant.follows
 
 pub returns-clause-within : goal.returns-clause-within
 returns-clause-within g c = within_all c.loop-event.trace.items c.loop-event.invariant.follows

@@ -1,6 +1,6 @@
 use Rattle.std.proofs.Common.{◌≡◌, map, take}
 use Rattle.iw_events.specs.Events.{event_of}
-use Rattle.iw_world.specs.Rules.{start, state_after, Follows}
+use Rattle.iw_laws.specs.Rules.{start, state_after, Follows}
 use Rattle.iw_world.proofs.world.World.run.Given as goal
 
 -- the answers so far follow the rules, and leave the two ends as they are

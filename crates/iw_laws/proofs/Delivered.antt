@@ -1,0 +1,380 @@
+-- Where what came is what the other end sent: the segments that had their turn are the first of those that were sent.
+use Rattle.std.proofs.Common.{◌≡◌, ℕ, ◌+◌, ◌-◌, ◌≤◌, List, [], ◌∷◌, ◌++◌, length, map, Option, Some, None, Bool, true, false, cond, refl, sym, ap, ◌∙◌, subst, arith, append_assoc, length-append, get_or, ◌<◌}
+use Rattle.std.specs.Prelude.{All, is_some, nat_eq}
+use Rattle.std.specs.Option.{option_map}
+use Rattle.std.proofs.lemmas.List.{append-nil, map-append, length-map, append_cancel_left}
+use Rattle.std.proofs.lemmas.List.Elements.{All-cons}
+use Rattle.std.proofs.lemmas.Option.{same_Some}
+use Rattle.std.proofs.lemmas.Bool.{true≢false}
+use Rattle.iw_queues.specs.declared.request.Request.{Request}
+use Rattle.iw_queues.specs.declared.request.Request.TheVariants.{Message as Posted, Read}
+use Rattle.iw_octets.specs.declared.message.Message.TheVariants.{Write, Send}
+use Rattle.iw_octets.specs.declared.segment.Segment.{Segment}
+use Rattle.iw_octets.specs.declared.stag.Stag.{Stag}
+use Rattle.iw_octets.specs.Segment.{segment_octets}
+use Rattle.iw_octets.specs.Stag.{number_of}
+use Rattle.iw_octets.proofs.Segments.{read_segment-spelled}
+use Rattle.iw_ranges.specs.InOrder.{IsOf}
+use Rattle.iw_fpdu.specs.declared.layout.Layout.{Layout}
+use Rattle.iw_fpdu.specs.Frame.{max_sent}
+use Rattle.iw_fpdu.specs.Sequence.{Carried, intact, sequence, frames_of, first_frame}
+use Rattle.iw_fpdu.proofs.Follows.{frames_follow}
+use Rattle.iw_fpdu.proofs.Sequences.{first_stays, frames_first, frames_written}
+use Rattle.iw_queues.specs.Joined.{IsPrefixOf, Cell, completed, joined, sends, count_in, count_writes, count_segments}
+use Rattle.iw_queues.specs.Segments.{Numbers, first_numbers, numbers_after, write_segment, send_segment, IsCut, AreSegments, AreSpelled}
+use Rattle.iw_queues.specs.Laws.{IsCovered}
+use Rattle.iw_queues.proofs.Cuts.{in_order as spelled_in_order, covered as spelled_covered}
+use Rattle.iw_stream.specs.Starting.{expecting}
+use Rattle.iw_stream.specs.Stream.{StreamState}
+use Rattle.iw_stream.specs.Work.{inbox}
+use Rattle.iw_laws.specs.Words.{Octets, Sent, written}
+use Rattle.iw_laws.specs.Words as words
+use Rattle.iw_laws.specs.Rules.{Connected}
+use Rattle.iw_laws.specs.Safe.{CoversWrites}
+use Rattle.iw_laws.proofs.Tales.{Tale}
+use Rattle.iw_laws.proofs.Nexts.{Front, fore, segment_in, segment_at}
+use Rattle.iw_laws.proofs.Tracks.{Track, front_is, split_is}
+use Rattle.iw_laws.proofs.Joins.{told, count_waiting, count-append}
+use Rattle.iw_laws.specs.Sends.{farewells}
+use Rattle.iw_laws.specs.Rules.{FitsPosted, FitsOptional}
+use Rattle.iw_stream.specs.Judging.{stag_of}
+use Rattle.iw_octets.specs.Stag.{FitsStag}
+use Rattle.iw_octets.specs.declared.head.TaggedHead.{TaggedHead}
+use Rattle.iw_octets.specs.Head.{is_tagged, tagged_fields, tagged_octets}
+use Rattle.iw_octets.specs.Segment.{read_segment}
+use Rattle.iw_octets.proofs.Spelled.{length-tagged_octets, is_tagged-first_octet}
+use Rattle.iw_octets.proofs.Front.{tagged_fields-append, read_segment-long_tagged}
+use Rattle.std.proofs.lemmas.List.{drop_at}
+use Rattle.iw_laws.proofs.Merges.{posts-append, answers-append, octets-append, goes_to, some_merged}
+use Rattle.iw_laws.specs.Merged.{Item, Post, Response, posts_in, answers_in, octets_of, response_segment, AreMerged}
+use Rattle.iw_laws.specs.Turns.{Answer}
+use Rattle.iw_octets.specs.declared.segment.Segment.TheVariants.{Tagged, Untagged}
+use Rattle.iw_octets.specs.declared.payload.ReadRequest.{ReadRequest}
+use Rattle.iw_octets.specs.Operation.{opcode_of}
+use Rattle.iw_reads.specs.declared.requests.Asked.{Asked}
+use Rattle.std.proofs.lemmas.Bool.Decides.{nat_tests}
+use Rattle.iw_laws.proofs.Lists.{Each}
+use Rattle.iw_laws.proofs.Sending.{IsSendable}
+use Rattle.iw_laws.proofs.Owns.{Emits, out_of}
+use Rattle.iw_laws.proofs.Heard.{IsHeard, Bare, Clear, reaches}
+
+-- ---- frames that were written
+
+all_short : (segments : List (Segment Octets)) → Each IsSendable segments → All (λ u. length u ≤ max_sent) (map segment_octets segments)
+all_short [] h = λ k d lt. absurd (omega (arith, lt))
+all_short (x ∷ xs) h = All-cons (λ u. length u ≤ max_sent) (segment_octets x) (map segment_octets xs) h.0.small (all_short xs h.1)
+
+-- a segment as it is read again: the sink of a response by the octets of its number
+first_tagged : (head : TaggedHead) (payload : Octets) → head.ddp_version < 4 → is_tagged (get_or (tagged_octets head ++ payload) 0 0) ≡ true
+unfolding tagged_octets
+first_tagged head payload version = is_tagged-first_octet true head.last head.ddp_version version
+
+same_control : (head : TaggedHead) → (tagged_fields (tagged_octets head)).control ≡ head.control
+unfolding tagged_octets
+same_control head = refl
+
+read_tagged_again : (head : TaggedHead) (payload : Octets) → head.ddp_version < 4 → read_segment (segment_octets (Tagged head payload)) ≡ Some (Tagged (tagged_fields (tagged_octets head)) payload)
+unfolding segment_octets
+read_tagged_again head payload version =
+    let long : 14 ≤ length (tagged_octets head ++ payload) = omega (arith, length-append (tagged_octets head) payload, length-tagged_octets head) in
+    read_segment-long_tagged (tagged_octets head ++ payload) long (first_tagged head payload version)
+    ∙ (λ i. Some (Tagged (tagged_fields-append (tagged_octets head) payload (omega (arith, length-tagged_octets head)) i) (drop_at (tagged_octets head) payload 14 (length-tagged_octets head) i)))
+
+unfoldable pub reread : Segment Octets → Segment Octets
+reread (Tagged head payload) = cond (nat_eq (opcode_of head.control) 2) (Tagged (tagged_fields (tagged_octets head)) payload) (Tagged head payload)
+reread (Untagged head payload) = Untagged head payload
+
+pub again : (s : Segment Octets) → IsSendable s → read_segment (segment_octets s) ≡ Some (reread s)
+unfolding reread
+again (Untagged head payload) h = read_segment-spelled (Untagged head payload) (h.fits refl)
+again (Tagged head payload) h = go (nat_eq (opcode_of head.control) 2) refl
+  where
+    go : (b : Bool) → nat_eq (opcode_of head.control) 2 ≡ b → read_segment (segment_octets (Tagged head payload)) ≡ Some (cond b (Tagged (tagged_fields (tagged_octets head)) payload) (Tagged head payload))
+    go false e = read_segment-spelled (Tagged head payload) (h.fits e)
+    go true e = read_tagged_again head payload h.version
+
+read_again : (segments : List (Segment Octets)) → Each IsSendable segments → map segment_in (map intact (map segment_octets segments)) ≡ map Some (map reread segments)
+read_again [] h = refl
+read_again (x ∷ xs) h = λ i. again x h.0 i ∷ read_again xs h.1 i
+
+-- a list whose first elements are known to be there
+known_first : (xs ys : List (Segment Octets)) (zs : List (Option (Segment Octets))) → map Some xs ≡ map Some ys ++ zs → (later : List (Segment Octets)) × (xs ≡ ys ++ later)
+known_first xs [] zs e = (xs, refl)
+known_first [] (y ∷ ys) zs e = absurd (omega (arith, ap length e))
+known_first (x ∷ xs) (y ∷ ys) zs e =
+    let same : Some x ≡ Some y = ap (first_or (Some y)) e in
+    let rest = known_first xs ys zs (ap behind e) in
+    (rest.0, λ i. same_Some _ _ same i ∷ rest.1 i)
+  where
+    first_or : Option (Segment Octets) → List (Option (Segment Octets)) → Option (Segment Octets)
+    first_or d [] = d
+    first_or d (o ∷ os) = o
+
+    behind : List (Option (Segment Octets)) → List (Option (Segment Octets))
+    behind [] = []
+    behind (o ∷ os) = os
+
+no_segments : (xs : List (Segment Octets)) → map Some xs ≡ [] → xs ≡ []
+no_segments [] e = refl
+no_segments (x ∷ xs) e = absurd (omega (arith, ap length e))
+
+-- frames at the front of what was sent carry the first segments
+first_segments : (layout : Layout) (sent : Octets) (segments firsts : List (Segment Octets)) (frames later : List Carried) → Each IsSendable segments → sent ≡ sequence layout 0 (map segment_octets segments)
+    → frames_of layout 0 sent ≡ frames ++ later → map segment_in frames ≡ map Some firsts → (rest : List (Segment Octets)) × (map reread segments ≡ firsts ++ rest)
+first_segments layout sent segments firsts frames later good framed are carried =
+    let us : List Octets = map segment_octets segments in
+    let all : map intact us ≡ frames ++ later = sym (frames_written layout 0 us (frames_follow.first layout.markers) (all_short segments good)) ∙ ap (frames_of layout 0) (sym framed) ∙ are in
+    known_first (map reread segments) firsts (map segment_in later)
+    (sym (read_again segments good) ∙ ap (map segment_in) all ∙ map-append segment_in frames later ∙ ap (λ z. z ++ map segment_in later) carried)
+
+-- ---- what came of what was sent
+
+-- the segments that had their turn are the first of those that were sent
+pub delivered : (c : Connected) (t : Tale) (d : Connected) (u : Tale) (e : Emits c.stream t) (k : Track d.stream u) → IsHeard c t d u (out_of c.stream t e) k → IsOf u.story.came t.sent → (later : List (Segment Octets)) × (map reread (out_of c.stream t e) ≡ k.segments ++ later)
+delivered c t d u e k (Bare bare) of = (map reread (out_of c.stream t e), ap (λ z. z ++ map reread (out_of c.stream t e)) (sym (no_segments k.segments (sym k.carried ∙ ap (map segment_in) bare.frames))))
+delivered c t d u e k (Clear is) of =
+    let layout : Layout = expecting d.stream.start in
+    let r = reaches d.stream u k t.sent of in
+    let all : Octets = inbox d.stream ++ r.rest in
+    first_segments layout (k.before ++ all) (out_of c.stream t e) k.segments k.frames (frames_of layout (length k.before) all) e.good (append_cancel_left k.intro (k.before ++ all) (sequence layout 0 (map segment_octets (out_of c.stream t e))) (sym r.is ∙ is))
+    (split_is d.stream u k all) k.carried
+
+-- the segment that waits for its turn is the next
+pub waiting : (c : Connected) (t : Tale) (d : Connected) (u : Tale) (e : Emits c.stream t) (k : Track d.stream u) → IsHeard c t d u (out_of c.stream t e) k → IsOf u.story.came t.sent → is_some d.stream.front ≡ true
+    → (frame : Carried) (left : Octets) (segment : Segment Octets) → fore d.stream ≡ Some (frame, left) → segment_in frame ≡ Some segment
+    → (later : List (Segment Octets)) × (map reread (out_of c.stream t e) ≡ (k.segments ++ segment ∷ []) ++ later)
+waiting c t d u e k (Bare bare) of placed frame left segment whole carries = absurd (true≢false (sym placed ∙ bare.placed))
+waiting c t d u e k (Clear is) of placed frame left segment whole carries =
+    let layout : Layout = expecting d.stream.start in
+    let r = reaches d.stream u k t.sent of in
+    let at : ℕ = length k.before in
+    let all : Octets = inbox d.stream ++ r.rest in
+    let first : first_frame layout at all ≡ Some (frame, left ++ r.rest) = first_stays layout at (inbox d.stream) r.rest frame left k.between (sym (front_is d.stream u k) ∙ whole) in
+    let others : List Carried = frames_of layout (at + (length all - length (left ++ r.rest))) (left ++ r.rest) in
+    let here : frames_of layout at all ≡ frame ∷ others = frames_first layout at all frame (left ++ r.rest) k.between first in
+    first_segments layout (k.before ++ all) (out_of c.stream t e) (k.segments ++ segment ∷ []) (k.frames ++ frame ∷ []) others e.good (append_cancel_left k.intro (k.before ++ all) (sequence layout 0 (map segment_octets (out_of c.stream t e))) (sym r.is ∙ is))
+    (split_is d.stream u k all ∙ ap (λ z. k.frames ++ z) here ∙ sym (append_assoc k.frames (frame ∷ []) others))
+    (map-append segment_in k.frames (frame ∷ []) ∙ (λ i. k.carried i ++ carries i ∷ []) ∙ sym (map-append Some k.segments (segment ∷ [])))
+
+-- ---- Sends
+
+-- an STag is the one of its number
+stag_again : (stag : Stag) → FitsStag stag → stag_of (number_of stag) ≡ stag
+stag_again stag fits =
+    let domain : (stag_of (number_of stag)).domain ≡ stag.domain = omega (arith, fits.domain, fits.slot, fits.key) in
+    let slot : (stag_of (number_of stag)).slot ≡ stag.slot = omega (arith, fits.domain, fits.slot, fits.key) in
+    let key : (stag_of (number_of stag)).key ≡ stag.key = omega (arith, fits.domain, fits.slot, fits.key) in
+    λ i. record { domain = domain i; slot = slot i; key = key i }
+
+sends_whole : (ms : List (Request Octets)) → Each FitsPosted ms → map told (sends ms) ≡ words.sends ms
+sends_whole [] h = refl
+sends_whole (Posted (Write stag to octets) ∷ ms) h = sends_whole ms h.1
+sends_whole (Read request ∷ ms) h = sends_whole ms h.1
+sends_whole (Posted (Send octets solicited invalidate) ∷ ms) h =
+    λ i. record { octets = octets; solicited = solicited; invalidate = again_optional invalidate h.0 i } ∷ sends_whole ms h.1 i
+  where
+    again_optional : (o : Option Stag) → FitsOptional o → option_map stag_of (option_map number_of o) ≡ o
+    again_optional None fits = refl
+    again_optional (Some stag) fits = ap Some (stag_again stag fits)
+
+-- ---- the segments of what was posted
+
+-- a segment of no message that was posted: of the response to a Read of the peer, or a Terminate
+abbrev is_extra : Segment Octets → Bool
+is_extra (Tagged head payload) = nat_eq (opcode_of head.control) 2
+is_extra (Untagged head payload) = nat_eq head.queue 2
+
+pub plain : List (Segment Octets) → List (Segment Octets)
+plain [] = []
+plain (s ∷ ss) = cond (is_extra s) (plain ss) (s ∷ plain ss)
+
+plain-append : (xs ys : List (Segment Octets)) → plain (xs ++ ys) ≡ plain xs ++ plain ys
+unfolding plain
+plain-append [] ys = refl
+plain-append (x ∷ xs) ys = go (is_extra x) (plain-append xs ys)
+  where
+    go : (b : Bool) → plain (xs ++ ys) ≡ plain xs ++ plain ys → cond b (plain (xs ++ ys)) (x ∷ plain (xs ++ ys)) ≡ cond b (plain xs) (x ∷ plain xs) ++ plain ys
+    go true e = e
+    go false e = ap (λ z. x ∷ z) e
+
+joined-plain : (sofar : List ℕ) (ss : List (Segment Octets)) → joined sofar (plain ss) ≡ joined sofar ss
+unfolding plain
+joined-plain sofar [] = refl
+joined-plain sofar (Tagged head payload ∷ ss) = go (nat_eq (opcode_of head.control) 2) (joined-plain sofar ss)
+  where
+    go : (b : Bool) → joined sofar (plain ss) ≡ joined sofar ss → joined sofar (cond b (plain ss) (Tagged head payload ∷ plain ss)) ≡ joined sofar ss
+    go true e = e
+    go false e = e
+joined-plain sofar (Untagged head payload ∷ ss) = by (λ z. joined-plain z ss) (nat_eq head.queue 2) refl
+  where
+    go : ((z : List ℕ) → joined z (plain ss) ≡ joined z ss) → (mine last : Bool)
+        → cond mine (cond last (completed head (sofar ++ payload) ∷ joined [] (plain ss)) (joined (sofar ++ payload) (plain ss))) (joined sofar (plain ss))
+        ≡ cond mine (cond last (completed head (sofar ++ payload) ∷ joined [] ss) (joined (sofar ++ payload) ss)) (joined sofar ss)
+    go same true true = ap (λ z. completed head (sofar ++ payload) ∷ z) (same [])
+    go same true false = same (sofar ++ payload)
+    go same false last = same sofar
+
+    by : ((z : List ℕ) → joined z (plain ss) ≡ joined z ss) → (b : Bool) → nat_eq head.queue 2 ≡ b → joined sofar (cond b (plain ss) (Untagged head payload ∷ plain ss)) ≡ joined sofar (Untagged head payload ∷ ss)
+    by same false e = go same (nat_eq head.queue 0) head.last
+    by same true e =
+        let other : nat_eq head.queue 0 ≡ false = grind (arith, nat_tests) in
+        same sofar ∙ ap (λ mine. cond mine (cond head.last (completed head (sofar ++ payload) ∷ joined [] ss) (joined (sofar ++ payload) ss)) (joined sofar ss)) (sym other)
+
+count-plain : (c : Cell) (ss : List (Segment Octets)) → count_segments c (plain ss) ≡ count_segments c ss
+unfolding plain
+count-plain c [] = refl
+count-plain c (Tagged head payload ∷ ss) = go (nat_eq (opcode_of head.control) 2) refl (count-plain c ss)
+  where
+    go : (b : Bool) → nat_eq (opcode_of head.control) 2 ≡ b → count_segments c (plain ss) ≡ count_segments c ss
+        → count_segments c (cond b (plain ss) (Tagged head payload ∷ plain ss)) ≡ cond (nat_eq (opcode_of head.control) 0) (count_in c head.stag head.to payload) 0 + count_segments c ss
+    go true b e =
+        let other : nat_eq (opcode_of head.control) 0 ≡ false = grind (arith, nat_tests) in
+        omega (arith, e, ap (λ z. cond z (count_in c head.stag head.to payload) 0) other)
+    go false b e = omega (arith, e)
+count-plain c (Untagged head payload ∷ ss) = go (nat_eq head.queue 2) (count-plain c ss)
+  where
+    go : (b : Bool) → count_segments c (plain ss) ≡ count_segments c ss → count_segments c (cond b (plain ss) (Untagged head payload ∷ plain ss)) ≡ count_segments c ss
+    go true e = e
+    go false e = e
+
+plain_cut : (room : ℕ) (segment : ℕ → Bool → Octets → Segment Octets) → ((o : ℕ) (l : Bool) (x : Octets) → is_extra (segment o l x) ≡ false)
+    → (offset : ℕ) (octets : Octets) (ss : List (Segment Octets)) → IsCut room segment offset octets ss → plain ss ≡ ss
+unfolding plain
+plain_cut room segment told offset octets [] cut = absurd cut
+plain_cut room segment told offset octets (s ∷ []) cut = ap (λ b. cond b [] (s ∷ [])) (ap is_extra cut.1 ∙ told offset true octets)
+plain_cut room segment told offset octets (s ∷ x ∷ ss) cut =
+    ap (λ b. cond b (plain (x ∷ ss)) (s ∷ plain (x ∷ ss))) (ap is_extra cut.2.is ∙ told offset false cut.0)
+    ∙ ap (λ z. s ∷ z) (plain_cut room segment told (offset + length cut.0) cut.1 (x ∷ ss) cut.3)
+
+plain_message : (numbers : Numbers) (m : Request Octets) (ss : List (Segment Octets)) → AreSegments numbers m 0 ss → plain ss ≡ ss
+unfolding plain
+plain_message numbers (Posted (Write stag to octets)) ss cut = plain_cut _ (write_segment stag to) (λ o l x. refl) 0 octets ss cut
+plain_message numbers (Posted (Send octets solicited invalidate)) ss cut = plain_cut _ (send_segment numbers.send solicited invalidate) (λ o l x. refl) 0 octets ss cut
+plain_message numbers (Read request) ss cut = ap plain cut ∙ sym cut
+
+none_plain : (room : ℕ) (request : ReadRequest) (offset : ℕ) (octets : Octets) (ss : List (Segment Octets)) → IsCut room (response_segment request) offset octets ss → plain ss ≡ []
+unfolding plain
+none_plain room request offset octets [] cut = absurd cut
+none_plain room request offset octets (s ∷ []) cut = ap (λ b. cond b [] (s ∷ [])) (ap is_extra cut.1)
+none_plain room request offset octets (s ∷ x ∷ ss) cut =
+    ap (λ b. cond b (plain (x ∷ ss)) (s ∷ plain (x ∷ ss))) (ap is_extra cut.2.is) ∙ none_plain room request (offset + length cut.0) cut.1 (x ∷ ss) cut.3
+
+pub plain_spelled : (numbers : Numbers) (items : List Item) (ss : List (Segment Octets)) → AreMerged numbers 0 items ss → AreSpelled numbers 0 (posts_in items) (plain ss)
+unfolding plain
+plain_spelled numbers [] ss h = ap plain h
+plain_spelled numbers (Post m ∷ items) ss (mine, later, is, one, rest) =
+    (mine, plain later, ap plain is ∙ plain-append mine later ∙ ap (λ z. z ++ plain later) (plain_message numbers m mine one), one, plain_spelled (numbers_after numbers m) items later rest)
+plain_spelled numbers (Response a ∷ items) ss (mine, later, is, one, rest) =
+    subst (AreSpelled numbers 0 (posts_in items)) (sym (ap plain is ∙ plain-append mine later ∙ ap (λ z. z ++ plain later) (none_plain (64512 - 14) a.request 0 a.octets mine one.1)))
+    (plain_spelled numbers items later rest)
+
+-- what was sent goes on to all that was posted and asked for
+pub record Whole (t : Tale) (segments : List (Segment Octets)) (asked : List ReadRequest) (fetched : Octets) : Type 0 where
+  pub items : List Item
+  pub later : List (Segment Octets)
+  pub merged : AreMerged first_numbers 0 items (segments ++ later)
+  pub posts : posts_in items ≡ t.posted
+  pub requests : map (λ (a : Answer). a.request) (answers_in items) ≡ asked
+  pub octets : IsPrefixOf fetched (octets_of (answers_in items))
+
+pub whole_of : (s : StreamState) (t : Tale) (e : Emits s t) → Whole t e.segments (map (λ (a : Answer). a.request) t.story.answers ++ map (λ (a : Asked). a.request) s.asked.unanswered) (octets_of t.story.answers ++ t.story.begun)
+whole_of s t e =
+    let k = e.merges in
+    let g = goes_to e.kept s.numbers s.asked.unanswered t.story.begun s.asked.fetched e.asks.fetched e.asks.begun k.apart e.limits.begun in
+    let m = some_merged s.numbers (e.kept.offset + length t.story.begun) g.items g.whole in
+    record {
+      items = k.items ++ g.items;
+      later = m.0;
+      merged = k.goes_on g.items m.0 g.goes m.1;
+      posts = posts-append k.items g.items ∙ ap (λ z. posts_in k.items ++ z) g.posts ∙ k.posts;
+      requests = ap (map (λ (a : Answer). a.request)) (answers-append k.items g.items) ∙ map-append (λ (a : Answer). a.request) (answers_in k.items) (answers_in g.items)
+          ∙ (λ i. map (λ (a : Answer). a.request) (k.are i) ++ g.requests i);
+      octets = (
+        g.more,
+        append_assoc (octets_of t.story.answers) t.story.begun g.more ∙ (λ i. octets_of (sym k.are i) ++ sym g.octets i) ∙ sym (octets-append (answers_in k.items) (answers_in g.items)) ∙ ap octets_of (sym (answers-append k.items g.items)),
+      );
+    }
+
+-- the segments that were sent go on to all that was posted
+record GoesOn (t : Tale) (first : List (Segment Octets)) : Type 0 where
+  pub later : List (Segment Octets)
+  pub spelled : AreSpelled first_numbers 0 t.posted (plain first ++ later)
+
+-- a Terminate is none of them
+plain-farewells : (o : Option Octets) → plain (farewells o) ≡ []
+unfolding plain
+plain-farewells None = refl
+plain-farewells (Some payload) = refl
+
+-- the same, as it is read again
+plain-reread : (ss : List (Segment Octets)) → plain (map reread ss) ≡ plain ss
+unfolding plain reread
+plain-reread [] = refl
+plain-reread (Untagged head payload ∷ ss) = ap (λ z. cond (nat_eq head.queue 2) z (Untagged head payload ∷ z)) (plain-reread ss)
+plain-reread (Tagged head payload ∷ ss) = go (nat_eq (opcode_of head.control) 2) refl (plain-reread ss)
+  where
+    go : (b : Bool) → nat_eq (opcode_of head.control) 2 ≡ b → plain (map reread ss) ≡ plain ss
+        → plain (cond b (Tagged (tagged_fields (tagged_octets head)) payload) (Tagged head payload) ∷ map reread ss) ≡ cond b (plain ss) (Tagged head payload ∷ plain ss)
+    go true e h = ap (λ b. cond b (plain (map reread ss)) (Tagged (tagged_fields (tagged_octets head)) payload ∷ plain (map reread ss))) (ap (λ c. nat_eq (opcode_of c) 2) (same_control head) ∙ e) ∙ h
+    go false e h = ap (λ b. cond b (plain (map reread ss)) (Tagged head payload ∷ plain (map reread ss))) e ∙ ap (λ z. Tagged head payload ∷ z) h
+
+goes_on : (s : StreamState) (t : Tale) (e : Emits s t) (first later : List (Segment Octets)) → map reread (out_of s t e) ≡ first ++ later → GoesOn t first
+goes_on s t e first later is =
+    let w = whole_of s t e in
+    let parted : List (Segment Octets) = farewells t.story.farewell in
+    let alone : plain (out_of s t e) ≡ plain e.segments = plain-append e.segments parted ∙ ap (λ z. plain e.segments ++ z) (plain-farewells t.story.farewell) ∙ append-nil (plain e.segments) in
+    let mine : plain e.segments ≡ plain first ++ plain later = sym alone ∙ sym (plain-reread (out_of s t e)) ∙ ap plain is ∙ plain-append first later in
+    record {
+      later = plain later ++ plain w.later;
+      spelled = subst (λ z. AreSpelled first_numbers 0 z (plain first ++ (plain later ++ plain w.later))) w.posts
+          (subst (AreSpelled first_numbers 0 (posts_in w.items)) (plain-append e.segments w.later ∙ ap (λ z. z ++ plain w.later) mine ∙ append_assoc (plain first) (plain later) (plain w.later)) (plain_spelled first_numbers w.items (e.segments ++ w.later) w.merged));
+    }
+
+-- what was received is a prefix of the Sends posted
+pub received_prefix : (c : Connected) (t : Tale) (d : Connected) (u : Tale) (e : Emits c.stream t) (k : Track d.stream u) → IsHeard c t d u (out_of c.stream t e) k → IsOf u.story.came t.sent → IsPrefixOf u.received (words.sends t.posted)
+received_prefix c t d u e k heard of =
+    let x = delivered c t d u e k heard of in
+    let g = goes_on c.stream t e k.segments x.0 x.1 in
+    let p = spelled_in_order first_numbers t.posted (plain k.segments) g.later g.spelled in (
+      map told p.0,
+      ap (λ z. z ++ map told p.0) (k.joins.received_are ∙ ap (map told) (sym (joined-plain [] k.segments)))
+          ∙ sym (map-append told (joined [] (plain k.segments)) p.0) ∙ ap (map told) p.1 ∙ sends_whole t.posted e.fit,
+    )
+
+-- ---- Writes
+
+covers_plain : (cell : Cell) (ss : List (Segment Octets)) {n : ℕ} → count_segments cell (plain ss) ≤ n → count_segments cell ss ≤ n
+covers_plain cell ss h = omega (arith, h, count-plain cell ss)
+
+-- what was placed is not more than what was posted
+most : (c : Connected) (t : Tale) (d : Connected) (u : Tale) (e : Emits c.stream t) (k : Track d.stream u) → IsHeard c t d u (out_of c.stream t e) k → IsOf u.story.came t.sent → (cell : Cell) → count_writes cell (written u.placings) ≤ count_writes cell t.posted
+most c t d u e k heard of cell =
+    let bare : count_segments cell k.segments ≤ count_writes cell t.posted =
+    (let x = delivered c t d u e k heard of in let g = goes_on c.stream t e k.segments x.0 x.1 in covers_plain cell k.segments ((spelled_covered first_numbers t.posted (plain k.segments) g.later g.spelled cell).most)) in
+    omega (arith, k.joins.counted cell, go (is_some d.stream.front) refl (fore d.stream) refl bare)
+  where
+    shown : (placed : Bool) → is_some d.stream.front ≡ placed → (p : Option (Segment Octets)) (frame : Carried) (left : Octets) → fore d.stream ≡ Some (frame, left) → segment_in frame ≡ p → count_segments cell k.segments ≤ count_writes cell t.posted
+        → count_segments cell k.segments + count_waiting cell placed p ≤ count_writes cell t.posted
+    shown false is p frame left whole carries bare = omega (arith, bare)
+    shown true is None frame left whole carries bare = omega (arith, bare)
+    shown true is (Some segment) frame left whole carries bare =
+        let x = waiting c t d u e k heard of is frame left segment whole carries in
+        let g = goes_on c.stream t e (k.segments ++ segment ∷ []) x.0 x.1 in
+        omega (arith, covers_plain cell (k.segments ++ segment ∷ []) ((spelled_covered first_numbers t.posted (plain (k.segments ++ segment ∷ [])) g.later g.spelled cell).most), count-append cell k.segments (segment ∷ []))
+
+    go : (placed : Bool) → is_some d.stream.front ≡ placed → (f : Front) → fore d.stream ≡ f → count_segments cell k.segments ≤ count_writes cell t.posted
+        → count_segments cell k.segments + count_waiting cell placed (segment_at f) ≤ count_writes cell t.posted
+    go false is f whole bare = omega (arith, bare)
+    go true is None whole bare = omega (arith, bare)
+    go true is (Some (frame, left)) whole bare = shown true is (segment_in frame) frame left whole refl bare
+
+pub writes_covered : (c : Connected) (t : Tale) (d : Connected) (u : Tale) (e : Emits c.stream t) (k : Track d.stream u) → IsHeard c t d u (out_of c.stream t e) k → IsOf u.story.came t.sent → (cell : Cell) → CoversWrites t.posted (written u.placings) (length u.received) cell
+writes_covered c t d u e k heard of cell =
+    let x = delivered c t d u e k heard of in
+    let g = goes_on c.stream t e k.segments x.0 x.1 in
+    let covered : IsCovered cell t.posted (plain k.segments) = spelled_covered first_numbers t.posted (plain k.segments) g.later g.spelled cell in
+    let few : length u.received ≡ length (joined [] (plain k.segments)) = ap length k.joins.received_are ∙ length-map (joined [] k.segments) told ∙ ap length (sym (joined-plain [] k.segments)) in
+    record {
+      before = λ n lt. omega (arith, covered.before n (omega (arith, lt, few)), k.joins.counted cell, count-plain cell k.segments);
+      most = most c t d u e k heard of cell;
+    }

@@ -1,0 +1,960 @@
+-- The laws, of whatever follows the rules.
+use Rattle.std.proofs.Common.{◌≡◌, ◌⊎◌, ℕ, zero, suc, ◌+◌, ◌-◌, ◌%◌, ◌^◌, ◌<◌, ◌≤◌, List, [], ◌∷◌, ◌++◌, length, take, drop, length-take, length-drop, length-append, cond, map, Option, Some, None, Ok, Err, true, false, refl, sym, ap, ◌∙◌, subst, inl, inr, arith}
+use Rattle.std.proofs.lemmas.List.{append-nil, length-map}
+use Rattle.std.specs.Prelude.{option_map, is_some, not, nat_le, nat_lt, min, Bool, ◌&&◌, ◌||◌, Result, IfOk}
+use Rattle.std.specs.Result.{result_err}
+use Rattle.std.specs.Option.{option_map_or}
+use Rattle.std.proofs.lemmas.Bool.{false≢true}
+use Rattle.iw_octets.specs.Segment.{segment_octets}
+use Rattle.iw_memory.specs.declared.refusal.RegisterRefusal.{RegisterRefusal}
+use Rattle.iw_memory.specs.declared.refusal.RegisterRefusal.TheVariants as register_refusals
+use Rattle.iw_memory.specs.Region.{Region}
+use Rattle.iw_memory.specs.Part.{free_slot}
+use Rattle.iw_memory.proofs.LawLemmas.{registered-changes}
+use Rattle.std.proofs.lemmas.Option.{none-some}
+use Rattle.iw_memory.specs.Table.{Table, part_of, slots_of, region_at, is_added, domain_refusal, register_refusal, store_refusal, next_stag}
+use Rattle.iw_octets.specs.declared.segment.Segment.{Segment}
+use Rattle.iw_fpdu.specs.Sequence.{sequence}
+use Rattle.iw_queues.specs.Joined.{IsPrefixOf, Cell}
+use Rattle.iw_queues.specs.Segments.{Numbers, first_numbers, segment_with, segment_of}
+use Rattle.iw_octets.specs.declared.operation.TaggedOperation.TheVariants as tagged
+use Rattle.iw_octets.specs.declared.operation.UntaggedOperation.TheVariants as untagged
+use Rattle.iw_octets.specs.Operation.{control_of, tagged_opcode, untagged_opcode}
+use Rattle.iw_stream.specs.Starting.{is_asked, sending, own_frame, first_place_out, agreement_in}
+use Rattle.iw_stream.specs.Stream.{StreamState, is_read, may_go, part_due, response_due, owes_frame, recv_refusal, recv_refusal_of, post_refusal, post_refusal_of, may_answer, delivery_of, ended}
+use Rattle.iw_stream.specs.Ending.{has_ended, is_broken, last_word}
+use Rattle.iw_stream.specs.Work as work
+use Rattle.iw_stream.specs.declared.answer.PostRefusal.TheVariants as post_refusals
+use Rattle.iw_stream.specs.declared.answer.RecvRefusal.TheVariants as recv_refusals
+use Rattle.iw_untagged.specs.declared.queue.BufferRefusal.TheVariants as buffer_refusals
+use Rattle.iw_queues.specs.declared.request.Refusal.TheVariants as queue_refusals
+use Rattle.iw_queues.specs.declared.request.Request.{Request}
+use Rattle.iw_queues.specs.declared.request.Request.TheVariants.{Message as Posted, Read}
+use Rattle.iw_queues.specs.declared.completions.Sent.{Sent as WasSent}
+use Rattle.iw_queues.specs.declared.send_queue.Part.{Part}
+use Rattle.iw_queues.specs.Request.{kind_of, payload, size_of, header_len}
+use Rattle.iw_queues.specs.Queue.{Queue, next_part, oldest_in, oldest_among, handed_from, IsBegun, IsWithinLimits}
+use Rattle.iw_queues.proofs.Order.{keeps_order}
+use Rattle.iw_queues.specs.Laws.{IsFilled, kinds_in}
+use Rattle.iw_queues.proofs.Filled.{fills}
+use Rattle.iw_octets.specs.declared.payload.ReadRequest.{ReadRequest}
+use Rattle.iw_octets.specs.Payload.{request_octets}
+use Rattle.iw_octets.proofs.Spelled.{length-request_octets}
+use Rattle.iw_memory.specs.declared.rights.Right.TheVariants as rights
+use Rattle.iw_memory.proofs.Callers.{allows}
+use Rattle.iw_reads.specs.declared.requests.Asked.{Asked}
+use Rattle.iw_reads.specs.Outstanding.{most_reads}
+use Rattle.iw_reads.specs.Requests.{Requested, part_for}
+use Rattle.iw_reads.specs.Requests as requests
+use Rattle.iw_reads.specs.Response.{fetch_fault}
+use Rattle.iw_reads.specs.Source.{reading_fault}
+use Rattle.std.specs.Prelude.{slice_get, ◌≢◌}
+use Rattle.std.proofs.lemmas.Bool.{cases_lt}
+use Rattle.std.proofs.lemmas.Bool.Decides.{nat_tests}
+use Rattle.std.proofs.Math.Seq.{take-append_seam}
+use Rattle.iw_octets.specs.declared.message.Message.TheVariants.{Write, Send}
+use Rattle.iw_octets.specs.declared.stag.Stag.{Stag}
+use Rattle.iw_octets.specs.Stag.{number_of}
+use Rattle.iw_octets.proofs.Segments.{length-segment_octets_tagged, length-segment_octets_untagged}
+use Rattle.iw_fpdu.specs.Frame.{frame_octets}
+use Rattle.iw_ranges.specs.declared.Delivery.TheVariants.{Dropped}
+use Rattle.iw_ranges.specs.Arrived.{advanced, delivery}
+use Rattle.iw_startup.specs.declared.config.Agreed.{Agreed}
+use Rattle.iw_startup.specs.declared.startup.NotAsked.{NotAsked}
+use Rattle.iw_events.specs.declared.act.OpenRefusal.TheVariants.{NumberTaken, BadNumber, NoDomain}
+use Rattle.iw_events.specs.declared.call.End.{End}
+use Rattle.iw_events.specs.declared.call.Call.{Call}
+use Rattle.iw_events.specs.declared.call.Call.TheVariants as calls
+use Rattle.iw_events.specs.declared.act.Act.{Act}
+use Rattle.iw_events.specs.declared.act.Act.TheVariants.{Domain, Register, Deregister, Invalidate, Store, Open, Stream}
+use Rattle.iw_events.specs.declared.act.StreamAct.{StreamAct}
+use Rattle.iw_events.specs.declared.act.StreamAct.TheVariants.{Recv, Post, Emit, Deliver, Raw, Mulpdu, Accept, Reject, Work, Break}
+use Rattle.iw_events.specs.declared.act.Shown.TheVariants.{Frame, Fetched, Fault as Denied, Nothing}
+use Rattle.iw_events.specs.declared.act.Shown.{Shown}
+use Rattle.iw_events.specs.declared.act.Seen.{Seen}
+use Rattle.iw_events.specs.declared.act.Seen.TheVariants as seen
+use Rattle.iw_events.specs.declared.act.Entry.{Entry}
+use Rattle.iw_laws.specs.Words.{Octets, other, acts, deed, buffers, handed_kinds, size_set, stream_numbers, stream_acts, Opening, opening_in, opening_of, openings, was_opened, domain_of, posted, sends, received, ended as has_ended_by, sent, placings, written, sunk, finished_kinds, table_after}
+use Rattle.iw_laws.specs.Safe.{IsHonest, InOrder, CoversWrites, Covered, Fits, Within, WithinStream}
+use Rattle.iw_laws.specs.Merged.{AreMerged, posts_in, response_segment}
+use Rattle.iw_laws.specs.Faithful.{FetchShown, FetchStream, count_done, AnswersReads, Answering}
+use Rattle.iw_laws.specs.Sends.{farewells, terminate_segment, IsLastWord, AreFirstFrames, Emission, AreAllFrames, HasNothing, Over, Closed, AllSent, ReadWaits, MaySend, FewReads, NothingShown, NothingStream, NothingOnlyAtRest, FrameSized, SizedStream, Sized, FrameAllowed, SpeaksStream, Speaks, CanFinish, FinishedStream, Finished}
+use Rattle.iw_laws.specs.Sends.{Silent as Muted}
+use Rattle.iw_laws.specs.Turns.{Answer, is_last, story, story_of, standing, TurnsSeen, TurnsStream, Turns}
+use Rattle.iw_laws.specs.Rest.{IdleStream, IdleOnlyAtRest}
+use Rattle.iw_laws.specs.Ends.{HoldsNoMessage, HoldsNothing, EndSeen, IsStartDue, EndShown, EndsStream, Ends}
+use Rattle.iw_laws.specs.Calls.{deregister_answer, invalidate_refusal, IsNew, open_refusal_by, EndAnswered, ShowsMemory, recv_refusal_by, post_refusal_by, may_answer_by, Accepted, Rejected, StreamAnswered, AnsweredStream, Answered, delivery_by, KeptStream, KeepsOctets, CarriedStream, CarriesOctets}
+use Rattle.iw_laws.specs.Words.{OnSome, OnStream, AtEach}
+use Rattle.iw_laws.specs.Rules.{Connected, EndState, State, end_of, has_stream, stream_at, start, open_refusal, register_answer, accept_answer, answer_refusal, Rule, EndRule, PeerRule, WireRule, StreamRule, state_after, Follows}
+use Rattle.iw_laws.specs.Bounds.{LacksStream, AsksTooMuch, AsksOver}
+use Rattle.iw_laws.specs.Stops.{NamesNoStream, AsksNotSent, IsUnopened}
+use Rattle.iw_stream.proofs.Tasks.{IsResting, Ended as HasEnded, Unanswered, Without}
+use Rattle.iw_startup.specs.declared.progress.Progress.TheVariants as progresses
+use Rattle.iw_untagged.specs.Receiving.{Receiving}
+use Rattle.iw_laws.proofs.Told.{told, Hears, Sees, sees}
+use Rattle.iw_laws.proofs.Tracks.{Track, sound, silent_is, point_is, accepting, refusing}
+use Rattle.iw_laws.proofs.Answers.{answers, idles, idle_unfinished}
+use Rattle.iw_laws.proofs.Tales.{Tale, tale_of}
+use Rattle.iw_laws.proofs.Counts.{plain_part, message_at}
+use Rattle.iw_laws.proofs.Merges.{asked_or}
+use Rattle.iw_laws.proofs.Sending.{shown_good, Rests, Ended, Shut, Silent, Sent, MaySpeak, none_left, shows, EmitsStart, EmitsLast, EmitsPart, EmitsResponse, emits_as, terminate_small, terminate_good}
+use Rattle.iw_laws.proofs.Owns.{first_fits, Own, out_of, alone_out, lives, all_spoken, owes_some, runs_unbroken, answers_part, part_is_of, within, WithinTale, IsFramed, Unspoken, Spoken, behind_start, before_start}
+use Rattle.iw_laws.proofs.Messages.{start_frame_is, open_is, sequence_is, can_finish, cannot_finish}
+use Rattle.iw_laws.proofs.Heard.{IsHeard, hears_all}
+use Rattle.iw_laws.proofs.Delivered.{whole_of, received_prefix, writes_covered}
+use Rattle.iw_laws.proofs.Placed.{reads_answered}
+use Rattle.iw_laws.proofs.Ends.{there, EndSeen as EndKept, unopened}
+use Rattle.iw_laws.proofs.Whole.{tale, Seen as BothSeen, seen_at, follows_split}
+
+-- ---- honest streams
+
+-- the openings of an honest stream understand each other
+fitting : (n : ℕ) (past : List (Entry Octets)) → IsHonest n past → (x : End) → Fits (opening_of n (acts x past)) (opening_of n (acts (other x) past))
+fitting n past honest x =
+    subst (λ o. Fits o (opening_of n (acts (other x) past))) (ap opening_in (sym (honest.opened x)))
+    (subst (λ o. Fits (honest.opening x) o) (ap opening_in (sym (honest.opened (other x)))) (honest.fits x))
+
+-- what each end has heard of the other
+heard : (past : List (Entry Octets)) (w : State) (k : BothSeen past w) (x : End) (n : ℕ) → IsHonest n past
+    → IsHeard (stream_at (end_of x w) n) (tale n (acts x past)) (stream_at (end_of (other x) w) n) (tale n (acts (other x) past)) (out_of (stream_at (end_of x w) n).stream (tale n (acts x past)) (k.pairs x n).own.emits) (k.pairs x n).own_peer.track
+heard past w k x n honest =
+    let p = k.pairs x n in
+    hears_all (opening_of n (acts x past)) (stream_at (end_of x w) n) (tale n (acts x past)) p.own (opening_of n (acts (other x) past)) (stream_at (end_of (other x) w) n) (tale n (acts (other x) past)) p.own_peer
+    (fitting n past honest x) (p.out (honest.calm (other x))) (p.back (honest.calm x))
+
+-- what was received is a prefix of the Sends posted
+prefix_of : (past : List (Entry Octets)) (w : State) → BothSeen past w → (x : End) (n : ℕ) → IsHonest n past → IsPrefixOf (received (stream_acts n (acts (other x) past))) (sends (posted (stream_acts n (acts x past))))
+prefix_of past w k x n honest =
+    let p = k.pairs x n in
+    received_prefix (stream_at (end_of x w) n) (tale n (acts x past)) (stream_at (end_of (other x) w) n) (tale n (acts (other x) past)) p.own.emits p.own_peer.track (heard past w k x n honest) (p.out (honest.calm (other x)))
+
+pub in_order : (trace : List (Entry Octets)) → Follows start trace → InOrder trace
+in_order trace follows past future is x n honest = prefix_of past (state_after start past) (seen_at past future trace follows is) x n honest
+
+-- what was placed for Writes is what was posted, as far as Sends were received
+covers : (past : List (Entry Octets)) (w : State) → BothSeen past w → (x : End) (n : ℕ) → IsHonest n past → (cell : Cell)
+    → CoversWrites (posted (stream_acts n (acts x past))) (written (placings (stream_acts n (acts (other x) past)))) (length (received (stream_acts n (acts (other x) past)))) cell
+covers past w k x n honest cell =
+    let p = k.pairs x n in
+    writes_covered (stream_at (end_of x w) n) (tale n (acts x past)) (stream_at (end_of (other x) w) n) (tale n (acts (other x) past)) p.own.emits p.own_peer.track (heard past w k x n honest) (p.out (honest.calm (other x))) cell
+
+pub covered : (trace : List (Entry Octets)) → Follows start trace → Covered trace
+covered trace follows past future is x n honest cell = covers past (state_after start past) (seen_at past future trace follows is) x n honest cell
+
+-- ---- Reads of an honest stream
+
+fits_both : (a b : Opening) → Fits a b → Fits b a
+fits_both a b (inl f) = inl (f.1, f.0, sym f.2, sym f.3)
+fits_both a b (inr (inl f)) = inr (inr (f.1, f.0))
+fits_both a b (inr (inr f)) = inr (inl (f.1, f.0))
+
+-- what was answered is what was asked for, and is placed
+answers_reads : (past : List (Entry Octets)) (w : State) → BothSeen past w → (x : End) (n : ℕ) → IsHonest n past
+    → AnswersReads (story_of n (acts x past)) (posted (stream_acts n (acts (other x) past))) (sunk (placings (stream_acts n (acts (other x) past)))) (count_done (finished_kinds (stream_acts n (acts (other x) past))))
+answers_reads past w k x n honest =
+    let p = k.pairs x n in
+    let o : Opening = opening_of n (acts x past) in
+    let m : Opening = opening_of n (acts (other x) past) in
+    let out = p.out (honest.calm (other x)) in
+    let back = p.back (honest.calm x) in
+    let there = heard past w k x n honest in
+    let home = hears_all m (stream_at (end_of (other x) w) n) (tale n (acts (other x) past)) p.own_peer o (stream_at (end_of x w) n) (tale n (acts x past)) p.own (fits_both o m (fitting n past honest x)) back out in
+    reads_answered (stream_at (end_of x w) n) (tale n (acts x past)) (stream_at (end_of (other x) w) n) (tale n (acts (other x) past)) p.own.emits p.own.track p.own_peer.emits p.own_peer.track p.own_peer.doing.answered there home out back
+
+pub answering_all : (trace : List (Entry Octets)) → Follows start trace → Answering trace
+answering_all trace follows past future is x n honest = answers_reads past (state_after start past) (seen_at past future trace follows is) x n honest
+
+-- ---- what changes
+
+-- what changed lay where it was allowed
+within_stream : (done : List (Act Octets)) (n domain : ℕ) (table : Table) (act : StreamAct Octets) → domain ≡ domain_of n done → table ≡ table_after done
+    → WithinTale table domain (tale n done) act → WithinStream done n act
+within_stream done n domain table act d t h = subst (λ z. WithinTale z (domain_of n done) (tale n done) act) t (subst (λ z. WithinTale table z (tale n done) act) d h)
+
+-- what holds of the acts of a stream holds of those of an end
+on_stream : (P : List (Act Octets) → ℕ → StreamAct Octets → Type 0) (done : List (Act Octets)) (s : EndState) (act : Act Octets) → EndRule s act
+    → ((n : ℕ) (a : StreamAct Octets) → has_stream s n ≡ true → StreamRule s.table (stream_at s n).stream a → P done n a) → OnStream P done act
+on_stream P done s (Stream n act) rule h = h n act rule.0 rule.1
+on_stream P done s (Domain pd refused) rule h = tt
+on_stream P done s (Register pd base rights octets answer) rule h = tt
+on_stream P done s (Deregister stag answer) rule h = tt
+on_stream P done s (Invalidate stag refused) rule h = tt
+on_stream P done s (Store stag to octets refused) rule h = tt
+on_stream P done s (Open n pd role options private refused) rule h = tt
+
+-- an entry, in the state that those before it leave
+abbrev Moment : List (Entry Octets) → Entry Octets → Type 0
+Moment past e = BothSeen past (state_after start past) × Rule (end_of e.end (state_after start past)) (end_of (other e.end) (state_after start past)) e.act
+
+moment : (past : List (Entry Octets)) (e : Entry Octets) (future trace : List (Entry Octets)) → Follows start trace → trace ≡ past ++ e ∷ future → Moment past e
+moment past e future trace follows is =
+    (seen_at past (e ∷ future) trace follows is, (follows_split past (e ∷ future) start (subst (Follows start) is follows)).1.0)
+
+-- a law of each entry of a stream, by the state before it
+each_stream : (P : List (Act Octets) → ℕ → StreamAct Octets → Type 0) (trace : List (Entry Octets)) → Follows start trace
+    → ((done : List (Act Octets)) (s : EndState) (n : ℕ) (act : StreamAct Octets) → EndKept s done → has_stream s n ≡ true → StreamRule s.table (stream_at s n).stream act
+    → Own (opening_of n done) (stream_at s n) (tale n done) → P done n act) → AtEach (OnStream P) trace
+each_stream P trace follows one past e future is =
+    let m = moment past e future trace follows is in
+    let w : State = state_after start past in
+    let s : EndState = end_of e.end w in
+    on_stream P (acts e.end past) s e.act m.1.0 (λ n act opened rule. one (acts e.end past) s n act (m.0.ends e.end) opened rule (m.0.pairs e.end n).own)
+
+pub within_all : (trace : List (Entry Octets)) → Follows start trace → Within trace
+within_all trace follows = each_stream WithinStream trace follows (λ done s n act k opened rule own.
+    let c : Connected = stream_at s n in
+    within_stream done n c.stream.domain s.table act (k.domain n opened) k.table (within (opening_of n done) s.table c (tale n done) act (told s.table c.stream act (sound c.stream (tale n done) own.track) rule) own))
+
+-- ---- what goes out
+
+first_frames : (past : List (Entry Octets)) (w : State) → BothSeen past w → (x : End) (n : ℕ) → AreFirstFrames (story_of n (acts x past)) (sent (stream_acts n (acts x past))) (posted (stream_acts n (acts x past)))
+first_frames past w k x n =
+    let s : StreamState = (stream_at (end_of x w) n).stream in
+    let t : Tale = tale n (acts x past) in
+    let own = (k.pairs x n).own in
+    let e = own.emits in
+    let all = whole_of s t e in
+    record {
+      items = all.items;
+      posts = all.posts;
+      answers = all.requests ∙ ap (λ (z : Requested). map (λ (a : Answer). a.request) t.story.answers ++ map (λ (a : Asked). a.request) z.unanswered) (sym e.asks.asked);
+      fetched = all.octets;
+      begun = e.segments;
+      later = all.later;
+      carry = all.merged;
+      framed = framed s t own.track e.segments (farewells t.story.farewell) e.framed;
+      closed = λ h. (e.parts.shut (sym (open_is s t own.track) ∙ h)).none;
+      silent = λ h. (e.parts.silent (silent_is s t own.track ∙ h)).none;
+    }
+  where
+    none_first : (us fs : List (Segment Octets)) → us ++ fs ≡ [] → us ≡ []
+    none_first [] fs h = refl
+    none_first (u ∷ us) fs h = absurd (omega (arith, ap length h))
+
+    framed : (s : StreamState) (t : Tale) (k : Track s t) (us fs : List (Segment Octets)) → IsFramed s.start t.sent (us ++ fs)
+        → ((t.sent ≡ []) × (us ≡ [])) ⊎ (t.sent ≡ own_frame t.story.start ++ sequence (sending t.story.start) 0 (map segment_octets (us ++ fs)))
+    framed s t k us fs (Unspoken b c) = inl (b, none_first us fs c)
+    framed s t k us fs (Spoken b) = inr (b ∙ sym (sequence_is s t k (us ++ fs)))
+
+pub emission : (trace : List (Entry Octets)) → Follows start trace → Emission trace
+emission trace follows past future is x n = first_frames past (state_after start past) (seen_at past future trace follows is) x n
+
+-- where no part of a message was begun, and no request waits, what was sent is all frames of messages and responses
+all_frames : (o : Opening) (c : Connected) (t : Tale) (own : Own o c t) → ended c.stream ≡ false → owes_frame c.stream ≡ false → c.stream.queue.offset ≡ 0 → c.stream.asked.unanswered ≡ [] → AreAllFrames t.story t.sent (posts_in own.emits.merges.items)
+all_frames o c t own running owes unbegun none =
+    let e = own.emits in
+    let k = e.merges in
+    let l = e.live running in
+    let nil : length t.story.begun ≡ 0 = (let zero_is : c.stream.asked.fetched ≡ 0 = subst (λ z. requests.IsBegun z c.stream.asked.fetched) none e.asks.begun in omega (arith, zero_is, e.asks.fetched)) in
+    let fresh : e.kept.offset ≡ 0 = ap (λ (q : Queue). q.offset) (sym l.queue) ∙ unbegun in
+    let whole : AreMerged first_numbers 0 (k.items ++ []) (e.segments ++ []) =
+    k.goes_on [] [] (record { post = λ some. absurd (omega (arith, some, fresh)); response = λ some. absurd (omega (arith, some, nil)) }) refl in
+    let all : out_of c.stream t e ≡ e.segments = alone_out e.segments (farewells t.story.farewell) (lives c.stream t e running).none in
+    record {
+      items = k.items;
+      posts = refl;
+      answers = k.are;
+      none_waits = ap (λ (z : Requested). z.unanswered) e.asks.asked ∙ none;
+      frames = record {
+        segments = e.segments;
+        carry = subst (λ z. AreMerged first_numbers 0 z e.segments) (append-nil k.items) (subst (AreMerged first_numbers 0 (k.items ++ [])) (append-nil e.segments) whole);
+        framed = behind_start c.stream t e own.sent (all_spoken c.stream owes (runs_unbroken c.stream.ending running)) ∙ sym (sequence_is c.stream t own.track (out_of c.stream t e))
+            ∙ ap (λ z. own_frame t.story.start ++ sequence (sending t.story.start) 0 (map segment_octets z)) all;
+      };
+    }
+
+-- nothing is due of a response: no request waits, where no message was begun
+none_waits : (s : StreamState) → s.queue.offset ≡ 0 → response_due s ≡ None → s.asked.unanswered ≡ []
+none_waits s unbegun e = go s.asked.unanswered refl
+  where
+    go : (waiting : List Asked) → s.asked.unanswered ≡ waiting → s.asked.unanswered ≡ []
+    go [] is = is
+    go (x ∷ xs) is = absurd (none-some _ (sym e ∙ (λ i. cond (nat_lt 0 (unbegun i)) None (part_for (is i) s.asked.fetched s.mulpdu))))
+
+-- why no part of a message is due
+record WaitsFor (s : StreamState) : Type 0 where
+  pub request : ReadRequest
+  pub messages : List (Request Octets)
+  pub unsent : s.queue.unsent ≡ Read request ∷ messages
+  pub full : most_reads ≤ length s.reads
+
+part_waits : (s : StreamState) → part_due s ≡ None → (s.queue.unsent ≡ []) ⊎ WaitsFor s
+part_waits s e = go (next_part s.queue s.mulpdu) refl e
+  where
+    read_of : (m : Request Octets) (ms : List (Request Octets)) → s.queue.unsent ≡ m ∷ ms → (is_read m && nat_le most_reads (length s.reads)) ≡ true → (s.queue.unsent ≡ []) ⊎ WaitsFor s
+    read_of (Posted m) ms is b = absurd (false≢true b)
+    read_of (Read request) ms is b = inr (record { request = request; messages = ms; unsent = is; full = (let le : nat_le most_reads (length s.reads) ≡ true = b in grind (arith, nat_tests)) })
+
+    go : (p : Option (Part (Request Octets))) → next_part s.queue s.mulpdu ≡ p → may_go s.reads p ≡ None → (s.queue.unsent ≡ []) ⊎ WaitsFor s
+    go None is h = inl (none_left s.queue s.mulpdu is)
+    go (Some part) is h =
+        let w = shows s.queue s.mulpdu part is in
+        by (is_read part.message && nat_le most_reads (length s.reads)) refl h w.message w.messages w.unsent (ap (λ (p : Part (Request Octets)). p.message) w.is)
+      where
+        by : (b : Bool) → (is_read part.message && nat_le most_reads (length s.reads)) ≡ b → cond b None (Some part) ≡ None → (m : Request Octets) (ms : List (Request Octets)) → s.queue.unsent ≡ m ∷ ms → part.message ≡ m → (s.queue.unsent ≡ []) ⊎ WaitsFor s
+        by false b h m ms is same = absurd (none-some _ (sym h))
+        by true b h m ms is same = read_of m ms is (ap (λ z. is_read z && nat_le most_reads (length s.reads)) (sym same) ∙ b)
+
+nothing_stream : (o : Opening) (c : Connected) (done : List (StreamAct Octets)) (table : Table) (act : StreamAct Octets) → StreamRule table c.stream act → Own o c (tale_of o done) → OnSome (NothingShown (story o done) done) (deed act).shown
+nothing_stream o c done table (Emit Nothing) rule own =
+    let r = emits_as table c.stream Nothing rule in
+    let ending = own.emits.parts.ending in
+    ((λ unbroken. frame_sent r.spoken (sym (ap is_broken ending) ∙ unbroken)), ap last_word ending ∙ r.silent, go r.spoken r.reason)
+  where
+    t : Tale
+    t = tale_of o done
+
+    frame_sent : owes_frame c.stream ≡ false → is_broken c.stream.ending ≡ false → IsPrefixOf (own_frame (story o done).start) (sent done)
+    frame_sent owes unbroken =
+        let frames : List ℕ = sequence (sending c.stream.start) 0 (map segment_octets (out_of c.stream (tale_of o done) own.emits)) in
+        (frames, ap (λ z. z ++ frames) (start_frame_is c.stream (tale_of o done) own.track) ∙ sym (behind_start c.stream (tale_of o done) own.emits own.sent (all_spoken c.stream owes unbroken)))
+
+    all : ended c.stream ≡ false → owes_frame c.stream ≡ false → response_due c.stream ≡ None → (c.stream.queue.unsent ≡ []) ⊎ WaitsFor c.stream → HasNothing (has_ended_by done) (story o done) (sent done) (posted done)
+    all running owes quiet (inl left) =
+        let e = own.emits in
+        let l = lives c.stream (tale_of o done) e running in
+        let unbegun : c.stream.queue.offset ≡ 0 = subst (λ z. IsBegun z c.stream.queue.offset) left l.limits.begun in
+        let none : e.kept.unsent ≡ [] = ap (λ (q : Queue). q.unsent) (sym (e.live running).queue) ∙ left in
+        let whole : posts_in e.merges.items ≡ posted done = sym (append-nil (posts_in e.merges.items)) ∙ ap (λ z. posts_in e.merges.items ++ z) (sym none) ∙ e.merges.posts in
+        AllSent (subst (AreAllFrames (story o done) (sent done)) whole (all_frames o c (tale_of o done) own running owes unbegun (none_waits c.stream unbegun quiet)))
+    all running owes quiet (inr w) =
+        let e = own.emits in
+        let l = lives c.stream (tale_of o done) e running in
+        let unbegun : c.stream.queue.offset ≡ 0 = zero_of c.stream.queue.offset (subst (λ z. IsBegun z c.stream.queue.offset) w.unsent l.limits.begun) in
+        let items : List (Request Octets) = posts_in e.merges.items in
+        let unsent : e.kept.unsent ≡ Read w.request ∷ w.messages = ap (λ (q : Queue). q.unsent) (sym (e.live running).queue) ∙ w.unsent in
+        let split : posted done ≡ items ++ Read w.request ∷ w.messages = sym e.merges.posts ∙ ap (λ z. items ++ z) unsent in
+        let here : slice_get (posted done) (length items) ≡ Some (Read w.request) = ap (λ z. slice_get z (length items)) split ∙ get_after items (Read w.request) w.messages in
+        let firsts : items ≡ take (length items) (posted done) = sym (take-append_seam items (Read w.request ∷ w.messages)) ∙ ap (take (length items)) (sym split) in
+        ReadWaits (length items) w.request here (omega (arith, w.full, ap length e.asks.reads))
+        (subst (AreAllFrames (story o done) (sent done)) firsts (all_frames o c (tale_of o done) own running owes unbegun (none_waits c.stream unbegun quiet)))
+      where
+        zero_of : (n : ℕ) → (0 < n → n < 0) → n ≡ 0
+        zero_of zero h = refl
+        zero_of (suc n) h = let no : suc n < 0 = h (omega arith) in absurd (omega (arith, no))
+
+        get_after : (xs : List (Request Octets)) (m : Request Octets) (ms : List (Request Octets)) → slice_get (xs ++ m ∷ ms) (length xs) ≡ Some m
+        get_after [] m ms = refl
+        get_after (x ∷ xs) m ms = get_after xs m ms
+
+    runs_or : (b : Bool) → ended c.stream ≡ b → owes_frame c.stream ≡ false → response_due c.stream ≡ None → part_due c.stream ≡ None → HasNothing (has_ended_by done) (story o done) (sent done) (posted done)
+    runs_or true over owes quiet none = Over (sym own.ended ∙ over)
+    runs_or false running owes quiet none = all running owes quiet (part_waits c.stream none)
+
+    go : owes_frame c.stream ≡ false → Rests c.stream → HasNothing (has_ended_by done) (story o done) (sent done) (posted done)
+    go owes (Ended over) = Over (sym own.ended ∙ over)
+    go owes (Shut closed) = Closed (open_is c.stream (tale_of o done) own.track ∙ closed)
+    go owes (Silent silent) = Muted (sym (silent_is c.stream (tale_of o done) own.track) ∙ silent)
+    go owes (Sent quiet none) = runs_or (ended c.stream) refl owes quiet none
+nothing_stream o c done table (Emit (Frame from octets)) rule own = tt
+nothing_stream o c done table (Emit (Fetched from frame stag to octets)) rule own = tt
+nothing_stream o c done table (Emit (Denied fault)) rule own = tt
+nothing_stream o c done table (Post m refused) rule own = tt
+nothing_stream o c done table (Recv len refused) rule own = tt
+nothing_stream o c done table (Deliver from octets delivery) rule own = tt
+nothing_stream o c done table (Raw from octets delivery) rule own = tt
+nothing_stream o c done table (Mulpdu size refused) rule own = tt
+nothing_stream o c done table (Accept private answer) rule own = tt
+nothing_stream o c done table (Reject private refused) rule own = tt
+nothing_stream o c done table (Work step) rule own = tt
+nothing_stream o c done table Break rule own = tt
+
+pub nothing_at_rest : (trace : List (Entry Octets)) → Follows start trace → NothingOnlyAtRest trace
+nothing_at_rest trace follows = each_stream NothingStream trace follows (λ done s n act k opened rule own. nothing_stream (opening_of n done) (stream_at s n) (stream_acts n done) s.table act rule own)
+
+-- a frame stands behind what was sent, and is the start-up frame or that of a part, as large as was set
+-- how large the frame of a part is
+part_size : (numbers : Numbers) (m : Request Octets) (offset n : ℕ) (last : Bool) (size : ℕ) → offset + n ≤ length (payload m) → n + header_len m ≤ size → 128 ≤ size → (last ≡ false → n + header_len m ≡ size)
+    → (length (segment_octets (segment_with numbers m offset last (take n (drop offset (payload m))))) ≤ size) × (is_last (segment_with numbers m offset last (take n (drop offset (payload m)))) ≡ false → length (segment_octets (segment_with numbers m offset last (take n (drop offset (payload m))))) ≡ size)
+part_size numbers (Posted (Write stag to octets)) offset n last size within fits enough full =
+    let long = length-segment_octets_tagged (record { last = last; ddp_version = 1; control = control_of (tagged_opcode tagged.Write); stag = stag; to = (to + offset) % 2 ^ 64 }) (take n (drop offset octets)) in
+    let many : length (take n (drop offset octets)) ≡ n = omega (arith, within, length-take n (drop offset octets), length-drop offset octets) in
+    (omega (arith, long, many, fits), (λ h. omega (arith, long, many, full h)))
+part_size numbers (Posted (Send octets solicited invalidate)) offset n last size within fits enough full =
+    let long = length-segment_octets_untagged (record { last = last; ddp_version = 1; control = control_of (untagged_opcode (untagged.Send solicited (is_some invalidate))); tail = option_map_or number_of invalidate 0; queue = 0; msn = numbers.send; mo = offset }) (take n (drop offset octets)) in
+    let many : length (take n (drop offset octets)) ≡ n = omega (arith, within, length-take n (drop offset octets), length-drop offset octets) in
+    (omega (arith, long, many, fits), (λ h. omega (arith, long, many, full h)))
+part_size numbers (Read request) offset n last size within fits enough full =
+    let long = length-segment_octets_untagged (record { last = true; ddp_version = 1; control = control_of (untagged_opcode untagged.ReadRequest); tail = 0; queue = 1; msn = numbers.read; mo = 0 }) (request_octets request) in
+    (omega (arith, long, length-request_octets request, enough), (λ h. absurd (false≢true (sym h))))
+
+-- how far a part reaches
+part_within : (q : Queue) (max : ℕ) (part : Part (Request Octets)) → IsWithinLimits q → next_part q max ≡ Some part → part.offset + part.n ≤ length (payload part.message)
+part_within q max part limits e =
+    let w = shows q max part e in
+    let m : Request Octets = w.message in
+    let begun : IsBegun (m ∷ w.messages) q.offset = subst (λ ms. IsBegun ms q.offset) w.unsent limits.begun in
+    subst (λ (p : Part (Request Octets)). p.offset + p.n ≤ length (payload p.message)) (sym w.is) (reach q.offset (length (payload m)) (max - header_len m) begun)
+  where
+    reach : (offset len room : ℕ) → (0 < offset → offset < len) → offset + min (len - offset) room ≤ len
+    reach zero len room begun = omega arith
+    reach (suc k) len room begun = let more : suc k < len = begun (omega arith) in omega (arith, more)
+
+frame_sized : (o : Opening) (c : Connected) (done : List (StreamAct Octets)) (from : ℕ) (octets : Octets) → Own o c (tale_of o done) → EmitsStart c.stream from octets ⊎ (EmitsLast c.stream from octets ⊎ EmitsPart c.stream from octets)
+    → FrameSized (story o done) (size_set done) (sent done) (Frame from octets)
+frame_sized o c done from octets own (inl p) =
+    let t : Tale = tale_of o done in
+    (p.from_is ∙ own.sent, inl ((before_start c.stream t own.emits own.sent p.owes).0, p.octets_are ∙ sym (start_frame_is c.stream t own.track)))
+frame_sized o c done from octets own (inr (inl p)) =
+    let s : StreamState = c.stream in
+    let t : Tale = tale_of o done in
+    let e = own.emits in
+    let few : length p.payload ≤ 52 = e.parts.short p.payload p.is_due in (
+      p.from_is ∙ own.sent,
+      inr (record {
+        segment = terminate_segment p.payload;
+        known = (terminate_good p.payload few).fits refl;
+        is = p.octets_are ∙ (λ i. frame_octets (sending (sym own.track.begins.start i)) (own.sent i - length (own_frame (sym own.track.begins.start i))) (segment_octets (terminate_segment p.payload)));
+        fits = omega (arith, terminate_small p.payload few, e.size, e.enough);
+        full = λ h. absurd (false≢true (sym h));
+      }),
+    )
+frame_sized o c done from octets own (inr (inr p)) =
+    let s : StreamState = c.stream in
+    let t : Tale = tale_of o done in
+    let e = own.emits in
+    let l = lives s t e p.is_loud.running in
+    let filled : IsFilled s.mulpdu p.part = fills s.queue s.mulpdu p.part e.enough l.limits p.is_loud.part_is in
+    let size = part_size s.numbers p.part.message p.part.offset p.part.n p.part.last s.mulpdu (part_within s.queue s.mulpdu p.part l.limits p.is_loud.part_is) filled.fits e.enough filled.full in (
+      p.from_is ∙ own.sent,
+      inr (record {
+        segment = segment_of s.numbers p.part;
+        known = (shown_good s.numbers s.queue s.mulpdu p.part p.is_loud.part_is l.limits e.enough e.few e.numbers (first_fits s.queue l.fit)).fits (plain_part s.numbers p.part);
+        is = p.octets_are ∙ (λ i. frame_octets (sending (sym own.track.begins.start i)) (own.sent i - length (own_frame (sym own.track.begins.start i))) (segment_octets (segment_of s.numbers p.part)));
+        fits = omega (arith, size.0, e.size);
+        full = λ h. size.1 h ∙ e.size;
+      }),
+    )
+
+-- the frame of part of a response
+response_sized : (o : Opening) (c : Connected) (done : List (StreamAct Octets)) (table : Table) (from : ℕ) (frame : Octets) (stag : Stag) (to : ℕ) (octets : Octets) → EmitsResponse table c.stream from frame stag to octets → Own o c (tale_of o done)
+    → FrameSized (story o done) (size_set done) (sent done) (Fetched from frame stag to octets)
+response_sized o c done table from frame stag to octets p own =
+    let s : StreamState = c.stream in
+    let e = own.emits in
+    let w = answers_part table s (tale_of o done) from frame stag to octets p e.asks in
+    let waits : (story o done).asked.unanswered ≡ w.oldest ∷ w.others = ap (λ (z : Requested). z.unanswered) e.asks.asked ∙ w.waiting in (
+      p.from_is ∙ own.sent,
+      record {
+        fits = omega (arith, w.many, e.size, e.enough);
+        full = λ oldest others is less.
+            let same : w.oldest ≡ oldest = ap (asked_or w.oldest) (sym waits ∙ is) in
+            let size : oldest.request.size ≡ w.oldest.request.size = ap (λ (z : Asked). z.request.size) (sym same) in
+            omega (arith, w.many, e.size, e.enough, below_size (λ z. less (z ∙ sym size)) w.within);
+      },
+    )
+  where
+    below_size : {a b : ℕ} → a ≢ b → a ≤ b → a < b
+    below_size {a} {b} h le = elim (cases_lt a b) [ inl lt ↦ lt | inr ge ↦ absurd (h (omega (arith, le, ge))) ]
+
+shown_sized : (o : Opening) (c : Connected) (done : List (StreamAct Octets)) (table : Table) (act : StreamAct Octets) → StreamRule table c.stream act → Own o c (tale_of o done)
+    → OnSome (FrameSized (story o done) (size_set done) (sent done)) (deed act).shown
+shown_sized o c done table (Emit (Frame from octets)) rule own = frame_sized o c done from octets own (emits_as table c.stream (Frame from octets) rule)
+shown_sized o c done table (Emit (Fetched from frame stag to octets)) rule own = response_sized o c done table from frame stag to octets (emits_as table c.stream (Fetched from frame stag to octets) rule) own
+shown_sized o c done table (Emit (Denied fault)) rule own = tt
+shown_sized o c done table (Emit Nothing) rule own = tt
+shown_sized o c done table (Post m refused) rule own = tt
+shown_sized o c done table (Recv len refused) rule own = tt
+shown_sized o c done table (Deliver from octets delivery) rule own = tt
+shown_sized o c done table (Raw from octets delivery) rule own = tt
+shown_sized o c done table (Mulpdu size refused) rule own = tt
+shown_sized o c done table (Accept private answer) rule own = tt
+shown_sized o c done table (Reject private refused) rule own = tt
+shown_sized o c done table (Work step) rule own = tt
+shown_sized o c done table Break rule own = tt
+
+pub sized_all : (trace : List (Entry Octets)) → Follows start trace → Sized trace
+sized_all trace follows = each_stream SizedStream trace follows (λ done s n act k opened rule own. shown_sized (opening_of n done) (stream_at s n) (stream_acts n done) s.table act rule own)
+
+may_send : (o : Opening) (c : Connected) (done : List (StreamAct Octets)) → MaySpeak c.stream → Own o c (tale_of o done) → MaySend (has_ended_by done) (story o done)
+may_send o c done m own =
+    let t : Tale = tale_of o done in
+    record { running = sym own.ended ∙ m.running; open_now = open_is c.stream t own.track ∙ m.started; loud = sym (silent_is c.stream t own.track) ∙ m.loud }
+
+-- the Terminate that is due
+last_word_of : (o : Opening) (c : Connected) (done : List (StreamAct Octets)) (from : ℕ) (octets : Octets) → EmitsLast c.stream from octets → Own o c (tale_of o done) → IsLastWord (story o done) (sent done) octets
+last_word_of o c done from octets p own = record {
+  payload = p.payload;
+  is_due = ap last_word own.emits.parts.ending ∙ p.is_due;
+  is = p.octets_are ∙ (λ i. frame_octets (sending (sym own.track.begins.start i)) (own.sent i - length (own_frame (sym own.track.begins.start i))) (segment_octets (terminate_segment p.payload)));
+}
+
+-- and goes out where one may
+shown_allowed : (o : Opening) (c : Connected) (done : List (StreamAct Octets)) (table : Table) (act : StreamAct Octets) → StreamRule table c.stream act → Own o c (tale_of o done)
+    → OnSome (FrameAllowed (has_ended_by done) (story o done) (sent done)) (deed act).shown
+shown_allowed o c done table (Emit (Frame from octets)) rule own = go (emits_as table c.stream (Frame from octets) rule)
+  where
+    t : Tale
+    t = tale_of o done
+
+    go : EmitsStart c.stream from octets ⊎ (EmitsLast c.stream from octets ⊎ EmitsPart c.stream from octets) → FrameAllowed (has_ended_by done) (story o done) (sent done) (Frame from octets)
+    go (inl p) = inl ((before_start c.stream t own.emits own.sent p.owes).0, p.octets_are ∙ sym (start_frame_is c.stream t own.track))
+    go (inr (inl p)) = inr (inl (last_word_of o c done from octets p own))
+    go (inr (inr p)) = inr (inr (record { running = sym own.ended ∙ p.is_loud.running; open_now = open_is c.stream t own.track ∙ p.is_loud.started; loud = sym (silent_is c.stream t own.track) ∙ p.is_loud.loud }))
+shown_allowed o c done table (Emit (Fetched from frame stag to octets)) rule own = may_send o c done (emits_as table c.stream (Fetched from frame stag to octets) rule).speaks own
+shown_allowed o c done table (Emit (Denied fault)) rule own = may_send o c done (emits_as table c.stream (Denied fault) rule).speaks own
+shown_allowed o c done table (Emit Nothing) rule own = tt
+shown_allowed o c done table (Post m refused) rule own = tt
+shown_allowed o c done table (Recv len refused) rule own = tt
+shown_allowed o c done table (Deliver from octets delivery) rule own = tt
+shown_allowed o c done table (Raw from octets delivery) rule own = tt
+shown_allowed o c done table (Mulpdu size refused) rule own = tt
+shown_allowed o c done table (Accept private answer) rule own = tt
+shown_allowed o c done table (Reject private refused) rule own = tt
+shown_allowed o c done table (Work step) rule own = tt
+shown_allowed o c done table Break rule own = tt
+
+pub speaks_all : (trace : List (Entry Octets)) → Follows start trace → Speaks trace
+speaks_all trace follows = each_stream SpeaksStream trace follows (λ done s n act k opened rule own. shown_allowed (opening_of n done) (stream_at s n) (stream_acts n done) s.table act rule own)
+
+-- ---- the turns of frames
+
+same_standing : (done : List (Act Octets)) (n : ℕ) (s : EndState) → EndKept s done → has_stream s n ≡ true → Own (opening_of n done) (stream_at s n) (tale n done) → work.standing s.table (stream_at s n).stream ≡ standing n done
+same_standing done n s k there own =
+    λ i. record { table = k.table i; domain = k.domain n there i; receiving = sym own.track.receiving i; reads = sym own.emits.asks.reads i; asked = sym own.emits.asks.asked i }
+
+turns_stream : (done : List (Act Octets)) (n : ℕ) (s : EndState) (act : StreamAct Octets) → EndKept s done → has_stream s n ≡ true → StreamRule s.table (stream_at s n).stream act
+    → Own (opening_of n done) (stream_at s n) (tale n done) → TurnsStream done n act
+turns_stream done n s (Work step) k there rule own =
+    subst (λ z. TurnsSeen (has_ended_by (stream_acts n done)) (story_of n done) z step) (same_standing done n s k there own) (answers s.table (stream_at s n).stream (tale n done) step rule own.track own.ended)
+turns_stream done n s (Post m refused) k there rule own = tt
+turns_stream done n s (Recv len refused) k there rule own = tt
+turns_stream done n s (Emit shown) k there rule own = tt
+turns_stream done n s (Deliver from octets delivery) k there rule own = tt
+turns_stream done n s (Raw from octets delivery) k there rule own = tt
+turns_stream done n s (Mulpdu size refused) k there rule own = tt
+turns_stream done n s (Accept private answer) k there rule own = tt
+turns_stream done n s (Reject private refused) k there rule own = tt
+turns_stream done n s Break k there rule own = tt
+
+pub turns_all : (trace : List (Entry Octets)) → Follows start trace → Turns trace
+turns_all trace follows = each_stream TurnsStream trace follows turns_at
+  where
+    turns_at : (done : List (Act Octets)) (s : EndState) (n : ℕ) (act : StreamAct Octets) → EndKept s done → has_stream s n ≡ true → StreamRule s.table (stream_at s n).stream act
+        → Own (opening_of n done) (stream_at s n) (tale n done) → TurnsStream done n act
+    turns_at done s n act k there rule own = turns_stream done n s act k there rule own
+
+-- ---- what is fetched
+
+fetch_shown : (done : List (Act Octets)) (n : ℕ) (s : EndState) (act : StreamAct Octets) → EndKept s done → has_stream s n ≡ true → StreamRule s.table (stream_at s n).stream act → Own (opening_of n done) (stream_at s n) (tale n done)
+    → OnSome (FetchShown (story_of n done) (work.standing s.table (stream_at s n).stream)) (deed act).shown
+fetch_shown done n s (Emit (Fetched from frame stag to octets)) k there rule own =
+    let c : Connected = stream_at s n in
+    let t : Tale = tale n done in
+    let w = answers_part s.table c.stream t from frame stag to octets (emits_as s.table c.stream (Fetched from frame stag to octets) rule) own.emits.asks in
+    let p = emits_as s.table c.stream (Fetched from frame stag to octets) rule in
+    record {
+      oldest = w.oldest;
+      waits = record { others = w.others; is = ap (λ (z : Requested). z.unanswered) own.emits.asks.asked ∙ w.waiting };
+      source = w.stag_is;
+      place = w.to_is;
+      asked_for = w.within;
+      allowed = allows s.table c.stream.domain stag to (length octets) rights.Read w.admitted;
+      stand = w.stand;
+      carries = w.frame_is
+          ∙ (λ i. frame_octets (sending (sym own.track.begins.start i)) (sym p.from_is i - first_place_out (sym own.track.begins.start i)) (segment_octets (response_segment w.oldest.request (length (story_of n done).begun) (w.last_is i) octets)));
+    }
+fetch_shown done n s (Emit (Denied fault)) k there rule own =
+    let c : Connected = stream_at s n in
+    let t : Tale = tale n done in
+    let p = emits_as s.table c.stream (Denied fault) rule in
+    let w = part_is_of c.stream p.part p.is_due in
+    let fetched = own.emits.asks.fetched in
+    let within = denied_within c.stream.asked.fetched w.oldest.request.size (c.stream.mulpdu - 14) (subst (λ z. requests.IsBegun z c.stream.asked.fetched) w.waiting own.emits.asks.begun) in
+    record {
+      oldest = w.oldest;
+      waits = record { others = w.others; is = ap (λ (z : Requested). z.unanswered) own.emits.asks.asked ∙ w.waiting };
+      n = min (w.oldest.request.size - c.stream.asked.fetched) (c.stream.mulpdu - 14);
+      asked_for = omega (arith, fetched, within);
+      denied = (λ i. reading_fault s.table c.stream.domain w.oldest.request.source (w.oldest.request.source_to + sym fetched i) (min (w.oldest.request.size - c.stream.asked.fetched) (c.stream.mulpdu - 14)))
+          ∙ ap (fetch_fault s.table c.stream.domain) (sym w.is) ∙ p.denied;
+    }
+  where
+    denied_within : (n size room : ℕ) → (0 < n → n < size) → n + min (size - n) room ≤ size
+    denied_within zero size room h = omega arith
+    denied_within (suc n) size room h = let more : suc n < size = h (omega arith) in omega (arith, more)
+fetch_shown done n s (Emit (Frame from octets)) k there rule own = tt
+fetch_shown done n s (Emit Nothing) k there rule own = tt
+fetch_shown done n s (Post m refused) k there rule own = tt
+fetch_shown done n s (Recv len refused) k there rule own = tt
+fetch_shown done n s (Deliver from octets delivery) k there rule own = tt
+fetch_shown done n s (Raw from octets delivery) k there rule own = tt
+fetch_shown done n s (Mulpdu size refused) k there rule own = tt
+fetch_shown done n s (Accept private answer) k there rule own = tt
+fetch_shown done n s (Reject private refused) k there rule own = tt
+fetch_shown done n s (Work step) k there rule own = tt
+fetch_shown done n s Break k there rule own = tt
+
+pub fetched_all : (trace : List (Entry Octets)) → Follows start trace → AtEach (OnStream FetchStream) trace
+fetched_all trace follows = each_stream FetchStream trace follows (λ done s n act k opened rule own.
+    subst (λ z. OnSome (FetchShown (story_of n done) z) (deed act).shown) (same_standing done n s k opened own) (fetch_shown done n s act k opened rule own))
+
+-- ---- Reads that are outstanding
+
+pub few_reads : (trace : List (Entry Octets)) → Follows start trace → FewReads trace
+few_reads trace follows past future is x n =
+    let own = ((seen_at past future trace follows is).pairs x n).own in
+    omega (arith, own.emits.asks.few, ap length own.emits.asks.reads)
+
+-- ---- finished messages
+
+finished_stream : (done : List (Act Octets)) (n : ℕ) (s : EndState) (act : StreamAct Octets) → StreamRule s.table (stream_at s n).stream act → Own (opening_of n done) (stream_at s n) (tale n done) → FinishedStream done n act
+finished_stream done n s (Work (seen.Done kind)) rule own =
+    let c : Connected = stream_at s n in
+    let d = (sees s.table c.stream (sound c.stream (tale n done) own.track) (seen.Done kind) rule).0 in
+    subst (CanFinish (story_of n done) (stream_acts n done)) (sym d.2) (can_finish c.stream (tale n done) own.track own.emits d.0 d.1)
+finished_stream done n s (Work seen.Idle) rule own = tt
+finished_stream done n s (Work (seen.Asked private)) rule own = tt
+finished_stream done n s (Work (seen.Opened agreed private)) rule own = tt
+finished_stream done n s (Work (seen.Closed fault)) rule own = tt
+finished_stream done n s (Work (seen.Placed right stag to octets)) rule own = tt
+finished_stream done n s (Work (seen.Buffered msn mo len)) rule own = tt
+finished_stream done n s (Work (seen.Requested size stag to)) rule own = tt
+finished_stream done n s (Work seen.Passed) rule own = tt
+finished_stream done n s (Work (seen.Received octets solicited invalidate)) rule own = tt
+finished_stream done n s (Work (seen.Flushed kind)) rule own = tt
+finished_stream done n s (Work (seen.FlushedRecv octets)) rule own = tt
+finished_stream done n s (Work (seen.Terminated fault)) rule own = tt
+finished_stream done n s (Work (seen.Fault fault)) rule own = tt
+finished_stream done n s Break rule own = tt
+finished_stream done n s (Post m refused) rule own = tt
+finished_stream done n s (Recv len refused) rule own = tt
+finished_stream done n s (Emit shown) rule own = tt
+finished_stream done n s (Deliver from octets delivery) rule own = tt
+finished_stream done n s (Raw from octets delivery) rule own = tt
+finished_stream done n s (Mulpdu size refused) rule own = tt
+finished_stream done n s (Accept private answer) rule own = tt
+finished_stream done n s (Reject private refused) rule own = tt
+
+pub finished_all : (trace : List (Entry Octets)) → Follows start trace → Finished trace
+finished_all trace follows = each_stream FinishedStream trace follows (λ done s n act k opened rule own. finished_stream done n s act rule own)
+
+-- ---- rest
+
+idle_stream : (s : EndState) (c : Connected) (done : List (Act Octets)) (n : ℕ) (act : StreamAct Octets) → StreamRule s.table c.stream act → Own (opening_of n done) c (tale n done) → IdleStream done n act
+idle_stream s c done n (Work seen.Idle) rule o = record {
+  reason = idles s.table c.stream (tale n done) rule o.track o.ended;
+  unfinished = cannot_finish c.stream (tale n done) o.track o.emits (idle_unfinished s.table c.stream (tale n done) rule o.track);
+}
+idle_stream s c done n (Work (seen.Asked private)) rule o = tt
+idle_stream s c done n (Work (seen.Opened agreed private)) rule o = tt
+idle_stream s c done n (Work (seen.Closed fault)) rule o = tt
+idle_stream s c done n (Accept private answer) rule o = tt
+idle_stream s c done n (Reject private refused) rule o = tt
+idle_stream s c done n (Work (seen.Done kind)) rule own = tt
+idle_stream s c done n (Work (seen.Placed right stag to octets)) rule o = tt
+idle_stream s c done n (Work (seen.Buffered msn mo len)) rule o = tt
+idle_stream s c done n (Work (seen.Requested size stag to)) rule o = tt
+idle_stream s c done n (Work seen.Passed) rule o = tt
+idle_stream s c done n (Work (seen.Received octets solicited invalidate)) rule o = tt
+idle_stream s c done n (Work (seen.Flushed kind)) rule o = tt
+idle_stream s c done n (Work (seen.FlushedRecv octets)) rule o = tt
+idle_stream s c done n (Work (seen.Terminated fault)) rule o = tt
+idle_stream s c done n (Work (seen.Fault fault)) rule o = tt
+idle_stream s c done n Break rule o = tt
+idle_stream s c done n (Post m refused) rule o = tt
+idle_stream s c done n (Recv len refused) rule o = tt
+idle_stream s c done n (Emit shown) rule o = tt
+idle_stream s c done n (Deliver from octets delivery) rule o = tt
+idle_stream s c done n (Raw from octets delivery) rule o = tt
+idle_stream s c done n (Mulpdu size refused) rule o = tt
+
+pub idle_at_rest : (trace : List (Entry Octets)) → Follows start trace → IdleOnlyAtRest trace
+idle_at_rest trace follows = each_stream IdleStream trace follows (λ done s n act k opened rule own. idle_stream s (stream_at s n) done n act rule own)
+
+-- ---- the end
+
+-- what is handed back, and what is seen of a stream that has not ended
+end_seen : (o : Opening) (c : Connected) (done : List (StreamAct Octets)) (table : Table) (step : Seen Octets) → StreamRule table c.stream (Work step) → Own o c (tale_of o done) → EndSeen (has_ended_by done) (story o done) done step
+end_seen o c done table step rule own = told step (sees table c.stream (sound c.stream t own.track) step rule).0
+  where
+    t : Tale
+    t = tale_of o done
+
+    q : Queue
+    q = c.stream.queue
+
+    no_kinds : oldest_in q ≡ None → kinds_in q ≡ []
+    no_kinds h = go q.sent.messages q.unsent h
+      where
+        go : (ms : List WasSent) (unsent : List (Request Octets)) → oldest_among q.sent.first ms unsent ≡ None → map (λ (w : WasSent). w.kind) ms ++ map kind_of unsent ≡ []
+        go [] [] h = refl
+        go [] (m ∷ unsent) h = absurd (none-some _ (sym h))
+        go (m ∷ ms) unsent h = absurd (none-some _ (sym h))
+
+    none_held : oldest_in q ≡ None → HoldsNoMessage done
+    none_held h =
+        let all : map kind_of (posted done) ≡ handed_kinds done = own.emits.handing.order ∙ ap (λ z. handed_kinds done ++ z) (no_kinds h) ∙ append-nil (handed_kinds done) in
+        omega (arith, ap length all, length-map (posted done) kind_of)
+
+    no_buffers : (bs : List Octets) → slice_get bs 0 ≡ None → bs ≡ []
+    no_buffers [] h = refl
+    no_buffers (b ∷ bs) h = absurd (none-some _ (sym h))
+
+    runs : ended c.stream ≡ false → has_ended_by done ≡ false
+    runs h = sym own.ended ∙ h
+
+    rests : Hears c.stream progresses.More ⊎ IsResting c.stream → has_ended_by done ≡ true → HoldsNothing (story o done) done
+    rests (inl h) over = absurd (false≢true (sym (runs h.running) ∙ over))
+    rests (inr (HasEnded e old none)) over = record { messages = none_held old; buffers = ap (λ (r : Receiving). r.buffers) own.track.receiving ∙ no_buffers c.stream.receiving.buffers none }
+    rests (inr (Unanswered running a b)) over = absurd (false≢true (sym (runs running) ∙ over))
+    rests (inr (Without r a b)) over = absurd (false≢true (sym (runs r.running) ∙ over))
+
+    told : (step : Seen Octets) → Sees table c.stream step → EndSeen (has_ended_by done) (story o done) done step
+    told (seen.Done kind) h = tt
+    told (seen.Flushed kind) h =
+        let m = message_at (posted done) (handed_kinds done) h.oldest.kind (kinds_in (handed_from q (Some h.oldest))) (own.emits.handing.order ∙ ap (λ z. handed_kinds done ++ z) (keeps_order.given_up q h.oldest h.is).kind) in
+        record {
+          over_so = sym own.ended ∙ h.over;
+          message = m.0;
+          is = m.1;
+          kind_is = h.kind_is ∙ m.2;
+          unfinished = λ other. cannot_finish c.stream t own.track own.emits h.unfinished other;
+        }
+    told (seen.FlushedRecv octets) h = record { over_so = sym own.ended ∙ h.over; messages = none_held h.none; is = ap (λ (r : Receiving). slice_get r.buffers 0) own.track.receiving ∙ h.is }
+    told seen.Idle h = rests h.1
+    told (seen.Asked private) h = runs h.0.running
+    told (seen.Opened agreed private) h = runs h.0.running
+    told (seen.Closed fault) h = runs h.running
+    told (seen.Placed right stag to octets) h = runs h.0.runs.running
+    told (seen.Buffered msn mo len) h = runs h.0.runs.running
+    told (seen.Requested size stag to) h = runs h.0.runs.running
+    told seen.Passed h = runs h.0.runs.running
+    told (seen.Received octets solicited invalidate) h = runs h.0.runs.running
+    told (seen.Terminated fault) h = runs h.0.runs.running
+    told (seen.Fault fault) (inl h) = runs h.runs.running
+    told (seen.Fault fault) (inr h) = runs h.runs.running
+
+-- what goes out of a stream that has ended
+end_shown : (o : Opening) (c : Connected) (done : List (StreamAct Octets)) (table : Table) (shown : Shown Octets) → StreamRule table c.stream (Emit shown) → Own o c (tale_of o done) → EndShown (has_ended_by done) (story o done) (sent done) shown
+end_shown o c done table (Frame from octets) rule own = λ over. go over (emits_as table c.stream (Frame from octets) rule)
+  where
+    t : Tale
+    t = tale_of o done
+
+    go : has_ended_by done ≡ true → EmitsStart c.stream from octets ⊎ (EmitsLast c.stream from octets ⊎ EmitsPart c.stream from octets) → IsStartDue (story o done) (sent done) octets ⊎ IsLastWord (story o done) (sent done) octets
+    go over (inl p) = inl (record {
+      unbroken = ap is_broken own.emits.parts.ending ∙ (owes_some c.stream p.owes).0;
+      is = ((before_start c.stream t own.emits own.sent p.owes).0, p.octets_are ∙ sym (start_frame_is c.stream t own.track));
+    })
+    go over (inr (inl p)) = inr (last_word_of o c done from octets p own)
+    go over (inr (inr p)) = absurd (false≢true (sym p.is_loud.running ∙ own.ended ∙ over))
+end_shown o c done table (Fetched from frame stag to octets) rule own = sym own.ended ∙ (emits_as table c.stream (Fetched from frame stag to octets) rule).speaks.running
+end_shown o c done table (Denied fault) rule own = sym own.ended ∙ (emits_as table c.stream (Denied fault) rule).speaks.running
+end_shown o c done table Nothing rule own = tt
+
+ends_stream : (done : List (Act Octets)) (n : ℕ) (s : EndState) (act : StreamAct Octets) → StreamRule s.table (stream_at s n).stream act → Own (opening_of n done) (stream_at s n) (tale n done) → EndsStream done n act
+ends_stream done n s (Work step) rule own = (end_seen (opening_of n done) (stream_at s n) (stream_acts n done) s.table step rule own, tt)
+ends_stream done n s (Emit shown) rule own = (tt, end_shown (opening_of n done) (stream_at s n) (stream_acts n done) s.table shown rule own)
+ends_stream done n s (Post m refused) rule own = (tt, tt)
+ends_stream done n s (Recv len refused) rule own = (tt, tt)
+ends_stream done n s (Deliver from octets delivery) rule own = (tt, tt)
+ends_stream done n s (Raw from octets delivery) rule own = (tt, tt)
+ends_stream done n s (Mulpdu size refused) rule own = (tt, tt)
+ends_stream done n s (Accept private answer) rule own = (tt, tt)
+ends_stream done n s (Reject private refused) rule own = (tt, tt)
+ends_stream done n s Break rule own = (tt, tt)
+
+pub ends_all : (trace : List (Entry Octets)) → Follows start trace → Ends trace
+ends_all trace follows = each_stream EndsStream trace follows (λ done s n act k opened rule own. ends_stream done n s act rule own)
+
+-- the story of a stream has ended where its acts say so
+pub ended_told : (trace : List (Entry Octets)) → Follows start trace → (x : End) (n : ℕ) → has_ended (story_of n (acts x trace)).ending ≡ has_ended_by (stream_acts n (acts x trace))
+ended_told trace follows x n =
+    let own = ((seen_at trace [] trace follows (sym (append-nil trace))).pairs x n).own in
+    ap has_ended own.emits.parts.ending ∙ own.ended
+
+-- ---- calls
+
+-- an opening is refused by what was done
+open_refused : (s : EndState) (done : List (Act Octets)) (n pd : ℕ) → EndKept s done → open_refusal s n pd ≡ open_refusal_by done n pd
+open_refused s done n pd k = λ i. cond (k.opened n i) (Some NumberTaken) (cond (nat_le stream_numbers n) (Some BadNumber) (cond (not (is_added (k.table i) pd)) (Some NoDomain) None))
+
+-- the STag of the next region names nothing
+next_free : (table : Table) (pd base len : ℕ) (region : Region) → register_refusal table pd base len ≡ None → region_at table (next_stag table pd) ≡ None
+next_free table pd base len region e = go (is_some (part_of table pd)) refl e
+  where
+    go : (b : Bool) → is_some (part_of table pd) ≡ b
+        → cond (not b) (Some register_refusals.NoDomain) (cond (nat_le 1024 (free_slot (slots_of table pd))) (Some register_refusals.DomainFull) (cond (nat_lt 16777216 len) (Some register_refusals.TooLong) (cond (nat_lt (2 ^ 64) (base + len)) (Some register_refusals.BaseWrap) None))) ≡ None
+        → region_at table (next_stag table pd) ≡ None
+    go true added h = (registered-changes table pd region (there table pd added)).was_free
+    go false added h = absurd (none-some _ (sym h))
+
+registers : (table : Table) (pd base len : ℕ) (region : Region) (answer : Result Stag RegisterRefusal) → answer ≡ register_answer table pd base len → (result_err answer ≡ register_refusal table pd base len) × IfOk answer (IsNew table pd)
+registers table pd base len region answer e = subst (λ z. (result_err z ≡ register_refusal table pd base len) × IfOk z (IsNew table pd)) (sym e) (go (register_refusal table pd base len) refl)
+  where
+    go : (o : Option RegisterRefusal) → register_refusal table pd base len ≡ o → (result_err (option_map_or Err o (Ok (next_stag table pd))) ≡ register_refusal table pd base len) × IfOk (option_map_or Err o (Ok (next_stag table pd))) (IsNew table pd)
+    go None is = (sym is, record { domain = refl; fresh = next_free table pd base len region is })
+    go (Some refusal) is = (sym is, tt)
+
+end_answered : (done : List (Act Octets)) (s : EndState) (act : Act Octets) → EndKept s done → EndRule s act → EndAnswered done act
+end_answered done s (Domain pd refused) k rule = subst (λ t. refused ≡ domain_refusal t pd) k.table rule
+end_answered done s (Register pd base rights octets answer) k rule =
+    subst (λ t. (result_err answer ≡ register_refusal t pd base (length octets)) × IfOk answer (IsNew t pd)) k.table (registers s.table pd base (length octets) (record { base = base; octets = octets; rights = rights; valid = true }) answer rule)
+end_answered done s (Deregister stag answer) k rule = subst (λ t. answer ≡ deregister_answer t stag) k.table rule
+end_answered done s (Invalidate stag refused) k rule = subst (λ t. refused ≡ invalidate_refusal t stag) k.table rule
+end_answered done s (Store stag to octets refused) k rule = subst (λ t. refused ≡ store_refusal t stag to (length octets)) k.table rule
+end_answered done s (Open n pd role options private refused) k rule = rule ∙ open_refused s done n pd k
+end_answered done s (Stream n act) k rule = tt
+
+pub shows_memory : (trace : List (Entry Octets)) → Follows start trace → ShowsMemory trace
+shows_memory trace follows past e future is =
+    let m = moment past e future trace follows is in
+    let w : State = state_after start past in
+    end_answered (acts e.end past) (end_of e.end w) e.act (m.0.ends e.end) m.1.0
+
+-- the buffers and the messages that count for a refusal
+recv_refused : (o : Opening) (c : Connected) (done : List (StreamAct Octets)) → Own o c (tale_of o done) → recv_refusal c.stream ≡ recv_refusal_by done
+recv_refused o c done own = go (ended c.stream) (nat_le 256 (length c.stream.receiving.buffers)) own.ended (ap (nat_le 256) (sym (length-map c.stream.receiving.buffers (length {A = ℕ})) ∙ ap length own.lengths))
+  where
+    go : (over full : Bool) → over ≡ has_ended_by done → full ≡ nat_le 256 (length (buffers done))
+        → cond over (Some recv_refusals.Ended) (option_map recv_refusal_of (cond full (Some buffer_refusals.Full) None)) ≡ cond (has_ended_by done) (Some recv_refusals.Ended) (cond (nat_le 256 (length (buffers done))) (Some recv_refusals.Full) None)
+    go true full a b = ap (λ z. cond z (Some recv_refusals.Ended) (cond (nat_le 256 (length (buffers done))) (Some recv_refusals.Full) None)) a
+    go false true a b = (λ i. cond (a i) (Some recv_refusals.Ended) (cond (b i) (Some recv_refusals.Full) None))
+    go false false a b = (λ i. cond (a i) (Some recv_refusals.Ended) (cond (b i) (Some recv_refusals.Full) None))
+
+post_refused : (o : Opening) (c : Connected) (done : List (StreamAct Octets)) (m : Request Octets) → Own o c (tale_of o done) → post_refusal c.stream m ≡ post_refusal_by (story o done) done m
+post_refused o c done m own =
+    (λ i. cond (own.ended i || not (sym (open_is c.stream (tale_of o done) own.track) i)) (Some post_refusals.NotOpen) (of_queue (nat_le 256 (held i)) (nat_lt 16777216 (size_of m)) i))
+  where
+    q : Queue
+    q = c.stream.queue
+
+    counted : length (handed_kinds done) + (length q.sent.messages + length q.unsent) ≡ length (posted done)
+    counted =
+        omega (
+          arith,
+          ap length own.emits.handing.order,
+          length-append (handed_kinds done) (kinds_in q),
+          length-append (map (λ (w : WasSent). w.kind) q.sent.messages) (map kind_of q.unsent),
+          length-map q.sent.messages (λ (w : WasSent). w.kind),
+          length-map q.unsent kind_of,
+          length-map (posted done) kind_of,
+        )
+
+    held : length q.sent.messages + length q.unsent ≡ length (posted done) - length (handed_kinds done)
+    held = omega (arith, counted)
+
+    of_queue : (full long : Bool) → option_map post_refusal_of (cond full (Some queue_refusals.Full) (cond long (Some queue_refusals.TooLong) None)) ≡ cond full (Some post_refusals.Full) (cond long (Some post_refusals.TooLong) None)
+    of_queue true long = refl
+    of_queue false true = refl
+    of_queue false false = refl
+
+-- whether the user may answer
+asked_is : (o : Opening) (c : Connected) (done : List (StreamAct Octets)) → Own o c (tale_of o done) → may_answer c.stream ≡ may_answer_by (story o done) done
+asked_is o c done own = λ i. not (own.ended i) && is_asked (sym own.track.begins.start i)
+
+accepts_asked : (o : Opening) (c : Connected) (done : List (StreamAct Octets)) (answer : Result Agreed NotAsked) → answer ≡ accept_answer c.stream → Own o c (tale_of o done) → Accepted (story o done) done answer
+accepts_asked o c done (Ok agreed) rule own =
+    let e = accepting c.stream agreed rule in
+    let same : Ok agreed ≡ Ok (agreement_in c.stream.start) = rule ∙ ap (λ b. cond {A = Result Agreed NotAsked} b (Ok (agreement_in c.stream.start)) (Err (record {}))) e in
+    let is : agreed ≡ agreement_in c.stream.start = cc in
+    (sym (asked_is o c done own) ∙ e, is ∙ ap agreement_in (sym own.track.begins.start))
+accepts_asked o c done (Err refusal) rule own = sym (asked_is o c done own) ∙ go (may_answer c.stream) rule
+  where
+    go : (b : Bool) → Err refusal ≡ cond {A = Result Agreed NotAsked} b (Ok (agreement_in c.stream.start)) (Err (record {})) → b ≡ false
+    go true h = cc
+    go false h = refl
+
+rejects_asked : (o : Opening) (c : Connected) (done : List (StreamAct Octets)) (refused : Option NotAsked) → refused ≡ answer_refusal c.stream → Own o c (tale_of o done) → Rejected (story o done) done refused
+rejects_asked o c done None rule own = sym (asked_is o c done own) ∙ refusing c.stream rule
+rejects_asked o c done (Some refusal) rule own = sym (asked_is o c done own) ∙ go (may_answer c.stream) rule
+  where
+    go : (b : Bool) → Some refusal ≡ cond {A = Option NotAsked} b None (Some (record {})) → b ≡ false
+    go true h = cc
+    go false h = refl
+
+stream_answered : (o : Opening) (c : Connected) (done : List (StreamAct Octets)) (table : Table) (act : StreamAct Octets) → StreamRule table c.stream act → Own o c (tale_of o done) → StreamAnswered (story o done) done act
+stream_answered o c done table (Recv len refused) rule own = rule ∙ recv_refused o c done own
+stream_answered o c done table (Post m refused) rule own = rule.1 ∙ post_refused o c done m own
+stream_answered o c done table (Mulpdu size refused) rule own = rule
+stream_answered o c done table (Accept private answer) rule own = accepts_asked o c done answer rule own
+stream_answered o c done table (Reject private refused) rule own = rejects_asked o c done refused rule own
+stream_answered o c done table (Emit shown) rule own = tt
+stream_answered o c done table (Deliver from octets delivery) rule own = tt
+stream_answered o c done table (Raw from octets delivery) rule own = tt
+stream_answered o c done table (Work step) rule own = tt
+stream_answered o c done table Break rule own = tt
+
+pub answered_all : (trace : List (Entry Octets)) → Follows start trace → Answered trace
+answered_all trace follows = each_stream AnsweredStream trace follows (λ done s n act k opened rule own. stream_answered (opening_of n done) (stream_at s n) (stream_acts n done) s.table act rule own)
+
+-- ---- octets that come
+
+delivery_is : (o : Opening) (c : Connected) (done : List (StreamAct Octets)) (from n : ℕ) → Own o c (tale_of o done) → delivery_of c.stream from n ≡ delivery_by (story o done) done from n
+delivery_is o c done from n own =
+    let k = own.track in
+    (λ i. cond (own.ended i) Dropped (delivery ((k.arrived ∙ ap (advanced (story o done).came) (sym (point_is c.stream (tale_of o done) k))) i) from n))
+
+octets_kept : (o : Opening) (c : Connected) (done : List (StreamAct Octets)) (table : Table) (act : StreamAct Octets) → StreamRule table c.stream act → Own o c (tale_of o done)
+    → OnSome (λ z. z.delivery ≡ delivery_by (story o done) done z.from (length z.octets)) (deed act).coming
+octets_kept o c done table (Deliver from octets delivery) rule own = rule ∙ delivery_is o c done from (length octets) own
+octets_kept o c done table (Raw from octets delivery) rule own = rule ∙ delivery_is o c done from (length octets) own
+octets_kept o c done table (Recv len refused) rule own = tt
+octets_kept o c done table (Post m refused) rule own = tt
+octets_kept o c done table (Mulpdu size refused) rule own = tt
+octets_kept o c done table (Accept private answer) rule own = tt
+octets_kept o c done table (Reject private refused) rule own = tt
+octets_kept o c done table (Emit shown) rule own = tt
+octets_kept o c done table (Work step) rule own = tt
+octets_kept o c done table Break rule own = tt
+
+pub keeps_octets : (trace : List (Entry Octets)) → Follows start trace → KeepsOctets trace
+keeps_octets trace follows = each_stream KeptStream trace follows (λ done s n act k opened rule own. octets_kept (opening_of n done) (stream_at s n) (stream_acts n done) s.table act rule own)
+
+-- octets that are delivered are the other end's
+octets_carried : (peer : EndState) (others : List (Act Octets)) (act : Act Octets) → ((n : ℕ) → (stream_at peer n).wire ≡ sent (stream_acts n others)) → PeerRule peer act → OnStream CarriedStream others act
+octets_carried peer others (Stream n act) wires rule = subst (λ z. WireRule z act) (wires n) rule.1
+octets_carried peer others (Domain pd refused) wires rule = tt
+octets_carried peer others (Register pd base rights octets answer) wires rule = tt
+octets_carried peer others (Deregister stag answer) wires rule = tt
+octets_carried peer others (Invalidate stag refused) wires rule = tt
+octets_carried peer others (Store stag to octets refused) wires rule = tt
+octets_carried peer others (Open n pd role options private refused) wires rule = tt
+
+pub carries_octets : (trace : List (Entry Octets)) → Follows start trace → CarriesOctets trace
+carries_octets trace follows past e future is =
+    let m = moment past e future trace follows is in
+    let w : State = state_after start past in
+    octets_carried (end_of (other e.end) w) (acts (other e.end) past) e.act (λ n. (m.0.pairs e.end n).own_peer.wire) m.1.1
+
+-- ---- events that cannot happen
+
+lacks_opening : (s : EndState) (done : List (Act Octets)) (n : ℕ) → EndKept s done → has_stream s n ≡ false → IsUnopened done n
+lacks_opening s done n k h = unopened (openings n done) (sym (k.opened n) ∙ h)
+
+has_opening : (s : EndState) (done : List (Act Octets)) (n : ℕ) → EndKept s done → has_stream s n ≡ true → ¬ IsUnopened done n
+has_opening s done n k h none = false≢true (sym (ap was_opened none) ∙ sym (k.opened n) ∙ h)
+
+pub names_no_stream : (s peer : EndState) (own others : List (Act Octets)) (call : Call Octets) → EndKept s own → EndKept peer others → LacksStream s peer call → NamesNoStream own others call
+names_no_stream s peer own others (calls.Stream n call) k j h = elim h [
+  | inl mine ↦ inl (lacks_opening s own n k mine)
+  | inr there ↦ inr (there.0, lacks_opening peer others n j there.1)
+]
+names_no_stream s peer own others (calls.Domain pd) k j h = h
+names_no_stream s peer own others (calls.Register pd base rights octets) k j h = h
+names_no_stream s peer own others (calls.Deregister stag) k j h = h
+names_no_stream s peer own others (calls.Invalidate stag) k j h = h
+names_no_stream s peer own others (calls.Store stag to octets) k j h = h
+names_no_stream s peer own others (calls.Open n pd role options private) k j h = h
+
+pub names_streams : (s peer : EndState) (own others : List (Act Octets)) (call : Call Octets) → EndKept s own → EndKept peer others → AsksTooMuch s peer call → ¬ NamesNoStream own others call
+names_streams s peer own others (calls.Stream n call) k j h names = elim names [
+  | inl mine ↦ has_opening s own n k h.0 mine
+  | inr there ↦ has_opening peer others n j (h.1 there.0) there.1
+]
+names_streams s peer own others (calls.Domain pd) k j h names = h
+names_streams s peer own others (calls.Register pd base rights octets) k j h names = h
+names_streams s peer own others (calls.Deregister stag) k j h names = h
+names_streams s peer own others (calls.Invalidate stag) k j h names = h
+names_streams s peer own others (calls.Store stag to octets) k j h names = h
+names_streams s peer own others (calls.Open n pd role options private) k j h names = h
+
+pub asks_not_sent : (s peer : EndState) (others : List (Act Octets)) (call : Call Octets) → ((n : ℕ) → (stream_at peer n).wire ≡ sent (stream_acts n others)) → AsksTooMuch s peer call → AsksNotSent others call
+asks_not_sent s peer others (calls.Stream n call) wires h = subst (λ z. AsksOver z call) (wires n) h.2
+asks_not_sent s peer others (calls.Domain pd) wires h = h
+asks_not_sent s peer others (calls.Register pd base rights octets) wires h = h
+asks_not_sent s peer others (calls.Deregister stag) wires h = h
+asks_not_sent s peer others (calls.Invalidate stag) wires h = h
+asks_not_sent s peer others (calls.Store stag to octets) wires h = h
+asks_not_sent s peer others (calls.Open n pd role options private) wires h = h

@@ -1,0 +1,616 @@
+-- The right answer at a stream, with steps of work told apart by what is seen of them, and what each leaves of the stream.
+use Rattle.std.proofs.Common.{◌≡◌, ◌⊎◌, ℕ, ◌+◌, List, [], length, take, Option, Some, None, Result, Ok, Err, Bool, true, false, cond, refl, sym, ap, ◌∙◌, subst, inl, inr}
+use Rattle.std.specs.Option.{option_map, option_map_or}
+use Rattle.std.specs.Prelude.{is_some, replicate, slice_get}
+use Rattle.std.proofs.lemmas.Bool.{false≢true}
+use Rattle.iw_octets.specs.declared.fault.Fault.{Fault}
+use Rattle.iw_octets.specs.declared.head.TaggedHead.{TaggedHead}
+use Rattle.iw_octets.specs.declared.head.UntaggedHead.{UntaggedHead}
+use Rattle.iw_octets.specs.declared.segment.Segment.{Segment}
+use Rattle.iw_octets.specs.declared.segment.Segment.TheVariants.{Tagged, Untagged}
+use Rattle.iw_octets.specs.declared.payload.ReadRequest.{ReadRequest}
+use Rattle.iw_octets.specs.declared.stag.Stag.{Stag}
+use Rattle.iw_octets.specs.Operation.{opcode_of, untagged_operation}
+use Rattle.iw_octets.specs.Payload.{request_fields}
+use Rattle.iw_memory.specs.declared.rights.Right.{Right}
+use Rattle.iw_memory.specs.declared.rights.Right.TheVariants as rights
+use Rattle.iw_memory.specs.Table.{Table, denial, put, octets_at}
+use Rattle.iw_fpdu.specs.Sequence.{Carried}
+use Rattle.iw_queues.specs.declared.completions.Done.{Done}
+use Rattle.iw_queues.specs.declared.request.Kind.{Kind}
+use Rattle.iw_queues.specs.declared.request.Request.{Request}
+use Rattle.iw_queues.specs.declared.send_queue.Part.{Part}
+use Rattle.iw_queues.specs.Completions as completions
+use Rattle.iw_queues.specs.Queue.{Queue, part_sent, sent_with, done_in, oldest_in, handed_from}
+use Rattle.iw_queues.specs.Segments.{numbers_behind}
+use Rattle.iw_reads.specs.declared.reads.Outstanding.{Outstanding}
+use Rattle.iw_reads.specs.declared.response.ResponsePart.{ResponsePart}
+use Rattle.iw_reads.specs.Outstanding.{response_turn_fault, finished_read}
+use Rattle.iw_reads.specs.Requests.{Requested, taken_up, part_fetched}
+use Rattle.iw_tagged.specs.declared.placing.Placed.{Placed}
+use Rattle.iw_startup.specs.declared.progress.Progress.{Progress}
+use Rattle.iw_startup.specs.declared.progress.Progress.TheVariants as progress
+use Rattle.iw_startup.specs.State.{StartupState}
+use Rattle.iw_untagged.specs.Receiving.{written, finished, flushed, oldest, turn_fault, buffer_fault}
+use Rattle.iw_ranges.specs.Arrived.{advanced}
+use Rattle.iw_stream.specs.declared.answer.Step.{Step}
+use Rattle.iw_stream.specs.declared.judging.Landing.{Landing}
+use Rattle.iw_stream.specs.declared.judging.Landing.TheVariants as landing
+use Rattle.iw_stream.specs.declared.judging.PlacedFrame.{PlacedFrame}
+use Rattle.iw_stream.specs.declared.judging.Turning.{Turning}
+use Rattle.iw_stream.specs.declared.judging.Turning.TheVariants as turning
+use Rattle.iw_stream.specs.Frames.{Frame, payload_of, placed, payload_len}
+use Rattle.iw_stream.specs.Frames as frames
+use Rattle.iw_stream.specs.declared.ending.Ending.TheVariants.{Over}
+use Rattle.iw_stream.specs.Ending.{last_word}
+use Rattle.iw_stream.specs.Terminating.{terminate_judged, terminate_turned, terminate_fetched}
+use Rattle.iw_stream.specs.Judging.{or_else, fault_or, is_solicited, stag_to_invalidate, invalidation_fault, send_turning, verdict, answering_by, is_response, tagged_turn, segment_turn, turn_of, receiving_turned, left_by_turn, reads_left}
+use Rattle.iw_stream.specs.Starting.{StartState, AtOnce, Unheard, Heard, is_open, own_frame, awaits_frame, progress_in, heard, agreement_in, private_in}
+use Rattle.iw_stream.specs.Stream.{StreamState, Due, StartUp, LastWord, Response, NextPart, NoneDue, ended, ends, ends_by, due, owes_frame, is_mute, part_due, response_due, frame_of_part, frame_of_terminate, frame_fetched, reads_with, octets_due, octets_fetched, emission_due, emission_fetched, emission_of, emitted, left_due, left_fetched, with_buffer, with_request, with_mulpdu, after_emit, after_deliver, accepted, rejected, breaks}
+use Rattle.iw_stream.specs.Work.{Turn, Judge, inbox, next_frame, hears, heard_step, turned_step, judged_step, step_of, after_hearing, after_turn, after_judging, left_by, table_judged, table_passed, table_left, work_step, worked, table_worked}
+use Rattle.iw_stream.specs.Work as work
+use Rattle.iw_stream.proofs.Headers.{payload_kept, turn_kept, turned_kept, left_kept}
+use Rattle.iw_stream.proofs.Tasks.{IsRunning, IsResting, by_task}
+use Rattle.iw_events.specs.declared.act.StreamAct.{StreamAct}
+use Rattle.iw_events.specs.declared.act.StreamAct.TheVariants.{Recv, Post, Emit, Deliver, Raw, Mulpdu, Accept, Reject, Work, Break}
+use Rattle.iw_events.specs.declared.act.Shown.{Shown}
+use Rattle.iw_events.specs.declared.act.Shown.TheVariants as shows
+use Rattle.iw_events.specs.declared.act.Seen.{Seen}
+use Rattle.iw_events.specs.declared.act.Seen.TheVariants as seen
+use Rattle.iw_laws.specs.Words.{Octets}
+use Rattle.iw_laws.specs.Turns.{asked_in, seen_judged, seen_turned}
+use Rattle.iw_laws.specs.Rules.{StreamRule, private_data, seen_of, shown_of, stream_after}
+use Rattle.iw_laws.proofs.Nexts.{fore, segment_in, segment_at, turned_by, behind_front, standing, Sound, first_is_here, behind_is}
+use Rattle.iw_laws.proofs.Seeing.{LandsTagged, LandsRequest, LandsAs, lands_as, stands}
+
+-- ---- what an act leaves of a stream, by what is seen of it
+
+-- what is kept of the frame at the in-order point
+abbrev pub kept_of : StreamState → Option PlacedFrame
+kept_of s = option_map (λ x. placed (standing s x.0)) (fore s)
+
+-- the peer's requests, with the one at the in-order point
+abbrev pub asked_front : StreamState → Requested
+asked_front s = option_map_or (λ x. taken_up s.asked (asked_in (standing s x.0))) (fore s) s.asked
+
+-- the Reads that are outstanding, behind the frame at the in-order point
+abbrev pub reads_front : StreamState → List Outstanding
+reads_front s = left_by_turn s.reads (length (payload_of (segment_at (fore s)))) (segment_at (fore s))
+
+-- the Read that a segment finishes, by its ticket
+abbrev pub finishes_read : List Outstanding → Option (Segment Octets) → Option ℕ
+finishes_read reads None = None
+finishes_read reads (Some (Tagged head payload)) = cond (is_response head) (finished_read reads head) None
+finishes_read reads (Some (Untagged head payload)) = None
+
+-- the Terminate for a fault of the frame at the in-order point
+abbrev pub fault_front : StreamState → Fault → Octets
+fault_front s fault =
+    option_map_or (λ x. cond (is_some s.front) (terminate_turned (placed (standing s x.0)) fault) (terminate_judged s.asked (standing s x.0) fault)) (fore s) []
+
+abbrev pub with_finished : Queue → Option ℕ → Queue
+with_finished q None = q
+with_finished q (Some ticket) = sent_with q (completions.finished q.sent ticket)
+
+-- what a call to emit leaves, by what it showed
+abbrev pub left_frame : StreamState → Due → StreamState
+left_frame s StartUp = record s { sent = s.sent + length (own_frame s.start) }
+left_frame s (LastWord payload) = record s { sent = s.sent + length (frame_of_terminate s payload); ending = Over None }
+left_frame s (NextPart part) = record s {
+  queue = part_sent s.queue (Some part);
+  numbers = numbers_behind s.numbers part;
+  sent = s.sent + length (frame_of_part s part);
+  reads = reads_with s.reads part.ticket part.message;
+}
+left_frame s (Response part) = s
+left_frame s NoneDue = s
+
+abbrev pub after_shown : StreamState → Shown Octets → StreamState
+after_shown s (shows.Frame from octets) = left_frame s (due s)
+after_shown s (shows.Fetched from frame stag to octets) = record s { asked = part_fetched s.asked (response_due s); sent = s.sent + length frame }
+after_shown s (shows.Fault fault) = ends_by s (terminate_fetched s.asked fault)
+after_shown s shows.Nothing = s
+
+abbrev pub after_seen : StreamState → Seen Octets → StreamState
+after_seen s (seen.Done kind) = record s { queue = handed_from s.queue (done_in s.queue) }
+after_seen s (seen.Flushed kind) = record s { queue = handed_from s.queue (oldest_in s.queue) }
+after_seen s (seen.FlushedRecv octets) = record s { receiving = flushed s.receiving }
+after_seen s (seen.Asked private) = hears s
+after_seen s (seen.Opened agreed private) = hears s
+after_seen s (seen.Closed fault) = ends (hears s)
+after_seen s (seen.Placed right stag to octets) = record s { front = kept_of s }
+after_seen s (seen.Requested size stag to) = record s { front = None; arrived = behind_front s; asked = asked_front s }
+after_seen s (seen.Buffered msn mo len) = record s { front = kept_of s; receiving = written s.receiving msn mo (payload_of (segment_at (fore s))) }
+after_seen s seen.Passed = record s {
+  front = None;
+  receiving = turned_by s.receiving (segment_at (fore s));
+  arrived = behind_front s;
+  reads = reads_front s;
+  queue = with_finished s.queue (finishes_read s.reads (segment_at (fore s)));
+}
+after_seen s (seen.Received octets solicited invalidate) = record s { front = None; receiving = finished s.receiving; arrived = behind_front s }
+after_seen s (seen.Terminated fault) = ends (record s { front = None; arrived = behind_front s })
+after_seen s (seen.Fault fault) = ends_by s (fault_front s fault)
+after_seen s seen.Idle = s
+
+abbrev pub after_act : StreamState → StreamAct Octets → StreamState
+after_act s (Recv len None) = with_buffer s (replicate len 0)
+after_act s (Recv len (Some refusal)) = s
+after_act s (Post request None) = with_request s request
+after_act s (Post request (Some refusal)) = s
+after_act s (Emit shown) = after_shown s shown
+after_act s (Deliver from octets delivery) = after_deliver s from octets delivery
+after_act s (Raw from octets delivery) = after_deliver s from octets delivery
+after_act s (Mulpdu size None) = with_mulpdu s size
+after_act s (Mulpdu size (Some refusal)) = s
+after_act s (Accept private (Ok agreed)) = accepted s (private_data private)
+after_act s (Accept private (Err refusal)) = s
+after_act s (Reject private None) = rejected s (private_data private)
+after_act s (Reject private (Some refusal)) = s
+after_act s (Work step) = after_seen s step
+after_act s Break = breaks s
+
+-- ---- what is seen
+
+-- the frame at the in-order point was not placed, and is judged
+pub record Judged (table : Table) (s : StreamState) (step : Seen Octets) : Type 0 where
+  pub runs : IsRunning s
+  pub frame : Frame
+  pub is_next : next_frame s ≡ Some frame
+  pub unplaced : s.front ≡ None
+  pub answer : step ≡ seen_judged frame (verdict (work.standing table s) frame)
+
+-- it was placed, and has its turn
+pub record Turned (table : Table) (s : StreamState) (step : Seen Octets) : Type 0 where
+  pub runs : IsRunning s
+  pub frame : Carried
+  pub rest : Octets
+  pub whole : fore s ≡ Some (frame, rest)
+  pub kept : s.front ≡ Some (placed (standing s frame))
+  pub answer : step ≡ seen_turned s.receiving (placed (standing s frame)) (turn_of (work.standing table s) (placed (standing s frame)))
+
+-- the frame at the in-order point carries this segment
+pub record Fronts (s : StreamState) (was_placed : Bool) (segment : Segment Octets) : Type 0 where
+  pub running : ended s ≡ false
+  pub started : is_open s.start ≡ true
+  pub placed : is_some s.front ≡ was_placed
+  pub frame : Carried
+  pub rest : Octets
+  pub whole : fore s ≡ Some (frame, rest)
+  pub carries : segment_in frame ≡ Some segment
+
+-- a tagged segment that was placed: a Write's, or part of the response to a Read
+pub record SeesPlaced (table : Table) (s : StreamState) (right : Right) (stag : Stag) (to : ℕ) (octets : Octets) : Type 0 where
+  pub head : TaggedHead
+  pub fronts : Fronts s false (Tagged head octets)
+  pub kind : ((right ≡ rights.Write) × (opcode_of head.control ≡ 0)) ⊎ ((right ≡ rights.Sink) × (opcode_of head.control ≡ 2))
+  pub admitted : denial table s.domain stag to (length octets) right ≡ None
+  pub stag_is : stag ≡ head.stag
+  pub to_is : to ≡ head.to
+
+-- a Read Request that was taken up
+pub record SeesRequest (s : StreamState) (size : ℕ) (stag : Stag) (to : ℕ) : Type 0 where
+  pub head : UntaggedHead
+  pub payload : Octets
+  pub fronts : Fronts s false (Untagged head payload)
+  pub queue : head.queue ≡ 1
+  pub size_is : size ≡ (request_fields payload).size
+  pub stag_is : stag ≡ (request_fields payload).source
+  pub to_is : to ≡ (request_fields payload).source_to
+
+-- the peer's Terminate
+pub record SeesTerminate (s : StreamState) : Type 0 where
+  pub head : UntaggedHead
+  pub payload : Octets
+  pub fronts : Fronts s false (Untagged head payload)
+  pub queue : head.queue ≡ 2
+
+-- a message that is given up
+pub record GivesUp (s : StreamState) (kind : Kind) : Type 0 where
+  pub over : ended s ≡ true
+  pub unfinished : done_in s.queue ≡ None
+  pub oldest : Done
+  pub is : oldest_in s.queue ≡ Some oldest
+  pub kind_is : kind ≡ oldest.kind
+
+-- a receive buffer that is handed back
+pub record GivesBack (s : StreamState) (octets : Octets) : Type 0 where
+  pub over : ended s ≡ true
+  pub unfinished : done_in s.queue ≡ None
+  pub none : oldest_in s.queue ≡ None
+  pub is : slice_get s.receiving.buffers 0 ≡ Some octets
+
+-- a Send's segment that was placed
+pub record SeesSend (s : StreamState) (msn mo len : ℕ) : Type 0 where
+  pub head : UntaggedHead
+  pub payload : Octets
+  pub fronts : Fronts s false (Untagged head payload)
+  pub queue : head.queue ≡ 0
+  pub checked : buffer_fault s.receiving head.msn head.mo (length payload) ≡ None
+  pub msn_is : msn ≡ head.msn
+  pub mo_is : mo ≡ head.mo
+  pub len_is : len ≡ length payload
+
+-- the segment is not the last of a Send
+abbrev pub IsPassing : StreamState → Segment Octets → Type 0
+IsPassing s (Tagged head payload) = is_response head ≡ true → response_turn_fault s.reads head (length payload) ≡ None
+IsPassing s (Untagged head payload) = (turn_fault s.receiving head.msn head.mo ≡ None) × (head.last ≡ false)
+
+pub record Passes (s : StreamState) : Type 0 where
+  pub segment : Segment Octets
+  pub fronts : Fronts s true segment
+  pub passing : IsPassing s segment
+
+-- a Send that was received
+pub record SeesReceive (s : StreamState) (octets : Octets) (solicited : Bool) (invalidate : Option Stag) : Type 0 where
+  pub head : UntaggedHead
+  pub payload : Octets
+  pub fronts : Fronts s true (Untagged head payload)
+  pub turn : turn_fault s.receiving head.msn head.mo ≡ None
+  pub last : head.last ≡ true
+  pub is : octets ≡ take (s.receiving.turned + length payload) (oldest s.receiving)
+  pub solicited_is : solicited ≡ is_solicited (untagged_operation (opcode_of head.control))
+  pub invalidate_is : invalidate ≡ stag_to_invalidate head
+
+-- the peer's start-up frame is awaited, and comes to this
+pub record Hears (s : StreamState) (outcome : Progress) : Type 0 where
+  pub running : ended s ≡ false
+  pub startup : StartupState
+  pub is : s.start ≡ Unheard startup
+  pub comes : progress_in s.start (inbox s) ≡ outcome
+
+abbrev pub Sees : Table → StreamState → Seen Octets → Type 0
+Sees table s (seen.Done kind) = (done : Done) × (done_in s.queue ≡ Some done) × (kind ≡ done.kind)
+Sees table s (seen.Flushed kind) = GivesUp s kind
+Sees table s (seen.FlushedRecv octets) = GivesBack s octets
+Sees table s seen.Idle = (done_in s.queue ≡ None) × (Hears s progress.More ⊎ IsResting s)
+Sees table s (seen.Asked private) = Hears s progress.Asked × (private ≡ private_in (hears s).start)
+Sees table s (seen.Opened agreed private) = Hears s progress.Agreed × (agreed ≡ agreement_in (heard s.start (inbox s))) × (private ≡ private_in (hears s).start)
+Sees table s (seen.Closed fault) = Hears s (progress.Faulted fault)
+Sees table s (seen.Placed right stag to octets) = Judged table s (seen.Placed right stag to octets) × SeesPlaced table s right stag to octets
+Sees table s (seen.Requested size stag to) = Judged table s (seen.Requested size stag to) × SeesRequest s size stag to
+Sees table s (seen.Buffered msn mo len) = Judged table s (seen.Buffered msn mo len) × SeesSend s msn mo len
+Sees table s seen.Passed = Turned table s seen.Passed × Passes s
+Sees table s (seen.Received octets solicited invalidate) = Turned table s (seen.Received octets solicited invalidate) × SeesReceive s octets solicited invalidate
+Sees table s (seen.Terminated fault) = Judged table s (seen.Terminated fault) × SeesTerminate s
+Sees table s (seen.Fault fault) = Judged table s (seen.Fault fault) ⊎ Turned table s (seen.Fault fault)
+
+abbrev Given : Table → StreamState → Seen Octets → StreamState → Type 0
+Given table s step left = Sees table s step × (left ≡ after_seen s step)
+
+module _ (table : Table) (s : StreamState) (k : Sound s) (runs : IsRunning s) where
+  -- a frame that was not placed is judged
+  module _ (frame : Frame) (is_next : next_frame s ≡ Some frame) (unplaced : s.front ≡ None) (private : Octets) where
+    abbrev Lands_in : Result Landing Fault → Type 0
+    Lands_in r = verdict (work.standing table s) frame ≡ r → LandsAs (work.standing table s) frame r → Given table s (seen_of (table_judged table frame r) private (judged_step r)) (after_judging s frame r)
+
+    judged : (step : Seen Octets) → step ≡ seen_judged frame (verdict (work.standing table s) frame) → Judged table s step
+    judged step e = record { runs = runs; frame = frame; is_next = is_next; unplaced = unplaced; answer = e }
+
+    keeps : Some (placed frame) ≡ kept_of s
+    keeps = ap (λ z. Some (placed z)) (first_is_here s frame k is_next).is ∙ ap (option_map (λ x. placed (standing s x.0))) (sym (first_is_here s frame k is_next).whole)
+
+    fronts : (segment : Segment Octets) → frames.segment_in frame ≡ Some segment → Fronts s false segment
+    fronts segment carries = record {
+      running = runs.running;
+      started = runs.started;
+      placed = ap is_some unplaced;
+      frame = record { mismatch = frame.mismatch; ulpdu = frame.ulpdu };
+      rest = (first_is_here s frame k is_next).rest;
+      whole = (first_is_here s frame k is_next).whole;
+      carries = carries;
+    }
+
+    terminates : (fault : Fault) → terminate_judged s.asked frame fault ≡ fault_front s fault
+    terminates fault =
+        let first = first_is_here s frame k is_next in
+        ap (λ z. terminate_judged s.asked z fault) first.is
+        ∙ (λ i. option_map_or (λ (x : Carried × Octets). cond (is_some (sym unplaced i)) (terminate_turned (placed (standing s x.0)) fault) (terminate_judged s.asked (standing s x.0) fault)) (sym first.whole i) [])
+
+    faulted : (fault : Fault) → verdict (work.standing table s) frame ≡ Err fault → Given table s (seen.Fault fault) (ends_by s (terminate_judged s.asked frame fault))
+    faulted fault e = (inl (judged (seen.Fault fault) (ap (seen_judged frame) (sym e))), ap (ends_by s) (terminates fault))
+
+    -- its segment, its place and the place behind it
+    behind_here : advanced s.arrived (work.place_behind s (placed frame)) ≡ behind_front s
+    behind_here =
+        let first = first_is_here s frame k is_next in
+        ap (λ z. advanced s.arrived (work.place_behind s (placed z))) first.is ∙ ap (advanced s.arrived) (behind_is s (record { mismatch = frame.mismatch; ulpdu = frame.ulpdu }) first.rest k first.whole)
+
+    takes : taken_up s.asked (asked_in frame) ≡ asked_front s
+    takes =
+        let first = first_is_here s frame k is_next in
+        ap (λ z. taken_up s.asked (asked_in z)) first.is ∙ ap (λ o. option_map_or (λ (x : Carried × Octets). taken_up s.asked (asked_in (standing s x.0))) o s.asked) (sym first.whole)
+
+    tagged : (opcode : ℕ) (right : Right) (p : Placed) → (w : LandsTagged (work.standing table s) frame opcode right p)
+        → ((right ≡ rights.Write) × (opcode ≡ 0)) ⊎ ((right ≡ rights.Sink) × (opcode ≡ 2)) → seen.Placed right p.stag p.to (payload_of (frames.segment_in frame)) ≡ seen_judged frame (verdict (work.standing table s) frame)
+        → Sees table s (seen.Placed right p.stag p.to (octets_at (put table p.stag p.to (payload_of (frames.segment_in frame))) p.stag p.to p.n))
+    tagged opcode right p w kind e =
+        let whole : octets_at (put table p.stag p.to (payload_of (frames.segment_in frame))) p.stag p.to p.n ≡ w.payload = stands (work.standing table s) frame opcode right p w in
+        let stag : p.stag ≡ w.head.stag = ap (λ (q : Placed). q.stag) w.place in
+        let to : p.to ≡ w.head.to = ap (λ (q : Placed). q.to) w.place in
+        let sees : Sees table s (seen.Placed right p.stag p.to w.payload) = (
+          judged (seen.Placed right p.stag p.to w.payload) (ap (seen.Placed right p.stag p.to) (sym (ap payload_of w.carries)) ∙ e),
+          record {
+            head = w.head;
+            fronts = fronts (Tagged w.head w.payload) w.carries;
+            kind = elim kind [ inl z ↦ inl (z.0, w.is ∙ z.1) | inr z ↦ inr (z.0, w.is ∙ z.1) ];
+            admitted = (λ i. denial table s.domain (stag i) (to i) (length w.payload) right) ∙ w.admitted;
+            stag_is = stag;
+            to_is = to;
+          },
+        ) in
+        subst (λ z. Sees table s (seen.Placed right p.stag p.to z)) (sym whole) sees
+
+    lands_by : (r : Result Landing Fault) → Lands_in r
+    lands_by (Err fault) e w = faulted fault e
+    lands_by (Ok (landing.Write p)) e w = (tagged 0 rights.Write p w (inl (refl, refl)) (ap (seen_judged frame) (sym e)), (λ i. record s { front = keeps i }))
+    lands_by (Ok (landing.Response p)) e w = (tagged 2 rights.Sink p w (inr (refl, refl)) (ap (seen_judged frame) (sym e)), (λ i. record s { front = keeps i }))
+    lands_by (Ok (landing.Send msn mo len)) e w = (
+      (
+        judged (seen.Buffered msn mo len) (ap (seen_judged frame) (sym e)),
+        record { head = w.head; payload = w.payload; fronts = fronts (Untagged w.head w.payload) w.carries; queue = w.queue; checked = w.checked; msn_is = w.msn_is; mo_is = w.mo_is; len_is = w.len_is },
+      ),
+      (λ i. record s { front = keeps i; receiving = written s.receiving msn mo (payload_of (segment_at (sym (first_is_here s frame k is_next).whole i))) }),
+    )
+    lands_by (Ok (landing.Request request)) e w = (
+      (
+        judged (seen.Requested request.size request.source request.source_to) (ap (seen_judged frame) (sym e)),
+        record {
+          head = w.head;
+          payload = w.payload;
+          fronts = fronts (Untagged w.head w.payload) w.carries;
+          queue = w.queue;
+          size_is = ap (λ (z : ReadRequest). z.size) w.is;
+          stag_is = ap (λ (z : ReadRequest). z.source) w.is;
+          to_is = ap (λ (z : ReadRequest). z.source_to) w.is;
+        },
+      ),
+      (λ i. record s { front = None; arrived = behind_here i; asked = (same_request request w ∙ takes) i }),
+    )
+      where
+        same_request : (request : ReadRequest) → LandsRequest (work.standing table s) frame request → taken_up s.asked (record { header = (placed frame).header; request = request }) ≡ taken_up s.asked (asked_in frame)
+        same_request request w = ap (λ z. taken_up s.asked (record { header = (placed frame).header; request = z })) (w.is ∙ ap (λ g. request_fields (payload_of g)) (sym w.carries))
+    lands_by (Ok (landing.Terminate fault)) e w = (
+      (
+        judged (seen.Terminated fault) (ap (seen_judged frame) (sym e)),
+        record { head = w.head; payload = w.payload; fronts = fronts (Untagged w.head w.payload) w.carries; queue = w.queue },
+      ),
+      (λ i. ends (record s { front = None; arrived = behind_here i })),
+    )
+
+    lands : Given table s (seen_of (table_judged table frame (verdict (work.standing table s) frame)) private (judged_step (verdict (work.standing table s) frame))) (after_judging s frame (verdict (work.standing table s) frame))
+    lands = lands_by (verdict (work.standing table s) frame) refl (lands_as (work.standing table s) frame)
+
+  -- a frame that was placed has its turn
+  module _ (frame : Carried) (rest : Octets) (whole : fore s ≡ Some (frame, rest)) (segment : Segment Octets) (carries : segment_in frame ≡ Some segment) (kept : s.front ≡ Some (placed (standing s frame))) (private : Octets) where
+    abbrev Turns_to : Result Turning Fault → Type 0
+    Turns_to r = turn_of (work.standing table s) (placed (standing s frame)) ≡ r
+        → Given table s (seen_of (table_passed table r) private (turned_step s.receiving (placed (standing s frame)) r)) (after_turn s (placed (standing s frame)) r)
+
+    turned : (step : Seen Octets) → step ≡ seen_turned s.receiving (placed (standing s frame)) (turn_of (work.standing table s) (placed (standing s frame))) → Turned table s step
+    turned step e = record { runs = runs; frame = frame; rest = rest; whole = whole; kept = kept; answer = e }
+
+    fronted : Fronts s true segment
+    fronted = record { running = runs.running; started = runs.started; placed = ap is_some kept; frame = frame; rest = rest; whole = whole; carries = carries }
+
+    size : payload_len (placed (standing s frame)) ≡ length (payload_of (Some segment))
+    size = payload_kept (standing s frame) segment carries
+
+    at : segment_at (fore s) ≡ Some segment
+    at = ap segment_at whole ∙ carries
+
+    receiving_is : receiving_turned s.receiving (placed (standing s frame)) ≡ turned_by s.receiving (segment_at (fore s))
+    receiving_is = turned_kept s.receiving (standing s frame) segment carries ∙ ap (turned_by s.receiving) (sym at)
+
+    reads_are : reads_left s.reads (placed (standing s frame)) ≡ reads_front s
+    reads_are = left_kept s.reads (standing s frame) segment carries ∙ ap (λ o. left_by_turn s.reads (length (payload_of o)) o) (sym at)
+
+    arrived_is : advanced s.arrived (work.place_behind s (placed (standing s frame))) ≡ behind_front s
+    arrived_is = ap (advanced s.arrived) (behind_is s frame rest k whole)
+
+    -- the turn, by the segment
+    abbrev Turned_as : Result Turning Fault → Type 0
+    Turned_as (Ok turning.Passed) = IsPassing s segment × (finishes_read s.reads (Some segment) ≡ None)
+    Turned_as (Ok (turning.Answered ticket)) =
+        IsPassing s segment × (finishes_read s.reads (Some segment) ≡ Some ticket) × (s.receiving ≡ turned_by s.receiving (Some segment))
+    Turned_as (Ok (turning.Completed solicited invalidate)) =
+        (head : UntaggedHead) × (payload : Octets) × (segment ≡ Untagged head payload) × (turn_fault s.receiving head.msn head.mo ≡ None) × (head.last ≡ true)
+        × (solicited ≡ is_solicited (untagged_operation (opcode_of head.control))) × (invalidate ≡ stag_to_invalidate head)
+    Turned_as (Err fault) = Unit {0}
+
+    as_tagged : (head : TaggedHead) (payload : Octets) → segment ≡ Tagged head payload → Turned_as (tagged_turn s.reads head (length payload))
+    as_tagged head payload e = by (is_response head) refl
+      where
+        passes : (is_response head ≡ true → response_turn_fault s.reads head (length payload) ≡ None) → IsPassing s segment
+        passes h = subst (IsPassing s) (sym e) h
+
+        ends : (ticket : Option ℕ) → finishes_read s.reads (Some (Tagged head payload)) ≡ ticket → finishes_read s.reads (Some segment) ≡ ticket
+        ends ticket h = ap (λ g. finishes_read s.reads (Some g)) e ∙ h
+
+        same : s.receiving ≡ turned_by s.receiving (Some segment)
+        same = ap (λ g. turned_by s.receiving (Some g)) (sym e)
+
+        answered : is_response head ≡ true → (o : Option ℕ) → finished_read s.reads head ≡ o → response_turn_fault s.reads head (length payload) ≡ None → Turned_as (Ok (answering_by o))
+        answered b None r h = (passes (λ x. h), ends None (ap (λ z. cond z (finished_read s.reads head) None) b ∙ r))
+        answered b (Some ticket) r h = (passes (λ x. h), ends (Some ticket) (ap (λ z. cond z (finished_read s.reads head) None) b ∙ r), same)
+
+        turns : is_response head ≡ true → (f : Option Fault) → response_turn_fault s.reads head (length payload) ≡ f → Turned_as (fault_or f (answering_by (finished_read s.reads head)))
+        turns b (Some fault) h = tt
+        turns b None h = answered b (finished_read s.reads head) refl h
+
+        by : (b : Bool) → is_response head ≡ b → Turned_as (cond b (fault_or (response_turn_fault s.reads head (length payload)) (answering_by (finished_read s.reads head))) (Ok turning.Passed))
+        by true b = turns b (response_turn_fault s.reads head (length payload)) refl
+        by false b = (passes (λ x. absurd (false≢true (sym b ∙ x))), ends None (ap (λ z. cond z (finished_read s.reads head) None) b))
+
+    as_of : (g : Segment Octets) → segment ≡ g → Turned_as (segment_turn table s.domain s.receiving s.reads (length (payload_of (Some g))) (Some g))
+    as_of (Tagged head payload) e = as_tagged head payload e
+    as_of (Untagged head payload) e = go (turn_fault s.receiving head.msn head.mo) refl (invalidation_fault table s.domain (send_turning head)) head.last refl
+      where
+        go : (f : Option Fault) → turn_fault s.receiving head.msn head.mo ≡ f → (g : Option Fault) → (last : Bool) → head.last ≡ last
+            → Turned_as (fault_or (or_else f g) (cond last (turning.Completed (is_solicited (untagged_operation (opcode_of head.control))) (stag_to_invalidate head)) turning.Passed))
+        go (Some fault) t g last l = tt
+        go None t (Some fault) last l = tt
+        go None t None true l = (head, payload, e, t, l, refl, refl)
+        go None t None false l = (subst (IsPassing s) (sym e) (t, l), ap (λ g. finishes_read s.reads (Some g)) e)
+
+    as_turn : Turned_as (turn_of (work.standing table s) (placed (standing s frame)))
+    as_turn = subst Turned_as (sym (turn_kept (work.standing table s) (standing s frame) segment carries)) (as_of segment refl)
+
+    terminates_turned : (fault : Fault) → terminate_turned (placed (standing s frame)) fault ≡ fault_front s fault
+    terminates_turned fault =
+        λ i. option_map_or (λ (x : Carried × Octets). cond (is_some (sym kept i)) (terminate_turned (placed (standing s x.0)) fault) (terminate_judged s.asked (standing s x.0) fault)) (sym whole i) []
+
+    passing : seen.Passed ≡ seen_turned s.receiving (placed (standing s frame)) (turn_of (work.standing table s) (placed (standing s frame))) → IsPassing s segment → Sees table s seen.Passed
+    passing e h = (turned seen.Passed e, record { segment = segment; fronts = fronted; passing = h })
+
+    turns_by : (r : Result Turning Fault) → Turns_to r
+    turns_by (Err fault) e = (inr (turned (seen.Fault fault) (ap (seen_turned s.receiving (placed (standing s frame))) (sym e))), ap (ends_by s) (terminates_turned fault))
+    turns_by (Ok turning.Passed) e =
+        let c = subst Turned_as e as_turn in
+        let none : finishes_read s.reads (segment_at (fore s)) ≡ None = ap (finishes_read s.reads) at ∙ c.1 in (
+          passing (ap (seen_turned s.receiving (placed (standing s frame))) (sym e)) c.0,
+          (λ i. record s { front = None; receiving = receiving_is i; arrived = arrived_is i; reads = reads_are i; queue = with_finished s.queue (sym none i) }),
+        )
+    turns_by (Ok (turning.Answered ticket)) e =
+        let c = subst Turned_as e as_turn in
+        let one : finishes_read s.reads (segment_at (fore s)) ≡ Some ticket = ap (finishes_read s.reads) at ∙ c.1 in (
+          passing (ap (seen_turned s.receiving (placed (standing s frame))) (sym e)) c.0,
+          (λ i. record s { front = None; receiving = (c.2 ∙ ap (turned_by s.receiving) (sym at)) i; arrived = arrived_is i; reads = reads_are i; queue = with_finished s.queue (sym one i) }),
+        )
+    turns_by (Ok (turning.Completed solicited invalidate)) e =
+        let c = subst Turned_as e as_turn in
+        let long : payload_len (placed (standing s frame)) ≡ length c.1 = size ∙ ap (λ g. length (payload_of (Some g))) c.2 in (
+          (
+            turned (seen.Received (take (s.receiving.turned + payload_len (placed (standing s frame))) (oldest s.receiving)) solicited invalidate) (ap (seen_turned s.receiving (placed (standing s frame))) (sym e)),
+            record {
+              head = c.0;
+              payload = c.1;
+              fronts = subst (Fronts s true) c.2 fronted;
+              turn = c.3;
+              last = c.4;
+              is = ap (λ n. take (s.receiving.turned + n) (oldest s.receiving)) long;
+              solicited_is = c.5;
+              invalidate_is = c.6;
+            },
+          ),
+          (λ i. record s { front = None; receiving = finished s.receiving; arrived = arrived_is i }),
+        )
+
+    turns : Given table s (seen_of (table_passed table (turn_of (work.standing table s) (placed (standing s frame)))) private (turned_step s.receiving (placed (standing s frame)) (turn_of (work.standing table s) (placed (standing s frame))))) (after_turn s (placed (standing s frame)) (turn_of (work.standing table s) (placed (standing s frame))))
+    turns = turns_by (turn_of (work.standing table s) (placed (standing s frame))) refl
+
+unheard_by : (start : StartState) → awaits_frame start ≡ true → (u : StartupState) × (start ≡ Unheard u)
+unheard_by (AtOnce layout) e = absurd (false≢true e)
+unheard_by (Unheard u) e = (u, refl)
+unheard_by (Heard u) e = absurd (false≢true e)
+
+-- a part of a response is due
+abbrev IsResponse : StreamState → Due → Type 0
+IsResponse s StartUp = Unit {0}
+IsResponse s (LastWord payload) = Unit {0}
+IsResponse s (Response part) = response_due s ≡ Some part
+IsResponse s (NextPart part) = Unit {0}
+IsResponse s NoneDue = Unit {0}
+
+response_told : (s : StreamState) → IsResponse s (due s)
+response_told s = go (owes_frame s) (is_mute s) (last_word s.ending) (response_due s) (part_due s) refl
+  where
+    go : (owes mute : Bool) (w : Option Octets) (o : Option ResponsePart) (p : Option (Part (Request Octets))) → response_due s ≡ o
+        → IsResponse s (cond owes StartUp (option_map_or LastWord w (cond mute NoneDue (option_map_or Response o (option_map_or NextPart p NoneDue)))))
+    go true mute w o p e = tt
+    go false mute (Some payload) o p e = tt
+    go false true None o p e = tt
+    go false false None (Some part) p e = e
+    go false false None None None e = tt
+    go false false None None (Some part) e = tt
+
+-- whatever the task is
+module _ (table : Table) (s : StreamState) (k : Sound s) where
+  abbrev Shows : Step Octets → StreamState → Table → Type 0
+  Shows step left after = Given table s (seen_of after (private_in left.start) step) left
+
+  hearing : done_in s.queue ≡ None → ended s ≡ false → awaits_frame s.start ≡ true → Shows (heard_step s.start (inbox s) (progress_in s.start (inbox s))) (after_hearing s (progress_in s.start (inbox s))) table
+  hearing none running awaits = go (progress_in s.start (inbox s)) refl
+    where
+      hears_to : (p : Progress) → progress_in s.start (inbox s) ≡ p → Hears s p
+      hears_to p e = let u = unheard_by s.start awaits in record { running = running; startup = u.0; is = u.1; comes = e }
+
+      go : (p : Progress) → progress_in s.start (inbox s) ≡ p → Shows (heard_step s.start (inbox s) p) (after_hearing s p) table
+      go progress.More e = ((none, inl (hears_to progress.More e)), refl)
+      go progress.Asked e = ((hears_to progress.Asked e, refl), refl)
+      go progress.Agreed e = ((hears_to progress.Agreed e, refl, refl), refl)
+      go (progress.Faulted fault) e = (hears_to (progress.Faulted fault) e, refl)
+
+  given : Shows (work_step table s) (worked table s) (table_worked table s)
+  given = by_task Shows table s
+      (λ done e. ((done, e, refl), (λ i. record s { queue = handed_from s.queue (sym e i) })))
+      (λ done none over e. (record { over = over; unfinished = none; oldest = done; is = e; kind_is = refl }, (λ i. record s { queue = handed_from s.queue (sym e i) })))
+      (λ buffer none over old e. (record { over = over; unfinished = none; none = old; is = e }, refl))
+      hearing
+      (λ f runs e.
+      let w = k.placed_is f e in
+      subst (λ z. Shows (step_of table s (Turn z)) (left_by table s (Turn z)) (table_left table s (Turn z))) (sym w.is)
+      (turns table s k runs w.frame w.rest w.whole w.segment w.carries (e ∙ ap Some w.is) (private_in (left_by table s (Turn (placed (standing s w.frame)))).start)))
+      (λ frame runs unplaced e. lands table s k runs frame e unplaced (private_in (left_by table s (Judge frame)).start))
+      (λ none resting. ((none, inr resting), refl))
+
+  pub sees : (step : Seen Octets) → step ≡ seen_of (table_worked table s) (private_in (worked table s).start) (work_step table s) → Given table s step (worked table s)
+  sees step e = subst (λ z. Given table s z (worked table s)) (sym e) given
+
+-- the rule at a stream, with steps told apart
+abbrev pub Told : Table → StreamState → StreamAct Octets → Type 0
+Told table s (Work step) = Sees table s step
+Told table s (Recv len refused) = StreamRule table s (Recv len refused)
+Told table s (Post message refused) = StreamRule table s (Post message refused)
+Told table s (Emit shown) = StreamRule table s (Emit shown)
+Told table s (Deliver from octets delivery) = StreamRule table s (Deliver from octets delivery)
+Told table s (Raw from octets delivery) = StreamRule table s (Raw from octets delivery)
+Told table s (Accept private answer) = StreamRule table s (Accept private answer)
+Told table s (Reject private refused) = StreamRule table s (Reject private refused)
+Told table s (Mulpdu size refused) = StreamRule table s (Mulpdu size refused)
+Told table s Break = Unit {0}
+
+pub told : (table : Table) (s : StreamState) (act : StreamAct Octets) → Sound s → StreamRule table s act → Told table s act
+told table s (Work step) k rule = (sees table s k step rule).0
+told table s (Recv len refused) k rule = rule
+told table s (Post message refused) k rule = rule
+told table s (Emit shown) k rule = rule
+told table s (Deliver from octets delivery) k rule = rule
+told table s (Raw from octets delivery) k rule = rule
+told table s (Accept private answer) k rule = rule
+told table s (Reject private refused) k rule = rule
+told table s (Mulpdu most refused) k rule = rule
+told table s Break k rule = rule
+
+-- what a call to emit leaves, by what it showed
+left_shown : (table : Table) (s : StreamState) (shown : Shown Octets) → shown ≡ shown_of table (emission_of table s) (emitted table s) → after_emit table s ≡ after_shown s shown
+left_shown table s shown e = go (due s) refl (response_told s) shown e
+  where
+    fetched : (part : ResponsePart) → response_due s ≡ Some part → (r : Result Octets Fault) → (shown : Shown Octets) → shown ≡ shown_of table (emission_fetched s part r) (octets_fetched r) → left_fetched s part r ≡ after_shown s shown
+    fetched part due (Ok frame) shown e =
+        (λ i. record s { asked = part_fetched s.asked (sym due i); sent = s.sent + length frame }) ∙ ap (after_shown s) (sym e)
+    fetched part due (Err fault) shown e = ap (after_shown s) (sym e)
+
+    go : (d : Due) → due s ≡ d → IsResponse s d → (shown : Shown Octets) → shown ≡ shown_of table (emission_due table s d) (octets_due table s d) → left_due table s d ≡ after_shown s shown
+    go StartUp is t shown e = ap (left_frame s) (sym is) ∙ ap (after_shown s) (sym e)
+    go (LastWord payload) is t shown e = ap (left_frame s) (sym is) ∙ ap (after_shown s) (sym e)
+    go (Response part) is t shown e = fetched part t (frame_fetched table s part) shown e
+    go (NextPart part) is t shown e = ap (left_frame s) (sym is) ∙ ap (after_shown s) (sym e)
+    go NoneDue is t shown e = ap (after_shown s) (sym e)
+
+pub left_told : (table : Table) (s : StreamState) (act : StreamAct Octets) → Sound s → StreamRule table s act → stream_after table s act ≡ after_act s act
+left_told table s (Work step) k rule = (sees table s k step rule).1
+left_told table s (Recv len None) k rule = refl
+left_told table s (Recv len (Some refusal)) k rule = refl
+left_told table s (Post message None) k rule = refl
+left_told table s (Post message (Some refusal)) k rule = refl
+left_told table s (Emit shown) k rule = left_shown table s shown rule
+left_told table s (Deliver from octets delivery) k rule = refl
+left_told table s (Raw from octets delivery) k rule = refl
+left_told table s (Accept private (Ok agreed)) k rule = refl
+left_told table s (Accept private (Err refusal)) k rule = refl
+left_told table s (Reject private None) k rule = refl
+left_told table s (Reject private (Some refusal)) k rule = refl
+left_told table s (Mulpdu most None) k rule = refl
+left_told table s (Mulpdu most (Some refusal)) k rule = refl
+left_told table s Break k rule = refl

@@ -1,0 +1,1042 @@
+-- The frames that came, one behind the other, and the one at the in-order point of a stream's state.
+use Rattle.std.proofs.Common.{subst, ◌≡◌, ℕ, suc, ◌+◌, ◌-◌, ◌*◌, ◌≤◌, List, [], ◌∷◌, ◌++◌, length, take, drop, map, replicate, Option, Some, None, Bool, true, false, cond, refl, sym, ap, ◌∙◌, arith, append_assoc, length-append, length-take, Ok, Err, inl, inr}
+use Rattle.std.specs.Prelude.{slice_get, max, nat_eq, nat_lt, is_some, not, ◌&&◌, Result}
+use Rattle.std.specs.Option.{option_map, option_map_or}
+use Rattle.std.proofs.lemmas.Bool.{true≢false, false≢true}
+use Rattle.std.proofs.lemmas.Bool.Decides.{nat_tests}
+use Rattle.std.proofs.lemmas.List.{append-nil, map-append, length-map, take-append-drop, drop_at, drop-drop}
+use Rattle.std.proofs.Math.Seq.{take-append_seam}
+use Rattle.iw_octets.specs.declared.head.TaggedHead.{TaggedHead}
+use Rattle.iw_octets.specs.declared.operation.TaggedOperation.TheVariants as tagged
+use Rattle.iw_octets.specs.declared.payload.ReadRequest.{ReadRequest}
+use Rattle.iw_octets.specs.Operation.{opcode_of}
+use Rattle.iw_octets.specs.Payload.{request_fields}
+use Rattle.iw_octets.specs.declared.segment.Segment.{Segment}
+use Rattle.iw_octets.specs.declared.segment.Segment.TheVariants.{Tagged, Untagged}
+use Rattle.iw_octets.specs.declared.stag.Stag.{Stag}
+use Rattle.iw_memory.specs.declared.rights.Right.{Right}
+use Rattle.iw_memory.specs.Table.{Table}
+use Rattle.iw_ranges.specs.declared.Delivery.TheVariants.{Kept, Dropped}
+use Rattle.iw_ranges.specs.Arrived.{Arrived, in_order, delivery, taken_in, advanced}
+use Rattle.iw_ranges.specs.InOrder.{IsHeld, IsInWindow}
+use Rattle.iw_ranges.proofs.InOrder.{takes, moves, moves_takes, floor_takes, floor_moves, held_takes, held_moves, window_takes, window_moves, short}
+use Rattle.iw_fpdu.specs.declared.layout.Layout.{Layout}
+use Rattle.iw_fpdu.specs.Sequence.{Carried, first_frame, frames_of}
+use Rattle.iw_fpdu.specs.Laws.{IsBetween}
+use Rattle.iw_fpdu.proofs.Follows.{frames_follow}
+use Rattle.iw_startup.specs.declared.side.Side.{Side}
+use Rattle.iw_startup.specs.declared.side.Side.TheVariants.{Initiator, Responder}
+use Rattle.iw_startup.specs.declared.side.Reply.{Reply}
+use Rattle.iw_startup.specs.declared.side.Reply.TheVariants as replies
+use Rattle.iw_startup.specs.declared.config.Agreed.{Agreed}
+use Rattle.iw_startup.specs.declared.startup.NotAsked.{NotAsked}
+use Rattle.iw_startup.specs.declared.progress.StartupFault.{StartupFault}
+use Rattle.iw_startup.specs.declared.progress.Progress.{Progress}
+use Rattle.iw_startup.specs.declared.progress.Progress.TheVariants as progresses
+use Rattle.iw_startup.specs.Peer.{frame_end, frame_part, progress_of}
+use Rattle.iw_startup.specs.State.{StartupState, IsReached, pushed, answered, agreed_of, progress, is_unanswered, is_asked, awaits_answer}
+use Rattle.iw_startup.proofs.Reached.{reached-pushed}
+use Rattle.iw_startup.proofs.Answered.{reached-answered}
+use Rattle.iw_startup.proofs.Heard.{octets-pushed}
+use Rattle.iw_startup.proofs.Openings.{unanswered_not_agreed, told_whole}
+use Rattle.std.proofs.lemmas.Option.{none-some, same_Some}
+use Rattle.iw_fpdu.proofs.Sequences.{Alone, first_alone, first_stays, first_takes}
+use Rattle.iw_untagged.specs.Receiving.{Receiving, with_buffer, written, finished, flushed}
+use Rattle.iw_stream.specs.declared.judging.PlacedFrame.{PlacedFrame}
+use Rattle.iw_stream.specs.Frames.{payload_of, standing_at, placed as placed_of}
+use Rattle.iw_stream.specs.Frames as frames
+use Rattle.iw_stream.specs.Judging.{receiving_turned, is_read_response, is_response, tagged_left, left_by_turn, reads_left}
+use Rattle.iw_stream.specs.Terminating.{terminate_fetched}
+use Rattle.iw_stream.specs.Starting.{StartState, AtOnce, Unheard, Heard, IsFresh, is_open, expecting, first_place_in, is_responder, progress_in, heard, agreement_in, answered_with, first_place_out}
+use Rattle.iw_stream.specs.Starting as starting
+use Rattle.iw_stream.specs.Stream.{StreamState, Due, StartUp, LastWord, Response, NextPart, NoneDue, ended, due, may_answer, keeps_silent, delivery_of, ends_by}
+use Rattle.iw_stream.specs.declared.ending.Ending.TheVariants.{Over}
+use Rattle.iw_stream.specs.Ending.{has_ended, last_word, with_last_word}
+use Rattle.iw_stream.specs.Work.{inbox}
+use Rattle.iw_stream.proofs.Fronts.{carried_by}
+use Rattle.iw_stream.proofs.Headers.{turned_kept, left_kept}
+use Rattle.iw_events.specs.declared.act.StreamAct.{StreamAct}
+use Rattle.iw_events.specs.declared.act.StreamAct.TheVariants.{Recv, Post, Emit, Deliver, Raw, Mulpdu, Accept, Reject, Work, Break}
+use Rattle.iw_events.specs.declared.act.Shown.{Shown}
+use Rattle.iw_events.specs.declared.act.Seen.TheVariants as seen
+use Rattle.iw_laws.specs.Words.{Octets, Sent, Placing, placed_by}
+use Rattle.iw_fpdu.specs.Places.{frame_start}
+use Rattle.iw_laws.specs.Turns.{Located, located_of, behind_last}
+use Rattle.iw_laws.specs.Sends.{asked_of}
+use Rattle.iw_reads.specs.declared.reads.Outstanding.{Outstanding}
+use Rattle.iw_reads.specs.Outstanding.{response_turn_fault, reads_turned}
+use Rattle.iw_reads.specs.Requests.{Requested, taken_up}
+use Rattle.iw_laws.specs.Turns.{Answer, Story, is_silent, hears, next_frame, next_payload, next_turned, next_reads, asked_in, next_asked, in_order_point, segment_out, sends_segment, says_farewell, fetches_for, story_shown}
+use Rattle.iw_reads.specs.declared.requests.Asked.{Asked}
+use Rattle.iw_memory.specs.declared.rights.Right.TheVariants as rights
+use Rattle.iw_events.specs.declared.act.Shown.TheVariants as shows
+use Rattle.iw_laws.proofs.Located.{frames_at, located_are, located_first, located_none, behind_last-push}
+use Rattle.iw_laws.specs.Rules.{private_data, accept_answer, answer_refusal}
+use Rattle.iw_laws.proofs.Nexts.{Front, fore, place_in, standing, segment_in, segment_at, place_behind, behind_front, turned_by, IsFore, Sound}
+use Rattle.iw_laws.proofs.Told.{Fronts, SeesPlaced, SeesRequest, SeesTerminate, SeesSend, IsPassing, SeesReceive, Hears, Told, kept_of, fault_front, left_frame, after_act, reads_front}
+use Rattle.iw_laws.proofs.Tales.{Tale, tale_after}
+use Rattle.iw_laws.proofs.Checks.{checked_buffer}
+use Rattle.iw_laws.proofs.Joins.{Tells, plain_tells, last_tells, ended-append, requests_in, requests-append, requests_more, Joins, Waits, reshape, joins_same, joins_buffer, joins_front, joins_end, joins_over, joins_write, joins_response, joins_other, joins_send, joins_tagged, joins_part, joins_last}
+
+-- ---- what a state and the acts of a stream have in common
+
+-- what holds of the start-up, where there is one
+abbrev pub OnStart : (StartupState → Type 0) → StartState → Type 0
+OnStart P (AtOnce layout) = Unit {0}
+OnStart P (Unheard u) = P u
+OnStart P (Heard u) = P u
+
+-- the octets of the peer's start-up frame, once that was read
+abbrev pub start_octets : StartState → Octets
+start_octets (AtOnce layout) = []
+start_octets (Unheard u) = []
+start_octets (Heard u) = u.octets
+
+pub record Begins (s : StreamState) (t : Tale) (intro : Octets) : Type 0 where
+  pub start : t.story.start ≡ s.start
+  pub reached : OnStart IsReached s.start
+  pub fresh : IsFresh s.start
+  pub octets : intro ≡ start_octets s.start
+
+length-start_octets : (z : StartState) → length (start_octets z) ≡ first_place_in z
+length-start_octets (AtOnce layout) = refl
+length-start_octets (Unheard u) = refl
+length-start_octets (Heard u) = refl
+
+pub first_is : (s : StreamState) (t : Tale) (intro : Octets) → Begins s t intro → length intro ≡ first_place_in s.start
+first_is s t intro b = ap length b.octets ∙ length-start_octets s.start
+
+-- no frame was read
+pub record IsBare (fs : List Carried) (octets : Octets) (was_placed : Bool) : Type 0 where
+  pub frames : fs ≡ []
+  pub before : octets ≡ []
+  pub placed : was_placed ≡ false
+
+pub record Track (s : StreamState) (t : Tale) : Type 0 where
+  pub intro : Octets  -- the peer's start-up frame, once it was read
+  pub begins : Begins s t intro
+  pub frames : List Carried  -- those that had their turn
+  pub before : Octets  -- their octets
+  pub shut : is_open s.start ≡ false → IsBare frames before (is_some s.front)
+  pub from_start : t.story.came.floor ≡ 0
+  pub came : in_order t.story.came ≡ intro ++ (before ++ inbox s)
+  pub arrived : s.arrived ≡ advanced t.story.came (length intro + length before)
+  pub point : s.arrived.floor ≡ length intro + length before
+  pub between : IsBetween (expecting s.start).markers (length before)
+  pub located : List Located  -- the same with their places
+  pub named : frames_at located ≡ frames
+  pub split : (more : Octets) → located_of (expecting s.start) 0 (before ++ more) ≡ located ++ located_of (expecting s.start) (length before) more
+  pub ends : behind_last 0 located ≡ length before
+  pub turns : t.story.turns ≡ length frames
+  pub placed : t.story.placed ≡ (is_some s.front)
+  pub receiving : t.story.receiving ≡ s.receiving
+  pub fore_is : (f : PlacedFrame) → s.front ≡ Some f → IsFore s f
+  pub held : IsHeld s.arrived
+  pub window : IsInWindow s.arrived
+  pub near : length before ≤ 262144 * length frames
+  pub far : length frames ≤ length before
+  pub early : length intro ≤ 262144
+  pub segments : List (Segment Octets)  -- what they carried
+  pub carried : map segment_in frames ≡ map Some segments
+  pub joins : Joins segments s.receiving (is_some s.front) (ended s) (segment_at (fore s)) t.received t.placings
+  pub tells : Tells t.story.answered (asked_of t.story) segments
+
+get_behind : (xs ys : List Located) → slice_get (xs ++ ys) (length xs) ≡ slice_get ys 0
+get_behind [] ys = refl
+get_behind (x ∷ xs) ys = get_behind xs ys
+
+-- the place of the in-order point among the frames
+place_is : (s : StreamState) (t : Tale) (k : Track s t) → place_in s ≡ length k.before
+place_is s t k = omega (arith, k.point, first_is s t k.intro k.begins)
+
+-- the front of the state is the first frame of its octets in order
+pub front_is : (s : StreamState) (t : Tale) (k : Track s t) → fore s ≡ first_frame (expecting s.start) (length k.before) (inbox s)
+front_is s t k = ap (λ n. first_frame (expecting s.start) n (inbox s)) (place_is s t k)
+
+pub sound : (s : StreamState) (t : Tale) → Track s t → Sound s
+sound s t k = record {
+  low = omega (arith, k.point, first_is s t k.intro k.begins);
+  between = subst (IsBetween (expecting s.start).markers) (sym (place_is s t k)) k.between;
+  held = k.held;
+  placed_is = k.fore_is;
+}
+
+-- the octets behind the start-up frame
+behind_intro : (s : StreamState) (t : Tale) (k : Track s t) → drop (first_place_in t.story.start) (in_order t.story.came) ≡ k.before ++ inbox s
+behind_intro s t k =
+    let place : first_place_in t.story.start ≡ length k.intro = ap first_place_in k.begins.start ∙ sym (first_is s t k.intro k.begins) in
+    (λ i. drop (place i) (k.came i)) ∙ drop_at k.intro (k.before ++ inbox s) (length k.intro) refl
+
+-- as many had their turn as were located
+turns_located : (s : StreamState) (t : Tale) (k : Track s t) → t.story.turns ≡ length k.located
+turns_located s t k = omega (arith, k.turns, ap length k.named, length-map k.located (λ (f : Located). carried_by f.frame))
+
+-- those that came are those, and the others
+located_is : (s : StreamState) (t : Tale) (k : Track s t) → located_of (expecting t.story.start) 0 (drop (first_place_in t.story.start) (in_order t.story.came)) ≡ k.located ++ located_of (expecting s.start) (length k.before) (inbox s)
+located_is s t k = (λ i. located_of (expecting (k.begins.start i)) 0 (behind_intro s t k i)) ∙ k.split (inbox s)
+
+-- the frame whose turn is next is the one at the in-order point
+next_is : (s : StreamState) (t : Tale) (k : Track s t) → next_frame t.story ≡ option_map (λ (f : Located). f.frame) (slice_get (located_of (expecting s.start) (length k.before) (inbox s)) 0)
+next_is s t k =
+    ap (option_map (λ (f : Located). f.frame))
+    ((λ i. slice_get (located_is s t k i) (turns_located s t k i)) ∙ get_behind k.located (located_of (expecting s.start) (length k.before) (inbox s)))
+
+pub next_whole : (s : StreamState) (t : Tale) (frame : Carried) (rest : Octets) → Track s t → fore s ≡ Some (frame, rest) → next_frame t.story ≡ Some (standing s frame)
+next_whole s t frame rest k e =
+    next_is s t k ∙ ap (λ z. option_map (λ (f : Located). f.frame) (slice_get z 0)) (located_first (expecting s.start) (length k.before) (inbox s) frame rest k.between (sym (front_is s t k) ∙ e))
+    ∙ ap (λ n. Some (standing_at (frame_start (expecting s.start).markers n) frame)) (sym (place_is s t k))
+
+pub next_none : (s : StreamState) (t : Tale) → Track s t → fore s ≡ None → next_frame t.story ≡ None
+next_none s t k e = next_is s t k ∙ ap (λ z. option_map (λ (f : Located). f.frame) (slice_get z 0)) (located_none (expecting s.start) (length k.before) (inbox s) (sym (front_is s t k) ∙ e))
+
+-- the frames by themselves
+pub split_is : (s : StreamState) (t : Tale) (k : Track s t) (more : Octets) → frames_of (expecting s.start) 0 (k.before ++ more) ≡ k.frames ++ frames_of (expecting s.start) (length k.before) more
+split_is s t k more =
+    sym (located_are (expecting s.start) 0 (k.before ++ more)) ∙ ap frames_at (k.split more) ∙ map-append (λ (f : Located). carried_by f.frame) k.located (located_of (expecting s.start) (length k.before) more)
+    ∙ (λ i. k.named i ++ located_are (expecting s.start) (length k.before) more i)
+
+take_behind : (xs ys : List Located) → take (length xs) (xs ++ ys) ≡ xs
+take_behind xs ys = take-append_seam xs ys
+
+-- the in-order point of the state is that of the acts
+pub point_is : (s : StreamState) (t : Tale) (k : Track s t) → in_order_point t.story ≡ length k.intro + length k.before
+point_is s t k =
+    let place : first_place_in t.story.start ≡ length k.intro = ap first_place_in k.begins.start ∙ sym (first_is s t k.intro k.begins) in
+    let behind : behind_last 0 (take t.story.turns (located_of (expecting t.story.start) 0 (drop (first_place_in t.story.start) (in_order t.story.came)))) ≡ length k.before =
+    ap (behind_last 0) ((λ i. take (turns_located s t k i) (located_is s t k i)) ∙ take_behind k.located (located_of (expecting s.start) (length k.before) (inbox s))) ∙ k.ends in
+    (λ i. place i + behind i)
+
+-- the octets that are next, and what their turn leaves
+pub next_carries : (s : StreamState) (t : Tale) → Track s t → next_payload t.story ≡ payload_of (segment_at (fore s))
+next_carries s t k = go (fore s) refl
+  where
+    go : (o : Front) → fore s ≡ o → next_payload t.story ≡ payload_of (segment_at o)
+    go None e = ap (λ z. option_map_or (λ f. payload_of (frames.segment_in f)) z []) (next_none s t k e)
+    go (Some (frame, rest)) e = ap (λ z. option_map_or (λ f. payload_of (frames.segment_in f)) z []) (next_whole s t frame rest k e)
+
+-- to move on in two steps is to move on at once
+twice : (a : Arrived) (m n : ℕ) → a.floor ≡ 0 → m ≤ n → advanced (advanced a m) n ≡ advanced a n
+unfolding advanced
+twice a m n zero_is le = λ i. record { floor = floors i; cells = cells i }
+  where
+    floors : max (max a.floor m) n ≡ max a.floor n
+    floors = omega arith
+
+    cells : drop (n - max a.floor m) (drop (m - a.floor) a.cells) ≡ drop (n - a.floor) a.cells
+    cells = drop-drop (n - max a.floor m) (m - a.floor) a.cells ∙ ap (λ z. drop z a.cells) (omega (arith, zero_is, le))
+
+-- what a state and a tale keep of their start-up
+pub record SameStart (s s' : StreamState) (t t' : Tale) : Type 0 where
+  pub start : s'.start ≡ s.start
+  pub tale_start : t'.story.start ≡ t.story.start
+
+same_begins : (s s' : StreamState) (t t' : Tale) (intro : Octets) → SameStart s s' t t' → Begins s t intro → Begins s' t' intro
+same_begins s s' t t' intro same b = record {
+  start = same.tale_start ∙ b.start ∙ sym same.start;
+  reached = subst (OnStart IsReached) (sym same.start) b.reached;
+  fresh = subst IsFresh (sym same.start) b.fresh;
+  octets = b.octets ∙ ap start_octets (sym same.start);
+}
+
+same_open : (s s' : StreamState) (t t' : Tale) → SameStart s s' t t' → is_open s'.start ≡ is_open s.start
+same_open s s' t t' same = ap is_open same.start
+
+same_expecting : (s s' : StreamState) (t t' : Tale) → SameStart s s' t t' → expecting s'.start ≡ expecting s.start
+same_expecting s s' t t' same = ap expecting same.start
+
+-- the frame at the in-order point has its turn
+turned : (s s' : StreamState) (t t' : Tale) (frame : Carried) (rest : Octets) (segment : Segment Octets) → fore s ≡ Some (frame, rest) → segment_in frame ≡ Some segment → is_open s.start ≡ true → SameStart s s' t t'
+    → s'.arrived ≡ behind_front s → s'.front ≡ None
+    → t'.story.came ≡ t.story.came → t'.story.turns ≡ t.story.turns + 1 → t'.story.placed ≡ false → t'.story.receiving ≡ s'.receiving → (k : Track s t)
+    → Joins (k.segments ++ segment ∷ []) s'.receiving (is_some s'.front) (ended s') (segment_at (fore s')) t'.received t'.placings
+    → Tells t'.story.answered (asked_of t'.story) (k.segments ++ segment ∷ []) → Track s' t'
+turned s s' t t' frame rest segment e carries started same arrived empty came turns told receiving k joins tells =
+    let layout : Layout = expecting s.start in
+    let at : ℕ = length k.before in
+    let m : ℕ = length k.intro in
+    let first : first_frame layout at (inbox s) ≡ Some (frame, rest) = sym (front_is s t k) ∙ e in
+    let one : Alone layout at (inbox s) frame rest = first_alone layout at (inbox s) frame rest k.between first in
+    let before : Octets = k.before ++ one.one in
+    let size : length before ≡ at + length one.one = length-append k.before one.one in
+    let all : length one.one + length rest ≡ length (inbox s) = omega (arith, ap length one.split, length-append one.one rest) in
+    let to : place_behind s (fore s) ≡ m + length before = ap (place_behind s) e ∙ omega (arith, k.point, size, all) in
+    let moved : s'.arrived ≡ advanced t.story.came (m + length before) =
+    arrived ∙ (λ i. advanced (k.arrived i) (to i)) ∙ twice t.story.came (m + at) (m + length before) k.from_start (omega (arith, size)) in
+    let point : s'.arrived.floor ≡ m + length before = ap (λ (a : Arrived). a.floor) moved ∙ floor_moves t.story.came (m + length before) ∙ omega (arith, k.from_start) in
+    let whole : in_order t.story.came ≡ k.intro ++ (before ++ rest) =
+    k.came ∙ ap (λ z. k.intro ++ z) (ap (λ z. k.before ++ z) (sym one.split) ∙ sym (append_assoc k.before one.one rest)) in
+    let grouped : in_order t.story.came ≡ (k.intro ++ before) ++ rest = whole ∙ sym (append_assoc k.intro before rest) in
+    let left : inbox s' ≡ rest =
+    ap in_order moved
+    ∙ moves t.story.came (m + length before) (omega (arith, k.from_start)) (omega (arith, ap length grouped, length-append (k.intro ++ before) rest, length-append k.intro before, k.from_start))
+    ∙ (λ i. drop (m + length before - k.from_start i) (grouped i))
+    ∙ drop_at (k.intro ++ before) rest (m + length before - 0) (omega (arith, length-append k.intro before)) in
+    let few : length (inbox s) ≤ 262144 = omega (arith, short s.arrived, k.window) in
+    let here : Located = record { frame = standing_at (frame_start layout.markers at) frame; behind = length before } in
+    record {
+      intro = k.intro;
+      begins = same_begins s s' t t' k.intro same k.begins;
+      frames = k.frames ++ frame ∷ [];
+      before = before;
+      shut = λ h. absurd (true≢false (sym started ∙ sym (same_open s s' t t' same) ∙ h));
+      from_start = ap (λ (a : Arrived). a.floor) came ∙ k.from_start;
+      came = ap in_order came ∙ whole ∙ ap (λ z. k.intro ++ (before ++ z)) (sym left);
+      arrived = moved ∙ ap (λ a. advanced a (m + length before)) (sym came);
+      point = point;
+      between = subst (λ (l : Layout). IsBetween l.markers (length before)) (sym (same_expecting s s' t t' same)) (subst (IsBetween layout.markers) (omega (arith, size, all)) (first_takes layout at (inbox s) frame rest k.between first).next);
+      located = k.located ++ here ∷ [];
+      named = map-append (λ (f : Located). carried_by f.frame) k.located (here ∷ []) ∙ ap (λ z. z ++ frame ∷ []) k.named;
+      ends = behind_last-push 0 k.located here;
+      split = λ more.
+          let again : first_frame layout at (one.one ++ more) ≡ Some (frame, more) = one.again more in
+          subst (λ (l : Layout). located_of l 0 (before ++ more) ≡ (k.located ++ here ∷ []) ++ located_of l (length before) more) (sym (same_expecting s s' t t' same))
+          (ap (located_of layout 0) (append_assoc k.before one.one more)
+          ∙ k.split (one.one ++ more)
+          ∙ ap (λ z. k.located ++ z) (located_first layout at (one.one ++ more) frame more k.between again)
+          ∙ ap (λ n. k.located ++ record { frame = standing_at (frame_start layout.markers at) frame; behind = n } ∷ located_of layout n more) (omega (arith, size, length-append one.one more))
+          ∙ sym (append_assoc k.located (here ∷ []) (located_of layout (length before) more)));
+      turns = turns ∙ ap (λ n. n + 1) k.turns ∙ omega (arith, length-append k.frames (frame ∷ []));
+      placed = told ∙ sym (ap is_some empty);
+      fore_is = λ f h. absurd (none-some _ (sym empty ∙ h));
+      held = subst IsHeld (sym arrived) (held_moves s.arrived (place_behind s (fore s)) k.held);
+      receiving = receiving;
+      window = subst IsInWindow (sym arrived) (window_moves s.arrived (place_behind s (fore s)) k.window);
+      near = omega (arith, k.near, few, all, size, length-append k.frames (frame ∷ []));
+      far = omega (arith, k.far, all, size, length-append k.frames (frame ∷ []), (first_takes layout at (inbox s) frame rest k.between first).shorter);
+      early = k.early;
+      segments = k.segments ++ segment ∷ [];
+      carried = map-append segment_in k.frames (frame ∷ []) ∙ (λ i. k.carried i ++ carries i ∷ []) ∙ sym (map-append Some k.segments (segment ∷ []));
+      joins = joins;
+      tells = tells;
+    }
+
+-- nothing of it changes but the buffers
+pub same_track : (s s' : StreamState) (t t' : Tale) → SameStart s s' t t' → s'.arrived ≡ s.arrived → t'.story.came ≡ t.story.came → t'.story.turns ≡ t.story.turns → t'.story.placed ≡ (is_some s'.front)
+    → t'.story.receiving ≡ s'.receiving → (is_open s.start ≡ false → (is_some s'.front) ≡ (is_some s.front)) → ((f : PlacedFrame) → s'.front ≡ Some f → IsFore s' f) → (k : Track s t) → Joins k.segments s'.receiving (is_some s'.front) (ended s') (segment_at (fore s')) t'.received t'.placings
+    → Tells t'.story.answered (asked_of t'.story) k.segments → Track s' t'
+same_track s s' t t' same arrived came turns placed receiving still fore_is k joins tells = record {
+  intro = k.intro;
+  begins = same_begins s s' t t' k.intro same k.begins;
+  frames = k.frames;
+  before = k.before;
+  shut = λ h. let none : is_open s.start ≡ false = sym (same_open s s' t t' same) ∙ h in let bare = k.shut none in record { frames = bare.frames; before = bare.before; placed = still none ∙ bare.placed };
+  from_start = ap (λ (a : Arrived). a.floor) came ∙ k.from_start;
+  came = ap in_order came ∙ k.came ∙ ap (λ a. k.intro ++ (k.before ++ in_order a)) (sym arrived);
+  arrived = arrived ∙ k.arrived ∙ ap (λ a. advanced a (length k.intro + length k.before)) (sym came);
+  point = ap (λ (a : Arrived). a.floor) arrived ∙ k.point;
+  between = subst (λ (l : Layout). IsBetween l.markers (length k.before)) (sym (same_expecting s s' t t' same)) k.between;
+  located = k.located;
+  named = k.named;
+  ends = k.ends;
+  split = λ more. subst (λ (l : Layout). located_of l 0 (k.before ++ more) ≡ k.located ++ located_of l (length k.before) more) (sym (same_expecting s s' t t' same)) (k.split more);
+  turns = turns ∙ k.turns;
+  placed = placed;
+  fore_is = fore_is;
+  held = subst IsHeld (sym arrived) k.held;
+  receiving = receiving;
+  window = subst IsInWindow (sym arrived) k.window;
+  near = k.near;
+  far = k.far;
+  early = k.early;
+  segments = k.segments;
+  carried = k.carried;
+  joins = joins;
+  tells = tells;
+}
+
+-- octets that are kept are so by what came before, on a stream that has not ended
+kept_is : (s : StreamState) (from n : ℕ) → Kept ≡ delivery_of s from n → (ended s ≡ false) × (delivery s.arrived from n ≡ Kept)
+kept_is s from n e = go (ended s) refl e
+  where
+    go : (over : Bool) → ended s ≡ over → Kept ≡ cond over Dropped (delivery s.arrived from n) → (ended s ≡ false) × (delivery s.arrived from n ≡ Kept)
+    go true is h = cc
+    go false is h = (is, sym h)
+
+-- more octets leave the frame that waits
+stays : (s s' : StreamState) (t : Tale) (more : Octets) (k : Track s t) → ended s ≡ false → fore s' ≡ first_frame (expecting s.start) (length k.before) (inbox s ++ more) → (is_some s.front) ≡ true → segment_at (fore s') ≡ segment_at (fore s)
+stays s s' t more k running next placed = go (fore s) refl (k.joins.waits running placed)
+  where
+    go : (o : Front) → fore s ≡ o → Waits s.receiving k.segments (segment_at o) → segment_at (fore s') ≡ segment_at o
+    go None e w = absurd w
+    go (Some (frame, rest)) e w = ap segment_at (next ∙ first_stays (expecting s.start) (length k.before) (inbox s) more frame rest k.between (sym (front_is s t k) ∙ e))
+
+-- octets come
+pub comes : (s s' : StreamState) (t t' : Tale) (from : ℕ) (octets : Octets) → Kept ≡ delivery_of s from (length octets)
+    → SameStart s s' t t' → s'.arrived ≡ taken_in s.arrived from octets → s'.front ≡ s.front → ended s' ≡ ended s → s'.receiving ≡ s.receiving
+    → t'.story.came ≡ taken_in t.story.came from octets → t'.story.turns ≡ t.story.turns → t'.story.placed ≡ t.story.placed → t'.story.receiving ≡ t.story.receiving → t'.received ≡ t.received → t'.placings ≡ t.placings
+    → (k : Track s t) → Tells t'.story.answered (asked_of t'.story) k.segments → Track s' t'
+comes s s' t t' from octets kept same arrived front over receiving came turns told tale_receiving received placements k tells =
+    let m : ℕ = length k.intro in
+    let at : ℕ = length k.before in
+    let new : Arrived = taken_in t.story.came from octets in
+    let zero_is : new.floor ≡ 0 = floor_takes t.story.came from octets ∙ k.from_start in
+    let long : length (in_order t.story.came) ≡ m + (at + length (inbox s)) = ap length k.came ∙ length-append k.intro (k.before ++ inbox s) ∙ ap (λ n. m + n) (length-append k.before (inbox s)) in
+    let commutes : taken_in s.arrived from octets ≡ advanced new (m + at) =
+    ap (λ a. taken_in a from octets) k.arrived ∙ sym (moves_takes t.story.came from octets (m + at) (omega (arith, k.from_start)) (omega (arith, long, k.from_start))) in
+    let more = takes t.story.came from octets in
+    let whole : in_order new ≡ k.intro ++ (k.before ++ (inbox s ++ more.0)) =
+    more.1 ∙ ap (λ z. z ++ more.0) k.came ∙ append_assoc k.intro (k.before ++ inbox s) more.0 ∙ ap (λ z. k.intro ++ z) (append_assoc k.before (inbox s) more.0) in
+    let grouped : in_order new ≡ (k.intro ++ k.before) ++ (inbox s ++ more.0) = whole ∙ sym (append_assoc k.intro k.before (inbox s ++ more.0)) in
+    let left : inbox s' ≡ inbox s ++ more.0 =
+    ap in_order (arrived ∙ commutes)
+    ∙ moves new (m + at) (omega (arith, zero_is)) (omega (arith, ap length grouped, length-append (k.intro ++ k.before) (inbox s ++ more.0), length-append k.intro k.before, zero_is))
+    ∙ (λ i. drop (m + at - zero_is i) (grouped i))
+    ∙ drop_at (k.intro ++ k.before) (inbox s ++ more.0) (m + at - 0) (omega (arith, length-append k.intro k.before)) in
+    let point : s'.arrived.floor ≡ m + at = ap (λ (a : Arrived). a.floor) arrived ∙ floor_takes s.arrived from octets ∙ k.point in
+    let begins : Begins s' t' k.intro = same_begins s s' t t' k.intro same k.begins in
+    let place : place_in s' ≡ at = omega (arith, point, first_is s' t' k.intro begins) in
+    let placed : is_some s'.front ≡ is_some s.front = ap is_some front in
+    let next : fore s' ≡ first_frame (expecting s.start) at (inbox s ++ more.0) = λ i. first_frame (same_expecting s s' t t' same i) (place i) (left i) in
+    let ok = kept_is s from (length octets) kept in
+    record {
+      intro = k.intro;
+      begins = begins;
+      frames = k.frames;
+      before = k.before;
+      shut = λ h. let bare = k.shut (sym (same_open s s' t t' same) ∙ h) in record { frames = bare.frames; before = bare.before; placed = placed ∙ bare.placed };
+      from_start = ap (λ (a : Arrived). a.floor) came ∙ zero_is;
+      came = ap in_order came ∙ whole ∙ ap (λ z. k.intro ++ (k.before ++ z)) (sym left);
+      arrived = arrived ∙ commutes ∙ ap (λ a. advanced a (m + at)) (sym came);
+      point = point;
+      between = subst (λ (l : Layout). IsBetween l.markers at) (sym (same_expecting s s' t t' same)) k.between;
+      located = k.located;
+      named = k.named;
+      ends = k.ends;
+      split = λ rest. subst (λ (l : Layout). located_of l 0 (k.before ++ rest) ≡ k.located ++ located_of l at rest) (sym (same_expecting s s' t t' same)) (k.split rest);
+      turns = turns ∙ k.turns;
+      placed = told ∙ k.placed ∙ sym placed;
+      fore_is = λ f h.
+          let w = k.fore_is f (sym front ∙ h) in
+          record {
+            frame = w.frame;
+            rest = w.rest ++ more.0;
+            whole = next ∙ first_stays (expecting s.start) at (inbox s) more.0 w.frame w.rest k.between (sym (front_is s t k) ∙ w.whole);
+            is = w.is ∙ (λ i. placed_of (standing_at (frame_start (sym (same_expecting s s' t t' same) i).markers ((place_is s t k ∙ sym place) i)) w.frame));
+            segment = w.segment;
+            carries = w.carries;
+          };
+      held = subst IsHeld (sym arrived) (held_takes s.arrived from octets k.held);
+      receiving = tale_receiving ∙ k.receiving ∙ sym receiving;
+      window = subst IsInWindow (sym arrived) (window_takes s.arrived from octets ok.1 k.window);
+      near = k.near;
+      far = k.far;
+      early = k.early;
+      segments = k.segments;
+      carried = k.carried;
+      joins = reshape (sym receiving) (sym placed) (sym over) refl (sym received) (sym placements)
+          (joins_front k.segments s.receiving (is_some s.front) (ended s) (segment_at (fore s)) (segment_at (fore s')) t.received t.placings (stays s s' t more.0 k ok.0 next) k.joins);
+      tells = tells;
+    }
+
+-- ---- start-up
+
+no_octets : (xs : Octets) → length xs ≡ 0 → xs ≡ []
+no_octets [] h = refl
+no_octets (x ∷ xs) h = absurd (omega (arith, h))
+
+-- a stream on which nothing of frames has happened takes any layout
+bare_between : (frames : List Carried) (before : Octets) (placed : Bool) (l : Layout) → IsBare frames before placed → IsBetween l.markers (length before)
+bare_between frames before placed l b = subst (λ (xs : Octets). IsBetween l.markers (length xs)) (sym b.before) (frames_follow.first l.markers)
+
+bare_located : (frames : List Carried) (before : Octets) (placed : Bool) (fs : List Located) → frames_at fs ≡ frames → IsBare frames before placed → fs ≡ []
+bare_located frames before placed [] named b = refl
+bare_located frames before placed (f ∷ fs) named b = absurd (omega (arith, ap length (named ∙ b.frames)))
+
+bare_split : (frames : List Carried) (before : Octets) (placed : Bool) (fs : List Located) → frames_at fs ≡ frames → (l : Layout) → IsBare frames before placed → (more : Octets) → located_of l 0 (before ++ more) ≡ fs ++ located_of l (length before) more
+bare_split frames before placed fs named l b more =
+    subst (λ gs. located_of l 0 (before ++ more) ≡ gs ++ located_of l (length before) more) (sym (bare_located frames before placed fs named b))
+    (subst (λ (xs : Octets). located_of l 0 (xs ++ more) ≡ [] ++ located_of l (length xs) more) (sym b.before) refl)
+
+-- a stream that has not read the peer's start-up frame has read nothing
+pub record IsUnread (s : StreamState) (t : Tale) (u : StartupState) (k : Track s t) : Type 0 where
+  pub intro : k.intro ≡ []
+  pub octets : u.octets ≡ []
+  pub bare : IsBare k.frames k.before (is_some s.front)
+
+pub unread : (s : StreamState) (t : Tale) (u : StartupState) (k : Track s t) → s.start ≡ Unheard u → IsUnread s t u k
+unread s t u k is = record {
+  intro = k.begins.octets ∙ ap start_octets is;
+  octets = subst IsFresh is k.begins.fresh;
+  bare = k.shut (ap is_open is);
+}
+
+part_of : (side : Side) (xs : Octets) → frame_end side xs ≤ length xs → (length (frame_part side xs) ≡ frame_end side xs) × (frame_part side xs ++ drop (frame_end side xs) xs ≡ xs)
+unfolding frame_part
+part_of side xs whole = (omega (arith, length-take (frame_end side xs) xs, whole), take-append-drop (frame_end side xs) xs)
+
+-- what a story keeps of what came, beside how it began
+pub record StaysRead (t t' : Story) : Type 0 where
+  pub came : t'.came ≡ t.came
+  pub turns : t'.turns ≡ t.turns
+  pub placed : t'.placed ≡ t.placed
+  pub receiving : t'.receiving ≡ t.receiving
+  pub answered : t'.answered ≡ t.answered
+  pub asked : asked_of t' ≡ asked_of t
+
+same_tells : {us : List (Segment Octets)} {a a' : ℕ} {rs rs' : List ReadRequest} → a' ≡ a → rs' ≡ rs → Tells a rs us → Tells a' rs' us
+same_tells e f k = record { answered_are = e ∙ k.answered_are; asked_are = f ∙ k.asked_are }
+
+-- the peer's start-up frame is read
+record Reads (s s' : StreamState) (t t' : Tale) (u : StartupState) : Type 0 where
+  pub is : s.start ≡ Unheard u
+  pub whole : frame_end u.side (inbox s) ≤ length (inbox s)
+  pub start : s'.start ≡ heard s.start (inbox s)
+  pub arrived : s'.arrived ≡ advanced s.arrived (first_place_in (heard s.start (inbox s)))
+  pub front : s'.front ≡ s.front
+  pub receiving : s'.receiving ≡ s.receiving
+  pub told : t'.story.start ≡ (hears t.story).start
+  pub story : StaysRead t.story t'.story
+
+reads : (s s' : StreamState) (t t' : Tale) (u : StartupState) → Reads s s' t t' u → (k : Track s t)
+    → Joins k.segments s'.receiving (is_some s'.front) (ended s') (segment_at (fore s)) t'.received t'.placings → Track s' t'
+reads s s' t t' u r k joins =
+    let n = unread s t u k r.is in
+    let part : Octets = frame_part u.side (inbox s) in
+    let split = part_of u.side (inbox s) r.whole in
+    let rest : Octets = drop (frame_end u.side (inbox s)) (inbox s) in
+    let came : in_order t.story.came ≡ inbox s = k.came ∙ (λ i. n.intro i ++ (n.bare.before i ++ inbox s)) in
+    let here : s.arrived ≡ advanced t.story.came 0 = k.arrived ∙ (λ i. advanced t.story.came (length (n.intro i) + length (n.bare.before i))) in
+    let start : s'.start ≡ Heard (pushed u (inbox s)) = r.start ∙ ap (λ z. heard z (inbox s)) r.is in
+    let octets : (pushed u (inbox s)).octets ≡ part = octets-pushed u (inbox s) n.octets in
+    let to : first_place_in (heard s.start (inbox s)) ≡ length part = ap (λ z. first_place_in (heard z (inbox s))) r.is ∙ ap length octets in
+    let moved : s'.arrived ≡ advanced t.story.came (length part) = r.arrived ∙ (λ i. advanced (here i) (to i)) ∙ twice t.story.came 0 (length part) k.from_start (omega arith) in
+    let whole : in_order t.story.came ≡ part ++ rest = came ∙ sym split.1 in
+    let left : inbox s' ≡ rest =
+    ap in_order moved
+    ∙ moves t.story.came (length part) (omega (arith, k.from_start)) (omega (arith, ap length whole, length-append part rest, k.from_start))
+    ∙ (λ i. drop (length part - k.from_start i) (whole i))
+    ∙ drop_at part rest (length part - 0) (omega arith) in
+    let told : t'.story.start ≡ Heard (pushed u (inbox s)) =
+    r.told ∙ (λ i. heard ((k.begins.start ∙ r.is) i) (came i)) in
+    let same_came : t'.story.came ≡ t.story.came = r.story.came in
+    let bare : IsBare k.frames k.before (is_some s'.front) = record { frames = n.bare.frames; before = n.bare.before; placed = ap is_some r.front ∙ n.bare.placed } in
+    let few : length (inbox s) ≤ 262144 = omega (arith, short s.arrived, k.window) in
+    let zero : length k.before ≡ 0 = ap length n.bare.before in
+    record {
+      intro = part;
+      begins = record {
+        start = told ∙ sym start;
+        reached = subst (OnStart IsReached) (sym start) (reached-pushed u (inbox s) (subst (OnStart IsReached) r.is k.begins.reached));
+        fresh = subst IsFresh (sym start) tt;
+        octets = sym octets ∙ ap start_octets (sym start);
+      };
+      frames = k.frames;
+      before = k.before;
+      shut = λ h. bare;
+      from_start = ap (λ (a : Arrived). a.floor) same_came ∙ k.from_start;
+      came = ap in_order same_came ∙ whole ∙ (λ i. part ++ (sym n.bare.before i ++ sym left i));
+      arrived = moved ∙ ap (advanced t.story.came) (omega (arith, zero)) ∙ ap (λ a. advanced a (length part + length k.before)) (sym same_came);
+      point = ap (λ (a : Arrived). a.floor) moved ∙ floor_moves t.story.came (length part) ∙ omega (arith, k.from_start, zero);
+      between = bare_between k.frames k.before (is_some s'.front) (expecting s'.start) bare;
+      located = k.located;
+      named = k.named;
+      ends = k.ends;
+      split = bare_split k.frames k.before (is_some s'.front) k.located k.named (expecting s'.start) bare;
+      turns = r.story.turns ∙ k.turns;
+      placed = r.story.placed ∙ k.placed ∙ sym (ap is_some r.front);
+      fore_is = λ f h. absurd (true≢false (sym (ap is_some h) ∙ bare.placed));
+      held = subst IsHeld (sym r.arrived) (held_moves s.arrived (first_place_in (heard s.start (inbox s))) k.held);
+      receiving = r.story.receiving ∙ k.receiving ∙ sym r.receiving;
+      window = subst IsInWindow (sym r.arrived) (window_moves s.arrived (first_place_in (heard s.start (inbox s))) k.window);
+      near = k.near;
+      far = k.far;
+      early = omega (arith, few, ap length split.1, length-append part rest);
+      segments = k.segments;
+      carried = k.carried;
+      joins = joins_front k.segments s'.receiving (is_some s'.front) (ended s') (segment_at (fore s)) (segment_at (fore s')) t'.received t'.placings (λ p. absurd (false≢true (sym bare.placed ∙ p))) joins;
+      tells = same_tells r.story.answered r.story.asked k.tells;
+    }
+
+-- nothing is received, and nothing placed: what is joined stays
+quiet : (s : StreamState) (t : Tale) (k : Track s t) → Joins k.segments s.receiving (is_some s.front) (ended s) (segment_at (fore s)) (t.received ++ []) (t.placings ++ [])
+quiet s t k = joins_same k.segments s.receiving (is_some s.front) (ended s) (segment_at (fore s)) t.received t.placings k.joins
+
+-- a frame that stands at the in-order point, with its segment
+fronted : (s : StreamState) (t : Tale) (k : Track s t) (was : Bool) (segment : Segment Octets) → Fronts s was segment → Joins k.segments s.receiving was false (Some segment) t.received t.placings
+fronted s t k was segment f = reshape refl f.placed f.running (ap segment_at f.whole ∙ f.carries) refl refl k.joins
+
+-- the stream ends, or had ended
+over_joins : {segments : List (Segment Octets)} {r : Receiving} {placed over over' : Bool} {o : Option (Segment Octets)} {received : List Sent} {placements : List Placing}
+    → over' ≡ true → Joins segments r placed over o received placements → Joins segments r placed over' o received placements
+over_joins {segments} {r} {placed} {over} {over'} {o} {received} {placements} is j = reshape refl refl (sym is) refl refl refl (joins_end segments r placed over o received placements j)
+
+-- so it does by a fault
+pub by_ended : (s : StreamState) (payload : Octets) → ended (ends_by s payload) ≡ true
+by_ended s payload = go (keeps_silent s)
+  where
+    go : (b : Bool) → has_ended (cond b (Over None) (with_last_word payload)) ≡ true
+    go true = refl
+    go false = refl
+
+-- a tagged segment is placed
+places : (table : Table) (s : StreamState) (t : Tale) (right : Right) (stag : Stag) (to : ℕ) (octets : Octets) → SeesPlaced table s right stag to octets → (k : Track s t)
+    → Joins k.segments s.receiving true (ended s) (segment_at (fore s)) (t.received ++ []) (t.placings ++ placed_by (Work (seen.Placed right stag to octets)))
+places table s t right stag to octets p k =
+    let at : segment_at (fore s) ≡ Some (Tagged p.head octets) = ap segment_at p.fronts.whole ∙ p.fronts.carries in
+    let shown : (by : Right) → right ≡ by → record { right = by; stag = p.head.stag; to = p.head.to; octets = octets } ∷ [] ≡ placed_by (Work (seen.Placed right stag to octets)) =
+    λ by e. λ i. placed_by (Work (seen.Placed (sym e i) (sym p.stag_is i) (sym p.to_is i) octets)) in
+    elim p.kind [
+      | inl w ↦
+          reshape refl refl (sym p.fronts.running) (sym at) (sym (append-nil t.received)) (ap (λ z. t.placings ++ z) (shown rights.Write w.0))
+          (joins_write k.segments s.receiving p.head octets t.received t.placings w.1 (fronted s t k false (Tagged p.head octets) p.fronts))
+      | inr w ↦
+          reshape refl refl (sym p.fronts.running) (sym at) (sym (append-nil t.received)) (ap (λ z. t.placings ++ z) (shown rights.Sink w.0))
+          (joins_response k.segments s.receiving p.head octets t.received t.placings w.1 (fronted s t k false (Tagged p.head octets) p.fronts))
+    ]
+
+-- a Read Request has its turn
+requests : (s : StreamState) (t : Tale) (size : ℕ) (stag : Stag) (to : ℕ) (o' : Option (Segment Octets)) → (w : SeesRequest s size stag to) → (k : Track s t)
+    → Joins (k.segments ++ Untagged w.head w.payload ∷ []) s.receiving false (ended s) o' (t.received ++ []) (t.placings ++ [])
+requests s t size stag to o' w k =
+    reshape refl refl (sym w.fronts.running) refl (sym (append-nil t.received)) (sym (append-nil t.placings))
+    (joins_other k.segments s.receiving w.head w.payload o' t.received t.placings (ap (λ n. nat_eq n 0) w.queue) (fronted s t k false (Untagged w.head w.payload) w.fronts))
+
+-- and the peer's Terminate, which ends the stream
+terminates : (s : StreamState) (t : Tale) (o' : Option (Segment Octets)) → (w : SeesTerminate s) → (k : Track s t)
+    → Joins (k.segments ++ Untagged w.head w.payload ∷ []) s.receiving false true o' (t.received ++ []) (t.placings ++ [])
+terminates s t o' w k =
+    over_joins refl
+    (reshape refl refl (sym w.fronts.running) refl (sym (append-nil t.received)) (sym (append-nil t.placings))
+    (joins_other k.segments s.receiving w.head w.payload o' t.received t.placings (ap (λ n. nat_eq n 0) w.queue) (fronted s t k false (Untagged w.head w.payload) w.fronts)))
+
+-- a Send's segment is placed
+buffers : (s : StreamState) (t : Tale) (msn mo len : ℕ) → SeesSend s msn mo len → (k : Track s t)
+    → Joins k.segments (written s.receiving msn mo (payload_of (segment_at (fore s)))) true (ended s) (segment_at (fore s)) (t.received ++ []) (t.placings ++ [])
+buffers s t msn mo len p k =
+    let at : segment_at (fore s) ≡ Some (Untagged p.head p.payload) = ap segment_at p.fronts.whole ∙ p.fronts.carries in
+    reshape (λ i. written s.receiving (sym p.msn_is i) (sym p.mo_is i) (payload_of (sym at i))) refl (sym p.fronts.running) (sym at) (sym (append-nil t.received)) (sym (append-nil t.placings))
+    (joins_send k.segments s.receiving p.head p.payload t.received t.placings p.queue (checked_buffer s.receiving p.head (length p.payload) p.checked) (fronted s t k false (Untagged p.head p.payload) p.fronts))
+
+-- a segment has its turn that completes nothing
+passes : (s : StreamState) (t : Tale) (segment : Segment Octets) (o' : Option (Segment Octets)) → Fronts s true segment → IsPassing s segment → (k : Track s t)
+    → Joins (k.segments ++ segment ∷ []) (turned_by s.receiving (segment_at (fore s))) false (ended s) o' (t.received ++ []) (t.placings ++ [])
+passes s t (Tagged head payload) o' f passing k =
+    reshape (ap (turned_by s.receiving) (sym (ap segment_at f.whole ∙ f.carries))) refl (sym f.running) refl (sym (append-nil t.received)) (sym (append-nil t.placings))
+    (joins_tagged k.segments s.receiving head payload o' t.received t.placings (fronted s t k true (Tagged head payload) f))
+passes s t (Untagged head payload) o' f passing k =
+    reshape (ap (turned_by s.receiving) (sym (ap segment_at f.whole ∙ f.carries))) refl (sym f.running) refl (sym (append-nil t.received)) (sym (append-nil t.placings))
+    (joins_part k.segments s.receiving head payload o' t.received t.placings passing.0 passing.1 (fronted s t k true (Untagged head payload) f))
+
+-- a Send is complete
+receives : (s : StreamState) (t : Tale) (octets : Octets) (solicited : Bool) (invalidate : Option Stag) (o' : Option (Segment Octets)) → (c : SeesReceive s octets solicited invalidate) → (k : Track s t)
+    → Joins (k.segments ++ Untagged c.head c.payload ∷ []) (finished s.receiving) false (ended s) o' (t.received ++ record { octets = octets; solicited = solicited; invalidate = invalidate } ∷ []) (t.placings ++ [])
+receives s t octets solicited invalidate o' c k =
+    reshape refl refl (sym c.fronts.running) refl (λ i. t.received ++ record { octets = sym c.is i; solicited = sym c.solicited_is i; invalidate = sym c.invalidate_is i } ∷ []) (sym (append-nil t.placings))
+    (joins_last k.segments s.receiving c.head c.payload o' t.received t.placings c.turn c.last (fronted s t k true (Untagged c.head c.payload) c.fronts))
+
+kept_start : (s s' : StreamState) (t t' : Tale) → s'.start ≡ s.start → t'.story.start ≡ t.story.start → SameStart s s' t t'
+kept_start s s' t t' a b = record { start = a; tale_start = b }
+
+same_fore : (s s' : StreamState) → s'.start ≡ s.start → s'.arrived ≡ s.arrived → (f : PlacedFrame) → IsFore s f → IsFore s' f
+same_fore s s' start arrived f w = record {
+  frame = w.frame;
+  rest = w.rest;
+  whole = (λ i. first_frame (expecting (start i)) ((arrived i).floor - first_place_in (start i)) (in_order (arrived i))) ∙ w.whole;
+  is = w.is ∙ (λ i. placed_of (standing_at (frame_start (expecting (sym start i)).markers ((sym arrived i).floor - first_place_in (sym start i))) w.frame));
+  segment = w.segment;
+  carries = w.carries;
+}
+
+same : (s s' : StreamState) (t t' : Tale) → s'.start ≡ s.start → s'.arrived ≡ s.arrived → s'.front ≡ s.front → s'.receiving ≡ s.receiving
+    → t'.story ≡ t.story → (k : Track s t) → Joins k.segments s'.receiving (is_some s'.front) (ended s') (segment_at (fore s')) t'.received t'.placings → Track s' t'
+same s s' t t' start arrived front receiving story k joins =
+    same_track s s' t t' (kept_start s s' t t' start (ap (λ (z : Story). z.start) story)) arrived
+    (ap (λ (z : Story). z.came) story) (ap (λ (z : Story). z.turns) story) (ap (λ (z : Story). z.placed) story ∙ k.placed ∙ sym (ap is_some front)) (ap (λ (z : Story). z.receiving) story ∙ k.receiving ∙ sym receiving) (λ h. ap is_some front)
+    (λ f h. same_fore s s' start arrived f (k.fore_is f (sym front ∙ h))) k joins
+    (subst (λ (z : Story). Tells z.answered (asked_of z) k.segments) (sym story) k.tells)
+
+-- a responder's user answers: no frame was read before
+record Answers (s s' : StreamState) (t t' : Tale) (u : StartupState) (reply : Reply) : Type 0 where
+  pub is : s.start ≡ Heard u
+  pub asked : awaits_answer u ≡ true
+  pub start : s'.start ≡ Heard (answered u reply)
+  pub arrived : s'.arrived ≡ s.arrived
+  pub front : s'.front ≡ s.front
+  pub receiving : s'.receiving ≡ s.receiving
+  pub told : t'.story.start ≡ answered_with t.story.start reply
+  pub story : StaysRead t.story t'.story
+
+pub unanswered : (u : StartupState) → awaits_answer u ≡ true → u.side ≡ Responder None
+unanswered u h = go u.side refl h
+  where
+    go : (side : Side) → u.side ≡ side → (is_unanswered side && is_asked (progress u)) ≡ true → u.side ≡ Responder None
+    go Initiator is e = absurd (false≢true e)
+    go (Responder None) is e = is
+    go (Responder (Some reply)) is e = absurd (false≢true e)
+
+answers : (s s' : StreamState) (t t' : Tale) (u : StartupState) (reply : Reply) → Answers s s' t t' u reply → (k : Track s t)
+    → Joins k.segments s'.receiving (is_some s'.front) (ended s') (segment_at (fore s)) t'.received t'.placings → Track s' t'
+answers s s' t t' u reply r k joins =
+    let none : agreed_of u ≡ None = unanswered_not_agreed u (unanswered u r.asked) in
+    let bare : IsBare k.frames k.before (is_some s.front) = k.shut (ap is_open r.is ∙ ap is_some none) in
+    let still : IsBare k.frames k.before (is_some s'.front) = record { frames = bare.frames; before = bare.before; placed = ap is_some r.front ∙ bare.placed } in
+    let told : t'.story.start ≡ Heard (answered u reply) = r.told ∙ ap (λ z. answered_with z reply) (k.begins.start ∙ r.is) in
+    let same_came : t'.story.came ≡ t.story.came = r.story.came in
+    record {
+      intro = k.intro;
+      begins = record {
+        start = told ∙ sym r.start;
+        reached = subst (OnStart IsReached) (sym r.start) (reached-answered u reply r.asked (subst (OnStart IsReached) r.is k.begins.reached));
+        fresh = subst IsFresh (sym r.start) tt;
+        octets = k.begins.octets ∙ ap start_octets r.is ∙ ap start_octets (sym r.start);
+      };
+      frames = k.frames;
+      before = k.before;
+      shut = λ h. still;
+      from_start = ap (λ (a : Arrived). a.floor) same_came ∙ k.from_start;
+      came = ap in_order same_came ∙ k.came ∙ ap (λ a. k.intro ++ (k.before ++ in_order a)) (sym r.arrived);
+      arrived = r.arrived ∙ k.arrived ∙ ap (λ a. advanced a (length k.intro + length k.before)) (sym same_came);
+      point = ap (λ (a : Arrived). a.floor) r.arrived ∙ k.point;
+      between = bare_between k.frames k.before (is_some s'.front) (expecting s'.start) still;
+      located = k.located;
+      named = k.named;
+      ends = k.ends;
+      split = bare_split k.frames k.before (is_some s'.front) k.located k.named (expecting s'.start) still;
+      turns = r.story.turns ∙ k.turns;
+      placed = r.story.placed ∙ k.placed ∙ sym (ap is_some r.front);
+      fore_is = λ f h. absurd (true≢false (sym (ap is_some h) ∙ still.placed));
+      held = subst IsHeld (sym r.arrived) k.held;
+      receiving = r.story.receiving ∙ k.receiving ∙ sym r.receiving;
+      window = subst IsInWindow (sym r.arrived) k.window;
+      near = k.near;
+      far = k.far;
+      early = k.early;
+      segments = k.segments;
+      carried = k.carried;
+      joins = joins_front k.segments s'.receiving (is_some s'.front) (ended s') (segment_at (fore s)) (segment_at (fore s')) t'.received t'.placings (λ p. absurd (false≢true (sym still.placed ∙ p))) joins;
+      tells = same_tells r.story.answered r.story.asked k.tells;
+    }
+
+-- what the peer's start-up frame comes to, by its side
+pub comes_to : (s : StreamState) (p : Progress) (h : Hears s p) → progress_of h.startup.side (inbox s) ≡ p
+comes_to s p h = sym (ap (λ z. progress_in z (inbox s)) h.is) ∙ h.comes
+
+asks : (s : StreamState) (t : Tale) (private : Octets) → Hears s progresses.Asked → Track s t → Track (after_act s (Work (seen.Asked private))) (tale_after t (Work (seen.Asked private)))
+asks s t private h k =
+    reads s (after_act s (Work (seen.Asked private))) t (tale_after t (Work (seen.Asked private))) h.startup
+    (record { is = h.is; whole = told_whole h.startup.side (inbox s) progresses.Asked (comes_to s progresses.Asked h) (λ e. cc); start = refl; arrived = refl; front = refl; receiving = refl; told = refl; story = record { came = refl; turns = refl; placed = refl; receiving = refl; answered = refl; asked = refl } })
+    k (quiet s t k)
+
+closes : (s : StreamState) (t : Tale) (fault : StartupFault) → Hears s (progresses.Faulted fault) → Track s t → Track (after_act s (Work (seen.Closed fault))) (tale_after t (Work (seen.Closed fault)))
+closes s t fault h k =
+    reads s (after_act s (Work (seen.Closed fault))) t (tale_after t (Work (seen.Closed fault))) h.startup
+    (record { is = h.is; whole = told_whole h.startup.side (inbox s) (progresses.Faulted fault) (comes_to s (progresses.Faulted fault) h) (λ e. cc); start = refl; arrived = refl; front = refl; receiving = refl; told = refl; story = record { came = refl; turns = refl; placed = refl; receiving = refl; answered = refl; asked = refl } })
+    k (joins_end k.segments s.receiving (is_some s.front) (ended s) (segment_at (fore s)) (t.received ++ []) (t.placings ++ []) (quiet s t k))
+
+opens : (s : StreamState) (t : Tale) (agreed : Agreed) (private : Octets) → Hears s progresses.Agreed → Track s t → Track (after_act s (Work (seen.Opened agreed private))) (tale_after t (Work (seen.Opened agreed private)))
+opens s t agreed private h k =
+    reads s (after_act s (Work (seen.Opened agreed private))) t (tale_after t (Work (seen.Opened agreed private))) h.startup
+    (record { is = h.is; whole = told_whole h.startup.side (inbox s) progresses.Agreed (comes_to s progresses.Agreed h) (λ e. cc); start = refl; arrived = refl; front = refl; receiving = refl; told = refl; story = record { came = refl; turns = refl; placed = refl; receiving = refl; answered = refl; asked = refl } })
+    k (quiet s t k)
+
+-- the user may answer
+pub record MayAnswer (s : StreamState) : Type 0 where
+  pub running : ended s ≡ false
+  pub startup : StartupState
+  pub is : s.start ≡ Heard startup
+  pub asked : awaits_answer startup ≡ true
+
+pub may : (s : StreamState) → may_answer s ≡ true → MayAnswer s
+may s e = go (ended s) s.start refl refl e
+  where
+    go : (over : Bool) (start : StartState) → ended s ≡ over → s.start ≡ start → (not over && starting.is_asked start) ≡ true → MayAnswer s
+    go true start a b h = absurd (false≢true h)
+    go false (AtOnce layout) a b h = absurd (false≢true h)
+    go false (Unheard u) a b h = absurd (false≢true h)
+    go false (Heard u) a b h = record { running = a; startup = u; is = b; asked = h }
+
+pub accepting : (s : StreamState) (agreed : Agreed) → Ok agreed ≡ accept_answer s → may_answer s ≡ true
+accepting s agreed e = go (may_answer s) e
+  where
+    go : (b : Bool) → Ok agreed ≡ cond {A = Result Agreed NotAsked} b (Ok (agreement_in s.start)) (Err (record {})) → b ≡ true
+    go true h = refl
+    go false h = cc
+
+pub refusing : (s : StreamState) → None ≡ answer_refusal s → may_answer s ≡ true
+refusing s e = go (may_answer s) e
+  where
+    go : (b : Bool) → None ≡ cond {A = Option NotAsked} b None (Some (record {})) → b ≡ true
+    go true h = refl
+    go false h = absurd (none-some _ h)
+
+accepts : (s : StreamState) (t : Tale) (private : Octets) (agreed : Agreed) → may_answer s ≡ true → Track s t → Track (after_act s (Accept private (Ok agreed))) (tale_after t (Accept private (Ok agreed)))
+accepts s t private agreed e k =
+    let m = may s e in
+    let reply : Reply = replies.Accept (private_data private) in
+    answers s (after_act s (Accept private (Ok agreed))) t (tale_after t (Accept private (Ok agreed))) m.startup reply
+    (record { is = m.is; asked = m.asked; start = ap (λ z. answered_with z reply) m.is; arrived = refl; front = refl; receiving = refl; told = refl; story = record { came = refl; turns = refl; placed = refl; receiving = refl; answered = refl; asked = refl } })
+    k (quiet s t k)
+
+rejects : (s : StreamState) (t : Tale) (private : Octets) → may_answer s ≡ true → Track s t → Track (after_act s (Reject private None)) (tale_after t (Reject private None))
+rejects s t private e k =
+    let m = may s e in
+    let reply : Reply = replies.Reject (private_data private) in
+    answers s (after_act s (Reject private None)) t (tale_after t (Reject private None)) m.startup reply
+    (record { is = m.is; asked = m.asked; start = ap (λ z. answered_with z reply) m.is; arrived = refl; front = refl; receiving = refl; told = refl; story = record { came = refl; turns = refl; placed = refl; receiving = refl; answered = refl; asked = refl } })
+    k (joins_end k.segments s.receiving (is_some s.front) (ended s) (segment_at (fore s)) (t.received ++ []) (t.placings ++ []) (quiet s t k))
+
+-- what goes out changes nothing of what came
+pub record StaysHeard (t t' : Story) : Type 0 where
+  pub came : t'.came ≡ t.came
+  pub start : t'.start ≡ t.start
+  pub turns : t'.turns ≡ t.turns
+  pub placed : t'.placed ≡ t.placed
+  pub receiving : t'.receiving ≡ t.receiving
+  pub answered : t'.answered ≡ t.answered
+  pub asked : asked_of t' ≡ asked_of t
+
+pub shown_stays : (t : Story) (shown : Shown Octets) → StaysHeard t (story_shown t shown)
+shown_stays t (shows.Frame from octets) = go (nat_lt from (first_place_out t.start)) (last_word t.ending) (segment_out t from octets)
+  where
+    go : (first : Bool) (w : Option Octets) (o : Option (Segment Octets)) → StaysHeard t (cond first t (option_map_or (says_farewell t) w (option_map_or (sends_segment t) o t)))
+    go true w o = record { came = refl; start = refl; turns = refl; placed = refl; receiving = refl; answered = refl; asked = refl }
+    go false (Some payload) o = record { came = refl; start = refl; turns = refl; placed = refl; receiving = refl; answered = refl; asked = refl }
+    go false None None = record { came = refl; start = refl; turns = refl; placed = refl; receiving = refl; answered = refl; asked = refl }
+    go false None (Some segment) = record { came = refl; start = refl; turns = refl; placed = refl; receiving = refl; answered = refl; asked = refl }
+shown_stays t (shows.Fetched from frame stag to octets) = go t.asked.unanswered refl
+  where
+    go : (waiting : List Asked) → t.asked.unanswered ≡ waiting → StaysHeard t (fetches_for t waiting octets)
+    go [] is = record { came = refl; start = refl; turns = refl; placed = refl; receiving = refl; answered = refl; asked = refl }
+    go (oldest ∷ others) is = by (nat_eq (length t.begun + length octets) oldest.request.size)
+      where
+        by : (b : Bool) → StaysHeard t (cond b (record t {
+          asked = record t.asked { unanswered = others; fetched = 0 };
+          answers = t.answers ++ record { request = oldest.request; octets = t.begun ++ octets } ∷ [];
+          begun = [];
+        }) (record t { asked = record t.asked { fetched = length t.begun + length octets }; begun = t.begun ++ octets }))
+        by true = record {
+          came = refl;
+          start = refl;
+          turns = refl;
+          placed = refl;
+          receiving = refl;
+          answered = refl;
+          asked = ap (λ z. z ++ map (λ (x : Asked). x.request) others) (map-append (λ (x : Answer). x.request) t.answers (record { request = oldest.request; octets = t.begun ++ octets } ∷ []))
+              ∙ append_assoc (map (λ (x : Answer). x.request) t.answers) (oldest.request ∷ []) (map (λ (x : Asked). x.request) others)
+              ∙ ap (λ z. map (λ (x : Answer). x.request) t.answers ++ map (λ (x : Asked). x.request) z) (sym is);
+        }
+        by false = record { came = refl; start = refl; turns = refl; placed = refl; receiving = refl; answered = refl; asked = refl }
+shown_stays t (shows.Fault fault) = record { came = refl; start = refl; turns = refl; placed = refl; receiving = refl; answered = refl; asked = refl }
+shown_stays t shows.Nothing = record { came = refl; start = refl; turns = refl; placed = refl; receiving = refl; answered = refl; asked = refl }
+
+goes_out : (s s' : StreamState) (t t' : Tale) → s'.start ≡ s.start → s'.arrived ≡ s.arrived → s'.front ≡ s.front → s'.receiving ≡ s.receiving
+    → StaysHeard t.story t'.story → (k : Track s t) → Joins k.segments s'.receiving (is_some s'.front) (ended s') (segment_at (fore s')) t'.received t'.placings → Track s' t'
+goes_out s s' t t' start arrived front receiving story k joins =
+    same_track s s' t t' (kept_start s s' t t' start story.start) arrived
+    story.came story.turns (story.placed ∙ k.placed ∙ sym (ap is_some front)) (story.receiving ∙ k.receiving ∙ sym receiving) (λ h. ap is_some front)
+    (λ f h. same_fore s s' start arrived f (k.fore_is f (sym front ∙ h))) k joins
+    (record { answered_are = story.answered ∙ k.tells.answered_are; asked_are = story.asked ∙ k.tells.asked_are })
+
+emits_any : (s : StreamState) (t : Tale) (shown : Shown Octets) → Track s t → Track (after_act s (Emit shown)) (tale_after t (Emit shown))
+emits_any s t (shows.Frame from octets) k = go (due s)
+  where
+    go : (d : Due) → Track (left_frame s d) (tale_after t (Emit (shows.Frame from octets)))
+    go StartUp = goes_out s (left_frame s StartUp) t (tale_after t (Emit (shows.Frame from octets))) refl refl refl refl (shown_stays t.story (shows.Frame from octets)) k (quiet s t k)
+    go (LastWord payload) =
+        goes_out s (left_frame s (LastWord payload)) t (tale_after t (Emit (shows.Frame from octets))) refl refl refl refl (shown_stays t.story (shows.Frame from octets)) k (over_joins refl (quiet s t k))
+    go (NextPart part) = goes_out s (left_frame s (NextPart part)) t (tale_after t (Emit (shows.Frame from octets))) refl refl refl refl (shown_stays t.story (shows.Frame from octets)) k (quiet s t k)
+    go (Response part) = goes_out s s t (tale_after t (Emit (shows.Frame from octets))) refl refl refl refl (shown_stays t.story (shows.Frame from octets)) k (quiet s t k)
+    go NoneDue = goes_out s s t (tale_after t (Emit (shows.Frame from octets))) refl refl refl refl (shown_stays t.story (shows.Frame from octets)) k (quiet s t k)
+emits_any s t (shows.Fetched from frame stag to octets) k =
+    goes_out s (after_act s (Emit (shows.Fetched from frame stag to octets))) t (tale_after t (Emit (shows.Fetched from frame stag to octets))) refl refl refl refl (shown_stays t.story (shows.Fetched from frame stag to octets)) k (quiet s t k)
+emits_any s t (shows.Fault fault) k =
+    goes_out s (after_act s (Emit (shows.Fault fault))) t (tale_after t (Emit (shows.Fault fault))) refl refl refl refl (shown_stays t.story (shows.Fault fault)) k
+    (over_joins (by_ended s (terminate_fetched s.asked fault)) (quiet s t k))
+emits_any s t shows.Nothing k = goes_out s s t (tale_after t (Emit shows.Nothing)) refl refl refl refl (shown_stays t.story shows.Nothing) k (quiet s t k)
+
+-- what is kept of the frame that is placed
+kept_whole : (s : StreamState) (was : Bool) (segment : Segment Octets) (w : Fronts s was segment) → kept_of s ≡ Some (placed_of (standing s w.frame))
+kept_whole s was segment w = ap (option_map (λ (x : Carried × Octets). placed_of (standing s x.0))) w.whole
+
+kept_fore : (s s' : StreamState) (was : Bool) (segment : Segment Octets) → Fronts s was segment → s'.start ≡ s.start → s'.arrived ≡ s.arrived → (f : PlacedFrame) → kept_of s ≡ Some f → IsFore s' f
+kept_fore s s' was segment w start arrived f e =
+    same_fore s s' start arrived f
+    (record { frame = w.frame; rest = w.rest; whole = w.whole; is = same_Some _ _ (sym e ∙ kept_whole s was segment w); segment = segment; carries = w.carries })
+
+-- what the turn of the frame that is next leaves of the message that is due
+next_turns : (s : StreamState) (t : Tale) (was : Bool) (segment : Segment Octets) → Fronts s was segment → Track s t → next_turned t.story ≡ turned_by s.receiving (segment_at (fore s))
+next_turns s t was segment f k =
+    ap (λ z. option_map_or (λ x. receiving_turned t.story.receiving (placed_of x)) z t.story.receiving) (next_whole s t f.frame f.rest k f.whole)
+    ∙ ap (λ r. receiving_turned r (placed_of (standing s f.frame))) k.receiving
+    ∙ turned_kept s.receiving (standing s f.frame) segment f.carries
+    ∙ ap (turned_by s.receiving) (sym (ap segment_at f.whole ∙ f.carries))
+
+-- a responder keeps silent as long as no frame had its turn
+same_test : (floor place turns : ℕ) → (floor ≡ place → turns ≡ 0) → (turns ≡ 0 → floor ≡ place) → nat_eq floor place ≡ nat_eq turns 0
+same_test floor place turns to from = go (nat_eq floor place) (nat_eq turns 0) refl refl
+  where
+    go : (a b : Bool) → nat_eq floor place ≡ a → nat_eq turns 0 ≡ b → nat_eq floor place ≡ nat_eq turns 0
+    go true true e h = e ∙ sym h
+    go false false e h = e ∙ sym h
+    go true false e h =
+        let same : floor ≡ place = grind (arith, nat_tests) in
+        let none : turns ≡ 0 = to same in
+        absurd (let no : ⊥ = grind (arith, nat_tests) in no)
+    go false true e h =
+        let none : turns ≡ 0 = grind (arith, nat_tests) in
+        let same : floor ≡ place = from none in
+        absurd (let no : ⊥ = grind (arith, nat_tests) in no)
+
+pub silent_is : (s : StreamState) (t : Tale) → Track s t → keeps_silent s ≡ is_silent t.story
+silent_is s t k =
+    let first = first_is s t k.intro k.begins in
+    let at_first : nat_eq s.arrived.floor (first_place_in s.start) ≡ nat_eq t.story.turns 0 =
+    same_test s.arrived.floor (first_place_in s.start) t.story.turns
+    (λ e. let none : length k.frames ≤ 0 = omega (arith, e, first, k.point, k.far) in omega (arith, none, k.turns))
+    (λ e. let none : length k.before ≤ 0 = omega (arith, e, k.turns, k.near) in omega (arith, none, k.point, first)) in
+    (λ i. is_responder (sym k.begins.start i) && at_first i)
+
+-- ---- Reads
+
+-- the Reads that are outstanding behind the frame that has its turn
+pub next_reads_are : (s : StreamState) (t : Tale) (was : Bool) (segment : Segment Octets) → Fronts s was segment → Track s t → t.story.reads ≡ s.reads → next_reads t.story ≡ reads_front s
+next_reads_are s t was segment f k reads =
+    ap (λ z. option_map_or (λ x. reads_left t.story.reads (placed_of x)) z t.story.reads) (next_whole s t f.frame f.rest k f.whole)
+    ∙ ap (λ r. reads_left r (placed_of (standing s f.frame))) reads
+    ∙ left_kept s.reads (standing s f.frame) segment f.carries
+    ∙ ap (λ o. left_by_turn s.reads (length (payload_of o)) o) (sym (ap segment_at f.whole ∙ f.carries))
+
+response_is : (head : TaggedHead) → is_response head ≡ nat_eq (opcode_of head.control) 2
+response_is head = go (nat_eq (opcode_of head.control) 0) (nat_eq (opcode_of head.control) 2) refl refl
+  where
+    go : (w r : Bool) → nat_eq (opcode_of head.control) 0 ≡ w → nat_eq (opcode_of head.control) 2 ≡ r → is_read_response (cond w (Some tagged.Write) (cond r (Some tagged.ReadResponse) None)) ≡ r
+    go false true a b = refl
+    go false false a b = refl
+    go true false a b = refl
+    go true true a b = absurd (let no : ⊥ = grind (arith, nat_tests) in no)
+
+-- a Read was answered where the last segment of a response passed its turn
+one_answered : (reads : List Outstanding) (head : TaggedHead) (n : ℕ) → (is_response head ≡ true → response_turn_fault reads head n ≡ None)
+    → length reads - length (tagged_left reads head n) ≡ cond (nat_eq (opcode_of head.control) 2) (cond head.last 1 0) 0
+one_answered reads head n h = by (is_response head) refl ∙ ap (λ b. cond b (cond head.last 1 0) 0) (response_is head)
+  where
+    some : (rs : List Outstanding) → response_turn_fault rs head n ≡ None → length rs - length (reads_turned rs head n) ≡ cond head.last 1 0
+    some [] e = absurd (none-some _ (sym e))
+    some (r ∷ rs) e = go head.last
+      where
+        go : (last : Bool) → suc (length rs) - length (cond last rs (record r { turned = r.turned + n } ∷ rs)) ≡ cond last 1 0
+        go true = omega arith
+        go false = omega arith
+
+    by : (b : Bool) → is_response head ≡ b → length reads - length (cond b (reads_turned reads head n) reads) ≡ cond b (cond head.last 1 0) 0
+    by true is = some reads (h is)
+    by false is = omega arith
+
+-- a segment that completes no Send tells what is answered
+passing_tells : (s : StreamState) (t : Tale) (segment : Segment Octets) → Fronts s true segment → IsPassing s segment → t.story.reads ≡ s.reads → (k : Track s t)
+    → Tells (t.story.answered + (length t.story.reads - length (next_reads t.story))) (asked_of t.story) (k.segments ++ segment ∷ [])
+passing_tells s t segment f passing same k =
+    let left : next_reads t.story ≡ left_by_turn s.reads (length (payload_of (Some segment))) (Some segment) =
+    next_reads_are s t true segment f k same ∙ ap (λ o. left_by_turn s.reads (length (payload_of o)) o) (ap segment_at f.whole ∙ f.carries) in
+    go segment f passing (λ i. length (same i) - length (left i))
+  where
+    go : (segment : Segment Octets) → Fronts s true segment → IsPassing s segment
+        → length t.story.reads - length (next_reads t.story) ≡ length s.reads - length (left_by_turn s.reads (length (payload_of (Some segment))) (Some segment))
+        → Tells (t.story.answered + (length t.story.reads - length (next_reads t.story))) (asked_of t.story) (k.segments ++ segment ∷ [])
+    go (Tagged head payload) f passing few = record {
+      answered_are = omega (arith, k.tells.answered_are, few, one_answered s.reads head (length payload) passing, ended-append k.segments (Tagged head payload ∷ []));
+      asked_are = k.tells.asked_are ∙ sym (append-nil (requests_in k.segments)) ∙ sym (requests-append k.segments (Tagged head payload ∷ []));
+    }
+    go (Untagged head payload) f passing few =
+        let plain = plain_tells k.segments head payload ((fronted s t k true (Untagged head payload) f).waits refl refl).queue k.tells in
+        record { answered_are = omega (arith, plain.answered_are, few); asked_are = plain.asked_are }
+
+-- a Read Request that had its turn tells what is asked
+request_tells : (s : StreamState) (t : Tale) (size : ℕ) (stag : Stag) (to : ℕ) → (w : SeesRequest s size stag to) → (k : Track s t)
+    → Tells t.story.answered (map (λ (x : Answer). x.request) t.story.answers ++ map (λ (x : Asked). x.request) (next_asked t.story).unanswered) (k.segments ++ Untagged w.head w.payload ∷ [])
+request_tells s t size stag to w k =
+    let x : Asked = asked_in (standing s w.fronts.frame) in
+    let answered : List ReadRequest = map (λ (x : Answer). x.request) t.story.answers in
+    let story : next_asked t.story ≡ taken_up t.story.asked x =
+    ap (λ z. option_map_or (λ f. taken_up t.story.asked (asked_in f)) z t.story.asked) (next_whole s t w.fronts.frame w.fronts.rest k w.fronts.whole) in
+    let same : x.request ≡ request_fields w.payload = ap (λ o. request_fields (payload_of o)) w.fronts.carries in
+    record {
+      answered_are = omega (arith, k.tells.answered_are, ended-append k.segments (Untagged w.head w.payload ∷ []));
+      asked_are = ap (λ (z : Requested). answered ++ map (λ (x : Asked). x.request) z.unanswered) story
+          ∙ ap (λ z. answered ++ z) (map-append (λ (x : Asked). x.request) t.story.asked.unanswered (x ∷ []))
+          ∙ sym (append_assoc answered (map (λ (x : Asked). x.request) t.story.asked.unanswered) (x.request ∷ []))
+          ∙ (λ i. k.tells.asked_are i ++ same i ∷ [])
+          ∙ sym (requests_more k.segments w.head w.payload w.queue);
+    }
+
+pub tracking : (table : Table) (s : StreamState) (t : Tale) (act : StreamAct Octets) → Told table s act → t.story.reads ≡ s.reads → Track s t → Track (after_act s act) (tale_after t act)
+tracking table s t (Deliver from octets Kept) rule r k =
+    comes s (after_act s (Deliver from octets Kept)) t (tale_after t (Deliver from octets Kept)) from octets rule (kept_start s (after_act s (Deliver from octets Kept)) t (tale_after t (Deliver from octets Kept)) refl refl) refl refl refl refl refl refl refl refl (append-nil t.received) (append-nil t.placings) k k.tells
+tracking table s t (Raw from octets Kept) rule r k =
+    comes s (after_act s (Raw from octets Kept)) t (tale_after t (Raw from octets Kept)) from octets rule (kept_start s (after_act s (Raw from octets Kept)) t (tale_after t (Raw from octets Kept)) refl refl) refl refl refl refl refl refl refl refl (append-nil t.received) (append-nil t.placings) k k.tells
+tracking table s t (Deliver from octets Dropped) rule r k = same s s t (tale_after t (Deliver from octets Dropped)) refl refl refl refl refl k (quiet s t k)
+tracking table s t (Raw from octets Dropped) rule r k = same s s t (tale_after t (Raw from octets Dropped)) refl refl refl refl refl k (quiet s t k)
+tracking table s t (Mulpdu size (Some refusal)) rule r k = same s s t (tale_after t (Mulpdu size (Some refusal))) refl refl refl refl refl k (quiet s t k)
+tracking table s t (Accept private (Err refusal)) rule r k = same s s t (tale_after t (Accept private (Err refusal))) refl refl refl refl refl k (quiet s t k)
+tracking table s t (Reject private (Some refusal)) rule r k = same s s t (tale_after t (Reject private (Some refusal))) refl refl refl refl refl k (quiet s t k)
+tracking table s t (Recv len (Some refusal)) rule r k = same s s t (tale_after t (Recv len (Some refusal))) refl refl refl refl refl k (quiet s t k)
+tracking table s t (Post m (Some refusal)) rule r k = same s s t (tale_after t (Post m (Some refusal))) refl refl refl refl refl k (quiet s t k)
+tracking table s t (Work seen.Idle) rule r k = same s s t (tale_after t (Work seen.Idle)) refl refl refl refl refl k (quiet s t k)
+tracking table s t (Mulpdu size None) rule r k = same s (after_act s (Mulpdu size None)) t (tale_after t (Mulpdu size None)) refl refl refl refl refl k (quiet s t k)
+tracking table s t (Post m None) rule r k = same s (after_act s (Post m None)) t (tale_after t (Post m None)) refl refl refl refl refl k (quiet s t k)
+tracking table s t (Work (seen.Done kind)) rule r k = same s (after_act s (Work (seen.Done kind))) t (tale_after t (Work (seen.Done kind))) refl refl refl refl refl k (quiet s t k)
+tracking table s t (Emit shown) rule r k = emits_any s t shown k
+tracking table s t (Accept private (Ok agreed)) rule r k = accepts s t private agreed (accepting s agreed rule) k
+tracking table s t (Reject private None) rule r k = rejects s t private (refusing s rule) k
+tracking table s t (Work (seen.Asked private)) rule r k = asks s t private rule.0 k
+tracking table s t (Work (seen.Opened agreed private)) rule r k = opens s t agreed private rule.0 k
+tracking table s t (Work (seen.Closed fault)) rule r k = closes s t fault rule k
+tracking table s t (Recv len None) rule r k =
+    let s' : StreamState = after_act s (Recv len None) in
+    let t' : Tale = tale_after t (Recv len None) in
+    same_track s s' t t' (kept_start s s' t t' refl refl) refl refl refl k.placed (ap (λ (r : Receiving). with_buffer r (replicate len 0)) k.receiving) (λ h. refl) (λ f h. same_fore s s' refl refl f (k.fore_is f h)) k
+    (joins_buffer k.segments s.receiving (is_some s.front) (ended s) (segment_at (fore s)) (t.received ++ []) (t.placings ++ []) (replicate len 0) (quiet s t k)) k.tells
+tracking table s t (Work (seen.Placed right stag to octets)) rule r k =
+    let w = rule.1 in
+    let s' : StreamState = after_act s (Work (seen.Placed right stag to octets)) in
+    let t' : Tale = tale_after t (Work (seen.Placed right stag to octets)) in
+    let some : is_some (kept_of s) ≡ true = ap is_some (kept_whole s false (Tagged w.head octets) w.fronts) in
+    same_track s s' t t' (kept_start s s' t t' refl refl) refl refl refl (sym some) k.receiving (λ h. absurd (false≢true (sym h ∙ w.fronts.started))) (λ f h. kept_fore s s' false (Tagged w.head octets) w.fronts refl refl f h) k
+    (reshape refl (sym some) refl refl refl refl (places table s t right stag to octets w k)) k.tells
+tracking table s t (Work (seen.Buffered msn mo len)) rule r k =
+    let w = rule.1 in
+    let s' : StreamState = after_act s (Work (seen.Buffered msn mo len)) in
+    let t' : Tale = tale_after t (Work (seen.Buffered msn mo len)) in
+    let some : is_some (kept_of s) ≡ true = ap is_some (kept_whole s false (Untagged w.head w.payload) w.fronts) in
+    same_track s s' t t' (kept_start s s' t t' refl refl) refl refl refl (sym some) (λ i. written (k.receiving i) msn mo (next_carries s t k i)) (λ h. absurd (false≢true (sym h ∙ w.fronts.started)))
+    (λ f h. kept_fore s s' false (Untagged w.head w.payload) w.fronts refl refl f h) k
+    (reshape refl (sym some) refl refl refl refl (buffers s t msn mo len w k)) k.tells
+tracking table s t (Work (seen.Requested size stag to)) rule r k =
+    let w = rule.1 in
+    let s' : StreamState = after_act s (Work (seen.Requested size stag to)) in
+    let t' : Tale = tale_after t (Work (seen.Requested size stag to)) in
+    turned s s' t t' w.fronts.frame w.fronts.rest (Untagged w.head w.payload) w.fronts.whole w.fronts.carries w.fronts.started (kept_start s s' t t' refl refl) refl refl refl refl (k.placed ∙ w.fronts.placed)
+    k.receiving k (requests s t size stag to (segment_at (fore s')) w k) (request_tells s t size stag to w k)
+tracking table s t (Work seen.Passed) rule r k =
+    let w = rule.1 in
+    let s' : StreamState = after_act s (Work seen.Passed) in
+    let t' : Tale = tale_after t (Work seen.Passed) in
+    turned s s' t t' w.fronts.frame w.fronts.rest w.segment w.fronts.whole w.fronts.carries w.fronts.started (kept_start s s' t t' refl refl) refl refl refl refl refl
+    (next_turns s t true w.segment w.fronts k) k (passes s t w.segment (segment_at (fore s')) w.fronts w.passing k) (passing_tells s t w.segment w.fronts w.passing r k)
+tracking table s t (Work (seen.Received octets solicited invalidate)) rule r k =
+    let c = rule.1 in
+    let s' : StreamState = after_act s (Work (seen.Received octets solicited invalidate)) in
+    let t' : Tale = tale_after t (Work (seen.Received octets solicited invalidate)) in
+    turned s s' t t' c.fronts.frame c.fronts.rest (Untagged c.head c.payload) c.fronts.whole c.fronts.carries c.fronts.started (kept_start s s' t t' refl refl) refl refl refl refl refl
+    (ap finished k.receiving) k (receives s t octets solicited invalidate (segment_at (fore s')) c k)
+    (plain_tells k.segments c.head c.payload ((fronted s t k true (Untagged c.head c.payload) c.fronts).waits refl refl).queue k.tells)
+tracking table s t (Work (seen.Terminated fault)) rule r k =
+    let w = rule.1 in
+    let s' : StreamState = after_act s (Work (seen.Terminated fault)) in
+    let t' : Tale = tale_after t (Work (seen.Terminated fault)) in
+    turned s s' t t' w.fronts.frame w.fronts.rest (Untagged w.head w.payload) w.fronts.whole w.fronts.carries w.fronts.started (kept_start s s' t t' refl refl) refl refl refl refl (k.placed ∙ w.fronts.placed)
+    k.receiving k (terminates s t (segment_at (fore s')) w k) (last_tells k.segments w.head w.payload w.queue k.tells)
+tracking table s t (Work (seen.Fault fault)) rule r k =
+    goes_out s (after_act s (Work (seen.Fault fault))) t (tale_after t (Work (seen.Fault fault))) refl refl refl refl stays_heard k (over_joins (by_ended s (fault_front s fault)) (quiet s t k))
+  where
+    stays_heard : StaysHeard t.story (tale_after t (Work (seen.Fault fault))).story
+    stays_heard = record { came = refl; start = refl; turns = refl; placed = refl; receiving = refl; answered = refl; asked = refl }
+tracking table s t Break rule r k =
+    goes_out s (after_act s Break) t (tale_after t Break) refl refl refl refl (record { came = refl; start = refl; turns = refl; placed = refl; receiving = refl; answered = refl; asked = refl }) k (over_joins refl (quiet s t k))
+tracking table s t (Work (seen.Flushed kind)) rule r k = same s (after_act s (Work (seen.Flushed kind))) t (tale_after t (Work (seen.Flushed kind))) refl refl refl refl refl k (quiet s t k)
+tracking table s t (Work (seen.FlushedRecv octets)) rule r k =
+    let s' : StreamState = after_act s (Work (seen.FlushedRecv octets)) in
+    let t' : Tale = tale_after t (Work (seen.FlushedRecv octets)) in
+    same_track s s' t t' (kept_start s s' t t' refl refl) refl refl refl k.placed (ap flushed k.receiving) (λ h. refl) (λ f h. same_fore s s' refl refl f (k.fore_is f h)) k
+    (reshape refl refl (sym rule.over) refl refl refl
+    (joins_over k.segments s.receiving (flushed s.receiving) (is_some s.front) (segment_at (fore s)) (t.received ++ []) (t.placings ++ []) (reshape refl refl rule.over refl refl refl (quiet s t k)))) k.tells

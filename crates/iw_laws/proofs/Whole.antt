@@ -1,0 +1,516 @@
+-- Whatever follows the rules is as the laws say.
+use Rattle.std.proofs.Common.{◌≡◌, ℕ, zero, suc, ◌^◌, ◌<◌, ◌≤◌, List, [], ◌∷◌, ◌++◌, length, replicate, Option, Some, None, Bool, true, false, cond, eqb, refl, sym, ap, ◌∙◌, subst, arith, append_assoc, length-append, length-take, eqb-true, ◌-◌, Ok, Err, inl, inr, ◌⊎◌}
+use Rattle.std.specs.Prelude.{map, is_some, slice_index_or, unwrap_or}
+use Rattle.std.proofs.lemmas.List.{append-nil}
+use Rattle.std.proofs.lemmas.Bool.{false≢true, true≢false}
+use Rattle.iw_octets.specs.Segment.{segment_octets}
+use Rattle.iw_memory.specs.Table.{Table}
+use Rattle.iw_ranges.specs.declared.Delivery.TheVariants.{Kept, Dropped}
+use Rattle.iw_ranges.specs.Arrived.{nothing, taken_in, advanced}
+use Rattle.iw_ranges.specs.InOrder.{IsOf}
+use Rattle.iw_ranges.proofs.InOrder.{held_nothing, window_nothing, of_nothing, of_takes, of_more}
+use Rattle.std.proofs.lemmas.Option.{none-some}
+use Rattle.iw_startup.specs.declared.config.Config.{Config}
+use Rattle.iw_startup.specs.declared.side.Side.{Side}
+use Rattle.iw_startup.specs.declared.side.Side.TheVariants as sides
+use Rattle.iw_startup.specs.declared.side.Reply.TheVariants as replies
+use Rattle.iw_startup.specs.Frame.{flags}
+use Rattle.iw_startup.specs.State.{IsReached, own_frame}
+use Rattle.iw_startup.proofs.Reached.{reached-initiator, reached-responder}
+use Rattle.iw_startup.proofs.Handshake.{length-written}
+use Rattle.iw_stream.specs.declared.answer.Role.{Role}
+use Rattle.iw_stream.specs.declared.answer.Role.TheVariants.{Preset, Initiator, Responder}
+use Rattle.iw_stream.specs.Starting.{StartState, AtOnce, Unheard, Heard, IsFresh, start_at_first, sending, expecting}
+use Rattle.iw_stream.specs.Starting as starting
+use Rattle.iw_stream.specs.Stream.{StreamState, frame_of}
+use Rattle.iw_fpdu.specs.declared.layout.Layout.{Layout}
+use Rattle.iw_fpdu.specs.Sequence.{sequence, place_behind}
+use Rattle.iw_fpdu.specs.Laws.{IsBetween}
+use Rattle.iw_fpdu.proofs.Follows.{frames_follow}
+use Rattle.iw_fpdu.proofs.Sequences.{written_few, place_is, between_behind}
+use Rattle.iw_queues.proofs.Limits.{limits_start}
+use Rattle.iw_octets.specs.declared.segment.Segment.{Segment}
+use Rattle.iw_octets.proofs.Segments.{length-segment_octets_tagged}
+use Rattle.iw_reads.specs.Response.{response_head}
+use Rattle.iw_laws.specs.Merged.{response_segment}
+use Rattle.iw_laws.proofs.Merges.{merges_none}
+use Rattle.iw_queues.specs.Segments.{segment_of}
+use Rattle.iw_events.specs.declared.call.End.{End}
+use Rattle.iw_events.specs.declared.call.End.TheVariants.{A, B}
+use Rattle.iw_events.specs.declared.act.Act.{Act}
+use Rattle.iw_events.specs.declared.act.Act.TheVariants.{Domain, Register, Deregister, Invalidate, Store, Open, Stream}
+use Rattle.iw_events.specs.declared.act.StreamAct.{StreamAct}
+use Rattle.iw_events.specs.declared.act.StreamAct.TheVariants.{Recv, Post, Emit, Deliver, Raw, Mulpdu, Accept, Reject, Work, Break}
+use Rattle.iw_events.specs.declared.act.Shown.TheVariants.{Frame, Fetched, Fault as Denied, Nothing}
+use Rattle.iw_events.specs.declared.act.Entry.{Entry}
+use Rattle.iw_events.specs.declared.act.Seen.TheVariants as seen
+use Rattle.iw_laws.specs.Turns.{story}
+use Rattle.iw_laws.specs.Sends.{terminate_segment}
+use Rattle.std.specs.Prelude.{nat_lt}
+use Rattle.iw_laws.specs.Words.{Octets, other, acts, stream_acts, stream_acts_by, Opening, no_opening, opening_in, opening_of, openings, openings_by, posted, finished_kinds, handed_kinds, size_set, received, ended, sent, sent_by, placings, table_after, buffers}
+use Rattle.iw_laws.specs.Rules.{opening_by, Connected, connected, unconnected, EndState, State, end_of, with_end, has_stream, stream_at, no_streams, fresh, start, Rule, WireRule, StreamRule, connected_after, streams_after, end_after, after_entry, state_after, Follows}
+use Rattle.iw_laws.proofs.Tales.{Tale, tale_of, tale_after, tale-push, stream_acts-push, openings-push, acts_mine, acts_other}
+use Rattle.iw_laws.proofs.Sending.{shown_good, EmitsStart, EmitsLast, EmitsPart, emits_as, terminate_small}
+use Rattle.iw_laws.proofs.Tracks.{OnStart, start_octets, Track, shown_stays}
+use Rattle.iw_laws.proofs.Owns.{Own, owning, answers_part, first_fits, Emits, out_of, lives, all_spoken, word_unbroken, runs_unbroken, Unspoken, IsSmall, IsStartOf, behind_start}
+use Rattle.iw_laws.proofs.Ends.{EndSeen, end_step, opens, opens_same, at_same, at_other, number_there, unopened, opening_none, opening_one}
+
+-- what the acts of an end say of a stream
+abbrev pub tale : ℕ → List (Act Octets) → Tale
+tale n done = tale_of (opening_of n done) (stream_acts n done)
+
+-- a stream at both ends, with what the acts say of each; where no raw octets came, what came is what the other end sent
+pub record Pair (l : Opening) (c : Connected) (t : Tale) (m : Opening) (d : Connected) (u : Tale) : Type 0 where
+  pub own : Own l c t
+  pub own_peer : Own m d u
+  pub out : u.raw ≡ false → IsOf u.story.came t.sent
+  pub back : t.raw ≡ false → IsOf t.story.came u.sent
+
+swapped : {l m : Opening} {c d : Connected} {t u : Tale} → Pair l c t m d u → Pair m d u l c t
+swapped p = record { own = p.own_peer; own_peer = p.own; out = p.back; back = p.out }
+
+moved : {l l' : Opening} {c c' : Connected} {t t' : Tale} (m : Opening) (d : Connected) (u : Tale) → l ≡ l' → c ≡ c' → t ≡ t' → Pair l c t m d u → Pair l' c' t' m d u
+moved {l = l} {l' = l'} {c = c} {c' = c'} {t = t} {t' = t'} m d u e a b p = subst (λ z. Pair l' c' z m d u) b (subst (λ z. Pair l' z t m d u) a (subst (λ z. Pair z c t m d u) e p))
+
+-- what came stays what the other end sent
+still_of : (t : Tale) (u : Tale) (act : StreamAct Octets) → WireRule u.sent act → (t.raw ≡ false → IsOf t.story.came u.sent)
+    → (tale_after t act).raw ≡ false → IsOf (tale_after t act).story.came u.sent
+still_of t u (Deliver from octets Kept) rule h raw =
+    subst (λ z. IsOf (taken_in t.story.came from z) u.sent) (sym (rule refl).are) (of_takes t.story.came from (length octets) u.sent (h raw))
+still_of t u (Deliver from octets Dropped) rule h raw = h raw
+still_of t u (Raw from octets delivery) rule h raw = absurd (true≢false raw)
+still_of t u (Mulpdu size refused) rule h raw = h raw
+still_of t u (Accept private (Ok agreed)) rule h raw = h raw
+still_of t u (Accept private (Err refusal)) rule h raw = h raw
+still_of t u (Reject private None) rule h raw = h raw
+still_of t u (Reject private (Some refusal)) rule h raw = h raw
+still_of t u (Work (seen.Asked private)) rule h raw = h raw
+still_of t u (Work (seen.Opened agreed private)) rule h raw = h raw
+still_of t u (Work (seen.Closed fault)) rule h raw = h raw
+still_of t u (Emit shown) rule h raw = subst (λ z. IsOf z u.sent) (sym (shown_stays t.story shown).came) (h raw)
+still_of t u (Post m refused) rule h raw = h raw
+still_of t u (Recv len None) rule h raw = h raw
+still_of t u (Recv len (Some refusal)) rule h raw = h raw
+still_of t u (Work (seen.Done kind)) rule h raw = h raw
+still_of t u (Work (seen.Placed right stag to octets)) rule h raw = h raw
+still_of t u (Work (seen.Buffered msn mo len)) rule h raw = h raw
+still_of t u (Work (seen.Requested size stag to)) rule h raw = h raw
+still_of t u (Work seen.Passed) rule h raw = h raw
+still_of t u (Work (seen.Received octets solicited invalidate)) rule h raw = h raw
+still_of t u (Work (seen.Flushed kind)) rule h raw = h raw
+still_of t u (Work (seen.FlushedRecv octets)) rule h raw = h raw
+still_of t u (Work (seen.Terminated fault)) rule h raw = h raw
+still_of t u (Work (seen.Fault fault)) rule h raw = h raw
+still_of t u Break rule h raw = h raw
+still_of t u (Work seen.Idle) rule h raw = h raw
+
+-- an act of the stream
+streamed : (table : Table) (l : Opening) (c : Connected) (t : Tale) (m : Opening) (d : Connected) (u : Tale) (act : StreamAct Octets) → StreamRule table c.stream act → WireRule d.wire act → Pair l c t m d u
+    → Pair l (connected_after table c act) (tale_after t act) m d u
+streamed table l c t m d u act rule wire p = record {
+  own = owning l table c t act rule p.own;
+  own_peer = p.own_peer;
+  out = λ raw. of_more u.story.came t.sent (sent_by act) (p.out raw);
+  back = still_of t u act (subst (λ z. WireRule z act) p.own_peer.wire wire) p.back;
+}
+
+-- ---- at the start, and at an opening
+
+nothing_moves : nothing ≡ advanced nothing 0
+unfolding advanced
+nothing_moves = refl
+
+-- how a stream begins
+reached_at_first : (role : Role) (config : Config) → OnStart IsReached (start_at_first role config)
+reached_at_first Preset config = tt
+reached_at_first Initiator config = reached-initiator config
+reached_at_first Responder config = reached-responder config
+
+fresh_at_first : (role : Role) (config : Config) → IsFresh (start_at_first role config)
+fresh_at_first Preset config = tt
+fresh_at_first Initiator config = refl
+fresh_at_first Responder config = refl
+
+first_octets : (role : Role) (config : Config) → [] ≡ start_octets (start_at_first role config)
+first_octets Preset config = refl
+first_octets Initiator config = refl
+first_octets Responder config = refl
+
+starts_at_first : (o : Opening) → IsStartOf o (start_at_first o.role o.config)
+starts_at_first o = go o.role refl
+  where
+    go : (r : Role) → o.role ≡ r → IsStartOf o (start_at_first r o.config)
+    go Preset e = (e, refl)
+    go Initiator e = record { config = refl; role = sym e; small = tt }
+    go Responder e = record { config = refl; role = sym e; small = tt }
+
+-- a stream to which nothing has happened
+no_emits : (o : Opening) → Emits (connected o).stream (tale_of o [])
+unfolding posted handed_kinds size_set sent story
+no_emits o = record {
+  segments = [];
+  kept = (connected o).stream.queue;
+  before = [];
+  live = λ h. record { queue = refl; handed = refl };
+  merges = merges_none (connected o).stream.queue refl refl;
+  asks = record { reads = refl; asked = refl; fetched = refl; begun = refl; few = omega arith };
+  good = tt;
+  framed = Unspoken refl refl;
+  parts = record {
+    ending = refl;
+    once = inl refl;
+    short = λ payload h. absurd (none-some _ h);
+    shut = λ h. record { none = refl; quiet = refl };
+    silent = λ h. record { none = refl; quiet = refl };
+  };
+  limits = limits_start;
+  fit = tt;
+  numbers = record { send = omega arith; read = omega arith };
+  size = refl;
+  enough = omega arith;
+  few = omega arith;
+  counts = record {
+    order = refl;
+    first = [];
+    split = refl;
+    lasts = refl;
+    counted = refl;
+    oldest = refl;
+    marked = refl;
+    some = omega arith;
+    done = omega arith;
+    tickets = refl;
+  };
+  handing = record { order = refl; marked = refl };
+  whole = refl;
+}
+
+no_track : (o : Opening) → Track (connected o).stream (tale_of o [])
+unfolding received placings story
+no_track o = record {
+  intro = [];
+  begins = record {
+    start = refl;
+    reached = reached_at_first o.role o.config;
+    fresh = fresh_at_first o.role o.config;
+    octets = first_octets o.role o.config;
+  };
+  frames = [];
+  before = [];
+  shut = λ h. record { frames = refl; before = refl; placed = refl };
+  from_start = refl;
+  came = refl;
+  arrived = nothing_moves;
+  point = refl;
+  between = frames_follow.first (expecting (start_at_first o.role o.config)).markers;
+  located = [];
+  named = refl;
+  split = λ more. refl;
+  ends = refl;
+  turns = refl;
+  placed = refl;
+  receiving = refl;
+  fore_is = λ f h. absurd (none-some _ h);
+  held = held_nothing;
+  window = window_nothing;
+  near = omega arith;
+  far = omega arith;
+  early = omega arith;
+  segments = [];
+  carried = refl;
+  joins = record {
+    received_are = refl;
+    begins = λ e p. record { octets = refl; count = refl };
+    waits = λ e p. absurd (false≢true p);
+    counted = λ c. refl;
+    sunk_are = λ c. refl;
+  };
+  tells = record { answered_are = refl; asked_are = refl };
+}
+
+no_own : (o : Opening) → length o.config.private.items ≤ 512 → Own o (connected o) (tale_of o [])
+unfolding sent buffers received ended story finished_kinds handed_kinds
+no_own o small = record {
+  wire = refl;
+  sent = refl;
+  lengths = refl;
+  due = refl;
+  starts = starts_at_first o;
+  small = small;
+  emits = no_emits o;
+  track = no_track o;
+  doing = record { answered = omega arith; among = omega arith };
+  ended = refl;
+}
+
+-- nothing came of it
+nothing_of : (o : Opening) (octets : List ℕ) → IsOf (tale_of o []).story.came octets
+unfolding story
+nothing_of o octets = of_nothing octets
+
+-- a stream to which nothing has happened is opened
+reopened : (o l m : Opening) (c : Connected) (done : List (StreamAct Octets)) (d : Connected) (u : Tale) → length o.config.private.items ≤ 512 → done ≡ [] → Pair l c (tale_of l done) m d u → Pair o (connected o) (tale_of o []) m d u
+reopened o l m c done d u small none p = record {
+  own = no_own o small;
+  own_peer = p.own_peer;
+  out = λ raw. subst (IsOf u.story.came) (ap sent none) (p.out raw);
+  back = λ raw. nothing_of o u.sent;
+}
+
+-- an act that neither opens the stream nor is one of it
+same_stream : (s : EndState) (act : Act Octets) (n : ℕ) (done : List (Act Octets)) (m : Opening) (d : Connected) (u : Tale) → slice_index_or (streams_after s.table s.streams act) n None ≡ slice_index_or s.streams n None → openings_by n act ≡ []
+    → stream_acts_by n act ≡ [] → Pair (opening_of n done) (stream_at s n) (tale n done) m d u → Pair (opening_of n (done ++ act ∷ [])) (stream_at (end_after s act) n) (tale n (done ++ act ∷ [])) m d u
+same_stream s act n done m d u same closed none p =
+    let same_opening : opening_of n (done ++ act ∷ []) ≡ opening_of n done = ap opening_in (opens_same n done act closed) in
+    let acts_are : stream_acts n (done ++ act ∷ []) ≡ stream_acts n done = stream_acts-push n done act ∙ ap (λ z. stream_acts n done ++ z) none ∙ append-nil (stream_acts n done) in
+    moved m d u (sym same_opening) (ap (λ o. unwrap_or o unconnected) (sym same)) (λ i. tale_of (sym same_opening i) (sym acts_are i)) p
+
+pub acts_none : (m n : ℕ) (act : StreamAct Octets) → eqb m n ≡ false → stream_acts_by n (Stream m act) ≡ []
+acts_none m n act e = ap (λ b. cond b (act ∷ []) []) e
+
+pub acts_one : (m n : ℕ) (act : StreamAct Octets) → eqb m n ≡ true → stream_acts_by n (Stream m act) ≡ act ∷ []
+acts_one m n act e = ap (λ b. cond b (act ∷ []) []) e
+
+-- one more act of a stream, in what is said of it
+pub tale_next : (n : ℕ) (done : List (Act Octets)) (m : ℕ) (act : StreamAct Octets) → eqb m n ≡ true → tale n (done ++ Stream m act ∷ []) ≡ tale_after (tale n done) act
+tale_next n done m act e =
+    (λ i. tale_of (opening_in (opens_same n done (Stream m act) refl i)) ((stream_acts-push n done (Stream m act) ∙ ap (λ z. stream_acts n done ++ z) (acts_one m n act e)) i))
+    ∙ tale-push (opening_of n done) (stream_acts n done) act
+
+-- an act of an end, as each of its streams sees it
+acted : (s peer : EndState) (done : List (Act Octets)) (act : Act Octets) (n : ℕ) (l : Opening) (u : Tale) → EndSeen s done → Rule s peer act → Pair (opening_of n done) (stream_at s n) (tale n done) l (stream_at peer n) u
+    → Pair (opening_of n (done ++ act ∷ [])) (stream_at (end_after s act) n) (tale n (done ++ act ∷ [])) l (stream_at peer n) u
+acted s peer done (Domain pd None) n l u k rule p = same_stream s (Domain pd None) n done l (stream_at peer n) u refl refl refl p
+acted s peer done (Domain pd (Some refusal)) n l u k rule p = same_stream s (Domain pd (Some refusal)) n done l (stream_at peer n) u refl refl refl p
+acted s peer done (Register pd base rights octets answer) n l u k rule p = same_stream s (Register pd base rights octets answer) n done l (stream_at peer n) u refl refl refl p
+acted s peer done (Deregister stag answer) n l u k rule p = same_stream s (Deregister stag answer) n done l (stream_at peer n) u refl refl refl p
+acted s peer done (Invalidate stag refused) n l u k rule p = same_stream s (Invalidate stag refused) n done l (stream_at peer n) u refl refl refl p
+acted s peer done (Store stag to octets refused) n l u k rule p = same_stream s (Store stag to octets refused) n done l (stream_at peer n) u refl refl refl p
+acted s peer done (Open m pd role options private (Some refusal)) n l u k rule p = same_stream s (Open m pd role options private (Some refusal)) n done l (stream_at peer n) u refl refl refl p
+acted s peer done (Open m pd role options private None) n l u k rule p = go (eqb m n) refl
+  where
+    act : Act Octets
+    act = Open m pd role options private None
+
+    go : (b : Bool) → eqb m n ≡ b → Pair (opening_of n (done ++ act ∷ [])) (stream_at (end_after s act) n) (tale n (done ++ act ∷ [])) l (stream_at peer n) u
+    go false e = same_stream s act n done l (stream_at peer n) u (at_other s m n (Some (connected (opening_by pd role options private))) e) (opening_none (eqb m n) (opening_by pd role options private) e) refl p
+    go true e =
+        let o = opens s m pd rule.0 in
+        let same : m ≡ n = eqb-true m n e in
+        let c : Connected = connected (opening_by pd role options private) in
+        let room : m < length s.streams = omega (arith, o.number, k.numbers) in
+        let here : slice_index_or (streams_after s.table s.streams act) n None ≡ Some c = subst (λ j. slice_index_or (streams_after s.table s.streams act) j None ≡ Some c) same (at_same s m c room) in
+        let closed : has_stream s n ≡ false = subst (λ j. has_stream s j ≡ false) same o.fresh in
+        let before : openings n done ≡ [] = unopened (openings n done) (sym (k.opened n) ∙ closed) in
+        let now : opening_of n (done ++ act ∷ []) ≡ opening_by pd role options private =
+        ap opening_in (openings-push n done act ∙ (λ i. before i ++ opening_one (eqb m n) (opening_by pd role options private) e i)) in
+        let silent : stream_acts n (done ++ act ∷ []) ≡ [] = stream_acts-push n done act ∙ ap (λ z. z ++ []) (k.unused n closed) in
+        moved l (stream_at peer n) u (sym now) (ap (λ z. unwrap_or z unconnected) (sym here)) (λ i. tale_of (sym now i) (sym silent i))
+        (reopened (opening_by pd role options private) (opening_of n done) l (stream_at s n) (stream_acts n done) (stream_at peer n) u (omega (arith, length-take 512 private)) (k.unused n closed) p)
+acted s peer done (Stream m act) n l u k rule p = go (eqb m n) refl
+  where
+    go : (b : Bool) → eqb m n ≡ b → Pair (opening_of n (done ++ Stream m act ∷ [])) (stream_at (end_after s (Stream m act)) n) (tale n (done ++ Stream m act ∷ [])) l (stream_at peer n) u
+    go false e = same_stream s (Stream m act) n done l (stream_at peer n) u (at_other s m n (Some (connected_after s.table (stream_at s m) act)) e) refl (acts_none m n act e) p
+    go true e =
+        let same : m ≡ n = eqb-true m n e in
+        let c : Connected = connected_after s.table (stream_at s m) act in
+        let here : slice_index_or (streams_after s.table s.streams (Stream m act)) n None ≡ Some c =
+        subst (λ j. slice_index_or (streams_after s.table s.streams (Stream m act)) j None ≡ Some c) same (at_same s m c (number_there s m rule.0.0)) in
+        let is : connected_after s.table (stream_at s n) act ≡ stream_at (end_after s (Stream m act)) n =
+        ap (λ j. connected_after s.table (stream_at s j) act) (sym same) ∙ ap (λ z. unwrap_or z unconnected) (sym here) in
+        let own_rule : StreamRule s.table (stream_at s n).stream act =
+        subst (λ j. StreamRule s.table (stream_at s j).stream act) same rule.0.1 in
+        moved l (stream_at peer n) u (ap opening_in (sym (opens_same n done (Stream m act) refl))) is (sym (tale_next n done m act e))
+        (streamed s.table (opening_of n done) (stream_at s n) (tale n done) l (stream_at peer n) u act own_rule (subst (λ j. WireRule (stream_at peer j).wire act) same rule.1.1) p)
+
+-- ---- what an act may emit
+
+-- a start-up frame is short
+few_side : (config : Config) (side : Side) → length config.private.items ≤ 512 → IsSmall side → length (own_frame config side) ≤ 532
+few_side config sides.Initiator few small = omega (arith, length-written (sides.Responder None) (flags config.markers config.crc false) config.private.items, few)
+few_side config (sides.Responder None) few small = omega arith
+few_side config (sides.Responder (Some (replies.Accept private))) few small = omega (arith, length-written sides.Initiator (flags config.markers config.crc false) private.items, small)
+few_side config (sides.Responder (Some (replies.Reject private))) few small = omega (arith, length-written sides.Initiator (flags config.markers config.crc true) private.items, small)
+
+few_start : (o : Opening) (start : StartState) → length o.config.private.items ≤ 512 → IsStartOf o start → length (starting.own_frame start) ≤ 532
+few_start o (AtOnce layout) few h = omega arith
+few_start o (Unheard u) few h = few_side u.config u.side (subst (λ (z : Config). length z.private.items ≤ 512) (sym h.config) few) h.small
+few_start o (Heard u) few h = few_side u.config u.side (subst (λ (z : Config). length z.private.items ≤ 512) (sym h.config) few) h.small
+
+few_frame : {opening : Opening} (c : Connected) (t : Tale) → Own opening c t → nat_lt c.stream.sent (starting.first_place_out c.stream.start) ≡ false → (segment : Segment Octets) → length (segment_octets segment) ≤ 64512 → length (frame_of c.stream segment) ≤ 2 ^ 17
+few_frame c t o spoken segment small =
+    let s : StreamState = c.stream in
+    let own : Octets = starting.own_frame s.start in
+    let layout : Layout = sending s.start in
+    let us : List (List ℕ) = map segment_octets (out_of s t o.emits) in
+    let framed : t.sent ≡ own ++ sequence layout 0 us = behind_start s t o.emits o.sent spoken in
+    let between : IsBetween layout.markers (place_behind layout 0 us) = between_behind layout 0 us (frames_follow.first layout.markers) in
+    let place : place_behind layout 0 us ≡ s.sent - length own =
+    place_is layout 0 us (frames_follow.first layout.markers) ∙ omega (arith, ap length framed, length-append own (sequence layout 0 us), o.sent) in
+    written_few layout (s.sent - length own) (segment_octets segment) (omega (arith, between.aligned, place)) small
+
+pub emits_few : (opening : Opening) (table : Table) (c : Connected) (t : Tale) (act : StreamAct Octets) → StreamRule table c.stream act → Own opening c t → length (sent_by act) ≤ 2 ^ 17
+emits_few opening table c t (Emit (Frame from octets)) rule o = go (emits_as table c.stream (Frame from octets) rule)
+  where
+    go : EmitsStart c.stream from octets ⊎ (EmitsLast c.stream from octets ⊎ EmitsPart c.stream from octets) → length octets ≤ 2 ^ 17
+    go (inl p) = omega (arith, ap length p.octets_are, few_start opening c.stream.start o.small o.starts)
+    go (inr (inl p)) =
+        subst (λ z. length z ≤ 2 ^ 17) (sym p.octets_are)
+        (few_frame c t o (all_spoken c.stream p.spoken (word_unbroken c.stream.ending p.payload p.is_due)) (terminate_segment p.payload) (omega (arith, terminate_small p.payload (o.emits.parts.short p.payload p.is_due))))
+    go (inr (inr p)) =
+        let l = lives c.stream t o.emits p.is_loud.running in
+        subst (λ z. length z ≤ 2 ^ 17) (sym p.octets_are)
+        (few_frame c t o (all_spoken c.stream p.is_loud.spoken (runs_unbroken c.stream.ending p.is_loud.running)) (segment_of c.stream.numbers p.part) (shown_good c.stream.numbers c.stream.queue c.stream.mulpdu p.part p.is_loud.part_is l.limits o.emits.enough o.emits.few o.emits.numbers (first_fits c.stream.queue l.fit)).small)
+emits_few opening table c t (Emit (Fetched from frame stag to octets)) rule o =
+    let p = emits_as table c.stream (Fetched from frame stag to octets) rule in
+    let w = answers_part table c.stream t from frame stag to octets p o.emits.asks in
+    subst (λ z. length z ≤ 2 ^ 17) (sym w.frame_is)
+    (few_frame c t o (all_spoken c.stream p.speaks.spoken (runs_unbroken c.stream.ending p.speaks.running)) (response_segment w.oldest.request (length t.story.begun) w.last octets)
+    (omega (arith, length-segment_octets_tagged (response_head w.oldest.request (length t.story.begun) w.last) octets, w.many, o.emits.few, o.emits.enough)))
+emits_few opening table c t (Emit (Denied fault)) rule o = omega arith
+emits_few opening table c t (Emit Nothing) rule o = omega arith
+emits_few opening table c t (Recv len refused) rule o = omega arith
+emits_few opening table c t (Post m refused) rule o = omega arith
+emits_few opening table c t (Deliver from octets delivery) rule o = omega arith
+emits_few opening table c t (Raw from octets delivery) rule o = omega arith
+emits_few opening table c t (Mulpdu size refused) rule o = omega arith
+emits_few opening table c t (Accept private answer) rule o = omega arith
+emits_few opening table c t (Reject private refused) rule o = omega arith
+emits_few opening table c t (Work step) rule o = omega arith
+emits_few opening table c t Break rule o = omega arith
+
+-- ---- both ends
+
+-- a stream of a number at two ends, by their acts
+abbrev PairAt : EndState → List (Act Octets) → EndState → List (Act Octets) → ℕ → Type 0
+PairAt s own peer others n = Pair (opening_of n own) (stream_at s n) (tale n own) (opening_of n others) (stream_at peer n) (tale n others)
+
+-- what the entries and the state have in common
+pub record Seen (trace : List (Entry Octets)) (w : State) : Type 0 where
+  pub ends : (x : End) → EndSeen (end_of x w) (acts x trace)
+  pub pairs : (x : End) (n : ℕ) → PairAt (end_of x w) (acts x trace) (end_of (other x) w) (acts (other x) trace) n
+
+changed : (x : End) (s : EndState) (w : State) → end_of x (with_end x s w) ≡ s
+changed A s w = refl
+changed B s w = refl
+
+unchanged : (x : End) (s : EndState) (w : State) → end_of (other x) (with_end x s w) ≡ end_of (other x) w
+unchanged A s w = refl
+unchanged B s w = refl
+
+twice : (x : End) → other (other x) ≡ x
+twice A = refl
+twice B = refl
+
+-- what holds of one end and of the other holds of each
+pub both : (P : End → Type 0) (x : End) → P x → P (other x) → (y : End) → P y
+both P A here there A = here
+both P A here there B = there
+both P B here there A = there
+both P B here there B = here
+
+pub one_more : (trace : List (Entry Octets)) (w : State) (e : Entry Octets) → Seen trace w → Rule (end_of e.end w) (end_of (other e.end) w) e.act → Seen (trace ++ e ∷ []) (after_entry w e)
+one_more trace w e k rule =
+    let x : End = e.end in
+    let y : End = other e.end in
+    let s : EndState = end_of x w in
+    let s' : EndState = end_after s e.act in
+    let w' : State = after_entry w e in
+    let here : end_of x w' ≡ s' = changed x s' w in
+    let there : end_of y w' ≡ end_of y w = unchanged x s' w in
+    let mine : acts x (trace ++ e ∷ []) ≡ acts x trace ++ e.act ∷ [] = acts_mine trace e in
+    let others : acts y (trace ++ e ∷ []) ≡ acts y trace = acts_other trace e in
+    let E : End → Type 0 = λ v. EndSeen (end_of v w') (acts v (trace ++ e ∷ [])) in
+    let end_mine : E x = subst (λ z. EndSeen z (acts x (trace ++ e ∷ []))) (sym here) (subst (EndSeen s') (sym mine) (end_step s (end_of y w) (acts x trace) e.act (k.ends x) rule)) in
+    let end_other : E y = subst (λ z. EndSeen z (acts y (trace ++ e ∷ []))) (sym there) (subst (EndSeen (end_of y w)) (sym others) (k.ends y)) in
+    let D : End → List (Act Octets) = λ v. acts v (trace ++ e ∷ []) in
+    let P : End → Type 0 = λ v. (n : ℕ) → PairAt (end_of v w') (D v) (end_of (other v) w') (D (other v)) n in
+    let pair_mine : P x = λ n.
+    let next : PairAt s' (acts x trace ++ e.act ∷ []) (end_of y w) (acts y trace) n =
+    acted s (end_of y w) (acts x trace) e.act n (opening_of n (acts y trace)) (tale n (acts y trace)) (k.ends x) rule (k.pairs x n) in
+    subst (λ z. PairAt z (D x) (end_of y w') (D y) n) (sym here)
+    (subst (λ z. PairAt s' z (end_of y w') (D y) n) (sym mine)
+    (subst (λ z. PairAt s' (acts x trace ++ e.act ∷ []) z (D y) n) (sym there)
+    (subst (λ z. PairAt s' (acts x trace ++ e.act ∷ []) (end_of y w) z n) (sym others) next))) in
+    let pair_other : P y = λ n. subst (λ v. PairAt (end_of y w') (D y) (end_of v w') (D v) n) (sym (twice x)) (swapped (pair_mine n)) in
+    record { ends = both E x end_mine end_other; pairs = both P x pair_mine pair_other }
+
+-- from a moment on, to the end of what follows the rules
+pub onward : (past rest : List (Entry Octets)) (w : State) → Seen past w → Follows w rest → Seen (past ++ rest) (state_after w rest)
+onward past [] w k follows = subst (λ p. Seen p w) (sym (append-nil past)) k
+onward past (e ∷ rest) w k follows =
+    subst (λ p. Seen p (state_after (after_entry w e) rest)) (append_assoc past (e ∷ []) rest)
+    (onward (past ++ e ∷ []) rest (after_entry w e) (one_more past w e k follows.0) follows.1)
+
+-- the first entries follow the rules, and so do the others from there on
+pub follows_split : (xs ys : List (Entry Octets)) (w : State) → Follows w (xs ++ ys) → Follows w xs × Follows (state_after w xs) ys
+follows_split [] ys w h = (tt, h)
+follows_split (e ∷ xs) ys w h = let p = follows_split xs ys (after_entry w e) h.1 in ((h.0, p.0), p.1)
+
+pub follows_push : (xs : List (Entry Octets)) (e : Entry Octets) (w : State) → Follows w xs → Rule (end_of e.end (state_after w xs)) (end_of (other e.end) (state_after w xs)) e.act → Follows w (xs ++ e ∷ [])
+follows_push [] e w h rule = (rule, tt)
+follows_push (x ∷ xs) e w h rule = (h.0, follows_push xs e (after_entry w x) h.1 rule)
+
+pub state_after-push : (xs : List (Entry Octets)) (e : Entry Octets) (w : State) → state_after w (xs ++ e ∷ []) ≡ after_entry (state_after w xs) e
+state_after-push [] e w = refl
+state_after-push (x ∷ xs) e w = state_after-push xs e (after_entry w x)
+
+-- ---- at the start
+
+no_pair : Pair no_opening unconnected (tale_of no_opening []) no_opening unconnected (tale_of no_opening [])
+no_pair = record {
+  own = no_own no_opening (omega arith);
+  own_peer = no_own no_opening (omega arith);
+  out = λ raw. nothing_of no_opening (tale_of no_opening []).sent;
+  back = λ raw. nothing_of no_opening (tale_of no_opening []).sent;
+}
+
+none_at : (n : ℕ) → slice_index_or no_streams n None ≡ None
+unfolding no_streams
+none_at n = none_in 64 n
+  where
+    none_in : (k n : ℕ) → slice_index_or (replicate {A = Option Connected} k None) n None ≡ None
+    none_in zero n = refl
+    none_in (suc k) zero = refl
+    none_in (suc k) (suc n) = none_in k n
+
+fresh_end : (x : End) → EndSeen fresh (acts x [])
+unfolding acts openings stream_acts table_after no_streams
+fresh_end x = record {
+  table = refl;
+  numbers = refl;
+  opened = λ n. ap is_some (none_at n);
+  domain = λ n h. absurd (false≢true (ap is_some (sym (none_at n)) ∙ h));
+  unused = λ n h. refl;
+}
+
+-- nothing was done
+nothing_opened : (n : ℕ) (x : End) → no_opening ≡ opening_of n (acts x [])
+unfolding acts openings
+nothing_opened n x = refl
+
+nothing_said : (n : ℕ) (x : End) → tale_of no_opening [] ≡ tale n (acts x [])
+unfolding acts openings stream_acts
+nothing_said n x = refl
+
+start_at : (n : ℕ) (x : End) → unconnected ≡ stream_at (end_of x start) n
+start_at n A = ap (λ o. unwrap_or o unconnected) (sym (none_at n))
+start_at n B = ap (λ o. unwrap_or o unconnected) (sym (none_at n))
+
+pub unsaid : Seen [] start
+unsaid = record { ends = start_end; pairs = start_pair }
+  where
+    start_end : (x : End) → EndSeen (end_of x start) (acts x [])
+    start_end A = fresh_end A
+    start_end B = fresh_end B
+
+    start_pair : (x : End) (n : ℕ) → PairAt (end_of x start) (acts x []) (end_of (other x) start) (acts (other x) []) n
+    start_pair x n =
+        moved (opening_of n (acts (other x) [])) (stream_at (end_of (other x) start) n) (tale n (acts (other x) [])) (nothing_opened n x) (start_at n x) (nothing_said n x)
+        (swapped (moved no_opening unconnected (tale_of no_opening []) (nothing_opened n (other x)) (start_at n (other x)) (nothing_said n (other x)) no_pair))
+
+pub seen_at : (past future trace : List (Entry Octets)) → Follows start trace → trace ≡ past ++ future → Seen past (state_after start past)
+seen_at past future trace follows is = onward [] past start unsaid (follows_split past future start (subst (Follows start) is follows)).0
+
+pub seen_after : (trace : List (Entry Octets)) → Follows start trace → Seen trace (state_after start trace)
+seen_after trace follows = onward [] trace start unsaid follows

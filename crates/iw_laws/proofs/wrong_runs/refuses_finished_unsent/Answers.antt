@@ -1,0 +1,5 @@
+use Rattle.iw_laws.proofs.Refused.{refuses_finished_unsent}
+use Rattle.iw_laws.proofs.wrong_runs.refuses_finished_unsent.Goals as goal
+
+pub returns : goal.returns
+returns c = refuses_finished_unsent

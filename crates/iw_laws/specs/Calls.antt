@@ -1,0 +1,141 @@
+-- How each call is answered, and what becomes of octets that come.
+use Rattle.std.specs.Prelude.{◌≡◌, ℕ, ◌+◌, ◌-◌, ◌≤◌, nat_le, nat_lt, not, ◌&&◌, ◌||◌, Bool, true, false, List, ◌∷◌, ◌++◌, length, take, drop, if◌then◌else◌, Option, Some, None, Result, Ok, Err, IfOk}
+use Rattle.std.specs.Option.{option_map_or}
+use Rattle.std.specs.Result.{result_err}
+use Rattle.iw_octets.specs.declared.stag.Stag.{Stag}
+use Rattle.iw_memory.specs.declared.refusal.NoRegion.{NoRegion}
+use Rattle.iw_memory.specs.Table.{Table, is_added, domain_refusal, register_refusal, store_refusal, region_at}
+use Rattle.iw_ranges.specs.declared.Delivery.{Delivery}
+use Rattle.iw_ranges.specs.declared.Delivery.TheVariants.{Dropped}
+use Rattle.iw_ranges.specs.Arrived.{advanced, delivery}
+use Rattle.iw_queues.specs.declared.request.Request.{Request}
+use Rattle.iw_queues.specs.Request.{size_of}
+use Rattle.iw_startup.specs.declared.config.Agreed.{Agreed}
+use Rattle.iw_startup.specs.declared.startup.NotAsked.{NotAsked}
+use Rattle.iw_stream.specs.declared.answer.PostRefusal.{PostRefusal}
+use Rattle.iw_stream.specs.declared.answer.PostRefusal.TheVariants as posting
+use Rattle.iw_stream.specs.declared.answer.RecvRefusal.{RecvRefusal}
+use Rattle.iw_stream.specs.declared.answer.RecvRefusal.TheVariants as receiving
+use Rattle.iw_stream.specs.Starting.{is_open, is_asked, agreement_in}
+use Rattle.iw_stream.specs.Stream.{size_refusal}
+use Rattle.iw_events.specs.declared.act.OpenRefusal.{OpenRefusal}
+use Rattle.iw_events.specs.declared.act.OpenRefusal.TheVariants.{NumberTaken, BadNumber, NoDomain}
+use Rattle.iw_events.specs.declared.act.Act.{Act}
+use Rattle.iw_events.specs.declared.act.Act.TheVariants.{Domain, Register, Deregister, Invalidate, Store, Open, Stream}
+use Rattle.iw_events.specs.declared.act.StreamAct.{StreamAct}
+use Rattle.iw_events.specs.declared.act.StreamAct.TheVariants.{Recv, Post, Emit, Deliver, Raw, Mulpdu, Accept, Reject, Work, Break}
+use Rattle.iw_events.specs.declared.act.Entry.{Entry}
+use Rattle.iw_laws.specs.Words.{Octets, other, acts, deed, stream_acts, openings, was_opened, stream_numbers, posted, handed_kinds, ended, sent, table_after, buffers}
+use Rattle.iw_laws.specs.Turns.{Story, story_of, in_order_point}
+use Rattle.iw_laws.specs.Words.{OnSome, OnStream, AtEach}
+
+-- ---- the calls of an end
+
+-- the octets of the region, or that there is none
+abbrev pub deregister_answer : Table → Stag → Result Octets NoRegion
+deregister_answer table stag = option_map_or (λ r. Ok r.octets) (region_at table stag) (Err (record {}))
+
+abbrev pub invalidate_refusal : Table → Stag → Option NoRegion
+invalidate_refusal table stag = option_map_or (λ r. None) (region_at table stag) (Some (record {}))
+
+-- the STag is of the domain, and named nothing
+pub record IsNew (table : Table) (pd : ℕ) (stag : Stag) : Type 0 where
+  pub domain : stag.domain ≡ pd
+  pub fresh : region_at table stag ≡ None
+
+abbrev pub open_refusal_by : List (Act Octets) → ℕ → ℕ → Option OpenRefusal
+open_refusal_by before n pd =
+    if was_opened (openings n before) then Some NumberTaken
+    else if nat_le stream_numbers n then Some BadNumber
+    else if not (is_added (table_after before) pd) then Some NoDomain
+    else None
+
+-- by what was done at the end before
+abbrev pub EndAnswered : List (Act Octets) → Act Octets → Type 0
+EndAnswered before (Domain pd refused) = refused ≡ domain_refusal (table_after before) pd
+EndAnswered before (Register pd base rights octets answer) =
+    (result_err answer ≡ register_refusal (table_after before) pd base (length octets)) × IfOk answer (IsNew (table_after before) pd)
+EndAnswered before (Deregister stag answer) = answer ≡ deregister_answer (table_after before) stag
+EndAnswered before (Invalidate stag refused) = refused ≡ invalidate_refusal (table_after before) stag
+EndAnswered before (Store stag to octets refused) = refused ≡ store_refusal (table_after before) stag to (length octets)
+EndAnswered before (Open n pd role options private refused) = refused ≡ open_refusal_by before n pd
+EndAnswered before (Stream n act) = Unit {0}
+
+-- each call of an end is answered by its regions and streams, as the entries before it leave them
+abbrev pub ShowsMemory : List (Entry Octets) → Type 0
+ShowsMemory = AtEach EndAnswered
+
+-- ---- the calls of a stream
+
+abbrev pub recv_refusal_by : List (StreamAct Octets) → Option RecvRefusal
+recv_refusal_by before =
+    if ended before then Some receiving.Ended else if nat_le 256 (length (buffers before)) then Some receiving.Full else None
+
+abbrev pub post_refusal_by : Story → List (StreamAct Octets) → Request Octets → Option PostRefusal
+post_refusal_by t before request =
+    if ended before || not (is_open t.start) then Some posting.NotOpen
+    else if nat_le 256 (length (posted before) - length (handed_kinds before)) then Some posting.Full
+    else if nat_lt 16777216 (size_of request) then Some posting.TooLong
+    else None
+
+-- the peer's Request was read, and is not answered
+abbrev pub may_answer_by : Story → List (StreamAct Octets) → Bool
+may_answer_by t before = not (ended before) && is_asked t.start
+
+-- what both ends asked for is agreed on
+abbrev pub Accepted : Story → List (StreamAct Octets) → Result Agreed NotAsked → Type 0
+Accepted t before (Ok agreed) = (may_answer_by t before ≡ true) × (agreed ≡ agreement_in t.start)
+Accepted t before (Err refusal) = may_answer_by t before ≡ false
+
+abbrev pub Rejected : Story → List (StreamAct Octets) → Option NotAsked → Type 0
+Rejected t before None = may_answer_by t before ≡ true
+Rejected t before (Some refusal) = may_answer_by t before ≡ false
+
+-- by what was done on the stream before
+abbrev pub StreamAnswered : Story → List (StreamAct Octets) → StreamAct Octets → Type 0
+StreamAnswered t before (Recv len refused) = refused ≡ recv_refusal_by before
+StreamAnswered t before (Post request refused) = refused ≡ post_refusal_by t before request
+StreamAnswered t before (Mulpdu size refused) = refused ≡ size_refusal size
+StreamAnswered t before (Accept private answer) = Accepted t before answer
+StreamAnswered t before (Reject private refused) = Rejected t before refused
+StreamAnswered t before (Emit shown) = Unit {0}
+StreamAnswered t before (Deliver from octets delivery) = Unit {0}
+StreamAnswered t before (Raw from octets delivery) = Unit {0}
+StreamAnswered t before (Work step) = Unit {0}
+StreamAnswered t before Break = Unit {0}
+
+abbrev pub AnsweredStream : List (Act Octets) → ℕ → StreamAct Octets → Type 0
+AnsweredStream before n act = StreamAnswered (story_of n before) (stream_acts n before) act
+
+-- each call of a stream is refused exactly where it must be
+abbrev pub Answered : List (Entry Octets) → Type 0
+Answered = AtEach (OnStream AnsweredStream)
+
+-- ---- octets that come
+
+-- they are dropped where the stream has ended, an octet lies out of the window, or there would be too many islands
+abbrev pub delivery_by : Story → List (StreamAct Octets) → ℕ → ℕ → Delivery
+delivery_by t before from n = if ended before then Dropped else delivery (advanced t.came (in_order_point t)) from n
+
+abbrev pub KeptStream : List (Act Octets) → ℕ → StreamAct Octets → Type 0
+KeptStream before n act =
+    OnSome (λ c. c.delivery ≡ delivery_by (story_of n before) (stream_acts n before) c.from (length c.octets)) (deed act).coming
+
+-- octets are kept wherever they can be
+abbrev pub KeepsOctets : List (Entry Octets) → Type 0
+KeepsOctets = AtEach (OnStream KeptStream)
+
+-- these octets stand in those that were sent, from this place on
+pub record StandIn (sent : Octets) (from : ℕ) (octets : Octets) : Type 0 where
+  pub within : from + length octets ≤ length sent
+  pub are : octets ≡ take (length octets) (drop from sent)
+
+-- octets that are not raw are those that the other end sent
+abbrev pub CarriedStream : List (Act Octets) → ℕ → StreamAct Octets → Type 0
+CarriedStream peer n act = OnSome (λ c. c.raw ≡ false → StandIn (sent (stream_acts n peer)) c.from c.octets) (deed act).coming
+
+-- at every entry, by what was done at the other end before
+abbrev pub CarriesOctets : List (Entry Octets) → Type 0
+CarriesOctets trace =
+    (past : List (Entry Octets)) (e : Entry Octets) (future : List (Entry Octets)) → trace ≡ past ++ e ∷ future
+    → OnStream CarriedStream (acts (other e.end) past) e.act

@@ -1,0 +1,13 @@
+pub mod Words
+pub mod Rules
+pub mod Turns
+pub mod Merged
+pub mod Safe
+pub mod Sends
+pub mod Rest
+pub mod Ends
+pub mod Faithful
+pub mod Calls
+pub mod WrongRuns
+pub mod Stops
+pub mod Bounds

@@ -1,0 +1,348 @@
+-- What became of each frame that came, in words of the trace alone.
+use Rattle.std.specs.Prelude.{◌≡◌, ◌⊎◌, ℕ, zero, suc, ◌+◌, ◌-◌, ◌%◌, ◌^◌, ◌==◌, ◌&&◌, nat_lt, if◌then◌else◌, List, [], ◌∷◌, ◌++◌, length, take, drop, replicate, slice_get, fold, Bool, true, false, Option, Some, None, Result, Ok, Err}
+use Rattle.std.specs.Option.{option_map, option_map_or}
+use Rattle.iw_octets.specs.declared.fault.Fault.{Fault}
+use Rattle.iw_octets.specs.declared.operation.UntaggedOperation.TheVariants.{ReadRequest as AsksRead}
+use Rattle.iw_octets.specs.declared.payload.ReadRequest.{ReadRequest}
+use Rattle.iw_octets.specs.declared.segment.Segment.{Segment}
+use Rattle.iw_octets.specs.declared.segment.Segment.TheVariants.{Tagged, Untagged}
+use Rattle.iw_octets.specs.Operation.{queue_of}
+use Rattle.iw_octets.specs.Payload.{request_fields, read_request}
+use Rattle.iw_octets.specs.Segment.{read_segment}
+use Rattle.iw_memory.specs.declared.rights.Right.TheVariants as rights
+use Rattle.iw_reads.specs.declared.reads.Outstanding.{Outstanding}
+use Rattle.iw_reads.specs.declared.requests.Asked.{Asked}
+use Rattle.iw_reads.specs.Outstanding.{asked_for}
+use Rattle.iw_reads.specs.Requests.{Requested, nothing_asked, taken_up}
+use Rattle.iw_ranges.specs.Arrived.{Arrived, nothing, in_order}
+use Rattle.iw_fpdu.specs.declared.layout.Layout.{Layout}
+use Rattle.iw_fpdu.specs.Places.{frame_start}
+use Rattle.iw_fpdu.specs.Sequence.{Carried, first_frame}
+use Rattle.iw_untagged.specs.Receiving.{Receiving, nothing_received, with_buffer, written, finished, flushed, oldest}
+use Rattle.iw_startup.specs.declared.config.Agreed.{Agreed}
+use Rattle.iw_startup.specs.declared.progress.Progress.{Progress}
+use Rattle.iw_startup.specs.declared.progress.Progress.TheVariants as progress
+use Rattle.iw_stream.specs.declared.judging.Landing.{Landing}
+use Rattle.iw_stream.specs.declared.judging.Landing.TheVariants as landing
+use Rattle.iw_stream.specs.declared.judging.PlacedFrame.{PlacedFrame}
+use Rattle.iw_stream.specs.declared.judging.Turning.{Turning}
+use Rattle.iw_stream.specs.declared.judging.Turning.TheVariants as turning
+use Rattle.iw_stream.specs.Frames.{Frame, standing_at, segment_in, payload_of, placed, payload_len}
+use Rattle.iw_stream.specs.declared.ending.Ending.{Ending}
+use Rattle.iw_stream.specs.declared.ending.Ending.TheVariants.{Runs, Over, Broken}
+use Rattle.iw_stream.specs.Ending.{last_word, with_last_word}
+use Rattle.iw_stream.specs.Judging.{Standing, verdict, turn_of, receiving_turned, reads_left}
+use Rattle.iw_stream.specs.Terminating.{terminate_judged, terminate_turned, terminate_fetched}
+use Rattle.iw_stream.specs.Starting.{StartState, start_at_first, is_open, sending, expecting, first_place_in, first_place_out, is_responder, awaits_frame, progress_in, heard, private_in, agreement_in, answered_with}
+use Rattle.iw_events.specs.declared.act.Act.{Act}
+use Rattle.iw_events.specs.declared.act.StreamAct.{StreamAct}
+use Rattle.iw_events.specs.declared.act.Shown.{Shown}
+use Rattle.iw_events.specs.declared.act.Shown.TheVariants as shows
+use Rattle.iw_events.specs.declared.act.Seen.{Seen}
+use Rattle.iw_events.specs.declared.act.Seen.TheVariants as seen
+use Rattle.iw_events.specs.declared.act.Entry.{Entry}
+use Rattle.iw_laws.specs.Words.{Octets, deed, stream_acts, Opening, opening_of, domain_of, ended, came_after, table_after}
+use Rattle.iw_laws.specs.Words.{OnSome, OnStream, AtEach}
+
+-- ---- frames, each with its places
+
+-- a frame at its place, and the place behind it
+pub record Located : Type 0 where
+  pub frame : Frame
+  pub behind : ℕ
+
+-- the first frame of octets that stand at place `at`, where these are behind it
+abbrev pub located : Layout → ℕ → List ℕ → Carried → List ℕ → Located
+located layout at octets frame rest =
+    record { frame = standing_at (frame_start layout.markers at) frame; behind = at + (length octets - length rest) }
+
+-- at most n frames that are whole, one behind another
+unfoldable pub located_within : ℕ → Layout → ℕ → List ℕ → List Located
+located_within zero layout at octets = []
+located_within (suc n) layout at octets =
+    option_map_or
+    (λ first. located layout at octets first.0 first.1 ∷ located_within n layout (at + (length octets - length first.1)) first.1)
+    (first_frame layout at octets) []
+
+-- all of them
+abbrev pub located_of : Layout → ℕ → List ℕ → List Located
+located_of layout at octets = located_within (length octets) layout at octets
+
+-- the place behind the last of these frames; without one, the place before them
+abbrev pub behind_last : ℕ → List Located → ℕ
+behind_last at [] = at
+behind_last at (frame ∷ frames) = behind_last frame.behind frames
+
+-- ---- what the acts of a stream say of the frames that came
+
+-- a request of the peer, and the octets that were fetched for it
+pub record Answer : Type 0 where
+  pub request : ReadRequest
+  pub octets : Octets
+
+pub record Story : Type 0 where
+  pub came : Arrived  -- the octets that came, each at its place
+  pub start : StartState  -- what the start-up has come to: what both ends asked for and answered, as far as it was read
+  pub turns : ℕ  -- how many frames had their turn
+  pub placed : Bool  -- the frame whose turn is next has been placed
+  pub receiving : Receiving  -- the receive buffers, with what was placed in them
+  pub whole : ℕ  -- how many of the messages that were posted went out to their last frame
+  pub reads : List Outstanding  -- the Reads whose requests went out, and the last frames of whose responses had no turn
+  pub answered : ℕ  -- how many Reads went before them
+  pub asked : Requested  -- the peer's requests, of which those wait that were not answered to their end
+  pub answers : List Answer  -- the responses that were fetched to their end
+  pub begun : Octets  -- the octets that were fetched for the oldest request that waits
+  pub ending : Ending  -- whether the stream has ended, and the payload of the Terminate that is due then
+  pub farewell : Option Octets  -- the payload of the Terminate that went out
+
+-- a responder at which no frame had its turn
+abbrev pub is_silent : Story → Bool
+is_silent t = is_responder t.start && (t.turns == 0)
+
+-- the frames that lie whole in the octets that came without a gap behind the start-up frame, one behind the other
+abbrev pub frames_in : Story → List Located
+frames_in t = located_of (expecting t.start) 0 (drop (first_place_in t.start) (in_order t.came))
+
+-- the frame whose turn is next, where it is whole
+abbrev pub next_frame : Story → Option Frame
+next_frame t = option_map (λ f. f.frame) (slice_get (frames_in t) t.turns)
+
+-- the in-order point: the place in the stream behind the start-up frame and the frames that had their turn
+abbrev pub in_order_point : Story → ℕ
+in_order_point t = first_place_in t.start + behind_last 0 (take t.turns (frames_in t))
+
+-- the octets that it carries, and what its turn leaves of the message that is due
+abbrev pub next_payload : Story → Octets
+next_payload t = option_map_or (λ f. payload_of (segment_in f)) (next_frame t) []
+
+abbrev pub next_turned : Story → Receiving
+next_turned t = option_map_or (λ f. receiving_turned t.receiving (placed f)) (next_frame t) t.receiving
+
+-- what it leaves of the Reads that are outstanding
+abbrev pub next_reads : Story → List Outstanding
+next_reads t = option_map_or (λ f. reads_left t.reads (placed f)) (next_frame t) t.reads
+
+-- the Read Request that it carries
+abbrev pub asked_in : Frame → Asked
+asked_in frame = record { header = (placed frame).header; request = request_fields (payload_of (segment_in frame)) }
+
+abbrev pub next_asked : Story → Requested
+next_asked t = option_map_or (λ f. taken_up t.asked (asked_in f)) (next_frame t) t.asked
+
+-- the peer's start-up frame is read off the octets that came
+abbrev pub hears : Story → Story
+hears t = record t { start = heard t.start (in_order t.came) }
+
+-- ---- the end
+
+-- the stream has ended, and no Terminate is due
+abbrev pub ends : Story → Story
+ends t = record t { ending = Over None }
+
+-- it has ended by a fault, and a Terminate with this payload is due, but of a responder at which no frame had its turn
+abbrev pub ends_by : Story → Octets → Story
+ends_by t payload = record t { ending = if is_silent t then Over None else with_last_word payload }
+
+-- the Terminate for a fault of the frame whose turn is next: of what is kept of it, where it was placed before
+abbrev pub terminate_next : Story → Fault → Octets
+terminate_next t fault =
+    option_map_or (λ f. if t.placed then terminate_turned (placed f) fault else terminate_judged t.asked f fault) (next_frame t) []
+
+abbrev pub story_seen : Story → Seen Octets → Story
+story_seen t (seen.Asked private) = hears t
+story_seen t (seen.Opened agreed private) = hears t
+story_seen t (seen.Closed fault) = ends (hears t)
+story_seen t (seen.Placed right stag to octets) = record t { placed = true }
+story_seen t (seen.Buffered msn mo len) = record t { placed = true; receiving = written t.receiving msn mo (next_payload t) }
+story_seen t (seen.Requested size stag to) = record t { turns = t.turns + 1; asked = next_asked t }
+story_seen t seen.Passed = record t {
+  turns = t.turns + 1;
+  placed = false;
+  receiving = next_turned t;
+  reads = next_reads t;
+  answered = t.answered + (length t.reads - length (next_reads t));
+}
+story_seen t (seen.Received octets solicited invalidate) = record t { turns = t.turns + 1; placed = false; receiving = finished t.receiving }
+story_seen t (seen.Terminated fault) = ends (record t { turns = t.turns + 1 })
+story_seen t (seen.Fault fault) = ends_by t (terminate_next t fault)
+story_seen t (seen.Flushed kind) = t
+story_seen t (seen.FlushedRecv octets) = record t { receiving = flushed t.receiving }
+story_seen t (seen.Done kind) = t
+story_seen t seen.Idle = t
+
+-- ---- and of those that go out
+
+abbrev pub is_last : Segment Octets → Bool
+is_last (Tagged head payload) = head.last
+is_last (Untagged head payload) = head.last
+
+-- the segment of a frame that goes out from a place on; none of the start-up frame
+abbrev pub segment_out : Story → ℕ → Octets → Option (Segment Octets)
+segment_out t from octets =
+    if nat_lt from (first_place_out t.start) then None
+    else option_map_or (λ first. read_segment first.0.ulpdu) (first_frame (sending t.start) (from - first_place_out t.start) octets) None
+
+-- the Read that it asks for
+abbrev pub read_out : Segment Octets → Option ReadRequest
+read_out (Tagged head payload) = None
+read_out (Untagged head payload) =
+    if head.queue == queue_of AsksRead then option_map (λ read. read.0) (read_request payload) else None
+
+-- the k-th message that is posted has the ticket k, modulo 2^64, of which the first is 0
+abbrev pub sends_segment : Story → Segment Octets → Story
+sends_segment t segment = record t {
+  whole = if is_last segment then t.whole + 1 else t.whole;
+  reads = option_map_or (asked_for t.reads (t.whole % 2 ^ 64)) (read_out segment) t.reads;
+}
+
+-- octets are fetched for the oldest request that waits
+abbrev pub fetches_for : Story → List Asked → Octets → Story
+fetches_for t [] octets = t
+fetches_for t (oldest ∷ others) octets =
+    if length t.begun + length octets == oldest.request.size then record t {
+      asked = record t.asked { unanswered = others; fetched = 0 };
+      answers = t.answers ++ record { request = oldest.request; octets = t.begun ++ octets } ∷ [];
+      begun = [];
+    }
+    else record t {
+      asked = record t.asked { fetched = length t.begun + length octets };
+      begun = t.begun ++ octets;
+    }
+
+-- the Terminate that was due goes out
+abbrev pub says_farewell : Story → Octets → Story
+says_farewell t payload = record t { ending = Over None; farewell = Some payload }
+
+-- the start-up frame goes first, and the Terminate past all others
+abbrev pub frame_shown : Story → ℕ → Octets → Story
+frame_shown t from octets =
+    if nat_lt from (first_place_out t.start) then t
+    else option_map_or (says_farewell t) (last_word t.ending) (option_map_or (sends_segment t) (segment_out t from octets) t)
+
+abbrev pub story_shown : Story → Shown Octets → Story
+story_shown t (shows.Frame from octets) = frame_shown t from octets
+story_shown t (shows.Fetched from frame stag to octets) = fetches_for t t.asked.unanswered octets
+story_shown t (shows.Fault fault) = ends_by t (terminate_fetched t.asked fault)
+story_shown t shows.Nothing = t
+
+-- the calls
+abbrev pub story_called : Story → StreamAct Octets → Story
+story_called t act = record t {
+  came = came_after t.came act;
+  start = option_map_or (answered_with t.start) (deed act).reply t.start;
+  receiving = option_map_or (λ len. with_buffer t.receiving (replicate len 0)) (deed act).buffer t.receiving;
+  ending = if (deed act).breaks then Broken else if (deed act).ends then Over None else t.ending;
+}
+
+abbrev pub story_after : Story → StreamAct Octets → Story
+story_after t act = option_map_or (story_seen t) (deed act).step (option_map_or (story_shown t) (deed act).shown (story_called t act))
+
+-- of a stream that was opened so
+abbrev pub untold : Opening → Story
+untold o = record {
+  came = nothing;
+  start = start_at_first o.role o.config;
+  turns = 0;
+  placed = false;
+  receiving = nothing_received;
+  whole = 0;
+  reads = [];
+  answered = 0;
+  asked = nothing_asked;
+  answers = [];
+  begun = [];
+  ending = Runs;
+  farewell = None;
+}
+
+unfoldable pub story : Opening → List (StreamAct Octets) → Story
+story o done = fold story_after (untold o) done
+
+-- ---- how a frame is answered
+
+-- what is seen of a frame that is judged: its placement, or the first check that fails
+abbrev pub seen_judged : Frame → Result Landing Fault → Seen Octets
+seen_judged frame (Ok (landing.Write at)) = seen.Placed rights.Write at.stag at.to (payload_of (segment_in frame))
+seen_judged frame (Ok (landing.Response at)) = seen.Placed rights.Sink at.stag at.to (payload_of (segment_in frame))
+seen_judged frame (Ok (landing.Send msn mo len)) = seen.Buffered msn mo len
+seen_judged frame (Ok (landing.Request request)) = seen.Requested request.size request.source request.source_to
+seen_judged frame (Ok (landing.Terminate fault)) = seen.Terminated fault
+seen_judged frame (Err fault) = seen.Fault fault
+
+-- and of its turn, by the checks of a turn alone
+abbrev pub seen_turned : Receiving → PlacedFrame → Result Turning Fault → Seen Octets
+seen_turned r frame (Ok turning.Passed) = seen.Passed
+seen_turned r frame (Ok (turning.Completed solicited invalidate)) =
+    seen.Received (take (r.turned + payload_len frame) (oldest r)) solicited invalidate
+seen_turned r frame (Ok (turning.Answered ticket)) = seen.Passed
+seen_turned r frame (Err fault) = seen.Fault fault
+
+-- the frame whose turn is next is whole and was not placed: it is judged
+pub record IsJudged (t : Story) (s : Standing) (step : Seen Octets) : Type 0 where
+  pub frame : Frame
+  pub is_next : next_frame t ≡ Some frame
+  pub unplaced : t.placed ≡ false
+  pub answer : step ≡ seen_judged frame (verdict s frame)
+
+-- the frame whose turn is next is whole and was placed: it has its turn
+pub record HasTurn (t : Story) (s : Standing) (step : Seen Octets) : Type 0 where
+  pub frame : Frame
+  pub is_next : next_frame t ≡ Some frame
+  pub was_placed : t.placed ≡ true
+  pub answer : step ≡ seen_turned s.receiving (placed frame) (turn_of s (placed frame))
+
+-- frames are read: the stream has not ended, and is open
+pub record ReadsFrames (over : Bool) (t : Story) : Type 0 where
+  pub running : over ≡ false
+  pub open_now : is_open t.start ≡ true
+
+-- the stream had not ended, the peer's start-up frame was awaited, and comes to this by the octets that came
+pub record HearsFrame (over : Bool) (t : Story) (outcome : Progress) : Type 0 where
+  pub running : over ≡ false
+  pub awaited : awaits_frame t.start ≡ true
+  pub comes : progress_in t.start (in_order t.came) ≡ outcome
+
+-- so an initiator learns what was agreed
+pub record HearsReply (over : Bool) (t : Story) (agreed : Agreed) : Type 0 where
+  pub hears_it : HearsFrame over t progress.Agreed
+  pub agreed_is : agreed ≡ agreement_in (hears t).start
+
+-- the private data of the peer's frame, once that is read
+abbrev pub private_heard : Story → Octets
+private_heard t = private_in (hears t).start
+
+-- ---- the law
+
+abbrev pub story_of : ℕ → List (Act Octets) → Story
+story_of n before = story (opening_of n before) (stream_acts n before)
+
+abbrev pub standing : ℕ → List (Act Octets) → Standing
+standing n before =
+    let t : Story = story_of n before in
+    record { table = table_after before; domain = domain_of n before; receiving = t.receiving; reads = t.reads; asked = t.asked }
+
+abbrev pub TurnsSeen : Bool → Story → Standing → Seen Octets → Type 0
+TurnsSeen over t s (seen.Done kind) = Unit {0}
+TurnsSeen over t s (seen.Flushed kind) = Unit {0}
+TurnsSeen over t s (seen.FlushedRecv octets) = Unit {0}
+TurnsSeen over t s seen.Idle = Unit {0}
+TurnsSeen over t s (seen.Asked private) = HearsFrame over t progress.Asked × (private ≡ private_heard t)
+TurnsSeen over t s (seen.Opened agreed private) = HearsReply over t agreed × (private ≡ private_heard t)
+TurnsSeen over t s (seen.Closed fault) = HearsFrame over t (progress.Faulted fault)
+TurnsSeen over t s (seen.Placed right stag to octets) = ReadsFrames over t × IsJudged t s (seen.Placed right stag to octets)
+TurnsSeen over t s (seen.Buffered msn mo len) = ReadsFrames over t × IsJudged t s (seen.Buffered msn mo len)
+TurnsSeen over t s (seen.Requested size stag to) = ReadsFrames over t × IsJudged t s (seen.Requested size stag to)
+TurnsSeen over t s (seen.Terminated fault) = ReadsFrames over t × IsJudged t s (seen.Terminated fault)
+TurnsSeen over t s seen.Passed = ReadsFrames over t × HasTurn t s seen.Passed
+TurnsSeen over t s (seen.Received octets solicited invalidate) =
+    ReadsFrames over t × HasTurn t s (seen.Received octets solicited invalidate)
+TurnsSeen over t s (seen.Fault fault) =
+    ReadsFrames over t × (IsJudged t s (seen.Fault fault) ⊎ HasTurn t s (seen.Fault fault))
+
+abbrev pub TurnsStream : List (Act Octets) → ℕ → StreamAct Octets → Type 0
+TurnsStream before n act =
+    OnSome (TurnsSeen (ended (stream_acts n before)) (story_of n before) (standing n before)) (deed act).step
+
+-- at every step of work, at the moment before it, whatever octets came: the j-th turn is for the j-th frame that came
+abbrev pub Turns : List (Entry Octets) → Type 0
+Turns = AtEach (OnStream TurnsStream)

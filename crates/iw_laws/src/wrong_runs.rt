@@ -1,0 +1,158 @@
+//! Runs that no two ends make, each refused by one law of a trace alone, beside that every answer follows the rules.
+
+ghost use Rattle.iw_laws.specs.WrongRuns.{RefusesFramesBehindFault, RefusesFramesUnopened, RefusesRestWithReply, RefusesNeverFinished, RefusesFinishedUnsent, RefusesFinishedAsWrite, RefusesTooLarge, RefusesCutShort, RefusesElsewhere, RefusesBehindEnd, RefusesOtherOctets, RefusesKeptBehindEnd, RefusesUnaskedAccept, RefusesWrongRefusal, RefusesSameStag, RefusesFetchInvalid, RefusesReadUnanswered, RefusesFetchElsewhere, RefusesPlacesPast, RefusesEndsEarly, RefusesDoneByWrite, RefusesSeventeenReads, RefusesSinksUnfetched, RefusesDoneUnplaced, RefusesDoneUnanswered, RefusesSkippedSend, RefusesSecondTerminate, RefusesForgottenMessage, RefusesFinishedFlushed, RefusesBufferFirst, RefusesPlacedInvalidated};
+
+/// A frame is not placed behind a fault, though its region was registered since.
+pub fn refuses_frames_behind_fault()
+    ensures { RefusesFramesBehindFault }
+{}
+
+/// A responder whose user has not answered the Request places no frame.
+pub fn refuses_frames_unopened()
+    ensures { RefusesFramesUnopened }
+{}
+
+/// An initiator that has the whole Reply has something to do.
+pub fn refuses_rest_with_reply()
+    ensures { RefusesRestWithReply }
+{}
+
+/// A Send whose last segment was sent does not stay unfinished.
+pub fn refuses_never_finished()
+    ensures { RefusesNeverFinished }
+{}
+
+/// A Send is not finished before its last segment was sent.
+pub fn refuses_finished_unsent()
+    ensures { RefusesFinishedUnsent }
+{}
+
+/// A Send is not finished as a Write.
+pub fn refuses_finished_as_write()
+    ensures { RefusesFinishedAsWrite }
+{}
+
+/// No ULPDU is larger than the size that was set.
+pub fn refuses_too_large()
+    ensures { RefusesTooLarge }
+{}
+
+/// A part that is not the last of its message has the size that was set.
+pub fn refuses_cut_short()
+    ensures { RefusesCutShort }
+{}
+
+/// A frame stands nowhere but behind what was sent before.
+pub fn refuses_elsewhere()
+    ensures { RefusesElsewhere }
+{}
+
+/// A stream that has ended sends no frame.
+pub fn refuses_behind_end()
+    ensures { RefusesBehindEnd }
+{}
+
+/// No other octets are delivered than the other end has sent.
+pub fn refuses_other_octets()
+    ensures { RefusesOtherOctets }
+{}
+
+/// A stream that has ended keeps no octets.
+pub fn refuses_kept_behind_end()
+    ensures { RefusesKeptBehindEnd }
+{}
+
+/// Where no Request was read there is none to accept.
+pub fn refuses_unasked_accept()
+    ensures { RefusesUnaskedAccept }
+{}
+
+/// The first domain is not refused as taken.
+pub fn refuses_wrong_refusal()
+    ensures { RefusesWrongRefusal }
+{}
+
+/// A registration is not answered by an STag that names a region.
+pub fn refuses_same_stag()
+    ensures { RefusesSameStag }
+{}
+
+/// No more of a response is sent once its source was invalidated.
+pub fn refuses_fetch_invalid()
+    ensures { RefusesFetchInvalid }
+{}
+
+/// A Read is not finished before its response had its turn.
+pub fn refuses_read_unanswered()
+    ensures { RefusesReadUnanswered }
+{}
+
+/// What is fetched for a Read stands nowhere else than where it was asked for, though it may be read there.
+pub fn refuses_fetch_elsewhere()
+    ensures { RefusesFetchElsewhere }
+{}
+
+/// No response is placed past the size that was asked for.
+pub fn refuses_places_past()
+    ensures { RefusesPlacesPast }
+{}
+
+/// No response ends before that size was reached.
+pub fn refuses_ends_early()
+    ensures { RefusesEndsEarly }
+{}
+
+/// The turn of a Write's frame finishes no Read.
+pub fn refuses_done_by_write()
+    ensures { RefusesDoneByWrite }
+{}
+
+/// A seventeenth Read does not go out while sixteen are outstanding.
+pub fn refuses_seventeen_reads()
+    ensures { RefusesSeventeenReads }
+{}
+
+/// On an honest stream no octets are placed for a Read that were not fetched for it.
+pub fn refuses_sinks_unfetched()
+    ensures { RefusesSinksUnfetched }
+{}
+
+/// On an honest stream a Read is not finished before its response was placed.
+pub fn refuses_done_unplaced()
+    ensures { RefusesDoneUnplaced }
+{}
+
+/// On an honest stream a Read is not finished before the other end has answered it.
+pub fn refuses_done_unanswered()
+    ensures { RefusesDoneUnanswered }
+{}
+
+/// Where a Send has a fault, the next one is not received in its place.
+pub fn refuses_skipped_send()
+    ensures { RefusesSkippedSend }
+{}
+
+/// A Terminate goes out once.
+pub fn refuses_second_terminate()
+    ensures { RefusesSecondTerminate }
+{}
+
+/// A message that was posted is handed back where the link breaks.
+pub fn refuses_forgotten_message()
+    ensures { RefusesForgottenMessage }
+{}
+
+/// A message that can be finished is not given up.
+pub fn refuses_finished_flushed()
+    ensures { RefusesFinishedFlushed }
+{}
+
+/// A stream that has ended hands back its messages before its receive buffers.
+pub fn refuses_buffer_first()
+    ensures { RefusesBufferFirst }
+{}
+
+/// Nothing is placed under an STag that a Send has taken away.
+pub fn refuses_placed_invalidated()
+    ensures { RefusesPlacedInvalidated }
+{}

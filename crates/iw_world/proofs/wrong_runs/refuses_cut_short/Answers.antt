@@ -1,5 +1,0 @@
-use Rattle.iw_world.proofs.Refused.{refuses_cut_short}
-use Rattle.iw_world.proofs.wrong_runs.refuses_cut_short.Goals as goal
-
-pub returns : goal.returns
-returns c = refuses_cut_short

@@ -1,5 +1,0 @@
-use Rattle.iw_world.proofs.Refused.{refuses_fetch_invalid}
-use Rattle.iw_world.proofs.wrong_runs.refuses_fetch_invalid.Goals as goal
-
-pub returns : goal.returns
-returns c = refuses_fetch_invalid

@@ -1,5 +1,0 @@
-use Rattle.iw_world.proofs.Refused.{refuses_finished_as_write}
-use Rattle.iw_world.proofs.wrong_runs.refuses_finished_as_write.Goals as goal
-
-pub returns : goal.returns
-returns c = refuses_finished_as_write

@@ -1,5 +1,0 @@
-use Rattle.iw_world.proofs.Refused.{refuses_never_finished}
-use Rattle.iw_world.proofs.wrong_runs.refuses_never_finished.Goals as goal
-
-pub returns : goal.returns
-returns c = refuses_never_finished

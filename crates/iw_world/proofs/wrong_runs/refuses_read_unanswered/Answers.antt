@@ -1,5 +1,0 @@
-use Rattle.iw_world.proofs.Refused.{refuses_read_unanswered}
-use Rattle.iw_world.proofs.wrong_runs.refuses_read_unanswered.Goals as goal
-
-pub returns : goal.returns
-returns c = refuses_read_unanswered

@@ -1,5 +1,0 @@
-use Rattle.iw_world.proofs.Refused.{refuses_rest_with_reply}
-use Rattle.iw_world.proofs.wrong_runs.refuses_rest_with_reply.Goals as goal
-
-pub returns : goal.returns
-returns c = refuses_rest_with_reply

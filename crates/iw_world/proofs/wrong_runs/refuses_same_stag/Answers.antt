@@ -1,5 +1,0 @@
-use Rattle.iw_world.proofs.Refused.{refuses_same_stag}
-use Rattle.iw_world.proofs.wrong_runs.refuses_same_stag.Goals as goal
-
-pub returns : goal.returns
-returns c = refuses_same_stag

@@ -1,5 +1,0 @@
-use Rattle.iw_world.proofs.Refused.{refuses_too_large}
-use Rattle.iw_world.proofs.wrong_runs.refuses_too_large.Goals as goal
-
-pub returns : goal.returns
-returns c = refuses_too_large

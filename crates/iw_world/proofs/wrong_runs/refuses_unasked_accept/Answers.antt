@@ -1,5 +1,0 @@
-use Rattle.iw_world.proofs.Refused.{refuses_unasked_accept}
-use Rattle.iw_world.proofs.wrong_runs.refuses_unasked_accept.Goals as goal
-
-pub returns : goal.returns
-returns c = refuses_unasked_accept

@@ -1,5 +1,0 @@
-use Rattle.iw_world.proofs.Refused.{refuses_wrong_refusal}
-use Rattle.iw_world.proofs.wrong_runs.refuses_wrong_refusal.Goals as goal
-
-pub returns : goal.returns
-returns c = refuses_wrong_refusal
