@@ -1,0 +1,142 @@
+//! How a program holds endpoints: two of them, joined in memory as two programs would be by a socket.
+//!
+//! `a` opens the connection, `b` accepts it and tells in its private data which of its regions `a` may use. `a` writes there,
+//! sends a message, and reads back what it wrote. Then it sends that it is done with the region, and reads from it all the
+//! same: `b` ends the stream by a Terminate, and each end gets back what it had posted. Each end prints what it does.
+#![tactic(auto)]
+
+mod end;
+
+use anyhow::{Result, bail};
+use bytes::Bytes;
+use end::End;
+use iw_endpoint::{Message, ReadRequest, Request, Rights, Role, Stag};
+use std::alloc::Global;
+use std::rt::Runtime;
+
+// How many octets a read of the socket gives at most.
+const READ_OCTETS: usize = 100;
+
+// What a peer may do with a region.
+const SHARED: Rights = Rights {
+    write: true,
+    read: true,
+    sink: false,
+    invalidate: true,
+};
+
+const SINK: Rights = Rights {
+    write: false,
+    read: false,
+    sink: true,
+    invalidate: false,
+};
+
+const TEXT: &[u8] = b"remote memory";
+
+// What one end has to write comes to the other, as much at once as a read gives. Tells whether there was anything.
+fn pass<R: Runtime + AllocGlobal>(
+    rt: &R,
+    from: &mut End,
+    to: &mut End,
+    wire: &mut Vec<u8>,
+) -> Result<bool> {
+    from.is_writable(rt, wire)?;
+    for read in wire.as_slice().chunks(READ_OCTETS) {
+        to.octets_came(rt, read)?;
+    }
+    Ok(!wire.is_empty())
+}
+
+// Carries what both ends have to write, until neither has anything.
+fn carry<R: Runtime + AllocGlobal>(rt: &R, a: &mut End, b: &mut End) -> Result<()> {
+    let mut wire = Vec::new(rt.alloc());
+    for _ in 0..u64::MAX {
+        let came = pass(rt, a, b, &mut wire)?;
+        let went = pass(rt, b, a, &mut wire)?;
+        if !came && !went {
+            return Ok(());
+        }
+    }
+    Ok(())
+}
+
+fn write(stag: Stag, octets: Bytes) -> Request<Bytes> {
+    Request::Message(Message::Write {
+        stag,
+        to: 0,
+        octets,
+    })
+}
+
+fn send(octets: Bytes, invalidate: Option<Stag>) -> Request<Bytes> {
+    Request::Message(Message::Send {
+        octets,
+        solicited: false,
+        invalidate,
+    })
+}
+
+// A Read of the text, from the peer's region into one of this end's.
+fn read(sink: Stag, source: Stag) -> Request<Bytes> {
+    Request::Read(ReadRequest {
+        sink,
+        sink_to: 0,
+        size: TEXT.len() as u32,
+        source,
+        source_to: 0,
+    })
+}
+
+// `b` shares a region, and has a buffer for a message.
+fn prepare(alloc: Global, b: &mut End) -> Result<Stag> {
+    let shared = b.register(vec![in alloc; 0; 16]?, SHARED)?;
+    b.offer(shared);
+    b.post_recv(vec![in alloc; 0; 64]?)?;
+    Ok(shared)
+}
+
+// `a` posts a Write to the region that it was offered, a Send, and a Read of what it wrote.
+fn post(alloc: Global, a: &mut End) -> Result<Stag> {
+    let Some(offered) = a.offered() else {
+        bail!("no region was offered");
+    };
+    let sink = a.register(vec![in alloc; 0; 16]?, SINK)?;
+    a.post(write(offered, Bytes::copy_from_slice(alloc, TEXT)?))?;
+    a.post(send(Bytes::copy_from_slice(alloc, b"it is written")?, None))?;
+    a.post(read(sink, offered))?;
+    Ok(sink)
+}
+
+// `a` posts a Send that puts the region out of use, and a Read from it.
+fn overreach(alloc: Global, a: &mut End, sink: Stag) -> Result<()> {
+    let Some(offered) = a.offered() else {
+        bail!("no region was offered");
+    };
+    let words = Bytes::copy_from_slice(alloc, b"it is done with")?;
+    a.post(send(words, Some(offered)))?;
+    a.post(read(sink, offered))
+}
+
+fn talk<R: Runtime + AllocGlobal>(rt: &R, a: &mut End, b: &mut End) -> Result<()> {
+    let shared = prepare(rt.alloc(), b)?;
+    carry(rt, a, b)?;
+    let sink = post(rt.alloc(), a)?;
+    carry(rt, a, b)?;
+    a.show(rt, sink)?;
+    b.show(rt, shared)?;
+    overreach(rt.alloc(), a, sink)?;
+    carry(rt, a, b)?;
+    a.closed(rt)?;
+    b.closed(rt)
+}
+
+fn run<R: Runtime + AllocGlobal>(rt: &R) -> Result<()> {
+    let mut a = End::open(rt.alloc(), "a", Role::Initiator)?;
+    let mut b = End::open(rt.alloc(), "b", Role::Responder)?;
+    talk(rt, &mut a, &mut b)
+}
+
+fn main(rt: HostRuntime) -> Result<()> {
+    run(&rt)
+}

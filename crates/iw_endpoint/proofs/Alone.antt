@@ -1,0 +1,94 @@
+-- Over any calls each domain is answered, and is left with, what it would be with no other domain at the endpoint.
+use Rattle.std.proofs.Common.{◌≡◌, ◌⊎◌, ℕ, zero, suc, cond, List, [], ◌∷◌, get_or, replicate, Option, Some, None, refl, sym, ap, subst, ◌∙◌, inl, inr}
+use Rattle.std.specs.Prelude.{IfSome}
+use Rattle.std.specs.Option.{option_map}
+use Rattle.std.proofs.lemmas.Bool.Decides.{eqb_tells}
+use Rattle.iw_stream.specs.Stream.{StreamState}
+use Rattle.iw_endpoint.specs.Endpoint.{EndpointState, fresh, no_streams, stream_of}
+use Rattle.iw_endpoint.specs.Isolation.{Call, AddDomain, Register, Deregister, Invalidate, Store, Facts, Local, LocalMut, Open, AtStream, HasDomains, IsOwn, Concerns, Opens, OwnStep, OpensOwn, DomainsAreAlone, part_of, answer, after, owner, concerned, only, view, after_all, own_answer, own_answers, own_after_all}
+use Rattle.iw_endpoint.proofs.Parts.{empty_size}
+use Rattle.iw_endpoint.proofs.Steps.{concerns_one}
+
+-- each stream is in the domain whose its number is
+abbrev AreOwned : (ℕ → ℕ) → EndpointState → Type 0
+AreOwned whose e = (n : ℕ) → IsOwn (whose n) (stream_of e n)
+
+concerns : (whose : ℕ → ℕ) (e : EndpointState) (call : Call) → AreOwned whose e → ((n d : ℕ) → Opens n d call → whose n ≡ d) → Concerns (concerned whose call) e call
+concerns whose e (AddDomain pd) owned opens = refl
+concerns whose e (Register pd base octets rights) owned opens = refl
+concerns whose e (Deregister stag) owned opens = refl
+concerns whose e (Invalidate stag) owned opens = refl
+concerns whose e (Store stag to octets) owned opens = refl
+concerns whose e (Facts stag) owned opens = refl
+concerns whose e (Local stag) owned opens = refl
+concerns whose e (LocalMut stag octets) owned opens = refl
+concerns whose e (Open n pd role config) owned opens = (refl, subst (λ d. IsOwn d (stream_of e n)) (opens n pd (refl, refl)) (owned n))
+concerns whose e (AtStream n call) owned opens = owned n
+
+owned_by : (d x : ℕ) (o : Option StreamState) → option_map (λ s. s.domain) o ≡ Some x → IsOwn d o → x ≡ d
+owned_by d x None e own = absurd (let no : ⊥ = cc in no)
+owned_by d x (Some s) e own = let same : s.domain ≡ x = cc in sym same ∙ own
+
+stay_owned : (whose : ℕ → ℕ) (e : EndpointState) (call : Call) (d : ℕ) → AreOwned whose e → ((n d : ℕ) → Opens n d call → whose n ≡ d) → OwnStep d e call → AreOwned whose (after e call)
+stay_owned whose e call d owned opens step n = go (stream_of (after e call) n) (step.owners n)
+  where
+    told : (s : StreamState) → (owner e n ≡ Some s.domain) ⊎ Opens n s.domain call → s.domain ≡ whose n
+    told s h = elim h [ inl was ↦ owned_by (whose n) s.domain (stream_of e n) was (owned n) | inr opened ↦ sym (opens n s.domain opened) ]
+
+    go : (o : Option StreamState) → IfSome o (λ s. (owner e n ≡ Some s.domain) ⊎ Opens n s.domain call) → IsOwn (whose n) o
+    go None h = tt
+    go (Some s) h = told s h
+
+record Runs (whose : ℕ → ℕ) (d : ℕ) (e : EndpointState) (calls : List Call) : Type 0 where
+  answers : view whose d e calls ≡ own_answers d (part_of d e) (only whose d calls)
+  part : part_of d (after_all e calls) ≡ own_after_all d (part_of d e) (only whose d calls)
+
+one_more : (whose : ℕ → ℕ) (d : ℕ) (e : EndpointState) (call : Call) (calls : List Call) → OwnStep (concerned whose call) e call → Runs whose d (after e call) calls → Runs whose d e (call ∷ calls)
+one_more whose d e call calls step rest = elim (eqb_tells (concerned whose call) d) [
+  | inl same ↦
+      let own = subst (λ x. OwnStep x e call) same.1 step in
+      let those = only whose d calls in record {
+        answers =
+            ap (λ b. cond b (answer e call ∷ view whose d (after e call) calls) (view whose d (after e call) calls)) same.0
+            ∙ (λ i. own.answered i ∷ rest.answers i)
+            ∙ ap (λ p. own_answer d (part_of d e) call ∷ own_answers d p those) own.own
+            ∙ sym (ap (λ b. own_answers d (part_of d e) (cond b (call ∷ those) those)) same.0);
+        part =
+            rest.part
+            ∙ ap (λ p. own_after_all d p those) own.own
+            ∙ sym (ap (λ b. own_after_all d (part_of d e) (cond b (call ∷ those) those)) same.0);
+      }
+  | inr other ↦
+      let stays = step.others d (λ e. other.1 (sym e)) in
+      let those = only whose d calls in record {
+        answers =
+            ap (λ b. cond b (answer e call ∷ view whose d (after e call) calls) (view whose d (after e call) calls)) other.0
+            ∙ rest.answers
+            ∙ ap (λ p. own_answers d p those) stays
+            ∙ sym (ap (λ b. own_answers d (part_of d e) (cond b (call ∷ those) those)) other.0);
+        part =
+            rest.part
+            ∙ ap (λ p. own_after_all d p those) stays
+            ∙ sym (ap (λ b. own_after_all d (part_of d e) (cond b (call ∷ those) those)) other.0);
+      }
+]
+
+runs : (whose : ℕ → ℕ) (calls : List Call) (e : EndpointState) → HasDomains e → AreOwned whose e → OpensOwn whose calls → (d : ℕ) → Runs whose d e calls
+runs whose [] e all owned opens d = record { answers = refl; part = refl }
+runs whose (call ∷ calls) e all owned opens d =
+    let c = concerned whose call in
+    let step = concerns_one c e call all (concerns whose e call owned opens.0) in
+    one_more whose d e call calls step (runs whose calls (after e call) step.domains (stay_owned whose e call c owned opens.0 step) opens.1 d)
+
+nothing_in : (k n : ℕ) → get_or (replicate {A = Option StreamState} k None) n None ≡ None
+nothing_in zero zero = refl
+nothing_in zero (suc n) = refl
+nothing_in (suc k) zero = refl
+nothing_in (suc k) (suc n) = nothing_in k n
+
+nothing_owned : (whose : ℕ → ℕ) → AreOwned whose fresh
+unfolding no_streams
+nothing_owned whose n = subst (λ o. IsOwn (whose n) o) (sym (nothing_in 64 n)) tt
+
+pub alone_all : DomainsAreAlone
+alone_all whose calls opens d = let run = runs whose calls fresh empty_size (nothing_owned whose) opens d in record { answers = run.answers; part = run.part }

@@ -1,0 +1,5 @@
+pub mod Lists
+pub mod Tables
+pub mod Parts
+pub mod Steps
+pub mod Alone

@@ -1,0 +1,180 @@
+-- Each call is one step on the part of the domain that it concerns.
+use Rattle.std.proofs.Common.{◌≡◌, ℕ, List, length, Option, Some, None, Ok, refl, sym, ap, subst, ◌∙◌, inr}
+use Rattle.std.specs.Prelude.{unwrap_or, is_some, nat_le, not, if◌then◌else◌}
+use Rattle.std.specs.Option.{option_map}
+use Rattle.iw_memory.specs.declared.refusal.NoRegion.{NoRegion}
+use Rattle.iw_memory.specs.Part as regions
+use Rattle.iw_memory.specs.Region.{facts_of, new_region, overlay}
+use Rattle.iw_memory.specs.Table as tables
+use Rattle.iw_memory.specs.Table.{Table}
+use Rattle.iw_stream.specs.declared.answer.OpenRefusal.{OpenRefusal}
+use Rattle.iw_stream.specs.declared.answer.OpenRefusal.TheVariants.{NumberTaken, BadNumber, NoDomain}
+use Rattle.iw_ranges.specs.declared.Delivery.{Delivery}
+use Rattle.iw_ranges.specs.declared.Delivery.TheVariants.{Kept, Dropped}
+use Rattle.iw_stream.specs.Starting.{private_in, agreement_in}
+use Rattle.iw_stream.specs.Stream as stream
+use Rattle.iw_stream.specs.Stream.{StreamState, emission_of, emitted, delivery_of}
+use Rattle.iw_stream.specs.Work.{work_step, worked, table_worked}
+use Rattle.iw_endpoint.specs.Endpoint.{EndpointState, stream_of, unopened, with_stream, with_table, answer_at, refusal_at, unasked, open_refusal, stream_numbers}
+use Rattle.iw_endpoint.specs.Isolation.{StreamCall, Accept, Reject, Post, PostRecv, Deliver, Work, Emit, BreakLink, SetMulpdu, Private, Sent, InOrderPoint, Limits, AddDomain, Register, Deregister, Invalidate, Store, Facts, Local, LocalMut, Open, AtStream}
+use Rattle.iw_endpoint.specs.Isolation.{Accepted, Rejected, Posted, Buffered, Delivered, Worked, Emitted, Broke, Sized, Shown, Counted, Limited, Added, Registered, Octets, Invalidated, Found, Stored, Opened, OfStream}
+use Rattle.iw_endpoint.specs.Isolation.{IsOwn, OwnStep, CallsConcernOneDomain, part_of, alone, stream_answer, after_stream, answer_or, unless}
+use Rattle.iw_endpoint.proofs.Tables.{AreAlike, KeepsOthers, step-alike, worked-alike, table_worked-alike, keeps-worked, emission-alike, emitted-alike, after_emit-alike, worked_domain, emit_domain}
+use Rattle.iw_endpoint.proofs.Parts.{AreSeenAlike, seen_alone, stream_alike, alone_own, with_alike, with_tables_alike, unless_alike, refusing_alike, changing_alike, region_alike, Leaves, leaves-all, leaves-with, leaves-changed, refusing_leaves, changing_leaves, region_leaves, one_step}
+
+-- ---- calls at a stream
+
+-- a stream of the domain sees two endpoints alike
+at_own : (d : ℕ) (e f : EndpointState) (s : StreamState) → IsOwn d (Some s) → AreSeenAlike d e f → AreAlike s.domain e.table f.table
+at_own d e f s own h = subst (λ x. AreAlike x e.table f.table) (sym own) h.table
+
+-- what is told of a stream that is the same at both
+told_at : {A : Type 0} (d : ℕ) (e f : EndpointState) (o : Option StreamState) (at_e at_f : StreamState → A) → IsOwn d o → ((s : StreamState) → IsOwn d (Some s) → at_e s ≡ at_f s) → answer_at o (λ s. at_e (unwrap_or o unopened)) ≡ answer_at o (λ s. at_f (unwrap_or o unopened))
+told_at d e f None at_e at_f own same = refl
+told_at d e f (Some s) at_e at_f own same = ap Ok (same s own)
+
+stream_answers : (d : ℕ) (e f : EndpointState) (n : ℕ) (call : StreamCall) → IsOwn d (stream_of e n) → stream_of e n ≡ stream_of f n → AreSeenAlike d e f → stream_answer e n call ≡ stream_answer f n call
+stream_answers d e f n (Accept private) own same h = ap (λ o. Accepted (answer_or (refusal_at o unasked) (agreement_in (unwrap_or o unopened).start))) same
+stream_answers d e f n (Reject private) own same h = ap (λ o. Rejected (refusal_at o unasked)) same
+stream_answers d e f n (Post request) own same h = ap (λ o. Posted (refusal_at o (λ s. stream.post_refusal s request))) same
+stream_answers d e f n (PostRecv buffer) own same h = ap (λ o. Buffered (refusal_at o stream.recv_refusal)) same
+stream_answers d e f n (Deliver from octets) own same h = ap (λ o. Delivered (answer_at o (λ s. delivery_of (unwrap_or o unopened) from (length octets)))) same
+stream_answers d e f n Work own same h = go (stream_of e n) own ∙ ap (λ o. Worked (answer_at o (λ s. work_step f.table s))) same
+  where
+    go : (o : Option StreamState) → IsOwn d o → Worked (answer_at o (λ s. work_step e.table s)) ≡ Worked (answer_at o (λ s. work_step f.table s))
+    go None own = refl
+    go (Some s) own = ap (λ x. Worked (Ok x)) (step-alike s e.table f.table (at_own d e f s own h))
+stream_answers d e f n Emit own same h =
+    (λ i. Emitted (told_at d e f (stream_of e n) (emission_of e.table) (emission_of f.table) own (λ s own. emission-alike s e.table f.table (at_own d e f s own h)) i) (told_at d e f (stream_of e n) (emitted e.table) (emitted f.table) own (λ s own. emitted-alike s e.table f.table (at_own d e f s own h)) i))
+    ∙ ap (λ o. Emitted (answer_at o (λ s. emission_of f.table (unwrap_or o unopened))) (answer_at o (λ s. emitted f.table (unwrap_or o unopened)))) same
+stream_answers d e f n BreakLink own same h = ap (λ o. Broke (answer_at o (λ s. tt))) same
+stream_answers d e f n (SetMulpdu size) own same h = ap (λ o. Sized (refusal_at o (λ s. stream.size_refusal size))) same
+stream_answers d e f n Private own same h = ap (λ o. Shown (answer_at o (λ s. private_in (unwrap_or o unopened).start))) same
+stream_answers d e f n Sent own same h = ap (λ o. Counted (answer_at o (λ s. (unwrap_or o unopened).sent))) same
+stream_answers d e f n InOrderPoint own same h = ap (λ o. Counted (answer_at o (λ s. (unwrap_or o unopened).arrived.floor))) same
+stream_answers d e f n Limits own same h = ap (λ o. Limited (answer_at o (λ s. tt))) same
+
+-- what each call makes of its stream, and of the endpoint
+abbrev delivered : ℕ → List ℕ → StreamState → StreamState
+delivered from octets s = stream.after_deliver s from octets (delivery_of s from (length octets))
+
+abbrev with_worked : ℕ → StreamState → EndpointState → EndpointState
+with_worked n s e = with_table (with_stream e n (worked e.table s)) (table_worked e.table s)
+
+stream_alikes : (d : ℕ) (e f : EndpointState) (n : ℕ) (call : StreamCall) → IsOwn d (stream_of e n) → stream_of e n ≡ stream_of f n → AreSeenAlike d e f → AreSeenAlike d (after_stream e n call) (after_stream f n call)
+stream_alikes d e f n (Accept private) own same h = refusing_alike unasked (λ s. stream.accepted s private) d e f n same h
+stream_alikes d e f n (Reject private) own same h = refusing_alike unasked (λ s. stream.rejected s private) d e f n same h
+stream_alikes d e f n (Post request) own same h = refusing_alike (λ s. stream.post_refusal s request) (λ s. stream.with_request s request) d e f n same h
+stream_alikes d e f n (PostRecv buffer) own same h = refusing_alike stream.recv_refusal (λ s. stream.with_buffer s buffer) d e f n same h
+stream_alikes d e f n (Deliver from octets) own same h =
+    changing_alike (λ s e. with_stream e n (delivered from octets s)) d e f n same h (λ s is. with_alike d e f n (delivered from octets s) (delivered from octets s) refl h)
+stream_alikes d e f n Work own same h = changing_alike (with_worked n) d e f n same h (λ s is.
+    let mine = at_own d e f s (subst (λ o. IsOwn d o) is own) h in
+    let here : s.domain ≡ d = subst (λ o. IsOwn d o) is own in
+    with_tables_alike d (with_stream e n (worked e.table s)) (with_stream f n (worked f.table s)) (table_worked e.table s) (table_worked f.table s)
+    (subst (λ x. AreAlike x (table_worked e.table s) (table_worked f.table s)) here (table_worked-alike s e.table f.table mine))
+    (with_alike d e f n (worked e.table s) (worked f.table s) (worked-alike s e.table f.table mine) h))
+stream_alikes d e f n Emit own same h = changing_alike (λ s e. with_stream e n (stream.after_emit e.table s)) d e f n same h (λ s is.
+    with_alike d e f n (stream.after_emit e.table s) (stream.after_emit f.table s) (after_emit-alike s e.table f.table (at_own d e f s (subst (λ o. IsOwn d o) is own) h)) h)
+stream_alikes d e f n BreakLink own same h = changing_alike (λ s e. with_stream e n (stream.breaks s)) d e f n same h (λ s is. with_alike d e f n (stream.breaks s) (stream.breaks s) refl h)
+stream_alikes d e f n (SetMulpdu size) own same h = refusing_alike (λ s. stream.size_refusal size) (λ s. stream.with_mulpdu s size) d e f n same h
+stream_alikes d e f n Private own same h = h
+stream_alikes d e f n Sent own same h = h
+stream_alikes d e f n InOrderPoint own same h = h
+stream_alikes d e f n Limits own same h = h
+
+delivered_domain : (s : StreamState) (from : ℕ) (octets : List ℕ) (x : Delivery) → (stream.after_deliver s from octets x).domain ≡ s.domain
+delivered_domain s from octets Kept = refl
+delivered_domain s from octets Dropped = refl
+
+worked_leaves : (d : ℕ) (e : EndpointState) (n : ℕ) (IsNew : ℕ → ℕ → Type 0) (s : StreamState) → stream_of e n ≡ Some s → IsOwn d (Some s) → Leaves d e (with_worked n s e) IsNew
+worked_leaves d e n IsNew s is own =
+    let put = leaves-changed d e n s (worked e.table s) IsNew is own (worked_domain e.table s) in record {
+      table = subst (λ x. KeepsOthers x e.table (table_worked e.table s)) own (keeps-worked s e.table);
+      streams = put.streams;
+      owners = put.owners;
+    }
+
+stream_leaves : (d : ℕ) (e : EndpointState) (n : ℕ) (call : StreamCall) (IsNew : ℕ → ℕ → Type 0) → IsOwn d (stream_of e n) → Leaves d e (after_stream e n call) IsNew
+stream_leaves d e n (Accept private) IsNew own = refusing_leaves unasked (λ s. stream.accepted s private) d e n IsNew own (λ s. refl)
+stream_leaves d e n (Reject private) IsNew own = refusing_leaves unasked (λ s. stream.rejected s private) d e n IsNew own (λ s. refl)
+stream_leaves d e n (Post request) IsNew own = refusing_leaves (λ s. stream.post_refusal s request) (λ s. stream.with_request s request) d e n IsNew own (λ s. refl)
+stream_leaves d e n (PostRecv buffer) IsNew own = refusing_leaves stream.recv_refusal (λ s. stream.with_buffer s buffer) d e n IsNew own (λ s. refl)
+stream_leaves d e n (Deliver from octets) IsNew own =
+    changing_leaves (λ s. with_stream e n (delivered from octets s)) d e n IsNew own (λ s is own. leaves-changed d e n s (delivered from octets s) IsNew is own (delivered_domain s from octets (delivery_of s from (length octets))))
+stream_leaves d e n Work IsNew own = changing_leaves (λ s. with_worked n s e) d e n IsNew own (worked_leaves d e n IsNew)
+stream_leaves d e n Emit IsNew own =
+    changing_leaves (λ s. with_stream e n (stream.after_emit e.table s)) d e n IsNew own (λ s is own. leaves-changed d e n s (stream.after_emit e.table s) IsNew is own (emit_domain e.table s))
+stream_leaves d e n BreakLink IsNew own =
+    changing_leaves (λ s. with_stream e n (stream.breaks s)) d e n IsNew own (λ s is own. leaves-changed d e n s (stream.breaks s) IsNew is own refl)
+stream_leaves d e n (SetMulpdu size) IsNew own = refusing_leaves (λ s. stream.size_refusal size) (λ s. stream.with_mulpdu s size) d e n IsNew own (λ s. refl)
+stream_leaves d e n Private IsNew own = leaves-all d e IsNew
+stream_leaves d e n Sent IsNew own = leaves-all d e IsNew
+stream_leaves d e n InOrderPoint IsNew own = leaves-all d e IsNew
+stream_leaves d e n Limits IsNew own = leaves-all d e IsNew
+
+-- ---- openings
+
+open_alike : (d : ℕ) (e f : EndpointState) (n : ℕ) → stream_of e n ≡ stream_of f n → AreSeenAlike d e f → open_refusal e n d ≡ open_refusal f n d
+open_alike d e f n same h =
+    (λ i. if is_some (same i) then Some NumberTaken else if nat_le stream_numbers n then Some BadNumber else if not (is_some (h.table.part i)) then Some NoDomain else None)
+
+open_leaves : (d : ℕ) (e : EndpointState) (n : ℕ) (x : StreamState) (IsNew : ℕ → ℕ → Type 0) → x.domain ≡ d → IsOwn d (stream_of e n) → IsNew n x.domain → Leaves d e (unless (open_refusal e n d) e (with_stream e n x)) IsNew
+open_leaves d e n x IsNew here own is_new = go (open_refusal e n d)
+  where
+    go : (q : Option OpenRefusal) → Leaves d e (unless q e (with_stream e n x)) IsNew
+    go None = leaves-with d e n x IsNew here own (inr is_new)
+    go (Some refusal) = leaves-all d e IsNew
+
+-- ---- any call
+
+pub concerns_one : CallsConcernOneDomain
+concerns_one d e (AddDomain pd) all here = subst (λ x. OwnStep x e (AddDomain pd)) here
+    (let h = seen_alone pd e all in let f = alone pd (part_of pd e) in
+    one_step pd e (AddDomain pd) all (ap (λ part. Added (regions.own_domain_refusal part pd)) h.table.part)
+    (region_alike (λ part. regions.own_domain_refusal part pd) (λ part. regions.own_added) pd e f h)
+    (region_leaves (tables.domain_refusal e.table pd) pd e regions.own_added _))
+concerns_one d e (Register pd base octets rights) all here = subst (λ x. OwnStep x e (Register pd base octets rights)) here
+    (let h = seen_alone pd e all in let f = alone pd (part_of pd e) in
+    one_step pd e (Register pd base octets rights) all (ap (λ part. Registered (answer_or (regions.own_register_refusal part base (length octets)) (regions.own_next_stag part pd))) h.table.part)
+    (region_alike (λ part. regions.own_register_refusal part base (length octets)) (λ part. regions.own_registered part (new_region base octets rights)) pd e f h)
+    (region_leaves (tables.register_refusal e.table pd base (length octets)) pd e _ _))
+concerns_one d e (Deregister stag) all here = subst (λ x. OwnStep x e (Deregister stag)) here
+    (let h = seen_alone stag.domain e all in let f = alone stag.domain (part_of stag.domain e) in
+    one_step stag.domain e (Deregister stag) all (ap (λ part. Octets (option_map (λ r. r.octets) (regions.own_region part stag))) h.table.part)
+    (region_alike {R = NoRegion} (λ part. None) (λ part. regions.own_deregistered part stag) stag.domain e f h)
+    (region_leaves {R = NoRegion} None stag.domain e _ _))
+concerns_one d e (Invalidate stag) all here = subst (λ x. OwnStep x e (Invalidate stag)) here
+    (let h = seen_alone stag.domain e all in let f = alone stag.domain (part_of stag.domain e) in
+    one_step stag.domain e (Invalidate stag) all (ap (λ part. Invalidated (is_some (regions.own_region part stag))) h.table.part)
+    (region_alike {R = NoRegion} (λ part. None) (λ part. regions.own_invalidated part stag) stag.domain e f h)
+    (region_leaves {R = NoRegion} None stag.domain e _ _))
+concerns_one d e (Store stag to octets) all here = subst (λ x. OwnStep x e (Store stag to octets)) here
+    (let h = seen_alone stag.domain e all in let f = alone stag.domain (part_of stag.domain e) in
+    one_step stag.domain e (Store stag to octets) all (ap (λ part. Stored (regions.own_store_refusal part stag to (length octets))) h.table.part)
+    (region_alike (λ part. regions.own_store_refusal part stag to (length octets)) (λ part. regions.own_put part stag to octets) stag.domain e f h)
+    (region_leaves (tables.store_refusal e.table stag to (length octets)) stag.domain e _ _))
+concerns_one d e (Facts stag) all here = subst (λ x. OwnStep x e (Facts stag)) here
+    (let h = seen_alone stag.domain e all in
+    one_step stag.domain e (Facts stag) all (ap (λ part. Found (option_map facts_of (regions.own_region part stag))) h.table.part) h (leaves-all stag.domain e _))
+concerns_one d e (Local stag) all here = subst (λ x. OwnStep x e (Local stag)) here
+    (let h = seen_alone stag.domain e all in
+    one_step stag.domain e (Local stag) all (ap (λ part. Octets (option_map (λ r. r.octets) (regions.own_region part stag))) h.table.part) h (leaves-all stag.domain e _))
+concerns_one d e (LocalMut stag octets) all here = subst (λ x. OwnStep x e (LocalMut stag octets)) here
+    (let h = seen_alone stag.domain e all in let f = alone stag.domain (part_of stag.domain e) in
+    one_step stag.domain e (LocalMut stag octets) all (ap (λ part. Octets (option_map (λ r. r.octets) (regions.own_region part stag))) h.table.part)
+    (region_alike {R = NoRegion} (λ part. None) (λ part. regions.own_changed part stag (λ r. record r { octets = overlay r.octets 0 octets })) stag.domain e f h)
+    (region_leaves {R = NoRegion} None stag.domain e _ _))
+concerns_one d e (Open n pd role config) all here = subst (λ x. IsOwn x (stream_of e n) → OwnStep x e (Open n pd role config)) here.0
+    (λ own.
+    let h = seen_alone pd e all in let f = alone pd (part_of pd e) in
+    let same = stream_alike pd e f n own (alone_own pd e n) h in
+    let x = stream.opened pd role config in
+    one_step pd e (Open n pd role config) all (ap Opened (open_alike pd e f n same h))
+    (subst (λ q. AreSeenAlike pd (unless (open_refusal e n pd) e (with_stream e n x)) (unless q f (with_stream f n x))) (open_alike pd e f n same h)
+    (unless_alike pd e f (with_stream e n x) (with_stream f n x) (open_refusal e n pd) h (with_alike pd e f n x x refl h)))
+    (open_leaves pd e n x _ refl own (refl, refl))) here.1
+concerns_one d e (AtStream n call) all own =
+    let h = seen_alone d e all in let f = alone d (part_of d e) in
+    let same = stream_alike d e f n own (alone_own d e n) h in
+    one_step d e (AtStream n call) all (ap OfStream (stream_answers d e f n call own same h)) (stream_alikes d e f n call own same h) (stream_leaves d e n call _ own)

@@ -1,0 +1,403 @@
+-- What the rules of a stream read and change of the regions is its own domain's.
+use Rattle.std.proofs.Common.{◌≡◌, ◌≢◌, ℕ, Bool, true, false, List, [], ◌∷◌, length, Option, Some, None, Result, Ok, Err, refl, sym, ap, subst, ◌∙◌, arith, inl, inr}
+use Rattle.std.specs.Prelude.{not, if◌then◌else◌}
+use Rattle.std.specs.Option.{option_map, option_map_or}
+use Rattle.std.proofs.lemmas.List.{get_or_past}
+use Rattle.std.proofs.lemmas.Option.{none-some}
+use Rattle.std.proofs.lemmas.Bool.{cases_lt}
+use Rattle.std.proofs.lemmas.Bool.Decides.{eqb_tells}
+use Rattle.iw_octets.specs.declared.fault.Fault.{Fault}
+use Rattle.iw_octets.specs.declared.head.TaggedHead.{TaggedHead}
+use Rattle.iw_octets.specs.declared.segment.Segment.{Segment}
+use Rattle.iw_octets.specs.declared.segment.Segment.TheVariants.{Tagged, Untagged}
+use Rattle.iw_octets.specs.declared.stag.Stag.{Stag}
+use Rattle.iw_octets.specs.Segment.{read_segment}
+use Rattle.iw_memory.specs.declared.refusal.InvalidateDeny.TheVariants.{NotAssociated, Invalid, NotAllowed}
+use Rattle.iw_memory.specs.declared.rights.Right.{Right}
+use Rattle.iw_memory.specs.declared.rights.Right.TheVariants as rights
+use Rattle.iw_memory.specs.Part.{Part, own_put, own_invalidated, own_region, own_denial, own_invalidate_denial}
+use Rattle.iw_memory.specs.Region.{Region, octets_from}
+use Rattle.iw_memory.specs.Table.{Table, part_of, with_part, put, denial, invalidate_denial, invalidated, region_at, octets_at}
+use Rattle.iw_memory.proofs.Callers.{length-with_part, part_of-with_part_same, part_of-with_part_other, allows}
+use Rattle.iw_memory.proofs.TableLemmas.{put-nothing}
+use Rattle.iw_fpdu.specs.declared.fpdu.Mismatch.{Mismatch}
+use Rattle.iw_rdmap.specs.declared.head.Head.{Head}
+use Rattle.iw_rdmap.specs.declared.head.Head.TheVariants as heads
+use Rattle.iw_reads.specs.declared.response.ResponsePart.{ResponsePart}
+use Rattle.iw_reads.specs.Source as source
+use Rattle.iw_reads.specs.Response.{fetch_fault, fetched_octets}
+use Rattle.iw_reads.specs.declared.reads.Outstanding.{Outstanding}
+use Rattle.iw_reads.specs.Outstanding.{sink_fault, response_turn_fault, finished_read}
+use Rattle.iw_tagged.specs.Placing as placing
+use Rattle.iw_tagged.specs.Placing.{placing_fault}
+use Rattle.iw_untagged.specs.Receiving.{Receiving, buffer_fault, turn_fault}
+use Rattle.iw_stream.specs.declared.judging.Landing.{Landing}
+use Rattle.iw_stream.specs.declared.judging.Landing.TheVariants.{Write, Response, Send, Request, Terminate}
+use Rattle.iw_stream.specs.declared.judging.PlacedFrame.{PlacedFrame}
+use Rattle.iw_stream.specs.declared.judging.Turning.{Turning}
+use Rattle.iw_stream.specs.declared.judging.Turning.TheVariants.{Passed, Completed, Answered}
+use Rattle.iw_startup.specs.declared.progress.Progress.{Progress}
+use Rattle.iw_startup.specs.declared.progress.Progress.TheVariants as progress
+use Rattle.iw_stream.specs.Frames.{Frame, payload_of, segment_in, head_in, payload_len}
+use Rattle.iw_stream.specs.Judging.{or_else, fault_or, fault_told, place_in, place_verdict, head_verdict, judged_head, mismatch_fault, verdict, table_landed, send_turning, invalidate_fault, invalidation_fault, answering_by, is_response, segment_turn, turn_of, table_turned}
+use Rattle.iw_stream.specs.Starting.{progress_in}
+use Rattle.iw_stream.specs.Stream.{StreamState, Due, frame_fetched, frame_of, octets_fetched, emission_fetched, left_fetched, octets_due, emission_due, left_due, due, emission_of, emitted, after_emit}
+use Rattle.iw_stream.specs.Stream.{StartUp, LastWord, NextPart, NoneDue, Response as ResponseDue}
+use Rattle.iw_stream.specs.Work.{Task, HandOut, GiveUp, GiveBack, Hear, Turn, Judge, Rest, task, standing, step_of, left_by, table_left, table_judged, table_passed, judged_step, turned_step, after_judging, after_turn, after_hearing, inbox, work_step, worked, table_worked}
+
+-- ---- two tables that are alike in one domain's part
+
+pub record AreAlike (d : ℕ) (t u : Table) : Type 0 where
+  pub size : length t ≡ length u
+  pub part : part_of t d ≡ part_of u d
+
+-- the same step on both leaves them alike
+pub alike-step : (d : ℕ) (t u : Table) (own : Part → Part) → AreAlike d t u → AreAlike d (with_part t d (own (part_of t d))) (with_part u d (own (part_of u d)))
+alike-step d t u own h = record {
+  size = length-with_part t d _ ∙ h.size ∙ sym (length-with_part u d _);
+  part = elim (cases_lt d (length t)) [
+    | inl within ↦ part_of-with_part_same t d _ within ∙ ap own h.part ∙ sym (part_of-with_part_same u d _ (omega (arith, within, h.size)))
+    | inr past ↦
+        get_or_past (with_part t d (own (part_of t d))) d None (omega (arith, past, length-with_part t d (own (part_of t d))))
+        ∙ sym (get_or_past (with_part u d (own (part_of u d))) d None (omega (arith, past, h.size, length-with_part u d (own (part_of u d)))))
+  ];
+}
+
+-- a change of another domain's part leaves them alike
+alike-other : (d e : ℕ) (t u : Table) (p q : Part) → d ≢ e → AreAlike d t u → AreAlike d (with_part t e p) (with_part u e q)
+alike-other d e t u p q ne h = record {
+  size = length-with_part t e p ∙ h.size ∙ sym (length-with_part u e q);
+  part = part_of-with_part_other t e d p ne ∙ h.part ∙ sym (part_of-with_part_other u e d q ne);
+}
+
+-- the same step on any domain's part leaves them alike
+alike-own : (d e : ℕ) (t u : Table) (own : Part → Part) → AreAlike d t u → AreAlike d (with_part t e (own (part_of t e))) (with_part u e (own (part_of u e)))
+alike-own d e t u own h = elim (eqb_tells e d) [
+  | inl here ↦ subst (λ (x : ℕ). AreAlike d (with_part t x (own (part_of t x))) (with_part u x (own (part_of u x)))) (sym here.1) (alike-step d t u own h)
+  | inr off ↦ alike-other d e t u _ _ (λ e. off.1 (sym e)) h
+]
+
+-- ---- what the checks read
+
+placing-alike : (d : ℕ) (t u : Table) (head : TaggedHead) (n : ℕ) (right : Right) → AreAlike d t u → placing_fault t d head n right ≡ placing_fault u d head n right
+placing-alike d t u head n right h = ap (λ part. option_map placing.denial_fault (own_denial part d head.stag head.to n right)) h.part
+
+place-alike : (s : StreamState) (t u : Table) (head : Head) (n : ℕ) → AreAlike s.domain t u → place_verdict (standing t s) head n ≡ place_verdict (standing u s) head n
+place-alike s t u (heads.Write head) n h = ap (λ o. fault_or o (Write (place_in head n))) (placing-alike s.domain t u head n rights.Write h)
+place-alike s t u (heads.Response head) n h = ap (λ o. fault_or (or_else (sink_fault s.reads head n) o) (Response (place_in head n))) (placing-alike s.domain t u head n rights.Sink h)
+place-alike s t u (heads.Send head) n h = refl
+place-alike s t u (heads.Request head request) n h =
+    ap (λ part. fault_or (option_map source.denial_fault (own_denial part s.domain request.source request.source_to request.size rights.Read)) (Request request)) h.part
+place-alike s t u (heads.Terminate head word) n h = refl
+
+head-alike : (s : StreamState) (t u : Table) (r : Result Head Fault) (n : ℕ) → AreAlike s.domain t u → head_verdict (standing t s) r n ≡ head_verdict (standing u s) r n
+head-alike s t u (Ok head) n h = place-alike s t u head n h
+head-alike s t u (Err fault) n h = refl
+
+verdict-alike : (s : StreamState) (t u : Table) (frame : Frame) → AreAlike s.domain t u → verdict (standing t s) frame ≡ verdict (standing u s) frame
+verdict-alike s t u frame h = ap (λ r. option_map_or (λ m. Err (mismatch_fault m)) frame.mismatch r) (head-alike s t u (judged_head (standing t s) frame.ulpdu) (length (payload_of (read_segment frame.ulpdu))) h)
+
+invalidation-alike : (d : ℕ) (t u : Table) (turning : Turning) → AreAlike d t u → invalidation_fault t d turning ≡ invalidation_fault u d turning
+invalidation-alike d t u Passed h = refl
+invalidation-alike d t u (Completed solicited None) h = refl
+invalidation-alike d t u (Completed solicited (Some stag)) h = ap (λ part. option_map invalidate_fault (own_invalidate_denial part d stag)) h.part
+invalidation-alike d t u (Answered ticket) h = refl
+
+segment_turn-alike : (d : ℕ) (t u : Table) (r : Receiving) (reads : List Outstanding) (n : ℕ) (segment : Option (Segment (List ℕ))) → AreAlike d t u → segment_turn t d r reads n segment ≡ segment_turn u d r reads n segment
+segment_turn-alike d t u r reads n None h = refl
+segment_turn-alike d t u r reads n (Some (Tagged head payload)) h = refl
+segment_turn-alike d t u r reads n (Some (Untagged head payload)) h =
+    ap (λ o. fault_or (or_else (turn_fault r head.msn head.mo) o) (send_turning head)) (invalidation-alike d t u (send_turning head) h)
+
+turn-alike : (s : StreamState) (t u : Table) (frame : PlacedFrame) → AreAlike s.domain t u → turn_of (standing t s) frame ≡ turn_of (standing u s) frame
+turn-alike s t u frame h = segment_turn-alike s.domain t u s.receiving s.reads (payload_len frame) (head_in frame) h
+
+-- ---- work
+
+pub step-alike : (s : StreamState) (t u : Table) → AreAlike s.domain t u → work_step t s ≡ work_step u s
+step-alike s t u h = go (task s)
+  where
+    go : (k : Task) → step_of t s k ≡ step_of u s k
+    go (HandOut done) = refl
+    go (GiveUp done) = refl
+    go (GiveBack buffer) = refl
+    go Hear = refl
+    go (Turn frame) = ap (turned_step s.receiving frame) (turn-alike s t u frame h)
+    go (Judge frame) = ap judged_step (verdict-alike s t u frame h)
+    go Rest = refl
+
+pub worked-alike : (s : StreamState) (t u : Table) → AreAlike s.domain t u → worked t s ≡ worked u s
+worked-alike s t u h = go (task s)
+  where
+    go : (k : Task) → left_by t s k ≡ left_by u s k
+    go (HandOut done) = refl
+    go (GiveUp done) = refl
+    go (GiveBack buffer) = refl
+    go Hear = refl
+    go (Turn frame) = ap (after_turn s frame) (turn-alike s t u frame h)
+    go (Judge frame) = ap (after_judging s frame) (verdict-alike s t u frame h)
+    go Rest = refl
+
+landed-alike : (d : ℕ) (t u : Table) (payload : List ℕ) (at : Landing) → AreAlike d t u → AreAlike d (table_landed t payload at) (table_landed u payload at)
+landed-alike d t u payload (Write at) h = alike-own d at.stag.domain t u (λ part. own_put part at.stag at.to payload) h
+landed-alike d t u payload (Response at) h = alike-own d at.stag.domain t u (λ part. own_put part at.stag at.to payload) h
+landed-alike d t u payload (Send msn mo len) h = h
+landed-alike d t u payload (Request request) h = h
+landed-alike d t u payload (Terminate fault) h = h
+
+judged-alike : (d : ℕ) (t u : Table) (frame : Frame) (r : Result Landing Fault) → AreAlike d t u → AreAlike d (table_judged t frame r) (table_judged u frame r)
+judged-alike d t u frame (Ok at) h = landed-alike d t u (payload_of (segment_in frame)) at h
+judged-alike d t u frame (Err fault) h = h
+
+turned-alike : (d : ℕ) (t u : Table) (turning : Turning) → AreAlike d t u → AreAlike d (table_turned t turning) (table_turned u turning)
+turned-alike d t u Passed h = h
+turned-alike d t u (Completed solicited None) h = h
+turned-alike d t u (Completed solicited (Some stag)) h = alike-own d stag.domain t u (λ part. own_invalidated part stag) h
+turned-alike d t u (Answered ticket) h = h
+
+passed-alike : (d : ℕ) (t u : Table) (r : Result Turning Fault) → AreAlike d t u → AreAlike d (table_passed t r) (table_passed u r)
+passed-alike d t u (Ok turning) h = turned-alike d t u turning h
+passed-alike d t u (Err fault) h = h
+
+pub table_worked-alike : (s : StreamState) (t u : Table) → AreAlike s.domain t u → AreAlike s.domain (table_worked t s) (table_worked u s)
+table_worked-alike s t u h = go (task s)
+  where
+    go : (k : Task) → AreAlike s.domain (table_left t s k) (table_left u s k)
+    go (HandOut done) = h
+    go (GiveUp done) = h
+    go (GiveBack buffer) = h
+    go Hear = h
+    go (Turn frame) =
+        subst (λ r. AreAlike s.domain (table_passed t (turn_of (standing t s) frame)) (table_passed u r)) (turn-alike s t u frame h)
+        (passed-alike s.domain t u (turn_of (standing t s) frame) h)
+    go (Judge frame) =
+        subst (λ r. AreAlike s.domain (table_judged t frame (verdict (standing t s) frame)) (table_judged u frame r)) (verdict-alike s t u frame h)
+        (judged-alike s.domain t u frame (verdict (standing t s) frame) h)
+    go Rest = h
+
+-- ---- what is placed or invalidated lies in the stream's own domain
+
+-- another domain's part and the number of domains stay
+pub record KeepsOthers (d : ℕ) (old new : Table) : Type 0 where
+  pub size : length new ≡ length old
+  pub parts : (other : ℕ) → other ≢ d → part_of new other ≡ part_of old other
+
+pub keeps-all : (d : ℕ) (t : Table) → KeepsOthers d t t
+keeps-all d t = record { size = refl; parts = λ other ne. refl }
+
+pub keeps-step : (d : ℕ) (t : Table) (part : Part) → KeepsOthers d t (with_part t d part)
+keeps-step d t part = record { size = length-with_part t d part; parts = λ other ne. part_of-with_part_other t d other part ne }
+
+no_octets : (xs : List ℕ) → length xs ≡ 0 → xs ≡ []
+no_octets [] e = refl
+no_octets (x ∷ xs) e = absurd (omega arith)
+
+keeps-put : (d : ℕ) (t : Table) (stag : Stag) (to : ℕ) (octets : List ℕ) (right : Right) → denial t d stag to (length octets) right ≡ None → KeepsOthers d t (put t stag to octets)
+keeps-put d t stag to octets right none = elim (allows t d stag to (length octets) right none) [
+  | inl nothing ↦ subst (λ new. KeepsOthers d t new) (sym (ap (put t stag to) (no_octets octets nothing) ∙ put-nothing t stag to)) (keeps-all d t)
+  | inr allowed ↦ subst (λ e. KeepsOthers e t (put t stag to octets)) allowed.0 (keeps-step stag.domain t (own_put (part_of t stag.domain) stag to octets))
+]
+
+-- what is not at fault was not denied
+undenied : {D : Type 0} (o : Option D) (fault : D → Fault) → option_map fault o ≡ None → o ≡ None
+undenied None fault e = refl
+undenied (Some deny) fault e = absurd (none-some _ (sym e))
+
+keeps-landed : (s : StreamState) (t : Table) (head : Head) (payload : List ℕ) (r : Result Landing Fault) → place_verdict (standing t s) head (length payload) ≡ r → (at : Landing) → r ≡ Ok at → KeepsOthers s.domain t (table_landed t payload at)
+keeps-landed s t (heads.Write head) payload r is at ok = go (placing_fault t s.domain head (length payload) rights.Write) refl (is ∙ ok)
+  where
+    go : (o : Option Fault) → placing_fault t s.domain head (length payload) rights.Write ≡ o → fault_or o (Write (place_in head (length payload))) ≡ Ok at → KeepsOthers s.domain t (table_landed t payload at)
+    go None none e =
+        let same : Write (place_in head (length payload)) ≡ at = cc in
+        subst (λ x. KeepsOthers s.domain t (table_landed t payload x)) same (keeps-put s.domain t head.stag head.to payload rights.Write (undenied _ placing.denial_fault none))
+    go (Some fault) none e = absurd (let no : ⊥ = cc in no)
+keeps-landed s t (heads.Response head) payload r is at ok = go (sink_fault s.reads head (length payload)) (placing_fault t s.domain head (length payload) rights.Sink) refl (is ∙ ok)
+  where
+    go : (sink o : Option Fault) → placing_fault t s.domain head (length payload) rights.Sink ≡ o → fault_or (or_else sink o) (Response (place_in head (length payload))) ≡ Ok at → KeepsOthers s.domain t (table_landed t payload at)
+    go None None none e =
+        let same : Response (place_in head (length payload)) ≡ at = cc in
+        subst (λ x. KeepsOthers s.domain t (table_landed t payload x)) same (keeps-put s.domain t head.stag head.to payload rights.Sink (undenied _ placing.denial_fault none))
+    go None (Some fault) none e = absurd (let no : ⊥ = cc in no)
+    go (Some fault) o none e = absurd (let no : ⊥ = cc in no)
+keeps-landed s t (heads.Send head) payload r is at ok = go (buffer_fault s.receiving head.msn head.mo (length payload)) (is ∙ ok)
+  where
+    go : (o : Option Fault) → fault_or o (Send head.msn head.mo (length payload)) ≡ Ok at → KeepsOthers s.domain t (table_landed t payload at)
+    go None e = let same : Send head.msn head.mo (length payload) ≡ at = cc in subst (λ x. KeepsOthers s.domain t (table_landed t payload x)) same (keeps-all s.domain t)
+    go (Some fault) e = absurd (let no : ⊥ = cc in no)
+keeps-landed s t (heads.Request head request) payload r is at ok = go (source.source_fault t s.domain request) (is ∙ ok)
+  where
+    go : (o : Option Fault) → fault_or o (Request request) ≡ Ok at → KeepsOthers s.domain t (table_landed t payload at)
+    go None e = let same : Request request ≡ at = cc in subst (λ x. KeepsOthers s.domain t (table_landed t payload x)) same (keeps-all s.domain t)
+    go (Some fault) e = absurd (let no : ⊥ = cc in no)
+keeps-landed s t (heads.Terminate head word) payload r is at ok =
+    let same : Terminate (fault_told word) ≡ at = cc in subst (λ x. KeepsOthers s.domain t (table_landed t payload x)) same (keeps-all s.domain t)
+
+keeps-judged : (s : StreamState) (t : Table) (frame : Frame) → KeepsOthers s.domain t (table_judged t frame (verdict (standing t s) frame))
+keeps-judged s t frame = by_mismatch frame.mismatch
+  where
+    payload : List ℕ
+    payload = payload_of (segment_in frame)
+
+    landed : (head : Head) (r : Result Landing Fault) → place_verdict (standing t s) head (length payload) ≡ r → KeepsOthers s.domain t (table_judged t frame r)
+    landed head (Ok at) is = keeps-landed s t head payload (Ok at) is at refl
+    landed head (Err fault) is = keeps-all s.domain t
+
+    by_head : (r : Result Head Fault) → KeepsOthers s.domain t (table_judged t frame (head_verdict (standing t s) r (length payload)))
+    by_head (Ok head) = landed head (place_verdict (standing t s) head (length payload)) refl
+    by_head (Err fault) = keeps-all s.domain t
+
+    by_mismatch : (m : Option Mismatch) → KeepsOthers s.domain t (table_judged t frame (option_map_or (λ m. Err (mismatch_fault m)) m (head_verdict (standing t s) (judged_head (standing t s) frame.ulpdu) (length payload))))
+    by_mismatch (Some m) = keeps-all s.domain t
+    by_mismatch None = by_head (judged_head (standing t s) frame.ulpdu)
+
+-- a region that may be invalidated is of the domain
+own_stag : (t : Table) (d : ℕ) (stag : Stag) → invalidate_denial t d stag ≡ None → stag.domain ≡ d
+own_stag t d stag none = elim (eqb_tells stag.domain d) [
+  | inl same ↦ same.1
+  | inr other ↦ absurd (none-some _ (sym none ∙ ap (λ b. if not b then Some NotAssociated else option_map_or (λ r. if not r.valid then Some Invalid else (if not r.rights.invalidate then Some NotAllowed else None)) (own_region (part_of t d) stag) (Some Invalid)) other.0))
+]
+
+keeps-turned : (d : ℕ) (t : Table) (turning : Turning) → invalidation_fault t d turning ≡ None → KeepsOthers d t (table_turned t turning)
+keeps-turned d t Passed none = keeps-all d t
+keeps-turned d t (Completed solicited None) none = keeps-all d t
+keeps-turned d t (Completed solicited (Some stag)) none =
+    subst (λ e. KeepsOthers e t (invalidated t stag)) (own_stag t d stag (undenied _ invalidate_fault none)) (keeps-step stag.domain t (own_invalidated (part_of t stag.domain) stag))
+keeps-turned d t (Answered ticket) none = keeps-all d t
+
+keeps-sent : (d : ℕ) (t : Table) (turning : Turning) (first later : Option Fault) → invalidation_fault t d turning ≡ later → KeepsOthers d t (table_passed t (fault_or (or_else first later) turning))
+keeps-sent d t turning (Some fault) later is = keeps-all d t
+keeps-sent d t turning None (Some fault) is = keeps-all d t
+keeps-sent d t turning None None is = keeps-turned d t turning is
+
+keeps-tagged : (d : ℕ) (t : Table) (responds : Bool) (fault : Option Fault) (ticket : Option ℕ) → KeepsOthers d t (table_passed t (if responds then fault_or fault (answering_by ticket) else Ok Passed))
+keeps-tagged d t false fault ticket = keeps-all d t
+keeps-tagged d t true (Some fault) ticket = keeps-all d t
+keeps-tagged d t true None None = keeps-all d t
+keeps-tagged d t true None (Some ticket) = keeps-all d t
+
+keeps-passed : (d : ℕ) (t : Table) (r : Receiving) (reads : List Outstanding) (n : ℕ) (segment : Option (Segment (List ℕ))) → KeepsOthers d t (table_passed t (segment_turn t d r reads n segment))
+keeps-passed d t r reads n None = keeps-all d t
+keeps-passed d t r reads n (Some (Tagged head payload)) = keeps-tagged d t (is_response head) (response_turn_fault reads head n) (finished_read reads head)
+keeps-passed d t r reads n (Some (Untagged head payload)) = keeps-sent d t (send_turning head) (turn_fault r head.msn head.mo) (invalidation_fault t d (send_turning head)) refl
+
+pub keeps-worked : (s : StreamState) (t : Table) → KeepsOthers s.domain t (table_worked t s)
+keeps-worked s t = go (task s)
+  where
+    go : (k : Task) → KeepsOthers s.domain t (table_left t s k)
+    go (HandOut done) = keeps-all s.domain t
+    go (GiveUp done) = keeps-all s.domain t
+    go (GiveBack buffer) = keeps-all s.domain t
+    go Hear = keeps-all s.domain t
+    go (Turn frame) = keeps-passed s.domain t s.receiving s.reads (payload_len frame) (head_in frame)
+    go (Judge frame) = keeps-judged s t frame
+    go Rest = keeps-all s.domain t
+
+-- ---- emission
+
+region-alike : (d : ℕ) (t u : Table) (stag : Stag) → stag.domain ≡ d → AreAlike d t u → region_at t stag ≡ region_at u stag
+region-alike d t u stag here h =
+    ap (λ e. own_region (part_of t e) stag) here ∙ ap (λ part. own_region part stag) h.part ∙ ap (λ e. own_region (part_of u e) stag) (sym here)
+
+none_taken : (o : Option Region) (to n : ℕ) → n ≡ 0 → option_map_or (λ r. octets_from r to n) o [] ≡ []
+none_taken None to n none = refl
+none_taken (Some r) to n none = ap (λ n. octets_from r to n) none
+
+octets-alike : (d : ℕ) (t u : Table) (stag : Stag) (to n : ℕ) (right : Right) → denial t d stag to n right ≡ None → AreAlike d t u → octets_at t stag to n ≡ octets_at u stag to n
+octets-alike d t u stag to n right none h = elim (allows t d stag to n right none) [
+  | inl nothing ↦ none_taken (region_at t stag) to n nothing ∙ sym (none_taken (region_at u stag) to n nothing)
+  | inr allowed ↦ ap (λ o. option_map_or (λ r. octets_from r to n) o []) (region-alike d t u stag allowed.0 h)
+]
+
+fetched-alike : (s : StreamState) (t u : Table) (part : ResponsePart) → AreAlike s.domain t u → frame_fetched t s part ≡ frame_fetched u s part
+fetched-alike s t u part h = go (fetch_fault t s.domain part) refl (sym fault_is)
+  where
+    fault_is : fetch_fault t s.domain part ≡ fetch_fault u s.domain part
+    fault_is = ap (λ p. option_map source.denial_fault (own_denial p s.domain part.stag part.to part.n rights.Read)) h.part
+
+    frame : List ℕ → List ℕ
+    frame octets = frame_of s (Tagged part.head octets)
+
+    go : (o : Option Fault) → fetch_fault t s.domain part ≡ o → fetch_fault u s.domain part ≡ fetch_fault t s.domain part → frame_fetched t s part ≡ frame_fetched u s part
+    go (Some fault) is same =
+        ap (λ o. fault_or o (frame (fetched_octets t part))) is ∙ sym (ap (λ o. fault_or o (frame (fetched_octets u part))) (same ∙ is))
+    go None is same =
+        ap (λ octets. fault_or (fetch_fault t s.domain part) (frame octets)) (octets-alike s.domain t u part.stag part.to part.n rights.Read (undenied _ source.denial_fault is) h)
+        ∙ ap (λ o. fault_or o (frame (fetched_octets u part))) (sym same)
+
+pub emission-alike : (s : StreamState) (t u : Table) → AreAlike s.domain t u → emission_of t s ≡ emission_of u s
+emission-alike s t u h = go (due s)
+  where
+    go : (k : Due) → emission_due t s k ≡ emission_due u s k
+    go StartUp = refl
+    go (LastWord payload) = refl
+    go (ResponseDue part) = ap (emission_fetched s part) (fetched-alike s t u part h)
+    go (NextPart part) = refl
+    go NoneDue = refl
+
+pub emitted-alike : (s : StreamState) (t u : Table) → AreAlike s.domain t u → emitted t s ≡ emitted u s
+emitted-alike s t u h = go (due s)
+  where
+    go : (k : Due) → octets_due t s k ≡ octets_due u s k
+    go StartUp = refl
+    go (LastWord payload) = refl
+    go (ResponseDue part) = ap octets_fetched (fetched-alike s t u part h)
+    go (NextPart part) = refl
+    go NoneDue = refl
+
+pub after_emit-alike : (s : StreamState) (t u : Table) → AreAlike s.domain t u → after_emit t s ≡ after_emit u s
+after_emit-alike s t u h = go (due s)
+  where
+    go : (k : Due) → left_due t s k ≡ left_due u s k
+    go StartUp = refl
+    go (LastWord payload) = refl
+    go (ResponseDue part) = ap (left_fetched s part) (fetched-alike s t u part h)
+    go (NextPart part) = refl
+    go NoneDue = refl
+
+-- ---- a stream stays in its domain
+
+heard_domain : (s : StreamState) (p : Progress) → (after_hearing s p).domain ≡ s.domain
+heard_domain s progress.More = refl
+heard_domain s progress.Asked = refl
+heard_domain s progress.Agreed = refl
+heard_domain s (progress.Faulted fault) = refl
+
+turned_domain : (s : StreamState) (frame : PlacedFrame) (r : Result Turning Fault) → (after_turn s frame r).domain ≡ s.domain
+turned_domain s frame (Ok Passed) = refl
+turned_domain s frame (Ok (Completed solicited invalidate)) = refl
+turned_domain s frame (Ok (Answered ticket)) = refl
+turned_domain s frame (Err fault) = refl
+
+judged_domain : (s : StreamState) (frame : Frame) (r : Result Landing Fault) → (after_judging s frame r).domain ≡ s.domain
+judged_domain s frame (Ok (Write at)) = refl
+judged_domain s frame (Ok (Response at)) = refl
+judged_domain s frame (Ok (Send msn mo len)) = refl
+judged_domain s frame (Ok (Request request)) = refl
+judged_domain s frame (Ok (Terminate fault)) = refl
+judged_domain s frame (Err fault) = refl
+
+pub worked_domain : (t : Table) (s : StreamState) → (worked t s).domain ≡ s.domain
+worked_domain t s = go (task s)
+  where
+    go : (k : Task) → (left_by t s k).domain ≡ s.domain
+    go (HandOut done) = refl
+    go (GiveUp done) = refl
+    go (GiveBack buffer) = refl
+    go Hear = heard_domain s (progress_in s.start (inbox s))
+    go (Turn frame) = turned_domain s frame (turn_of (standing t s) frame)
+    go (Judge frame) = judged_domain s frame (verdict (standing t s) frame)
+    go Rest = refl
+
+fetched_domain : (s : StreamState) (part : ResponsePart) (r : Result (List ℕ) Fault) → (left_fetched s part r).domain ≡ s.domain
+fetched_domain s part (Ok frame) = refl
+fetched_domain s part (Err fault) = refl
+
+pub emit_domain : (t : Table) (s : StreamState) → (after_emit t s).domain ≡ s.domain
+emit_domain t s = go (due s)
+  where
+    go : (k : Due) → (left_due t s k).domain ≡ s.domain
+    go StartUp = refl
+    go (LastWord payload) = refl
+    go (ResponseDue part) = fetched_domain s part (frame_fetched t s part)
+    go (NextPart part) = refl
+    go NoneDue = refl

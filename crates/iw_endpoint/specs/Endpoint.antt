@@ -1,0 +1,223 @@
+-- The state of an endpoint, and what each call answers and leaves of it.
+use Rattle.std.specs.Prelude.{◌≡◌, ℕ, List, [], length, replicate, slice_index_or, slice_set, Bool, false, not, nat_le, is_some, unwrap_or, if◌then◌else◌, Option, Some, None, Result, Ok, Err}
+use Rattle.std.specs.Option.{option_map}
+use Rattle.arrayvec.specs.ArrayVec.{ArrayVec}
+use Rattle.iw_octets.specs.declared.stag.Stag.{Stag}
+use Rattle.iw_memory.specs.declared.refusal.DomainRefusal.{DomainRefusal}
+use Rattle.iw_memory.specs.declared.refusal.StoreRefusal.{StoreRefusal}
+use Rattle.iw_memory.specs.declared.region.Facts.{Facts}
+use Rattle.iw_memory.specs.declared.rights.Rights.{Rights}
+use Rattle.iw_memory.specs.Region.{facts_of, new_region}
+use Rattle.iw_memory.specs.Table as tables
+use Rattle.iw_memory.specs.Table.{Table, empty, is_added, region_at, register_refusal, next_stag, put}
+use Rattle.iw_memory.specs.TableLending.{overwritten}
+use Rattle.iw_queues.specs.declared.request.Request.{Request}
+use Rattle.iw_ranges.specs.declared.Delivery.{Delivery}
+use Rattle.iw_startup.specs.declared.config.Agreed.{Agreed}
+use Rattle.iw_startup.specs.declared.config.Config.{Config}
+use Rattle.iw_startup.specs.declared.startup.NotAsked.{NotAsked}
+use Rattle.iw_stream.specs.declared.answer.Emission.{Emission}
+use Rattle.iw_stream.specs.declared.answer.OpenRefusal.{OpenRefusal}
+use Rattle.iw_stream.specs.declared.answer.OpenRefusal.TheVariants.{NumberTaken, BadNumber, NoDomain}
+use Rattle.iw_stream.specs.declared.answer.PostRefusal.{PostRefusal}
+use Rattle.iw_stream.specs.declared.answer.RecvRefusal.{RecvRefusal}
+use Rattle.iw_stream.specs.declared.answer.Role.{Role}
+use Rattle.iw_stream.specs.declared.answer.Role.TheVariants.{Preset}
+use Rattle.iw_stream.specs.declared.answer.SizeRefusal.{SizeRefusal}
+use Rattle.iw_stream.specs.declared.answer.Step.{Step}
+use Rattle.iw_stream.specs.Starting.{private_in, agreement_in}
+use Rattle.iw_stream.specs.Stream as stream
+use Rattle.iw_stream.specs.Stream.{StreamState, may_answer, emission_of, emitted, delivery_of}
+use Rattle.iw_stream.specs.Work.{work_step, worked, table_worked}
+use Rattle.iw_endpoint.specs.declared.refusal.CallRefusal.{CallRefusal}
+use Rattle.iw_endpoint.specs.declared.refusal.CallRefusal.TheVariants.{NoSuchStream as NoStream, Refused}
+use Rattle.iw_endpoint.specs.declared.refusal.NoSuchStream.{NoSuchStream}
+
+-- streams have the numbers from 0 to 63
+abbrev pub stream_numbers : ℕ
+stream_numbers = 64
+
+pub record EndpointState : Type 0 where
+  pub table : Table  -- its regions, by domain
+  pub streams : List (Option StreamState)  -- its streams, by number
+
+-- no stream was opened
+unfoldable pub no_streams : List (Option StreamState)
+no_streams = replicate stream_numbers None
+
+-- an endpoint to which nothing has happened
+abbrev pub fresh : EndpointState
+fresh = record { table = empty; streams = no_streams }
+
+-- ---- the stream of a number
+
+-- the stream that was opened under this number
+abbrev pub stream_of : EndpointState → ℕ → Option StreamState
+stream_of e number = slice_index_or e.streams number None
+
+abbrev pub has_stream : EndpointState → ℕ → Bool
+has_stream e number = is_some (stream_of e number)
+
+-- one to which nothing has happened, in no domain
+abbrev pub unopened : StreamState
+unopened = stream.opened 0 Preset (record { markers = false; crc = false; private = record { items = [] } })
+
+-- the stream of this number; where none was opened, one to which nothing has happened
+abbrev pub stream_at : EndpointState → ℕ → StreamState
+stream_at e number = unwrap_or (stream_of e number) unopened
+
+abbrev pub with_stream : EndpointState → ℕ → StreamState → EndpointState
+with_stream e number s = record e { streams = slice_set e.streams number (Some s) }
+
+-- what is answered at a stream, or that there is none
+abbrev pub answer_at : {R : Type 0} → Option StreamState → (StreamState → R) → Result R NoSuchStream
+answer_at None answer = Err (record {})
+answer_at (Some s) answer = Ok (answer s)
+
+-- why a call at a stream is refused, if it is: that there is none comes before all else
+abbrev pub refusal_at : {R : Type 0} → Option StreamState → (StreamState → Option R) → Option (CallRefusal R)
+refusal_at None refusal = Some NoStream
+refusal_at (Some s) refusal = option_map Refused (refusal s)
+
+-- ---- regions
+
+abbrev pub with_table : EndpointState → Table → EndpointState
+with_table e table = record e { table = table }
+
+abbrev pub domain_refusal : EndpointState → ℕ → Option DomainRefusal
+domain_refusal e pd = tables.domain_refusal e.table pd
+
+abbrev pub added : EndpointState → ℕ → EndpointState
+added e pd = with_table e (tables.added e.table pd)
+
+abbrev pub registered : EndpointState → ℕ → ℕ → List ℕ → Rights → EndpointState
+registered e pd base octets rights = with_table e (tables.registered e.table pd (new_region base octets rights))
+
+-- the octets of the region that is taken out
+abbrev pub octets_of : EndpointState → Stag → Option (List ℕ)
+octets_of e stag = option_map (λ r. r.octets) (region_at e.table stag)
+
+abbrev pub deregistered : EndpointState → Stag → EndpointState
+deregistered e stag = with_table e (tables.deregistered e.table stag)
+
+abbrev pub invalidated : EndpointState → Stag → EndpointState
+invalidated e stag = with_table e (tables.invalidated e.table stag)
+
+abbrev pub facts_at : EndpointState → Stag → Option Facts
+facts_at e stag = option_map facts_of (region_at e.table stag)
+
+abbrev pub store_refusal : EndpointState → Stag → ℕ → ℕ → Option StoreRefusal
+store_refusal e stag to n = tables.store_refusal e.table stag to n
+
+abbrev pub stored : EndpointState → Stag → ℕ → List ℕ → EndpointState
+stored e stag to octets = with_table e (put e.table stag to octets)
+
+-- the owner has left these as the region's octets
+abbrev pub rewritten : EndpointState → Stag → List ℕ → EndpointState
+rewritten e stag octets = with_table e (overwritten e.table stag octets)
+
+-- ---- openings
+
+abbrev pub open_refusal : EndpointState → ℕ → ℕ → Option OpenRefusal
+open_refusal e number pd =
+    if has_stream e number then Some NumberTaken
+    else if nat_le stream_numbers number then Some BadNumber
+    else if not (is_added e.table pd) then Some NoDomain
+    else None
+
+abbrev pub opened : EndpointState → ℕ → ℕ → Role → Config → EndpointState
+opened e number pd role config = with_stream e number (stream.opened pd role config)
+
+-- ---- start-up
+
+-- why a responder's user may not answer
+abbrev pub unasked : StreamState → Option NotAsked
+unasked s = if may_answer s then None else Some (record {})
+
+abbrev pub answer_refusal : EndpointState → ℕ → Option (CallRefusal NotAsked)
+answer_refusal e number = refusal_at (stream_of e number) unasked
+
+-- what accepting tells
+abbrev pub agreement : EndpointState → ℕ → Agreed
+agreement e number = agreement_in (stream_at e number).start
+
+abbrev pub accepted : EndpointState → ℕ → ArrayVec ℕ → EndpointState
+accepted e number private = with_stream e number (stream.accepted (stream_at e number) private)
+
+abbrev pub rejected : EndpointState → ℕ → ArrayVec ℕ → EndpointState
+rejected e number private = with_stream e number (stream.rejected (stream_at e number) private)
+
+-- ---- postings
+
+abbrev pub post_refusal : EndpointState → ℕ → Request (List ℕ) → Option (CallRefusal PostRefusal)
+post_refusal e number request = refusal_at (stream_of e number) (λ s. stream.post_refusal s request)
+
+abbrev pub with_request : EndpointState → ℕ → Request (List ℕ) → EndpointState
+with_request e number request = with_stream e number (stream.with_request (stream_at e number) request)
+
+abbrev pub recv_refusal : EndpointState → ℕ → Option (CallRefusal RecvRefusal)
+recv_refusal e number = refusal_at (stream_of e number) stream.recv_refusal
+
+abbrev pub with_buffer : EndpointState → ℕ → List ℕ → EndpointState
+with_buffer e number buffer = with_stream e number (stream.with_buffer (stream_at e number) buffer)
+
+-- ---- octets that come and go
+
+abbrev pub delivery_at : EndpointState → ℕ → ℕ → ℕ → Delivery
+delivery_at e number from n = delivery_of (stream_at e number) from n
+
+abbrev pub after_deliver : EndpointState → ℕ → ℕ → List ℕ → EndpointState
+after_deliver e number from octets =
+    with_stream e number (stream.after_deliver (stream_at e number) from octets (delivery_at e number from (length octets)))
+
+abbrev pub emission_at : EndpointState → ℕ → Emission
+emission_at e number = emission_of e.table (stream_at e number)
+
+abbrev pub emitted_at : EndpointState → ℕ → List ℕ
+emitted_at e number = emitted e.table (stream_at e number)
+
+abbrev pub after_emit : EndpointState → ℕ → EndpointState
+after_emit e number = with_stream e number (stream.after_emit e.table (stream_at e number))
+
+-- ---- work
+
+abbrev pub step_at : EndpointState → ℕ → Result (Step (List ℕ)) NoSuchStream
+step_at e number = answer_at (stream_of e number) (λ s. work_step e.table s)
+
+abbrev pub after_work : EndpointState → ℕ → EndpointState
+after_work e number = record {
+  table = table_worked e.table (stream_at e number);
+  streams = slice_set e.streams number (Some (worked e.table (stream_at e number)));
+}
+
+-- ---- the end
+
+-- its link broke
+abbrev pub broken : EndpointState → ℕ → EndpointState
+broken e number = with_stream e number (stream.breaks (stream_at e number))
+
+-- ---- sizes
+
+abbrev pub size_refusal : EndpointState → ℕ → ℕ → Option (CallRefusal SizeRefusal)
+size_refusal e number size = refusal_at (stream_of e number) (λ s. stream.size_refusal size)
+
+abbrev pub with_mulpdu : EndpointState → ℕ → ℕ → EndpointState
+with_mulpdu e number size = with_stream e number (stream.with_mulpdu (stream_at e number) size)
+
+-- ---- what is told of a stream
+
+abbrev pub private_at : EndpointState → ℕ → List ℕ
+private_at e number = private_in (stream_at e number).start
+
+-- how many octets it emitted, and how far it has come; 0 where there is none
+abbrev pub sent_at : EndpointState → ℕ → ℕ
+sent_at e number = (stream_at e number).sent
+
+abbrev pub point_at : EndpointState → ℕ → ℕ
+point_at e number = (stream_at e number).arrived.floor
+
+-- ---- what an endpoint keeps
+
+-- there is a place for each number
+abbrev pub HasNumbers : EndpointState → Type 0
+HasNumbers e = length e.streams ≡ stream_numbers

@@ -1,0 +1,284 @@
+-- What one domain has of an endpoint, and that no call lets it see or change what is another's.
+use Rattle.std.specs.Prelude.{◌≡◌, ◌≢◌, ◌⊎◌, ℕ, ◌==◌, List, [], ◌∷◌, length, map, filter, if◌then◌else◌, Bool, is_some, Option, Some, None, IfSome, Result, Ok, Err}
+use Rattle.std.specs.Option.{option_map}
+use Rattle.arrayvec.specs.ArrayVec.{ArrayVec}
+use Rattle.iw_octets.specs.declared.stag.Stag.{Stag}
+use Rattle.iw_memory.specs.declared.refusal.DomainRefusal.{DomainRefusal}
+use Rattle.iw_memory.specs.declared.refusal.RegisterRefusal.{RegisterRefusal}
+use Rattle.iw_memory.specs.declared.refusal.StoreRefusal.{StoreRefusal}
+use Rattle.iw_memory.specs.declared.region.Facts as facts
+use Rattle.iw_memory.specs.declared.rights.Rights.{Rights}
+use Rattle.iw_memory.specs.Part as slots
+use Rattle.iw_memory.specs.Table as tables
+use Rattle.iw_memory.specs.Table.{empty, with_part, region_at, register_refusal, next_stag}
+use Rattle.iw_queues.specs.declared.request.Request.{Request}
+use Rattle.iw_ranges.specs.declared.Delivery.{Delivery}
+use Rattle.iw_startup.specs.declared.config.Agreed.{Agreed}
+use Rattle.iw_startup.specs.declared.config.Config.{Config}
+use Rattle.iw_startup.specs.declared.startup.NotAsked.{NotAsked}
+use Rattle.iw_stream.specs.declared.answer.Emission.{Emission}
+use Rattle.iw_stream.specs.declared.answer.OpenRefusal.{OpenRefusal}
+use Rattle.iw_stream.specs.declared.answer.PostRefusal.{PostRefusal}
+use Rattle.iw_stream.specs.declared.answer.RecvRefusal.{RecvRefusal}
+use Rattle.iw_stream.specs.declared.answer.Role.{Role}
+use Rattle.iw_stream.specs.declared.answer.SizeRefusal.{SizeRefusal}
+use Rattle.iw_stream.specs.declared.answer.Step.{Step}
+use Rattle.iw_stream.specs.Stream.{StreamState}
+use Rattle.iw_endpoint.specs.declared.refusal.CallRefusal.{CallRefusal}
+use Rattle.iw_endpoint.specs.declared.refusal.NoSuchStream.{NoSuchStream}
+use Rattle.iw_endpoint.specs.Endpoint.{EndpointState, fresh, stream_of, answer_at, domain_refusal, added, registered, octets_of, deregistered, invalidated, facts_at, store_refusal, stored, rewritten, open_refusal, opened, answer_refusal, agreement, accepted, rejected, post_refusal, with_request, recv_refusal, with_buffer, delivery_at, after_deliver, emission_at, emitted_at, after_emit, step_at, after_work, broken, size_refusal, with_mulpdu, private_at, sent_at, point_at}
+
+-- ---- calls, as values
+
+-- at the stream of a number
+pub data StreamCall : Type 0 where
+  Accept : ArrayVec ℕ → StreamCall
+  Reject : ArrayVec ℕ → StreamCall
+  Post : Request (List ℕ) → StreamCall
+  PostRecv : List ℕ → StreamCall
+  Deliver : ℕ → List ℕ → StreamCall
+  Work : StreamCall
+  Emit : StreamCall
+  BreakLink : StreamCall
+  SetMulpdu : ℕ → StreamCall
+  Private : StreamCall
+  Sent : StreamCall
+  InOrderPoint : StreamCall
+  Limits : StreamCall
+
+pub data Call : Type 0 where
+  AddDomain : ℕ → Call
+  Register : ℕ → ℕ → List ℕ → Rights → Call
+  Deregister : Stag → Call
+  Invalidate : Stag → Call
+  Store : Stag → ℕ → List ℕ → Call
+  Facts : Stag → Call
+  Local : Stag → Call
+  LocalMut : Stag → List ℕ → Call  -- with what is written through the part that it lends
+  Open : ℕ → ℕ → Role → Config → Call
+  AtStream : ℕ → StreamCall → Call
+
+-- ---- what is answered where memory is not wanting
+
+pub data StreamAnswer : Type 0 where
+  Accepted : Result Agreed (CallRefusal NotAsked) → StreamAnswer
+  Rejected : Option (CallRefusal NotAsked) → StreamAnswer
+  Posted : Option (CallRefusal PostRefusal) → StreamAnswer
+  Buffered : Option (CallRefusal RecvRefusal) → StreamAnswer
+  Delivered : Result Delivery NoSuchStream → StreamAnswer
+  Worked : Result (Step (List ℕ)) NoSuchStream → StreamAnswer
+  Emitted : Result Emission NoSuchStream → Result (List ℕ) NoSuchStream → StreamAnswer  -- with the octets that were appended
+  Broke : Result (Unit {0}) NoSuchStream → StreamAnswer
+  Sized : Option (CallRefusal SizeRefusal) → StreamAnswer
+  Shown : Result (List ℕ) NoSuchStream → StreamAnswer
+  Counted : Result ℕ NoSuchStream → StreamAnswer
+  Limited : Result (Unit {0}) NoSuchStream → StreamAnswer
+
+pub data Answer : Type 0 where
+  Added : Option DomainRefusal → Answer
+  Registered : Result Stag RegisterRefusal → Answer
+  Octets : Option (List ℕ) → Answer  -- the octets of a region; none where there is no region
+  Invalidated : Bool → Answer  -- whether there is a region
+  Found : Option facts.Facts → Answer
+  Stored : Option StoreRefusal → Answer
+  Opened : Option OpenRefusal → Answer
+  OfStream : StreamAnswer → Answer
+
+abbrev pub answer_or : {A R : Type 0} → Option R → A → Result A R
+answer_or None x = Ok x
+answer_or (Some refusal) x = Err refusal
+
+-- what a refused call leaves is what was there
+abbrev pub unless : {R : Type 0} → Option R → EndpointState → EndpointState → EndpointState
+unless None e after = after
+unless (Some refusal) e after = e
+
+-- and what one leaves of whose number there is no stream
+abbrev pub if_there : Option StreamState → EndpointState → EndpointState → EndpointState
+if_there None e after = e
+if_there (Some s) e after = after
+
+abbrev pub stream_answer : EndpointState → ℕ → StreamCall → StreamAnswer
+stream_answer e n (Accept private) = Accepted (answer_or (answer_refusal e n) (agreement e n))
+stream_answer e n (Reject private) = Rejected (answer_refusal e n)
+stream_answer e n (Post request) = Posted (post_refusal e n request)
+stream_answer e n (PostRecv buffer) = Buffered (recv_refusal e n)
+stream_answer e n (Deliver from octets) = Delivered (answer_at (stream_of e n) (λ s. delivery_at e n from (length octets)))
+stream_answer e n Work = Worked (step_at e n)
+stream_answer e n Emit = Emitted (answer_at (stream_of e n) (λ s. emission_at e n)) (answer_at (stream_of e n) (λ s. emitted_at e n))
+stream_answer e n BreakLink = Broke (answer_at (stream_of e n) (λ s. tt))
+stream_answer e n (SetMulpdu size) = Sized (size_refusal e n size)
+stream_answer e n Private = Shown (answer_at (stream_of e n) (λ s. private_at e n))
+stream_answer e n Sent = Counted (answer_at (stream_of e n) (λ s. sent_at e n))
+stream_answer e n InOrderPoint = Counted (answer_at (stream_of e n) (λ s. point_at e n))
+stream_answer e n Limits = Limited (answer_at (stream_of e n) (λ s. tt))
+
+abbrev pub answer : EndpointState → Call → Answer
+answer e (AddDomain pd) = Added (domain_refusal e pd)
+answer e (Register pd base octets rights) = Registered (answer_or (register_refusal e.table pd base (length octets)) (next_stag e.table pd))
+answer e (Deregister stag) = Octets (octets_of e stag)
+answer e (Invalidate stag) = Invalidated (is_some (region_at e.table stag))
+answer e (Store stag to octets) = Stored (store_refusal e stag to (length octets))
+answer e (Facts stag) = Found (facts_at e stag)
+answer e (Local stag) = Octets (octets_of e stag)
+answer e (LocalMut stag octets) = Octets (octets_of e stag)
+answer e (Open n pd role config) = Opened (open_refusal e n pd)
+answer e (AtStream n call) = OfStream (stream_answer e n call)
+
+-- ---- what is left
+
+abbrev pub after_stream : EndpointState → ℕ → StreamCall → EndpointState
+after_stream e n (Accept private) = unless (answer_refusal e n) e (accepted e n private)
+after_stream e n (Reject private) = unless (answer_refusal e n) e (rejected e n private)
+after_stream e n (Post request) = unless (post_refusal e n request) e (with_request e n request)
+after_stream e n (PostRecv buffer) = unless (recv_refusal e n) e (with_buffer e n buffer)
+after_stream e n (Deliver from octets) = if_there (stream_of e n) e (after_deliver e n from octets)
+after_stream e n Work = if_there (stream_of e n) e (after_work e n)
+after_stream e n Emit = if_there (stream_of e n) e (after_emit e n)
+after_stream e n BreakLink = if_there (stream_of e n) e (broken e n)
+after_stream e n (SetMulpdu size) = unless (size_refusal e n size) e (with_mulpdu e n size)
+after_stream e n Private = e
+after_stream e n Sent = e
+after_stream e n InOrderPoint = e
+after_stream e n Limits = e
+
+abbrev pub after : EndpointState → Call → EndpointState
+after e (AddDomain pd) = unless (domain_refusal e pd) e (added e pd)
+after e (Register pd base octets rights) = unless (register_refusal e.table pd base (length octets)) e (registered e pd base octets rights)
+after e (Deregister stag) = deregistered e stag
+after e (Invalidate stag) = invalidated e stag
+after e (Store stag to octets) = unless (store_refusal e stag to (length octets)) e (stored e stag to octets)
+after e (Facts stag) = e
+after e (Local stag) = e
+after e (LocalMut stag octets) = rewritten e stag octets
+after e (Open n pd role config) = unless (open_refusal e n pd) e (opened e n pd role config)
+after e (AtStream n call) = after_stream e n call
+
+-- ---- one domain's part
+
+-- what a domain has of an endpoint: its slots, if it was added, and its streams by number
+pub record Part : Type 0 where
+  pub slots : slots.Part
+  pub streams : List (Option StreamState)
+
+-- a stream, if it is the domain's
+abbrev pub own_stream : ℕ → Option StreamState → Option StreamState
+own_stream d None = None
+own_stream d (Some s) = if s.domain == d then Some s else None
+
+abbrev pub part_of : ℕ → EndpointState → Part
+part_of d e = record { slots = tables.part_of e.table d; streams = map (own_stream d) e.streams }
+
+-- an endpoint at which the domain has this, and no other domain has anything
+abbrev pub alone : ℕ → Part → EndpointState
+alone d part = record { table = with_part empty d part.slots; streams = part.streams }
+
+-- one step on one domain's part: what is answered, and what is left of it
+abbrev pub own_answer : ℕ → Part → Call → Answer
+own_answer d part call = answer (alone d part) call
+
+abbrev pub own_after : ℕ → Part → Call → Part
+own_after d part call = part_of d (after (alone d part) call)
+
+-- ---- one call
+
+-- the stream, if one was opened, is the domain's
+abbrev pub IsOwn : ℕ → Option StreamState → Type 0
+IsOwn d stream = IfSome stream (λ s. s.domain ≡ d)
+
+-- a call concerns the domain that it names, or that of its STag, or that of the stream of its number
+abbrev pub Concerns : ℕ → EndpointState → Call → Type 0
+Concerns d e (AddDomain pd) = pd ≡ d
+Concerns d e (Register pd base octets rights) = pd ≡ d
+Concerns d e (Deregister stag) = stag.domain ≡ d
+Concerns d e (Invalidate stag) = stag.domain ≡ d
+Concerns d e (Store stag to octets) = stag.domain ≡ d
+Concerns d e (Facts stag) = stag.domain ≡ d
+Concerns d e (Local stag) = stag.domain ≡ d
+Concerns d e (LocalMut stag octets) = stag.domain ≡ d
+Concerns d e (Open n pd role config) = (pd ≡ d) × IsOwn d (stream_of e n)
+Concerns d e (AtStream n call) = IsOwn d (stream_of e n)
+
+-- there is a place for each domain
+abbrev pub HasDomains : EndpointState → Type 0
+HasDomains e = length e.table ≡ 256
+
+-- the call opens a stream of this number in this domain
+abbrev pub Opens : ℕ → ℕ → Call → Type 0
+Opens n d (Open m pd role config) = (m ≡ n) × (pd ≡ d)
+Opens n d (AddDomain pd) = ⊥
+Opens n d (Register pd base octets rights) = ⊥
+Opens n d (Deregister stag) = ⊥
+Opens n d (Invalidate stag) = ⊥
+Opens n d (Store stag to octets) = ⊥
+Opens n d (Facts stag) = ⊥
+Opens n d (Local stag) = ⊥
+Opens n d (LocalMut stag octets) = ⊥
+Opens n d (AtStream m call) = ⊥
+
+-- the domain of the stream of a number
+abbrev pub owner : EndpointState → ℕ → Option ℕ
+owner e n = option_map (λ s. s.domain) (stream_of e n)
+
+-- what a call that concerns a domain does is one step on that domain's part, and every other part stays
+pub record OwnStep (d : ℕ) (e : EndpointState) (call : Call) : Type 0 where
+  pub answered : answer e call ≡ own_answer d (part_of d e) call
+  pub own : part_of d (after e call) ≡ own_after d (part_of d e) call
+  pub others : (other : ℕ) → other ≢ d → part_of other (after e call) ≡ part_of other e
+  -- a stream is in the domain in which it was opened
+  pub owners : (n : ℕ) → IfSome (stream_of (after e call) n) (λ s. (owner e n ≡ Some s.domain) ⊎ Opens n s.domain call)
+  pub domains : HasDomains (after e call)
+
+abbrev pub CallsConcernOneDomain : Type 0
+CallsConcernOneDomain = (d : ℕ) (e : EndpointState) (call : Call) → HasDomains e → Concerns d e call → OwnStep d e call
+
+-- ---- lists of calls
+
+-- the domain that a call concerns, where this tells whose a stream number is
+abbrev pub concerned : (ℕ → ℕ) → Call → ℕ
+concerned whose (AddDomain pd) = pd
+concerned whose (Register pd base octets rights) = pd
+concerned whose (Deregister stag) = stag.domain
+concerned whose (Invalidate stag) = stag.domain
+concerned whose (Store stag to octets) = stag.domain
+concerned whose (Facts stag) = stag.domain
+concerned whose (Local stag) = stag.domain
+concerned whose (LocalMut stag octets) = stag.domain
+concerned whose (Open n pd role config) = pd
+concerned whose (AtStream n call) = whose n
+
+-- the domain's calls among these
+abbrev pub only : (ℕ → ℕ) → ℕ → List Call → List Call
+only whose d calls = filter (λ call. concerned whose call == d) calls
+
+-- what is answered to them, beside all others
+abbrev pub view : (ℕ → ℕ) → ℕ → EndpointState → List Call → List Answer
+view whose d e [] = []
+view whose d e (call ∷ calls) =
+    if concerned whose call == d then answer e call ∷ view whose d (after e call) calls else view whose d (after e call) calls
+
+abbrev pub after_all : EndpointState → List Call → EndpointState
+after_all e [] = e
+after_all e (call ∷ calls) = after_all (after e call) calls
+
+-- and with no other domain at the endpoint
+abbrev pub own_answers : ℕ → Part → List Call → List Answer
+own_answers d part [] = []
+own_answers d part (call ∷ calls) = own_answer d part call ∷ own_answers d (own_after d part call) calls
+
+abbrev pub own_after_all : ℕ → Part → List Call → Part
+own_after_all d part [] = part
+own_after_all d part (call ∷ calls) = own_after_all d (own_after d part call) calls
+
+-- each number that is opened, or asked to be, is asked for in one domain alone
+abbrev pub OpensOwn : (ℕ → ℕ) → List Call → Type 0
+OpensOwn whose [] = Unit {0}
+OpensOwn whose (call ∷ calls) = ((n d : ℕ) → Opens n d call → whose n ≡ d) × OpensOwn whose calls
+
+pub record IsAlone (whose : ℕ → ℕ) (d : ℕ) (calls : List Call) : Type 0 where
+  pub answers : view whose d fresh calls ≡ own_answers d (part_of d fresh) (only whose d calls)
+  pub part : part_of d (after_all fresh calls) ≡ own_after_all d (part_of d fresh) (only whose d calls)
+
+-- over any calls at a new endpoint, each domain is answered, and is left with, what it would be with no other domain there
+abbrev pub DomainsAreAlone : Type 0
+DomainsAreAlone = (whose : ℕ → ℕ) (calls : List Call) → OpensOwn whose calls → (d : ℕ) → IsAlone whose d calls

@@ -1,0 +1,4 @@
+pub mod Endpoint
+pub mod Lending
+pub mod Places
+pub mod Isolation

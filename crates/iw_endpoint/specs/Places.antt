@@ -1,0 +1,13 @@
+-- What the streams of an endpoint are once one was lent to be changed.
+use Rattle.std.specs.Prelude.{ℕ, List, Option, Some, slice_set}
+use Rattle.std.specs.Borrow.{LendsIf, MutBor, Fml, RattleType}
+use Rattle.std.specs.declared.alloc.Allocator.{Ghosts}
+use Rattle.iw_stream.specs.Stream.{StreamState}
+use Rattle.iw_stream.specs.contracts.stream.Stream as stream
+use Rattle.iw_endpoint.specs.contracts.streams.Streams.{the_row}
+
+module _ (A : RattleType) (alloc : Ghosts A.Denot) where
+  -- the stream of this number, where there is one, ends as what was last written through r
+  abbrev pub LendsStream : MutBor (List (Option StreamState)) → ℕ → Option (MutBor StreamState) → Fml
+  LendsStream streams number r =
+      LendsIf (the_row A alloc) (stream.the_row A alloc) streams r (λ s. slice_set streams.now number (Some s)) streams.now
