@@ -1,0 +1,110 @@
+-- A record of the frame that was answered is added.
+use Rattle.std.proofs.Common.{◌≡◌, ℕ, ◌+◌, ◌≤◌, true, sym, ap, ◌∙◌, subst, arith, inl, inr}
+use Rattle.std.specs.Prelude.{◌⊎◌}
+use Rattle.std.specs.List.{Contains}
+use Rattle.iw_fpdu.specs.Places.{span_start}
+use Rattle.iw_fpdu.specs.Frame.{frame_end}
+use Rattle.iw_fpdu.specs.Reading.{length_at}
+use Rattle.iw_fpdu.proofs.Octets.{length_within}
+use Rattle.iw_locate.specs.declared.frame.Frame.{Frame}
+use Rattle.iw_locate.specs.declared.frame.Next.TheVariants.{Frame as Found}
+use Rattle.iw_locate.specs.declared.judged.Record.{Record}
+use Rattle.iw_locate.specs.declared.judged.State.{State}
+use Rattle.iw_locate.specs.declared.unsearched.Unsearched.{Unsearched}
+use Rattle.iw_locate.specs.Records.{from_of, IsClear, IsClearOfPlaced, added}
+use Rattle.iw_locate.specs.Free.{Scene, octet_of, end_of, EndsBefore, IsFound, IsOpen}
+use Rattle.iw_locate.specs.Next.{IsNext, frame_at}
+use Rattle.iw_locate.specs.Among.{IsWithin}
+use Rattle.iw_locate.specs.Unsearched.{Tells, IsTouched, IsFollowed}
+use Rattle.iw_locate.specs.Keeping.{Keeps, changed, record_of, JudgingKeeps}
+use Rattle.iw_locate.proofs.Open.{start_high}
+use Rattle.iw_locate.proofs.Holds.{adds_one}
+
+pub early_is : {T : Type 0} (v : Scene T) (f : Frame) → IsNext v (Found f) → f.early ≡ true → (f ≡ frame_at v f.start true) × (v.layout.markers ≡ true) × IsOpen v f.start
+early_is v f (inl front) early = absurd (let e = sym early ∙ ap (λ (x : Frame). x.early) front.0 in cc e)
+early_is v f (inr free) early = (free.0, free.2.0, free.3.0.open_)
+
+module _ {T : Type 0} (v : Scene T) (u : Unsearched) (f : Frame) (state : State T) (keeps : Keeps v) (is : f ≡ frame_at v f.start true) (m : v.layout.markers ≡ true) (open_ : IsOpen v f.start) where
+  r : Record T
+  r = record_of f state
+
+  old_or_new : (x : Record T) → Contains (added v.records (record_of f state)) x → Contains v.records x ⊎ (record_of f state ≡ x)
+  old_or_new x = (adds_one v.records (record_of f state) x).0
+
+  end_is : f.end ≡ end_of v f.start
+  end_is = ap (λ (x : Frame). x.end) is
+
+  span : (s : ℕ) → span_start v.layout.markers s ≡ span_start true s
+  span s = ap (λ b. span_start b s) m
+
+  pub adding_keeps : Keeps (changed v v.arrived (added v.records (record_of f state)))
+  adding_keeps = record {
+    based = keeps.based;
+    between = keeps.between;
+    marked = λ e. absurd (let g = sym m ∙ e in cc g);
+    records = λ x within.
+        elim (old_or_new x within) [
+          | inl old ↦ keeps.records x old
+          | inr same ↦ omega (arith, ap (λ (y : Record T). from_of y) same, open_.past, span f.start)
+        ];
+    whole = λ x within q low high.
+        elim (old_or_new x within) [
+          | inl old ↦ keeps.whole x old q low high
+          | inr same ↦ open_.whole q (omega (arith, low, ap (λ (y : Record T). from_of y) same, span f.start)) (omega (arith, high, ap (λ (y : Record T). y.end) same, end_is))
+        ];
+    ends = λ x within.
+        elim (old_or_new x within) [
+          | inl old ↦ keeps.ends x old
+          | inr same ↦ sym (ap (λ (y : Record T). y.end) same) ∙ end_is ∙ (ap (λ b. frame_end b f.start (length_at (octet_of v) f.start)) m ∙ ap (frame_end true f.start) (sym (ap (λ (x : Frame). x.length) is)) ∙ ap (λ (y : Record T). frame_end true y.start y.length) same)
+        ];
+    released = λ q low gone. let w = keeps.released q low gone in (w.0, (adds_one v.records (record_of f state) w.0).1 (inl w.1), w.2, w.3, w.4);
+  }
+
+  more_clear : (start end : ℕ) → IsClear (added v.records (record_of f state)) start end → IsClear v.records start end
+  more_clear start end clear x within over = clear x ((adds_one v.records (record_of f state) x).1 (inl within)) over
+
+  more_clear_placed : (start end : ℕ) → IsClearOfPlaced (added v.records (record_of f state)) start end → IsClearOfPlaced v.records start end
+  more_clear_placed start end clear x within placed over = clear x ((adds_one v.records (record_of f state) x).1 (inl within)) placed over
+
+  was_open : (s : ℕ) → IsOpen (changed v v.arrived (added v.records (record_of f state))) s → IsOpen v s
+  was_open s o = record { start = o.start; whole = o.whole; past = o.past; other = o.other; clear = more_clear s (end_of v s) o.clear }
+
+  -- what is found now was found before, or begins where the frame ends
+  was_found : (s : ℕ) → IsFound (changed v v.arrived (added v.records (record_of f state))) s → IsFound v s ⊎ EndsBefore f.end s
+  was_found s (inl (p, seen, points)) = inl (inl (p, record { marker = seen.marker; came = seen.came; outside = more_clear_placed p (p + 4) seen.outside }, points))
+  was_found s (inr (x, within, ends)) =
+      elim (old_or_new x within) [
+        | inl old ↦ inl (inr (x, old, ends))
+        | inr same ↦ inr (subst (λ e. EndsBefore e s) (sym (ap (λ (y : Record T). y.end) same)) ends)
+      ]
+
+  pub adding_tells : Tells v u → IsFollowed u f → Tells (changed v v.arrived (added v.records (record_of f state))) u
+  adding_tells tells followed = record {
+    free = λ e s free.
+        let o = was_open s free.open_ in
+        elim (was_found s free.found) [
+          | inl found ↦ elim (tells.free m s (record { found = found; open_ = o })) [ inl within ↦ inl within | inr touched ↦ absurd (none_touched_at s touched) ]
+          | inr ends ↦ inl (next s o ends)
+        ];
+    reach = tells.reach;
+    octets = tells.octets;
+  }
+    where
+      none_touched_at : (s : ℕ) → IsTouched v u.from u.to s → ⊥
+      none_touched_at s (inl (q, within, low, high)) = omega (arith, within.high, followed.none)
+      none_touched_at s (inr (q, p, within, seen, points, low, high)) = omega (arith, within.high, followed.none)
+
+      past_end : (s : ℕ) → EndsBefore f.end s → f.end ≤ s
+      past_end s (inl at) = omega (arith, at)
+      past_end s (inr (marker, at)) = omega (arith, at)
+
+      next : (s : ℕ) → IsOpen v s → EndsBefore f.end s → IsWithin u.low u.high s
+      next s o ends = record {
+        low = omega (arith, followed.low, past_end s ends, end_is, length_within v.layout.markers f.start (length_at (octet_of v) f.start) open_.start);
+        high = followed.next s ends (start_high v.layout.markers s m o.start);
+      }
+
+pub judging_keeps : {T : Type 0} → JudgingKeeps T
+judging_keeps v u f state keeps tells next early followed =
+    let e = early_is v f next early in
+    (adding_keeps v u f state keeps e.0 e.1 e.2, adding_tells v u f state keeps e.0 e.1 e.2 tells followed)

@@ -1,0 +1,14 @@
+pub mod Apart
+pub mod Open
+pub mod Lowest
+pub mod Front
+pub mod Losing
+pub mod Holds
+pub mod Known
+pub mod Told
+pub mod Carried
+pub mod Adding
+pub mod Delivering
+pub mod Releasing
+pub mod Turning
+pub mod Starting

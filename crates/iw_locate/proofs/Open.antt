@@ -1,0 +1,108 @@
+-- Where a frame may be judged early, and where none may.
+use Rattle.std.proofs.Common.{◌≡◌, ℕ, ◌+◌, ◌-◌, ◌%◌, ◌^◌, ◌<◌, ◌≤◌, Bool, true, false, not, cond, eqb, inl, inr, refl, sym, ap, ◌∙◌, arith}
+use Rattle.std.proofs.lemmas.Bool.{cases_lt}
+use Rattle.std.proofs.lemmas.Bool.Decides.{nat_tests}
+use Rattle.std.specs.List.{Contains}
+use Rattle.iw_ranges.specs.Arrived.{Cell, Missing, Here, Gone, cell_at, is_missing, has_come, IsHere, IsWithinLimits}
+use Rattle.iw_fpdu.specs.Places.{IsStart, in_marker, span_start}
+use Rattle.iw_fpdu.specs.Reading.{length_at}
+use Rattle.iw_fpdu.specs.Found.{IsKept}
+use Rattle.iw_fpdu.proofs.Octets.{span_low, length_within}
+use Rattle.iw_locate.specs.declared.judged.Record.{Record}
+use Rattle.iw_locate.specs.Records.{from_of, IsPlaced, OverlapsOne, IsClear, IsClearOfPlaced}
+use Rattle.iw_locate.specs.Free.{Scene, point_of, octet_of, end_of, IsOpen, IsMarkerSeen, PointsTo, EndsBefore, CanLocate}
+
+pub start_from : (m : Bool) (s : ℕ) → m ≡ true → s % 4 ≡ 0 → 4 ≤ s % 512 → IsStart m s
+unfolding in_marker
+start_from true s e aligned high = record { aligned = aligned; outside = grind (arith, nat_tests) }
+start_from false s e aligned high = absurd (cc e)
+
+pub start_high : (m : Bool) (s : ℕ) → m ≡ true → IsStart m s → 4 ≤ s % 512
+unfolding in_marker
+start_high true s e h = grind (arith, nat_tests, h.outside)
+start_high false s e h = absurd (cc e)
+
+come_not_missing : (c : Cell) → not (is_missing c) ≡ true → c ≡ Missing → ⊥
+come_not_missing Missing e h = absurd (cc e)
+come_not_missing (Here x) e h = absurd (cc h)
+come_not_missing Gone e h = absurd (cc h)
+
+pub not_seen_missing : {T : Type 0} (v : Scene T) (p : ℕ) → has_come v.arrived (v.base + p) ≡ false → IsMarkerSeen v p → ⊥
+not_seen_missing v p none seen = let e = sym (seen.came p (omega arith) (omega arith)) ∙ none in absurd (cc e)
+
+-- a marker that lies in a placed frame isn't looked at
+pub not_seen_placed : {T : Type 0} (v : Scene T) (p : ℕ) → (r : Record T) × Contains v.records r × IsPlaced r.state × (from_of r ≤ p) × (p < r.end) → IsMarkerSeen v p → ⊥
+not_seen_placed v p (r, within, placed, low, high) seen = seen.outside r within placed (omega arith, omega (arith, span_low true p))
+
+-- the span of the frame past a marker begins with the marker
+pub span_past_marker : (p : ℕ) → p % 512 ≡ 0 → span_start true (p + 4) ≡ p
+unfolding span_start
+span_past_marker p h =
+    let near : eqb ((p + 4) % 512) 4 ≡ true = grind (arith, nat_tests) in
+    ap (λ b. cond b (p + 4 - 4) (p + 4)) near ∙ omega arith
+
+module _ {T : Type 0} (v : Scene T) (can : CanLocate v) (m : v.layout.markers ≡ true) where
+  pub span_is : (s : ℕ) → span_start v.layout.markers s ≡ span_start true s
+  span_is s = ap (λ b. span_start b s) m
+
+  -- nothing comes so far past the in-order point
+  pub not_open_far : (s : ℕ) → IsWithinLimits v.arrived → 2 ^ 63 ≤ s → IsOpen v s → ⊥
+  not_open_far s limits far open_ =
+      come_not_missing (cell_at v.arrived (v.base + s)) (open_.whole s (span_low v.layout.markers s) (omega (arith, length_within v.layout.markers s (length_at (octet_of v) s) open_.start)))
+      (limits.octets (v.base + s) (omega (arith, can.low)))
+
+  -- two octets at least
+  pub two_octets : (s : ℕ) → IsOpen v s → s + 2 ≤ end_of v s
+  two_octets s open_ = length_within v.layout.markers s (length_at (octet_of v) s) open_.start
+
+  pub not_open_under : (s : ℕ) → OverlapsOne v.records s (s + 2) → IsOpen v s → ⊥
+  not_open_under s (r, within, (low, high)) open_ = open_.clear r within (omega (arith, two_octets s open_), high)
+
+  -- where no record lies over the length field it can be read
+  pub length_kept : (s : ℕ) → IsClear v.records s (s + 2) → point_of v ≤ span_start true s → (q : ℕ) → s ≤ q → q < s + 2 → IsKept (cell_at v.arrived (v.base + q))
+  length_kept s clear past q low high = go (cell_at v.arrived (v.base + q)) refl
+    where
+      go : (c : Cell) → cell_at v.arrived (v.base + q) ≡ c → IsKept c
+      go Missing e = tt
+      go (Here x) e = tt
+      go Gone e =
+          let w = can.released q (omega (arith, span_low true s)) e in
+          clear w.0 w.1 (omega (arith, w.3), omega (arith, w.4, span_low true s))
+
+  -- past the window nothing came, so no marker
+  pub not_seen_far : (p : ℕ) → IsWithinLimits v.arrived → point_of v + 262144 ≤ p → IsMarkerSeen v p → ⊥
+  not_seen_far p limits far seen =
+      come_not_missing (cell_at v.arrived (v.base + p)) (seen.came p (omega arith) (omega arith)) (limits.octets (v.base + p) (omega (arith, can.based)))
+
+  -- a marker that no placed frame lies over was not given up
+  pub marker_here : (p : ℕ) → ((q : ℕ) → p ≤ q → q < p + 4 → has_come v.arrived (v.base + q) ≡ true) → IsClearOfPlaced v.records p (p + 4) → point_of v ≤ p → (q : ℕ) → p ≤ q → q < p + 4
+      → IsHere (cell_at v.arrived (v.base + q))
+  marker_here p came clear past q low high = go (cell_at v.arrived (v.base + q)) refl
+    where
+      go : (c : Cell) → cell_at v.arrived (v.base + q) ≡ c → IsHere c
+      go Missing e = absurd (come_not_missing (cell_at v.arrived (v.base + q)) (came q low high) e)
+      go (Here x) e = tt
+      go Gone e =
+          let w = can.released q (omega arith) e in
+          clear w.0 w.1 w.2 (omega (arith, w.3), omega (arith, w.4, span_low true p))
+
+  -- a marker before the in-order point points to nothing past it
+  pub not_open_before : (p s : ℕ) → p % 512 ≡ 0 → p < point_of v → PointsTo v p s → IsOpen v s → ⊥
+  not_open_before p s marker before (inl (zero_, is)) open_ = omega (arith, open_.past, span_is s, ap (span_start true) is, span_past_marker p marker)
+  not_open_before p s marker before (inr (some, is)) open_ = omega (arith, open_.past, span_is s, span_low true s)
+
+  -- what came lies within the window
+  pub come_low : (q : ℕ) → IsWithinLimits v.arrived → has_come v.arrived q ≡ true → q < v.arrived.floor + 262144
+  come_low q limits come =
+      elim (cases_lt q (v.arrived.floor + 262144)) [
+        | inl low ↦ low
+        | inr far ↦ absurd (come_not_missing (cell_at v.arrived q) come (limits.octets q far))
+      ]
+
+  -- no frame begins where one ends with a record that another with a record follows
+  pub not_open_joined : (end s : ℕ) (r : Record T) → Contains v.records r → r.start < r.end → from_of r ≡ end → EndsBefore end s → IsOpen v s → ⊥
+  not_open_joined end s r within some is ends open_ =
+      elim ends [
+        | inl here ↦ open_.clear r within (omega (arith, two_octets s open_), omega (arith, span_low true s, span_low true r.start))
+        | inr (marker, past) ↦ open_.clear r within (omega (arith, two_octets s open_), omega (arith, ap (span_start true) past, span_past_marker end marker, span_low true r.start))
+      ]

@@ -1,0 +1,379 @@
+ghost use Rattle.std.specs.Prelude.{◌≡◌, ◌<◌, ◌≤◌, ◌+◌, ◌^◌, ℕ, [], true, length, drop, slice_index_or, MatchBool, MatchOption, IsOkAnd, OnOk, OnErr, IfErr};
+ghost use Rattle.std.specs.List.{Contains, count_by, insert};
+ghost use Rattle.iw_fpdu.specs.Places.{span_start};
+ghost use Rattle.std.specs.VecDeque.{deque_len, deque_capacity};
+ghost use Rattle.iw_locate.specs.Records.{from_of, IsPlaced, AreApart, IsFirstPast, IsPlaceFor, OverlapsPlaced, IsClearOfPlaced, kept_from};
+ghost use Rattle.std.specs.Prelude.{nat_lt, nat_le};
+ghost use Rattle.std.specs.Bool.{OnTrue};
+
+use crate::frame::Frame;
+use std::alloc::{AllocError, Allocator, Global};
+use std::collections::VecDeque;
+use std::marker::Model;
+
+/// How many records there may be.
+pub(crate) const MAX_RECORDS: usize = 4_096;
+
+/// What became of a frame that was judged before its turn.
+#[derive(Clone, Copy, Debug, PartialEq, Eq, Drop)]
+pub enum State<T> {
+    /// Nothing was changed: it is judged again at its turn.
+    Tried,
+    /// It was placed, and this is kept for its turn.
+    Placed(T),
+}
+
+/// A frame that was judged before its turn.
+#[derive(Clone, Copy, Debug, PartialEq, Eq, Drop)]
+pub struct Record<T> {
+    /// The frame place where it begins.
+    pub start: u64,
+    /// How many octets its ULPDU has.
+    pub length: u16,
+    /// The frame place where it ends.
+    pub end: u64,
+    pub state: State<T>,
+}
+
+/// Why there is no room for a record: the first reason that holds.
+#[derive(Clone, Copy, Debug, PartialEq, Eq)]
+pub enum RecordRefusal {
+    /// There are 4,096 records.
+    Full,
+    /// There is no memory.
+    NoMemory,
+}
+
+/// The frames that were judged before their turn, no two of which overlap.
+#[derive(Drop)]
+pub struct Judged<T, A: Allocator = Global> {
+    records: VecDeque<Record<T>, A>,
+}
+
+impl<T, A: Allocator> Model for Judged<T, A> {
+    ghost use Rattle.std.specs.Prelude.{◌-◌};
+    ghost use Rattle.std.specs.VecDeque.{deque_len, deque_capacity};
+    ghost use Rattle.iw_locate.specs.Records.{Held, IsWithinLimits};
+
+    ghost Value = { Held T };
+
+    ghost view = { λ j. record { records = j.records.items; room = deque_capacity j.records - deque_len j.records } };
+
+    ghost invariant = { λ j. IsWithinLimits j.records.items };
+}
+
+impl<T, A: Allocator> Judged<T, A> {
+    ghost use Rattle.iw_locate.specs.Records.{max_records, IsWithinLimits, OverlapsOne, IsClear, added};
+    ghost use Rattle.iw_fpdu.specs.Places.{IsStart};
+
+    /// No record.
+    pub fn new(alloc: A) -> Self
+        ensures { result.records ≡ [] }
+    {
+        Judged {
+            records: VecDeque::new(alloc),
+        }
+    }
+
+    /// Makes room for one record. The room stays until it is used. A refusal changes nothing.
+    pub fn ready(&mut self) -> Result<(), RecordRefusal>
+        ensures records { self.new.records ≡ self.old.records }
+        ensures room { self.old.room ≤ self.new.room }
+        ensures ok { OnOk result (0 < self.new.room) }
+        ensures few { OnOk result (length self.new.records < max_records) }
+        ensures full { max_records ≤ length self.old.records → result ≡ Err RecordRefusal.Full }
+        ensures memory { length self.old.records < max_records → IfErr result (λ refusal. refusal ≡ RecordRefusal.NoMemory) }
+    {
+        if self.records.len() >= MAX_RECORDS {
+            return Err(RecordRefusal::Full);
+        }
+        if self.records.reserve(1).is_err() {
+            return Err(RecordRefusal::NoMemory);
+        }
+        Ok(())
+    }
+
+    /// How many records there are.
+    pub fn len(&self) -> usize
+        ensures len { result ≡ length self.now.records }
+        ensures limits { IsWithinLimits self.now.records }
+    {
+        self.records.len()
+    }
+
+    /// Where the frame of the record at an index ends.
+    pub(crate) fn end_at(&self, index: usize) -> u64
+        requires { index < length self.now.records }
+        ensures { (d : Record T) → result ≡ (slice_index_or self.now.records index d).end }
+    {
+        self.records[index].end
+    }
+
+    /// The index of the first record whose frame ends past `place`, or the number of records if there is none.
+    pub(crate) fn first_past(&self, place: u64) -> usize
+        ensures { IsFirstPast self.now.records place result }
+    {
+        first_ending_past(&self.records, place)
+    }
+
+    /// Where the last of the frames ends that end at `place` or before it.
+    pub(crate) fn last_end(&self, place: u64) -> Option<u64>
+        ensures { MatchOption result (Unit {0}) (λ end. (end ≤ place) × ((r : Record T) × Contains self.now.records r × (r.end ≡ end))) }
+    {
+        let past = first_ending_past(&self.records, place);
+        if past == 0 {
+            return None;
+        }
+        Some(self.records[past - 1].end)
+    }
+
+    /// Whether a frame whose span begins before `place` ends past it.
+    pub fn reaches_over(&self, place: u64) -> bool
+        ensures { MatchBool result ((r : Record T) × Contains self.now.records r × (from_of r < place) × (place < r.end))
+            ((r : Record T) → Contains self.now.records r → from_of r < place → r.end ≤ place) }
+    {
+        let at = first_ending_past(&self.records, place);
+        match self.records.get(at) {
+            Some(record) => {
+                if span_of(record.start) < place {
+                    return true;
+                }
+                false
+            }
+            None => false,
+        }
+    }
+
+    /// Where the frames end that lie at `place` and on from there without a gap, as far as `limit`; or `place` where none does.
+    pub(crate) fn run_to(&self, place: u64, limit: u64) -> u64
+        ensures covered { (q : ℕ) → place ≤ q → q < result → (r : Record T) × Contains self.now.records r × (from_of r ≤ q) × (q < r.end) }
+        ensures low { place ≤ result }
+    {
+        let first = first_ending_past(&self.records, place);
+        end_of_run(&self.records, place, limit, first)
+    }
+
+    /// The record of the frame that begins at `start`.
+    pub fn at(&self, start: u64) -> Option<&Record<T>>
+        ensures { MatchOption result ((r : Record T) → Contains self.now.records r → r.start ≡ start → ⊥)
+            (λ r. Contains self.now.records r.now × (r.now.start ≡ start)) }
+    {
+        let at = first_ending_past(&self.records, start);
+        match self.records.get(at) {
+            Some(record) => {
+                if record.start == start {
+                    Some(record)
+                } else {
+                    None
+                }
+            }
+            None => None,
+        }
+    }
+
+    /// The last place where a frame that begins at `start` may end and overlap no frame with a record.
+    pub(crate) fn clear_to(&self, start: u64) -> u64
+        ensures clear { (end : ℕ) → end ≤ result → IsClear self.now.records start end }
+        ensures over { (end : ℕ) → result < end → end < 2 ^ 64 → OverlapsOne self.now.records start end }
+    {
+        let at = first_ending_past(&self.records, span_of(start));
+        match self.records.get(at) {
+            Some(record) => span_of(record.start),
+            None => u64::MAX,
+        }
+    }
+
+    /// Whether the span of the frame from `start` to `end` overlaps that of a frame with a record.
+    pub fn overlaps(&self, start: u64, end: u64) -> bool
+        ensures { MatchBool result (OverlapsOne self.now.records start end) (IsClear self.now.records start end) }
+    {
+        let at = first_ending_past(&self.records, span_of(start));
+        match self.records.get(at) {
+            Some(record) => {
+                if span_of(record.start) < end {
+                    return true;
+                }
+                false
+            }
+            None => false,
+        }
+    }
+
+    /// Whether the span of the frame from `start` to `end` overlaps that of a frame that was placed.
+    pub fn overlaps_placed(&self, start: u64, end: u64) -> bool
+        ensures { MatchBool result (OverlapsPlaced self.now.records start end) (IsClearOfPlaced self.now.records start end) }
+    {
+        let first = first_ending_past(&self.records, span_of(start));
+        has_placed(&self.records, start, end, first)
+    }
+
+    /// Drops the records of the frames whose spans begin before `place`.
+    pub fn drop_to(&mut self, place: u64)
+    where
+        T: Drop,
+        ensures records { self.new.records ≡ kept_from place self.old.records }
+        ensures room { self.old.room ≤ self.new.room }
+    {
+        forget(&mut self.records, place);
+    }
+
+    /// Adds a record of a frame that overlaps none with a record. It takes the room that one `ready` made.
+    pub fn add(&mut self, frame: Frame, state: State<T>)
+    where
+        T: Drop,
+        requires room { 0 < self.old.room }
+        requires few { length self.old.records < max_records }
+        requires start { IsStart true frame.start }
+        requires some { frame.start < frame.end }
+        requires clear { IsClear self.old.records frame.start frame.end }
+        ensures records { self.new.records ≡ added self.old.records (record { start = frame.start; length = frame.length; end = frame.end; state = state }) }
+        ensures room { self.old.room ≤ self.new.room + 1 }
+    {
+        let at = count_before(&self.records, frame.start);
+        let record = Record {
+            start: frame.start,
+            length: frame.length,
+            end: frame.end,
+            state,
+        };
+        insert_in_room(&mut self.records, at, record);
+    }
+}
+
+/// Where the span of a frame begins that begins at `start`: with the marker directly before it, or with the frame.
+#[tactic(auto, unfolding(iw_fpdu::specs::Places::span_start))]
+pub(crate) fn span_of(start: u64) -> u64
+    ensures { result ≡ span_start true start }
+{
+    if start % 512 == 4 { start - 4 } else { start }
+}
+
+/// The first record that ends past `place`, or the number of records if there is none.
+fn first_ending_past<T, A: Allocator>(records: &VecDeque<Record<T>, A>, place: u64) -> usize
+    requires { AreApart records.now.items }
+    ensures { IsFirstPast records.now.items place result }
+{
+    let count = records.len();
+    if count == 0 {
+        return 0;
+    }
+    if records[count - 1].end <= place {
+        return count;
+    }
+    records.partition_point(
+        |record: &Record<T>| -> bool
+            ensures { result ≡ nat_le record.now.end place }
+        { record.end <= place },
+    )
+}
+
+/// How many records there are of frames that begin before `start`.
+fn count_before<T, A: Allocator>(records: &VecDeque<Record<T>, A>, start: u64) -> usize
+    requires { AreApart records.now.items }
+    ensures count { result ≡ count_by (λ r. nat_lt r.start start) records.now.items }
+    ensures place { IsPlaceFor records.now.items start result }
+{
+    records.partition_point(
+        |record: &Record<T>| -> bool
+            ensures { result ≡ nat_lt record.now.start start }
+        { record.start < start },
+    )
+}
+
+/// Puts a record in where there is room for it.
+fn insert_in_room<T: Drop, A: Allocator>(
+    records: &mut VecDeque<Record<T>, A>,
+    at: usize,
+    new: Record<T>,
+)
+    requires at { at ≤ deque_len records.old }
+    requires room { deque_len records.old < deque_capacity records.old }
+    ensures items { records.new.items ≡ insert records.old.items at new }
+    ensures len { deque_len records.new ≡ deque_len records.old + 1 }
+    ensures capacity { deque_capacity records.old ≤ deque_capacity records.new }
+{
+    let _ = records.insert(at, new);
+}
+
+/// Whether a record from that at `first` on is of a frame that was placed and overlaps the frame from `start` to `end`.
+fn has_placed<T, A: Allocator>(
+    records: &VecDeque<Record<T>, A>,
+    start: u64,
+    end: u64,
+    first: usize,
+) -> bool
+    requires apart { AreApart records.now.items }
+    requires first { IsFirstPast records.now.items (span_start true start) first }
+    ensures { MatchBool result (OverlapsPlaced records.now.items start end) (IsClearOfPlaced records.now.items start end) }
+{
+    let mut at = first;
+    'overlapping: while at < records.len() {
+        let found = &records[at];
+        if end <= span_of(found.start) {
+            return false;
+        }
+        if is_placed(&found.state) {
+            return true;
+        }
+        at += 1;
+    }
+    false
+}
+
+/// Where the frames end that lie at `place` and on from there without a gap, as far as `limit`. The first record whose frame
+/// ends past `place` is that at `first`.
+fn end_of_run<T, A: Allocator>(
+    records: &VecDeque<Record<T>, A>,
+    place: u64,
+    limit: u64,
+    first: usize,
+) -> u64
+    requires { IsFirstPast records.now.items place first }
+    ensures covered { (q : ℕ) → place ≤ q → q < result → (r : Record T) × Contains records.now.items r × (from_of r ≤ q) × (q < r.end) }
+    ensures low { place ≤ result }
+{
+    let mut at = first;
+    let mut to = place;
+    'run: while at < records.len() && to < limit {
+        let found = &records[at];
+        if to < span_of(found.start) {
+            return to;
+        }
+        to = found.end;
+        at += 1;
+    }
+    to
+}
+
+/// Whether the frame was placed.
+fn is_placed<T>(state: &State<T>) -> bool
+    ensures { MatchBool result (IsPlaced state.now) (IsPlaced state.now → ⊥) }
+{
+    match state {
+        State::Tried => false,
+        State::Placed(_) => true,
+    }
+}
+
+/// Drops the records at the front of the frames whose spans begin before `place`.
+fn forget<T: Drop, A: Allocator>(records: &mut VecDeque<Record<T>, A>, place: u64)
+    requires { AreApart records.old.items }
+    ensures items { records.new.items ≡ kept_from place records.old.items }
+    ensures apart { AreApart records.new.items }
+    ensures capacity { deque_capacity records.new ≡ deque_capacity records.old }
+    ensures len { deque_len records.new ≤ deque_len records.old }
+{
+    'passed: while !records.is_empty() && span_of(records[0].start) < place {
+        drop_first(records);
+    }
+}
+
+/// Drops the first record.
+fn drop_first<T: Drop, A: Allocator>(records: &mut VecDeque<Record<T>, A>)
+    requires { 0 < deque_len records.old }
+    ensures items { records.new.items ≡ drop 1 records.old.items }
+    ensures len { deque_len records.new + 1 ≡ deque_len records.old }
+    ensures capacity { deque_capacity records.new ≡ deque_capacity records.old }
+{
+    let _ = records.pop_front();
+}

@@ -1,0 +1,252 @@
+ghost use Rattle.std.specs.Prelude.{◌≡◌, ◌<◌, ◌≤◌, ◌+◌, ◌%◌, ◌^◌, ℕ, true, MatchOption};
+ghost use Rattle.iw_fpdu.specs.Places.{IsStart};
+ghost use Rattle.iw_locate.specs.Free.{scene_of, point_of, octet_of, end_of, IsOpen, CanLocate};
+ghost use Rattle.iw_locate.specs.Next.{CanBeEarly, IsLowest, IsNone, IsNext, frame_at};
+ghost use Rattle.iw_locate.specs.Among.{IsLowestAmong, IsFoundWithin};
+ghost use Rattle.iw_locate.specs.Unsearched.{Tells, IsTouched, IsFollowed, IsLeftBy, only_from};
+
+use crate::frame::{Frame, Next};
+use crate::judged::{Judged, MAX_RECORDS};
+use crate::locator::Locator;
+use crate::searching::{MARKER, SPACING, WINDOW, round_up, start_or, start_past};
+use crate::unsearched::Unsearched;
+use iw_ranges::Islands;
+use std::alloc::Allocator;
+
+/// More than any frame reaches past its first octet, or any pointer back, in octets.
+const LONGEST: u64 = 66_080;
+
+impl Locator {
+    /// The same as [`next`](Locator::next). It looks only at what is unsearched, and leaves what still is.
+    pub fn next_since<T, A: Allocator, B: Allocator>(
+        &self,
+        islands: &Islands<A>,
+        judged: &Judged<T, B>,
+        unsearched: &mut Unsearched,
+    ) -> Next
+        requires can { CanLocate (scene_of self.now.layout self.now.base islands.now.arrived judged.now.records) }
+        requires tells { Tells (scene_of self.now.layout self.now.base islands.now.arrived judged.now.records) unsearched.old }
+        ensures next { IsNext (scene_of self.now.layout self.now.base islands.now.arrived judged.now.records) result }
+        ensures tells { Tells (scene_of self.now.layout self.now.base islands.now.arrived judged.now.records) unsearched.new }
+        ensures followed { (f : Frame) → result ≡ Next.Frame f → f.early ≡ true → IsFollowed unsearched.new f }
+    {
+        match self.at_point(islands, judged) {
+            Some(next) => next,
+            None => match self.early_since(islands, judged, unsearched) {
+                Some(frame) => Next::Frame(frame),
+                None => Next::Nothing,
+            },
+        }
+    }
+
+    /// The frame at the lowest free place, while there is room for a record.
+    fn early_since<T, A: Allocator, B: Allocator>(
+        &self,
+        islands: &Islands<A>,
+        judged: &Judged<T, B>,
+        unsearched: &mut Unsearched,
+    ) -> Option<Frame>
+        requires can { CanLocate (scene_of self.now.layout self.now.base islands.now.arrived judged.now.records) }
+        requires tells { Tells (scene_of self.now.layout self.now.base islands.now.arrived judged.now.records) unsearched.old }
+        ensures next { let v = scene_of self.now.layout self.now.base islands.now.arrived judged.now.records in
+            MatchOption result (IsNone v) (λ f. (f ≡ frame_at v f.start true) × CanBeEarly v × IsLowest v f.start) }
+        ensures tells { Tells (scene_of self.now.layout self.now.base islands.now.arrived judged.now.records) unsearched.new }
+        ensures followed { MatchOption result (Unit {0}) (λ f. IsFollowed unsearched.new f) }
+    {
+        if !self.layout.markers || judged.len() >= MAX_RECORDS {
+            return None;
+        }
+        let point = islands.floor() - self.base;
+        let narrowed = self.narrowed(islands, judged, point, *unsearched);
+        let found = self.search(islands, judged, point, narrowed);
+        *unsearched = left_after(narrowed, found);
+        found
+    }
+
+    /// What is unsearched, as places where a frame may begin.
+    fn narrowed<T, A: Allocator, B: Allocator>(
+        &self,
+        islands: &Islands<A>,
+        judged: &Judged<T, B>,
+        point: u64,
+        unsearched: Unsearched,
+    ) -> Unsearched
+        requires can { CanLocate (scene_of self.now.layout self.now.base islands.now.arrived judged.now.records) }
+        requires point { point ≡ point_of (scene_of self.now.layout self.now.base islands.now.arrived judged.now.records) }
+        requires markers { self.now.layout.markers ≡ true }
+        requires tells { Tells (scene_of self.now.layout self.now.base islands.now.arrived judged.now.records) unsearched }
+        ensures tells { Tells (scene_of self.now.layout self.now.base islands.now.arrived judged.now.records) result }
+        ensures none { result.to ≡ 0 }
+        ensures high { result.high ≤ 2 ^ 63 }
+    {
+        let taken = self.taken_in(islands, judged, point, unsearched);
+        let past = judged.run_to(taken.low.max(point), taken.high);
+        only_from(taken, first_start(past.min(1 << 63)), taken.high)
+    }
+
+    /// What is unsearched, without octets that came since.
+    fn taken_in<T, A: Allocator, B: Allocator>(
+        &self,
+        islands: &Islands<A>,
+        judged: &Judged<T, B>,
+        point: u64,
+        unsearched: Unsearched,
+    ) -> Unsearched
+        requires can { CanLocate (scene_of self.now.layout self.now.base islands.now.arrived judged.now.records) }
+        requires point { point ≡ point_of (scene_of self.now.layout self.now.base islands.now.arrived judged.now.records) }
+        requires markers { self.now.layout.markers ≡ true }
+        requires tells { Tells (scene_of self.now.layout self.now.base islands.now.arrived judged.now.records) unsearched }
+        ensures tells { Tells (scene_of self.now.layout self.now.base islands.now.arrived judged.now.records) result }
+        ensures none { result.to ≡ 0 }
+        ensures high { result.high ≤ 2 ^ 63 }
+    {
+        // Its contract has the limits: nothing comes so far past the in-order point.
+        let _ = islands.floor();
+        let from = unsearched.from.max(point);
+        let to = unsearched.to.min(point + WINDOW);
+        let high = unsearched.high.min(1 << 63);
+        if to <= from {
+            return only_from(unsearched, unsearched.low, high);
+        }
+        let low = self.first_touched(islands, judged, point, from, to);
+        if high <= unsearched.low {
+            return only_from(unsearched, low, to + MARKER);
+        }
+        only_from(unsearched, low.min(unsearched.low), high.max(to + MARKER))
+    }
+
+    /// A place before which no frame begins that can be judged early and was touched by the octets that came from `from` up
+    /// to `to`.
+    fn first_touched<T, A: Allocator, B: Allocator>(
+        &self,
+        islands: &Islands<A>,
+        judged: &Judged<T, B>,
+        point: u64,
+        from: u64,
+        to: u64,
+    ) -> u64
+        requires can { CanLocate (scene_of self.now.layout self.now.base islands.now.arrived judged.now.records) }
+        requires point { point ≡ point_of (scene_of self.now.layout self.now.base islands.now.arrived judged.now.records) }
+        requires markers { self.now.layout.markers ≡ true }
+        requires octets { (q : ℕ) → octet_of (scene_of self.now.layout self.now.base islands.now.arrived judged.now.records) q < 256 }
+        requires from { point ≤ from }
+        requires some { from < to }
+        requires to { to ≤ point + 262144 }
+        ensures { let v = scene_of self.now.layout self.now.base islands.now.arrived judged.now.records in
+            (s : ℕ) → IsOpen v s → IsTouched v from to s → result ≤ s }
+    {
+        let mut low = self.first_over(islands, judged, point, from);
+        let mut place = round_up(from.saturating_sub(MARKER - 1).max(point));
+        'markers: while place < to {
+            let pointed = self.pointed_by(islands, judged, point, place, 0, low);
+            low = start_or(pointed, low);
+            place += SPACING;
+        }
+        low
+    }
+
+    /// A place before which no frame begins that can be judged early and reaches past `from`.
+    fn first_over<T, A: Allocator, B: Allocator>(
+        &self,
+        islands: &Islands<A>,
+        judged: &Judged<T, B>,
+        point: u64,
+        from: u64,
+    ) -> u64
+        requires can { CanLocate (scene_of self.now.layout self.now.base islands.now.arrived judged.now.records) }
+        requires point { point ≡ point_of (scene_of self.now.layout self.now.base islands.now.arrived judged.now.records) }
+        requires markers { self.now.layout.markers ≡ true }
+        requires octets { (q : ℕ) → octet_of (scene_of self.now.layout self.now.base islands.now.arrived judged.now.records) q < 256 }
+        requires from { point ≤ from }
+        requires near { from ≤ point + 262144 }
+        ensures { let v = scene_of self.now.layout self.now.base islands.now.arrived judged.now.records in
+            (s : ℕ) → IsOpen v s → from < end_of v s → result ≤ s }
+    {
+        // Its contract has what is so of the records.
+        let _ = judged.len();
+        let at = self.base + from;
+        if point < from && !islands.came(at - 1, at) {
+            return from;
+        }
+        let near = from.saturating_sub(LONGEST);
+        match judged.last_end(from) {
+            Some(end) => near.max(end),
+            None => near,
+        }
+    }
+
+    /// The lowest frame that can be judged early and begins at one of the places that are unsearched.
+    fn search<T, A: Allocator, B: Allocator>(
+        &self,
+        islands: &Islands<A>,
+        judged: &Judged<T, B>,
+        point: u64,
+        unsearched: Unsearched,
+    ) -> Option<Frame>
+        requires can { CanLocate (scene_of self.now.layout self.now.base islands.now.arrived judged.now.records) }
+        requires point { point ≡ point_of (scene_of self.now.layout self.now.base islands.now.arrived judged.now.records) }
+        requires markers { self.now.layout.markers ≡ true }
+        requires tells { Tells (scene_of self.now.layout self.now.base islands.now.arrived judged.now.records) unsearched }
+        requires high { unsearched.high ≤ 2 ^ 63 }
+        ensures { let v = scene_of self.now.layout self.now.base islands.now.arrived judged.now.records in
+            IsLowestAmong (IsFoundWithin v unsearched.low unsearched.high) v result }
+    {
+        let low = unsearched.low;
+        let high = unsearched.high;
+        if high <= low {
+            return None;
+        }
+        if high <= low + 4 && low % 4 == 0 {
+            // It is the only one.
+            match self.open_at(islands, judged, point, low) {
+                None => return None,
+                Some(_) => {}
+            }
+        }
+        // Its contract has the limits: nothing comes so far past the in-order point.
+        let _ = islands.floor();
+        let end = unsearched.reach.min(point + WINDOW).min(high + LONGEST);
+        self.lowest_in(islands, judged, point, low, high, end)
+    }
+}
+
+/// No octets that came since, and frames that begin from `low` up to `high`.
+fn only_from(unsearched: Unsearched, low: u64, high: u64) -> Unsearched
+    ensures { result ≡ only_from unsearched low high }
+{
+    Unsearched {
+        from: 0,
+        to: 0,
+        low,
+        high,
+        ..unsearched
+    }
+}
+
+/// What is unsearched once this frame was found, and once none was.
+fn left_after(unsearched: Unsearched, found: Option<Frame>) -> Unsearched
+    requires { MatchOption found (Unit {0}) (λ f. f.end < 2 ^ 63) }
+    ensures { MatchOption found (result ≡ only_from unsearched 0 0) (λ f. IsLeftBy unsearched result f) }
+{
+    match found {
+        Some(frame) => only_from(
+            unsearched,
+            frame.start,
+            unsearched.high.max(start_past(frame.end) + 1),
+        ),
+        None => only_from(unsearched, 0, 0),
+    }
+}
+
+/// The first place from `place` on where a frame may begin, or any before it.
+fn first_start(place: u64) -> u64
+    requires { place ≤ 2 ^ 63 }
+    ensures { (s : ℕ) → IsStart true s → place ≤ s → result ≤ s }
+{
+    let aligned = place.div_ceil(4) * 4;
+    if aligned % SPACING == 0 {
+        aligned + MARKER
+    } else {
+        aligned
+    }
+}
