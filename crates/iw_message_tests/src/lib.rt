@@ -10,8 +10,6 @@ mod reads;
 #[cfg(test)]
 mod schedules;
 #[cfg(test)]
-mod streams;
-#[cfg(test)]
 mod tagged;
 #[cfg(test)]
 mod untagged;
