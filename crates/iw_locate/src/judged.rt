@@ -10,6 +10,7 @@ use crate::frame::Frame;
 use std::alloc::{AllocError, Allocator, Global};
 use std::collections::VecDeque;
 use std::marker::Model;
+use thiserror::Error;
 
 /// How many records there may be.
 pub(crate) const MAX_RECORDS: usize = 4_096;
@@ -36,11 +37,13 @@ pub struct Record<T> {
 }
 
 /// Why there is no room for a record: the first reason that holds.
-#[derive(Clone, Copy, Debug, PartialEq, Eq)]
+#[derive(Clone, Copy, Debug, PartialEq, Eq, Error)]
 pub enum RecordRefusal {
     /// There are 4,096 records.
+    #[error("there are 4,096 records")]
     Full,
     /// There is no memory.
+    #[error("no memory")]
     NoMemory,
 }
 

@@ -1,64 +1,85 @@
+use thiserror::Error;
+
 /// Why a domain was not added: the first reason that holds.
-#[derive(Clone, Copy, Debug, PartialEq, Eq)]
+#[derive(Clone, Copy, Debug, PartialEq, Eq, Error)]
 pub enum DomainRefusal {
     /// 0 is no domain's number.
+    #[error("0 is no domain")]
     BadDomain,
     /// The domain was added before.
+    #[error("the domain was added before")]
     DomainTaken,
     /// There is no memory. A domain takes none before its first region, so this is never answered.
+    #[error("no memory")]
     NoMemory,
 }
 
 /// Why a region was not registered: the first reason that holds.
-#[derive(Clone, Copy, Debug, PartialEq, Eq)]
+#[derive(Clone, Copy, Debug, PartialEq, Eq, Error)]
 pub enum RegisterRefusal {
     /// The domain was not added.
+    #[error("the domain was not added")]
     NoDomain,
     /// The domain has 1,024 regions.
+    #[error("the domain is full")]
     DomainFull,
     /// There are more than 16,777,216 octets.
+    #[error("too many octets for a region")]
     TooLong,
     /// The base and the number of octets come to more than 2^64.
+    #[error("the tagged offsets wrap")]
     BaseWrap,
     /// There is no memory for the region.
+    #[error("no memory")]
     NoMemory,
 }
 
 /// Why octets were not stored: the first reason that holds.
-#[derive(Clone, Copy, Debug, PartialEq, Eq)]
+#[derive(Clone, Copy, Debug, PartialEq, Eq, Error)]
 pub enum StoreRefusal {
     /// The STag names no region.
+    #[error("the STag names no region")]
     NoRegion,
     /// Not all the octets would stand in the region.
+    #[error("the octets are not all in the region")]
     Outside,
 }
 
 /// Why a peer may not use a part of a region (RFC 5040 and RFC 5042): the first reason that holds.
-#[derive(Clone, Copy, Debug, PartialEq, Eq)]
+#[derive(Clone, Copy, Debug, PartialEq, Eq, Error)]
 pub enum Deny {
     /// The STag is another domain's, whether it names a region there or not.
+    #[error("the STag is another domain's")]
     NotAssociated,
     /// The STag names no region, or one that was invalidated.
+    #[error("the STag names no valid region")]
     Invalid,
-    /// The part ends behind tagged offset 2^64 - 1.
+    /// The part ends past tagged offset 2^64 - 1.
+    #[error("the tagged offsets wrap")]
     ToWrap,
     /// The part is not within the region.
+    #[error("the part is not within the region")]
     Bounds,
     /// The region does not grant this use.
+    #[error("the region does not grant this use")]
     Rights,
 }
 
 /// Why a peer may not invalidate a region: the first reason that holds.
-#[derive(Clone, Copy, Debug, PartialEq, Eq)]
+#[derive(Clone, Copy, Debug, PartialEq, Eq, Error)]
 pub enum InvalidateDeny {
     /// The STag is another domain's, whether it names a region there or not.
+    #[error("the STag is another domain's")]
     NotAssociated,
     /// The STag names no region, or one that was invalidated.
+    #[error("the STag names no valid region")]
     Invalid,
     /// The region does not grant it.
+    #[error("the region may not be invalidated")]
     NotAllowed,
 }
 
 /// The STag names no region.
-#[derive(Clone, Copy, Debug, PartialEq, Eq)]
+#[derive(Clone, Copy, Debug, PartialEq, Eq, Error)]
+#[error("the STag names no region")]
 pub struct NoRegion;

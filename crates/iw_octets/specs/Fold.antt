@@ -1,5 +1,5 @@
 -- Octets are folded away: 1 + x^32 + x^107 + x^113 + x^136 + x^290 is a multiple of the polynomial, and so is its eighth
--- power. So an octet may be taken away where it is added 154, 177, 183, 258 and 290 octets behind, and the remainder stays.
+-- power. So an octet may be taken away where it is added 154, 177, 183, 258 and 290 octets further on, and the remainder stays.
 use Rattle.std.specs.Prelude.{ℕ, ◌≡◌, ◌≤◌, ◌*◌, ◌^◌, List, [], ◌∷◌, ◌++◌, length, drop, slice_index, bit_xor}
 use Rattle.iw_octets.specs.Crc.{after_bits}
 
@@ -23,6 +23,6 @@ owed window = sum_of_five (little window) (little (drop 32 window)) (little (dro
 unfoldable pub remainder_with : List ℕ → List ℕ → ℕ
 remainder_with window octets = after_bits (8 * length octets) (bit_xor (little octets) (owed window))
 
--- the octets at the front are folded into the window: with any that come behind, the remainder stays
+-- the octets at the front are folded into the window: with any that come after, the remainder stays
 abbrev pub Folds : List ℕ → List ℕ → List ℕ → Type 0
 Folds old front new = (behind : List ℕ) → 290 ≤ length behind → remainder_with old (front ++ behind) ≡ remainder_with new behind

@@ -54,7 +54,7 @@ untagged_fields octets = record {
   mo = number_32 octets 14;
 }
 
--- the header at the front, and what stands behind it; none where the octets are too few
+-- the header at the front, and what stands past it; none where the octets are too few
 unfoldable pub read_tagged : List ℕ → Option (TaggedHead × List ℕ)
 read_tagged octets = if nat_lt (length octets) 14 then None else Some (tagged_fields octets, drop 14 octets)
 

@@ -1,4 +1,4 @@
--- Reading undoes writing, whatever stands behind, and writing undoes reading; what is read is read off the octets at the front.
+-- Reading undoes writing, whatever stands after, and writing undoes reading; what is read is read off the octets at the front.
 use Rattle.std.specs.Prelude.{ℕ, ◌≡◌, ◌<◌, ◌+◌, ◌-◌, ◌*◌, ◌/◌, ◌%◌, true, false, List, [], ◌∷◌, ◌++◌, slice_index, Some, None, codes, replicate, if◌then◌else◌}
 use Rattle.iw_octets.specs.declared.constants.TheConstants as constants
 use Rattle.iw_octets.specs.declared.fault.Fault.{Fault}
@@ -36,7 +36,7 @@ abbrev pub plain_segment : List ℕ → List ℕ
 plain_segment [] = []
 plain_segment (first ∷ rest) = (first / 0x40 * 0x40 + first % 4) ∷ rest
 
--- the same with those of a Terminate's first word zero: the 13 behind its three flags
+-- the same with those of a Terminate's first word zero: the 13 after its three flags
 abbrev pub plain_word : List ℕ → List ℕ
 plain_word (cause ∷ code ∷ flags ∷ reserved ∷ rest) = cause ∷ code ∷ (flags / 0x20 * 0x20) ∷ 0 ∷ rest
 plain_word octets = octets

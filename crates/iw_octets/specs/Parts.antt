@@ -6,7 +6,7 @@ use Rattle.iw_octets.specs.declared.part.Part.{Part}
 abbrev pub part_at : ℕ → ℕ → ℕ → Part
 part_at len size offset = record { offset = offset; n = min (len - offset) size; last = nat_le (len - offset) size }
 
--- so many full parts of this size, one behind the other, from an offset on
+-- so many full parts of this size, one after the other, from an offset on
 unfoldable pub full_parts : ℕ → ℕ → ℕ → List Part
 full_parts zero offset size = []
 full_parts (suc count) offset size = record { offset = offset; n = size; last = false } ∷ full_parts count (offset + size) size

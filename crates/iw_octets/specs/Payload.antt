@@ -19,7 +19,7 @@ request_fields octets = record {
   source_to = number_64 octets 20;
 }
 
--- the request at the front, and what stands behind it; none where the octets are too few
+-- the request at the front, and what stands past it; none where the octets are too few
 unfoldable pub read_request : List ℕ → Option (ReadRequest × List ℕ)
 read_request octets = if nat_lt (length octets) 28 then None else Some (request_fields octets, drop 28 octets)
 
@@ -41,7 +41,7 @@ word_fields octets = record {
   has_request = slice_index octets 2 / 0x20 % 2 == 1;
 }
 
--- the word at the front, and what stands behind it; none where the octets are too few
+-- the word at the front, and what stands past it; none where the octets are too few
 unfoldable pub read_word : List ℕ → Option (TerminateWord × List ℕ)
 read_word octets = if nat_lt (length octets) 4 then None else Some (word_fields octets, drop 4 octets)
 

@@ -16,7 +16,7 @@ read_segment (first ∷ rest) =
     if is_tagged first then option_map (λ read. Tagged read.0 read.1) (read_tagged (first ∷ rest))
     else option_map (λ read. Untagged read.0 read.1) (read_untagged (first ∷ rest))
 
--- the segment with more octets behind its payload
+-- the segment with more octets past its payload
 abbrev pub with_behind : Segment (List ℕ) → List ℕ → Segment (List ℕ)
 with_behind (Tagged head payload) more = Tagged head (payload ++ more)
 with_behind (Untagged head payload) more = Untagged head (payload ++ more)

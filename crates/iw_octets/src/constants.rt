@@ -12,7 +12,7 @@ pub const TAGGED_HEADER: usize = 14;
 /// How many octets the header of an untagged segment has, RDMAP's five octets among them (RFC 5041 4.3).
 pub const UNTAGGED_HEADER: usize = 18;
 
-/// How many octets a Read Request has behind its untagged header (RFC 5040 4.4).
+/// How many octets a Read Request has past its untagged header (RFC 5040 4.4).
 pub const READ_REQUEST_HEADER: usize = 28;
 
 /// How many octets a ULPDU has at most that is sent; one that comes may have 65,535 (RFC 5044 4.1).

@@ -7,7 +7,7 @@ use crate::fold::folded;
 use crate::tables::{TURN_TABLES, WORD_TABLES};
 use std::marker::Model;
 
-/// The remainder that an octet leaves behind the steps of its word's rest.
+/// The remainder that an octet leaves after the steps of its word's rest.
 fn word_entry(place: usize, octet: u8) -> u32
     requires { place < 8 }
     ensures { result ≡ after_bits (64 - 8 * place) octet }
@@ -62,7 +62,7 @@ fn word_added(word: u64) -> u32
         ^ word_entry(7, octet_of(word, 7))
 }
 
-/// The same with 24 octets of zero behind the word.
+/// The same with 24 octets of zero after the word.
 fn turn_added(word: u64) -> u32
     ensures { result ≡ after_bits 256 word }
 {

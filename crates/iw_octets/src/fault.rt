@@ -1,7 +1,10 @@
+use thiserror::Error;
+
 /// Why a stream ends, in the numbers that a Terminate carries: the layer, the error type within it, and the error code.
 ///
 /// Layer 0 is RDMAP (RFC 5040 4.8), layer 1 is DDP (RFC 5041 7.2), layer 2 is MPA (RFC 5044 8).
-#[derive(Clone, Copy, Debug, PartialEq, Eq)]
+#[derive(Clone, Copy, Debug, PartialEq, Eq, Error)]
+#[error("fault of layer {layer}, type {kind}, code {code}")]
 pub struct Fault {
     pub layer: u8,
     pub kind: u8,

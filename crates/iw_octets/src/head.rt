@@ -108,7 +108,7 @@ pub(crate) fn read_stag(octets: &[u8], at: usize) -> Stag
 }
 
 impl TaggedHead {
-    /// The header at the front, and what stands behind it. `Short` where there are fewer than 14 octets.
+    /// The header at the front, and what stands past it. `Short` where there are fewer than 14 octets.
     #[tactic(auto, unfolding(crate::specs::Head::read_tagged))]
     #[inline(always)]
     pub fn read(octets: &[u8]) -> Result<(TaggedHead, &[u8]), Short>
@@ -145,7 +145,7 @@ impl TaggedHead {
 }
 
 impl UntaggedHead {
-    /// The header at the front, and what stands behind it. `Short` where there are fewer than 18 octets.
+    /// The header at the front, and what stands past it. `Short` where there are fewer than 18 octets.
     #[tactic(auto, unfolding(crate::specs::Head::read_untagged))]
     #[inline(never)]
     pub fn read(octets: &[u8]) -> Result<(UntaggedHead, &[u8]), Short>

@@ -1,6 +1,6 @@
 ghost use Rattle.iw_octets.specs.Laws.{AddsInPieces, KnownConstants, KnownFaults, KnownValues, NumbersTell, OperationsAreTold, PartsAreTaken, ReadsAgain, WritesAgain};
 
-/// What is written is read again, whatever stands behind it, and more octets behind a segment are more of its payload.
+/// What is written is read again, whatever stands past it, and more octets past a segment are more of its payload.
 pub fn reads_again()
     ensures { ReadsAgain }
 {}

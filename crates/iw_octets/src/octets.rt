@@ -6,7 +6,7 @@ ghost use Rattle.iw_octets.specs.Octets.{splice};
 use std::alloc::{Allocator, Global};
 use std::marker::Model;
 
-/// Octets as a value: contracts see their list alone, not where they lie nor the room behind them.
+/// Octets as a value: contracts see their list alone, not where they lie nor the room past them.
 #[derive(Drop)]
 #[derive_where(Debug)]
 pub struct Octets<A: Allocator = Global> {
@@ -59,9 +59,9 @@ impl<A: Allocator> Octets<A> {
         requires { at + length octets.now ≤ length self.old }
         ensures { self.new ≡ splice self.old at octets.now }
     {
-        let _room = self.items.len() - at;
-        let end = at + octets.len();
-        self.items.slice_mut(at..end).copy_from_slice(octets);
+        let (_, rest) = self.items.as_mut_slice().split_at_mut(at);
+        let (place, _) = rest.split_at_mut(octets.len());
+        place.copy_from_slice(octets);
     }
 }
 

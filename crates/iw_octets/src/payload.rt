@@ -18,7 +18,7 @@ pub struct ReadRequest {
     pub source_to: u64,
 }
 
-/// The first word of a Terminate's payload (RFC 5040 4.8, 4 octets): a fault, and which parts of its cause come behind:
+/// The first word of a Terminate's payload (RFC 5040 4.8, 4 octets): a fault, and which parts of its cause come after it:
 /// the segment's length, its DDP header, its Read Request.
 #[derive(Clone, Copy, Debug, PartialEq, Eq)]
 pub struct TerminateWord {
@@ -31,7 +31,7 @@ pub struct TerminateWord {
 }
 
 impl ReadRequest {
-    /// The request at the front, and what stands behind it. `Short` where there are fewer than 28 octets.
+    /// The request at the front, and what stands past it. `Short` where there are fewer than 28 octets.
     #[tactic(auto, unfolding(crate::specs::Payload::read_request))]
     pub fn read(octets: &[u8]) -> Result<(ReadRequest, &[u8]), Short>
         ensures read { shown result ≡ read_request octets.now }
@@ -65,7 +65,7 @@ impl ReadRequest {
     }
 }
 
-/// The octet of the three flags. The bits behind them are reserved, and zero.
+/// The octet of the three flags. The bits past them are reserved, and zero.
 fn flags_octet(has_length: bool, has_ddp: bool, has_request: bool) -> u8
     ensures { result ≡ flags_octet has_length has_ddp has_request }
 {
@@ -76,7 +76,7 @@ fn flags_octet(has_length: bool, has_ddp: bool, has_request: bool) -> u8
 }
 
 impl TerminateWord {
-    /// The word at the front, and what stands behind it. `Short` where there are fewer than 4 octets.
+    /// The word at the front, and what stands past it. `Short` where there are fewer than 4 octets.
     #[tactic(auto, unfolding(crate::specs::Payload::read_word))]
     pub fn read(octets: &[u8]) -> Result<(TerminateWord, &[u8]), Short>
         ensures read { shown result ≡ read_word octets.now }

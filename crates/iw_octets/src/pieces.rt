@@ -56,7 +56,7 @@ fn write_at(out: &mut [u8], at: usize, octets: &[u8])
     out[at..at + octets.len()].copy_from_slice(octets);
 }
 
-/// Writes pieces one behind the other; their lengths add up to that of `out`.
+/// Writes pieces one after the other; their lengths add up to that of `out`.
 pub fn gather<'a, I: Iterator<Item = &'a [u8]>>(pieces: I, out: &mut [u8])
     requires can { I.can_next pieces }
     requires ends { IsFinite (I.remaining pieces) }

@@ -4,7 +4,7 @@ ghost use Rattle.iw_octets.specs.ShownSegment.{shown_segment};
 
 use crate::head::{Short, TaggedHead, UntaggedHead, is_tagged};
 
-/// A header with the payload behind it: what one FPDU carries (RFC 5041 4).
+/// A header with the payload after it: what one FPDU carries (RFC 5041 4).
 #[derive(Clone, Copy, Debug, PartialEq)]
 pub enum Segment<P> {
     Tagged(TaggedHead, P),

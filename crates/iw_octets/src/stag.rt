@@ -2,12 +2,14 @@ ghost use Rattle.std.specs.Prelude.{◌≡◌};
 ghost use Rattle.std.specs.Int.{w32, to_be_bytes, from_be_bytes};
 ghost use Rattle.iw_octets.specs.Stag.{FitsStag, number_of, spelled, stag_at};
 
+use std::fmt;
 use std::marker::Model;
 
 /// Names a region: a domain, a slot of that domain, and a key that tells the uses of the slot apart.
 ///
-/// As a number of 32 bits, and in a header, the domain stands highest, then the slot, then the key.
-#[derive(Clone, Copy, Debug, PartialEq, Eq)]
+/// As a number of 32 bits, and in a header, the domain stands highest, then the slot, then the key. Its `Debug` is that
+/// number in eight hexadecimal digits, as `Stag(01000000)`.
+#[derive(Clone, Copy, PartialEq, Eq)]
 pub struct Stag {
     number: u32,
 }
@@ -101,5 +103,11 @@ impl From<Stag> for u32 {
 
     fn from(stag: Stag) -> u32 {
         stag.number
+    }
+}
+
+impl fmt::Debug for Stag {
+    fn fmt<W: fmt::Write>(&self, f: &mut fmt::Formatter<W>) -> fmt::Result {
+        write!(f, "Stag({:08x})", self.number)
     }
 }

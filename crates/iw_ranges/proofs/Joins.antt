@@ -6,7 +6,7 @@ use Rattle.std.proofs.lemmas.Bool.Decides.{nat_tests}
 use Rattle.std.proofs.Math.ListN.{set}
 use Rattle.std.specs.Prelude.{insert, remove, nat_lt, nat_eq, MatchBool}
 use Rattle.iw_ranges.specs.declared.spans.Span.{Span}
-use Rattle.iw_ranges.specs.Spans.{add_span, merge_span, spans_behind, IsFirstReaching, IsFromStart, first_end}
+use Rattle.iw_ranges.specs.Spans.{add_span, merge_span, spans_past, IsFirstReaching, IsFromStart, first_end}
 use Rattle.iw_ranges.proofs.Reaches.{AllBefore}
 
 pub skip_one : (from to : ℕ) (s : Span) (ss : List Span) → s.to < from → add_span from to (s ∷ ss) ≡ s ∷ add_span from to ss
@@ -142,16 +142,16 @@ pub length_inserted : (ss all : List Span) (i : ℕ) (s : Span) → i ≤ length
 length_inserted ss all i s le is = omega (arith, ap length is, length-append (take i ss) (s ∷ drop i ss), length-take-le i ss le, length-drop i ss)
 
 -- ---- spans that are forgotten
-pub behind_none : (to : ℕ) → spans_behind to [] ≡ []
-unfolding spans_behind
+pub behind_none : (to : ℕ) → spans_past to [] ≡ []
+unfolding spans_past
 behind_none to = refl
 
-pub behind_more : (to : ℕ) (s : Span) (ss : List Span) → s.to ≤ to → spans_behind to (s ∷ ss) ≡ spans_behind to ss
-unfolding spans_behind
+pub behind_more : (to : ℕ) (s : Span) (ss : List Span) → s.to ≤ to → spans_past to (s ∷ ss) ≡ spans_past to ss
+unfolding spans_past
 behind_more to s ss h = grind (arith, nat_tests)
 
-pub behind_done : (to : ℕ) (s : Span) (ss : List Span) → to < s.to → spans_behind to (s ∷ ss) ≡ s ∷ ss
-unfolding spans_behind
+pub behind_done : (to : ℕ) (s : Span) (ss : List Span) → to < s.to → spans_past to (s ∷ ss) ≡ s ∷ ss
+unfolding spans_past
 behind_done to s ss h = grind (arith, nat_tests)
 
 -- ---- whether there is one more
@@ -176,15 +176,15 @@ apart_at ss from to at s n e first lt is =
           subst (λ b. AddsOne b from to ss n) (sym t) (omega (arith, length_touched ss from to at s first.before lt (first.reaches s lt) (subst (λ x. x.from ≤ to) is touches)))
     ]
 
-pub forget_one : (to : ℕ) (ss : List Span) (s : Span) → s ≡ get_or ss 0 s → s.to ≤ to → spans_behind to ss ≡ spans_behind to (drop 1 ss)
+pub forget_one : (to : ℕ) (ss : List Span) (s : Span) → s ≡ get_or ss 0 s → s.to ≤ to → spans_past to ss ≡ spans_past to (drop 1 ss)
 forget_one to [] s is h = refl
 forget_one to (t ∷ ts) s is h = behind_more to t ts (subst (λ (x : Span). x.to ≤ to) is h)
 
-pub forget_done : (to : ℕ) (ss : List Span) (s : Span) → s ≡ get_or ss 0 s → to < s.to → spans_behind to ss ≡ ss
+pub forget_done : (to : ℕ) (ss : List Span) (s : Span) → s ≡ get_or ss 0 s → to < s.to → spans_past to ss ≡ ss
 forget_done to [] s is h = behind_none to
 forget_done to (t ∷ ts) s is h = behind_done to t ts (subst (λ (x : Span). to < x.to) is h)
 
-pub forget_none : (to : ℕ) (ss : List Span) → length ss ≡ 0 → spans_behind to ss ≡ ss
+pub forget_none : (to : ℕ) (ss : List Span) → length ss ≡ 0 → spans_past to ss ≡ ss
 forget_none to [] h = behind_none to
 forget_none to (t ∷ ts) h = absurd (omega arith)
 

@@ -7,7 +7,7 @@ use Rattle.std.proofs.lemmas.Bool.Decides.{nat_tests}
 use Rattle.std.specs.List.{range_with_len, concat}
 use Rattle.std.specs.Prelude.{nat_lt, nat_le, All}
 use Rattle.iw_ranges.specs.declared.spans.Span.{Span}
-use Rattle.iw_ranges.specs.Spans.{in_span, in_spans, IsApart, IsFromStart, AreSpans, first_end, add_span, spans_behind}
+use Rattle.iw_ranges.specs.Spans.{in_span, in_spans, IsApart, IsFromStart, AreSpans, first_end, add_span, spans_past}
 use Rattle.iw_ranges.specs.Arrived.{Cell, Missing, Here, Gone, Arrived, cell_at, has_come, advanced, given_up, released, cells_between, drawn, end_of, IsHere}
 use Rattle.iw_ranges.specs.Fields.{Fields, cell_of, arrived_in, IsSound}
 use Rattle.iw_ranges.specs.Parts.{parts_of}
@@ -21,7 +21,7 @@ spans_apart : (m : ℕ) (ss : List Span) → IsApart m ss → AreSpans ss
 spans_apart m [] apart = tt
 spans_apart m (s ∷ ss) apart = (apart.1, apart.2)
 
-pub behind_spans : (to : ℕ) (ss : List Span) → AreSpans ss → AreSpans (spans_behind to ss)
+pub behind_spans : (to : ℕ) (ss : List Span) → AreSpans ss → AreSpans (spans_past to ss)
 behind_spans to [] order = subst AreSpans (sym (behind_none to)) tt
 behind_spans to (s ∷ ss) order =
     elim (cases_lt to s.to) [
@@ -29,7 +29,7 @@ behind_spans to (s ∷ ss) order =
       | inr passed ↦ subst AreSpans (sym (behind_more to s ss passed)) (behind_spans to ss (spans_apart s.to ss order.1))
     ]
 
-in_behind : (to : ℕ) (ss : List Span) (p : ℕ) → to ≤ p → in_spans p (spans_behind to ss) ≡ in_spans p ss
+in_behind : (to : ℕ) (ss : List Span) (p : ℕ) → to ≤ p → in_spans p (spans_past to ss) ≡ in_spans p ss
 in_behind to [] p low = ap (in_spans p) (behind_none to)
 in_behind to (s ∷ ss) p low =
     elim (cases_lt to s.to) [
@@ -39,7 +39,7 @@ in_behind to (s ∷ ss) p low =
           ap (in_spans p) (behind_more to s ss passed) ∙ in_behind to ss p low ∙ sym (ap (λ b. b || in_spans p ss) out)
     ]
 
-behind_in : (to : ℕ) (ss : List Span) (p : ℕ) → in_spans p (spans_behind to ss) ≡ true → in_spans p ss ≡ true
+behind_in : (to : ℕ) (ss : List Span) (p : ℕ) → in_spans p (spans_past to ss) ≡ true → in_spans p ss ≡ true
 behind_in to [] p t = absurd (let e = ap (in_spans p) (behind_none to) in cc)
 behind_in to (s ∷ ss) p t =
     elim (cases_lt to s.to) [
@@ -70,7 +70,7 @@ pub record KeepsGone (to : ℕ) (old new : List Span) : Type 0 where
   pub came : (p : ℕ) → in_spans p new ≡ true → in_spans p old ≡ true
   pub behind : (p : ℕ) → to ≤ p → in_spans p new ≡ in_spans p old
 
-pub forgot : (to : ℕ) (old new : List Span) → AreSpans old → new ≡ spans_behind to old → KeepsGone to old new
+pub forgot : (to : ℕ) (old new : List Span) → AreSpans old → new ≡ spans_past to old → KeepsGone to old new
 forgot to old new order is = record {
   order = subst AreSpans (sym is) (behind_spans to old order);
   came = λ p t. behind_in to old p (sym (ap (in_spans p) is) ∙ t);

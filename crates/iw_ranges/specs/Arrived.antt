@@ -10,7 +10,7 @@ pub data Cell : Type 0 where
   Here : ℕ → Cell
   Gone : Cell
 
--- a stream: all before the in-order point `floor` came and was given up, cell i is place floor + i, and behind the last cell nothing came
+-- a stream: all before the in-order point `floor` came and was given up, cell i is place floor + i, and past the last cell nothing came
 pub record Arrived : Type 0 where
   pub floor : ℕ
   pub cells : List Cell
@@ -39,7 +39,7 @@ IsHere Gone = ⊥
 abbrev pub has_come : Arrived → ℕ → Bool
 has_come a p = not (is_missing (cell_at a p))
 
--- the place behind the last cell
+-- the place past the last cell
 abbrev pub end_of : Arrived → ℕ
 end_of a = a.floor + length a.cells
 
@@ -75,7 +75,7 @@ abbrev pub starts_in : (ℕ → Bool) → ℕ → ℕ → ℕ
 starts_in came from zero = 0
 starts_in came from (suc n) = (if came from && not (came (from - 1)) then 1 else 0) + starts_in came (from + 1) n
 
--- an octet comes less than this far behind the in-order point, or is dropped
+-- an octet comes less than this far past the in-order point, or is dropped
 abbrev pub window : ℕ
 window = 262144
 

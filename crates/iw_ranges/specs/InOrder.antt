@@ -1,4 +1,4 @@
--- Octets that came without a gap, where none is given up behind the in-order point.
+-- Octets that came without a gap, where none is given up past the in-order point.
 use Rattle.std.specs.Prelude.{ℕ, ◌≡◌, ◌≤◌, Bool, true, false, List, length, Some, slice_get}
 use Rattle.iw_ranges.specs.Arrived.{Arrived, Cell, Missing, Here, Gone, cell_at, window}
 
@@ -11,7 +11,7 @@ is_gone Gone = true
 abbrev pub IsHeld : Arrived → Type 0
 IsHeld a = (p : ℕ) → a.floor ≤ p → is_gone (cell_at a p) ≡ false
 
--- nothing came behind the window
+-- nothing came past the window
 abbrev pub IsInWindow : Arrived → Type 0
 IsInWindow a = length a.cells ≤ window
 

@@ -24,7 +24,7 @@ StaysCome = (a : Arrived) (from to p : ℕ) → has_come (released a from to) p 
 abbrev pub GivesUpBefore : Type 0
 GivesUpBefore = (a : Arrived) (to p : ℕ) → cell_at (advanced a to) p ≡ (if nat_lt p to then Gone else cell_at a p)
 
--- what came in order stands behind the in-order point, and the place behind it didn't come; a segment only adds to its end, the in-order point takes
+-- what came in order stands past the in-order point, and the place past it didn't come; a segment only adds to its end, the in-order point takes
 -- away its front, in either order; and from the beginning of the stream on it is the first octets that were sent, where each one that came was sent
 pub record InOrderGrows : Type 0 where
   pub stands : (a : Arrived) → map Here (in_order a) ≡ cells_between a a.floor (a.floor + length (in_order a))

@@ -10,7 +10,7 @@ abbrev pub in_spans : ℕ → List Span → Bool
 in_spans p [] = false
 in_spans p (s ∷ ss) = in_span p s || in_spans p ss
 
--- spans in order, none empty, a place between each and the next, the first behind place m
+-- spans in order, none empty, a place between each and the next, the first past place m
 abbrev pub IsApart : ℕ → List Span → Type 0
 IsApart m [] = Unit {0}
 IsApart m (s ∷ ss) = (m < s.from) × (s.from < s.to) × IsApart s.to ss
@@ -35,7 +35,7 @@ abbrev pub AreSpans : List Span → Type 0
 AreSpans [] = Unit {0}
 AreSpans (s ∷ ss) = (s.from < s.to) × IsApart s.to ss
 
--- the span at i is the first that ends at `from` or behind it, or there is none and i is their number
+-- the span at i is the first that ends at `from` or past it, or there is none and i is their number
 pub record IsFirstReaching (ss : List Span) (from i : ℕ) : Type 0 where
   pub within : i ≤ length ss
   pub before : (k : ℕ) (d : Span) → k < i → (slice_index_or ss k d).to < from
@@ -52,10 +52,10 @@ unfoldable pub add_span : ℕ → ℕ → List Span → List Span
 add_span from to [] = record { from = from; to = to } ∷ []
 add_span from to (s ∷ ss) = if nat_lt s.to from then s ∷ add_span from to ss else merge_span from to (s ∷ ss)
 
--- the spans that reach behind place `to`
-unfoldable pub spans_behind : ℕ → List Span → List Span
-spans_behind to [] = []
-spans_behind to (s ∷ ss) = if nat_le s.to to then spans_behind to ss else s ∷ ss
+-- the spans that reach past place `to`
+unfoldable pub spans_past : ℕ → List Span → List Span
+spans_past to [] = []
+spans_past to (s ∷ ss) = if nat_le s.to to then spans_past to ss else s ∷ ss
 
 -- what stands at index i of a buffer that begins at place `base`, once octets were written from place `from` on wherever no span is
 unfoldable pub octet_after : ℕ → List Span → ℕ → List ℕ → List ℕ → ℕ → ℕ

@@ -45,8 +45,8 @@ fn fill<A: Allocator>(
         let (before, _) = rest.split_at(gap);
         write_at(buffer, (next - base) as usize, before);
         let skip = rest.len().min(span.to.saturating_sub(next) as usize);
-        let (_, behind) = rest.split_at(skip);
-        rest = behind;
+        let (_, back) = rest.split_at(skip);
+        rest = back;
         next += skip as u64;
         at += 1;
     }
@@ -66,9 +66,9 @@ fn room_for(capacity: usize, len: usize) -> usize
     capacity.saturating_add(capacity).min(MAX_HELD).max(len)
 }
 
-/// Puts the octets at index `at`, behind all that stands in the buffer, with zeros between. There is room for them.
-fn lay_behind<A: Allocator>(buffer: &mut Vec<u8, A>, at: usize, octets: &[u8])
-    requires behind { vec_len buffer.old ≤ at }
+/// Puts the octets at index `at`, past all that stands in the buffer, with zeros between. There is room for them.
+fn lay_past<A: Allocator>(buffer: &mut Vec<u8, A>, at: usize, octets: &[u8])
+    requires past { vec_len buffer.old ≤ at }
     requires room { at + length octets.now ≤ vec_capacity buffer.old }
     ensures octets { (i : ℕ) → slice_index buffer.new.items i
         ≡ (if nat_le at i && nat_lt i (at + length octets.now) then slice_index octets.now (i - at) else slice_index buffer.old.items i) }
@@ -78,9 +78,9 @@ fn lay_behind<A: Allocator>(buffer: &mut Vec<u8, A>, at: usize, octets: &[u8])
     let _ = buffer.extend_from_slice(octets);
 }
 
-/// Puts the octets at index `at`, behind all that stands in the buffer, with zeros between. An `Err` changes nothing.
+/// Puts the octets at index `at`, past all that stands in the buffer, with zeros between. An `Err` changes nothing.
 fn append<A: Allocator>(buffer: &mut Vec<u8, A>, at: usize, octets: &[u8]) -> Result<(), AllocError>
-    requires behind { 0 < length octets.now → vec_len buffer.old ≤ at }
+    requires past { 0 < length octets.now → vec_len buffer.old ≤ at }
     requires held { at + length octets.now ≤ 327680 }
     ensures octets { OnOk result ((i : ℕ) → slice_index buffer.new.items i
         ≡ (if nat_le at i && nat_lt i (at + length octets.now) then slice_index octets.now (i - at) else slice_index buffer.old.items i)) }
@@ -92,7 +92,7 @@ fn append<A: Allocator>(buffer: &mut Vec<u8, A>, at: usize, octets: &[u8]) -> Re
     }
     let room = room_for(buffer.capacity(), at + octets.len());
     buffer.reserve_exact(room - buffer.len())?;
-    lay_behind(buffer, at, octets);
+    lay_past(buffer, at, octets);
     Ok(())
 }
 
@@ -106,10 +106,10 @@ fn extend<A: Allocator>(buffer: &mut Vec<u8, A>, octets: &[u8])
     let _ = buffer.extend_from_slice(octets);
 }
 
-/// Whether the octets stand right behind all of the buffer, which begins at place `base`, where they come from place `from` on,
+/// Whether the octets stand right after all of the buffer, which begins at place `base`, where they come from place `from` on,
 /// and it has room for them.
 #[inline(always)]
-pub(crate) fn fits_behind<A: Allocator>(
+pub(crate) fn fits_after<A: Allocator>(
     buffer: &Vec<u8, A>,
     base: u64,
     from: u64,
@@ -125,14 +125,14 @@ pub(crate) fn fits_behind<A: Allocator>(
 
 /// Takes in the octets from place `from` on, where the first span and the buffer end, and adds their places to the spans.
 #[inline(always)]
-pub(crate) fn put_behind<A: Allocator>(
+pub(crate) fn put_after<A: Allocator>(
     buffer: &mut Vec<u8, A>,
     base: u64,
     spans: &mut VecDeque<Span, A>,
     from: u64,
     octets: &[u8],
 )
-    requires behind { from ≡ base + vec_len buffer.old }
+    requires past { from ≡ base + vec_len buffer.old }
     requires room { vec_len buffer.old + length octets.now ≤ vec_capacity buffer.old }
     requires small { from + length octets.now < 2 ^ 64 }
     requires order { IsFromStart spans.old.items }
@@ -204,7 +204,7 @@ fn drop_front<A: Allocator>(octets: &mut Vec<u8, A>, n: usize)
     octets.truncate(kept);
 }
 
-/// Lets octets before place `to` go: where none stands behind them, or where they are more than half of the buffer, which
+/// Lets octets before place `to` go: where none stands past them, or where they are more than half of the buffer, which
 /// begins at place `base`.
 #[inline]
 pub(crate) fn let_go<A: Allocator>(octets: &mut Vec<u8, A>, base: &mut u64, to: u64)
@@ -251,7 +251,7 @@ fn move_to_front(octets: &mut [u8], n: usize)
     }
 }
 
-/// Lets the first `n` octets go, however many stand behind them.
+/// Lets the first `n` octets go, however many stand past them.
 #[inline(never)]
 fn drop_few<A: Allocator>(octets: &mut Vec<u8, A>, n: usize)
     requires some { 0 < n }
@@ -267,7 +267,7 @@ fn drop_few<A: Allocator>(octets: &mut Vec<u8, A>, n: usize)
 /// Lets the octets before the in-order point `floor` go, if the buffer, which begins at place `base`, would have to hold
 /// more than 327,680 octets to reach place `to`.
 ///
-/// They are then more than 65,536, and no more than 262,144 stand behind them: four octets are moved at most for each that
+/// They are then more than 65,536, and no more than 262,144 stand past them: four octets are moved at most for each that
 /// the in-order point passed.
 pub(crate) fn shorten<A: Allocator>(octets: &mut Vec<u8, A>, base: &mut u64, floor: u64, to: u64)
     requires low { base.old ≤ floor }

@@ -26,7 +26,7 @@ pub fn the_in_order_point_gives_up_what_is_before()
     ensures { GivesUpBefore }
 {}
 
-/// What came in order stands behind the in-order point without a gap, and grows at its end with each segment.
+/// What came in order stands past the in-order point without a gap, and grows at its end with each segment.
 pub fn what_is_in_order_grows()
     ensures { InOrderGrows }
 {}

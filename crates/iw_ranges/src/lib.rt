@@ -1,7 +1,7 @@
 //! The octets of a stream that came, in whatever order they came.
 //!
 //! [`Islands`] takes in segments at any places of a stream, keeps the first copy of each octet that lies within a window
-//! behind the in-order point, and hands the octets out in order.
+//! past the in-order point, and hands the octets out in order.
 #![tactic(auto)]
 
 ghost use Rattle.std.specs.Prelude.{◌≡◌, ◌<◌, ◌≤◌, ◌+◌, ◌^◌, ℕ, length, map, All, IfOk, OnOk, OnErr, MatchBool, true, false};
@@ -13,13 +13,13 @@ mod buffer;
 pub mod laws;
 mod spans;
 
-use buffer::{fits_behind, let_go, put, put_behind, shorten};
+use buffer::{fits_after, let_go, put, put_after, shorten};
 use spans::{Span, end_of_first, first_reaching, forget, holds_all, is_one_too_many, join};
 use std::alloc::{AllocError, Allocator, Global};
 use std::collections::VecDeque;
 use std::marker::Model;
 
-/// How far behind the in-order point an octet may lie, in octets.
+/// How far past the in-order point an octet may lie, in octets.
 const WINDOW: u64 = 262_144;
 
 /// No memory could be had, and nothing changed: the call may be made again.
@@ -49,7 +49,7 @@ pub struct Islands<A: Allocator = Global> {
     octets: Vec<u8, A>,
     /// The places that came, the first span from place 0 on.
     spans: VecDeque<Span, A>,
-    /// The places whose octets were given up, as far as they may lie behind the in-order point.
+    /// The places whose octets were given up, as far as they may lie past the in-order point.
     gone: VecDeque<Span, A>,
 }
 
@@ -86,7 +86,7 @@ impl<A: Allocator> Islands<A> {
 
     /// Takes in a segment, whose first octet has place `place`, or drops it whole.
     ///
-    /// It is dropped if one of its octets lies 262,144 or more behind the in-order point, or if there would then be more
+    /// It is dropped if one of its octets lies 262,144 or more past the in-order point, or if there would then be more
     /// than 1,024 islands: runs of octets apart from those that came without a gap from the in-order point on. Otherwise
     /// octets before the in-order point are ignored, and of an octet that came before the first copy stays. A segment
     /// without octets is kept at any place.
@@ -106,8 +106,8 @@ impl<A: Allocator> Islands<A> {
         if is_beyond(self.floor, place, octets.len()) {
             return Ok(Delivery::Dropped);
         }
-        if place == self.missing && fits_behind(&self.octets, self.base, place, octets) {
-            put_behind(&mut self.octets, self.base, &mut self.spans, place, octets);
+        if place == self.missing && fits_after(&self.octets, self.base, place, octets) {
+            put_after(&mut self.octets, self.base, &mut self.spans, place, octets);
             self.missing = end_of_first(&self.spans);
             return Ok(Delivery::Kept);
         }
@@ -254,7 +254,7 @@ impl<A: Allocator> Islands<A> {
     }
 }
 
-/// Whether one of the `n` octets from `place` on lies 262,144 or more behind `floor`.
+/// Whether one of the `n` octets from `place` on lies 262,144 or more past `floor`.
 fn is_beyond(floor: u64, place: u64, n: usize) -> bool
     requires floor { floor ≤ 2 ^ 63 }
     requires some { 0 < n }

@@ -1,6 +1,6 @@
 ghost use Rattle.std.specs.Prelude.{◌≡◌, ◌<◌, ◌≤◌, ◌+◌, ◌^◌, ℕ, length, true, false, MatchBool, slice_index_or, nat_lt};
 ghost use Rattle.std.specs.VecDeque.{deque_len, deque_capacity};
-ghost use Rattle.iw_ranges.specs.Spans.{in_spans, add_span, merge_span, spans_behind, IsFromStart, IsInOrder, IsFirstReaching, first_end};
+ghost use Rattle.iw_ranges.specs.Spans.{in_spans, add_span, merge_span, spans_past, IsFromStart, IsInOrder, IsFirstReaching, first_end};
 ghost use Rattle.std.specs.Prelude.{take, drop, ◌++◌};
 
 use std::alloc::Allocator;
@@ -16,7 +16,7 @@ pub(crate) struct Span {
     pub(crate) to: u64,
 }
 
-/// The first span that ends at `from` or behind it, or the number of spans if there is none.
+/// The first span that ends at `from` or past it, or the number of spans if there is none.
 pub(crate) fn first_reaching<A: Allocator>(spans: &VecDeque<Span, A>, from: u64) -> usize
     requires { IsInOrder spans.now.items }
     ensures { IsFirstReaching spans.now.items from result }
@@ -105,7 +105,7 @@ pub(crate) fn join<A: Allocator>(spans: &mut VecDeque<Span, A>, low: usize, from
 /// Drops the spans that end at `to` or before it.
 #[inline]
 pub(crate) fn forget<A: Allocator>(gone: &mut VecDeque<Span, A>, to: u64)
-    ensures items { gone.new.items ≡ spans_behind to gone.old.items }
+    ensures items { gone.new.items ≡ spans_past to gone.old.items }
     ensures capacity { deque_capacity gone.new ≡ deque_capacity gone.old }
     ensures len { deque_len gone.new ≤ deque_len gone.old }
 {

@@ -3,4 +3,4 @@ pub mod Fronts
 pub mod Listed
 pub mod Told
 pub mod Whole
-pub mod Writes
+pub mod Tags

@@ -60,7 +60,7 @@ request_fault head n next unanswered =
     else None
 
 -- the checks of a Terminate with n octets of payload, in their order: it is its queue's first message, and one segment with a Terminate's
--- first word and at most 48 octets behind it (RFC 5041 4.3, 7.1, RFC 5040 4.8, 5.4)
+-- first word and at most 48 octets past it (RFC 5041 4.3, 7.1, RFC 5040 4.8, 5.4)
 abbrev pub terminate_fault : UntaggedHead → ℕ → Option Fault
 terminate_fault head n =
     if not (head.msn == 1) then Some faults.UNTAGGED_MSN_RANGE
@@ -103,13 +103,12 @@ judged_segment (Some (Untagged head payload)) len next unanswered =
 abbrev pub judged : List ℕ → ℕ → ℕ → ℕ → Result Head Fault
 judged first len next unanswered = judged_segment (read_segment first) len next unanswered
 
--- the header of a Write that passes its checks; none of any other segment
-abbrev pub write_by : TaggedHead → Result TaggedOperation Fault → Option TaggedHead
-write_by head (Err fault) = None
-write_by head (Ok Write) = Some head
-write_by head (Ok ReadResponse) = None
+-- the header of a Write or a Read Response that passes its checks; none of any other segment
+abbrev pub passed_by : TaggedHead → Result TaggedOperation Fault → Option TaggedHead
+passed_by head (Err fault) = None
+passed_by head (Ok operation) = Some head
 
-abbrev pub write_in : Option (Segment (List ℕ)) → Option TaggedHead
-write_in None = None
-write_in (Some (Tagged head payload)) = write_by head (tagged_checked head)
-write_in (Some (Untagged head payload)) = None
+abbrev pub tagged_in : Option (Segment (List ℕ)) → Option TaggedHead
+tagged_in None = None
+tagged_in (Some (Tagged head payload)) = passed_by head (tagged_checked head)
+tagged_in (Some (Untagged head payload)) = None

@@ -70,7 +70,7 @@ terminate_head = record {
   mo = 0;
 }
 
--- the payload of a Terminate behind this header is judged as a Terminate that carries the fault
+-- the payload of a Terminate past this header is judged as a Terminate that carries the fault
 abbrev pub TerminatesAreTold : Type 0
 TerminatesAreTold = (fault : Fault) (first : List ℕ) (len next unanswered : ℕ) (request : Bool) → FitsFault fault → fault.code < 256 →
     let ulpdu = untagged_octets terminate_head ++ terminate_octets fault first len request in

@@ -23,7 +23,7 @@ pub enum Head {
 }
 
 impl Head {
-    /// How many octets of the ULPDU its DDP header has; the payload is all behind them (RFC 5041 4.2 to 4.4).
+    /// How many octets of the ULPDU its DDP header has; the payload is all past them (RFC 5041 4.2 to 4.4).
     pub fn header_len(&self) -> usize
         ensures { result ≡ header_octets self.now }
     {

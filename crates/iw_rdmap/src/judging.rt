@@ -1,7 +1,7 @@
 ghost use Rattle.std.specs.Prelude.{◌≡◌, ◌≤◌, Bool, IfOk, IfErr};
 ghost use Rattle.iw_octets.specs.Segment.{read_segment};
 ghost use Rattle.iw_rdmap.specs.Head.{header_octets};
-ghost use Rattle.iw_rdmap.specs.Judging.{IsFront, judged, tagged_checked, untagged_checked, judged_request, judged_terminate, write_in};
+ghost use Rattle.iw_rdmap.specs.Judging.{IsFront, judged, tagged_checked, untagged_checked, judged_request, judged_terminate, tagged_in};
 ghost use Rattle.iw_rdmap.specs.Terminate.{FitsFault, HasCause, HasHeaders};
 
 use crate::head::Head;
@@ -55,7 +55,7 @@ pub(crate) fn untagged_operation(head: &UntaggedHead) -> Result<UntaggedOperatio
     }
 }
 
-// A Read Request behind the check of its opcode, with `n` octets of payload, of which these are the first.
+// A Read Request past the check of its opcode, with `n` octets of payload, of which these are the first.
 #[tactic(auto, unfolding(iw_octets::specs::Payload::read_request))]
 #[inline(never)]
 fn judge_request(
@@ -86,7 +86,7 @@ fn judge_request(
     }
 }
 
-// A Terminate behind the check of its opcode, with `n` octets of payload, of which these are the first.
+// A Terminate past the check of its opcode, with `n` octets of payload, of which these are the first.
 #[tactic(auto, unfolding(iw_octets::specs::Payload::read_word))]
 #[inline(never)]
 fn judge_terminate(head: UntaggedHead, payload: &[u8], n: usize) -> Result<Head, Fault>
@@ -164,13 +164,14 @@ fn judge_segment(first: &[u8], len: u16, next: u32, unanswered: usize) -> Result
     }
 }
 
-/// The header of a Write, where a ULPDU begins with one that passes its checks: those for which [`judge`] answers a Write.
+/// The header of a Write or a Read Response, where a ULPDU begins with one that passes its checks: those for which
+/// [`judge`] answers it.
 ///
-/// `first` are its first octets, as there; a Write is told by 14 of them.
+/// `first` are its first octets, as there; such a segment is told by 14 of them.
 #[tactic(auto, unfolding(iw_octets::specs::Segment::read_segment))]
 #[inline(always)]
-pub fn write_head(first: &[u8]) -> Option<TaggedHead>
-    ensures { result ≡ write_in (read_segment first.now) }
+pub fn tagged_head(first: &[u8]) -> Option<TaggedHead>
+    ensures { result ≡ tagged_in (read_segment first.now) }
 {
     if first.is_empty() || !is_tagged(first[0]) {
         return None;
@@ -178,8 +179,8 @@ pub fn write_head(first: &[u8]) -> Option<TaggedHead>
     match TaggedHead::read(first) {
         Err(Short) => None,
         Ok((head, _)) => match tagged_operation(&head) {
-            Ok(TaggedOperation::Write) => Some(head),
-            Ok(TaggedOperation::ReadResponse) | Err(_) => None,
+            Ok(_) => Some(head),
+            Err(_) => None,
         },
     }
 }

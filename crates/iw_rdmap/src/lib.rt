@@ -11,7 +11,7 @@ mod terminating;
 
 pub use head::{Head, early};
 pub use iw_octets::{TaggedOperation, UntaggedOperation};
-pub use judging::{judge, write_head};
+pub use judging::{judge, tagged_head};
 pub use laws::{checks_are_listed, front_will_do, terminates_are_told};
 pub use sizes::{FIRST_OCTETS, MAX_TERMINATE};
 pub use terminating::terminate;

@@ -13,7 +13,7 @@ use Rattle.iw_tagged.specs.Placing.{placing_fault}
 abbrev pub octets_of : List ℕ → Part → List ℕ
 octets_of message part = take part.n (drop part.offset message)
 
--- the parts of a message of this length, one behind the other, are the message; only the last is marked; none has more than
+-- the parts of a message of this length, one after the other, are the message; only the last is marked; none has more than
 -- `size` octets, and none is empty but that of an empty message
 pub record Covers (len size : ℕ) : Type 0 where
   pub joined : (message : List ℕ) → length message ≡ len → flat_map (octets_of message) (parts len size) ≡ message
@@ -24,7 +24,7 @@ pub record Covers (len size : ℕ) : Type 0 where
 abbrev pub PartsCover : Type 0
 PartsCover = (len size : ℕ) → 0 < size → Covers len size
 
--- parts that the definition computes to, of the sizes that an ULPDU size leaves behind a header of 14 octets
+-- parts that the definition computes to, of the sizes that an ULPDU size leaves past a header of 14 octets
 pub record KnownParts : Type 0 where
   pub empty : parts 0 (128 - 14) ≡ record { offset = 0; n = 0; last = true } ∷ []
   pub one : parts 114 (128 - 14) ≡ record { offset = 0; n = 114; last = true } ∷ []

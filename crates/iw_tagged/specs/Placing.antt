@@ -17,6 +17,6 @@ denial_fault ToWrap = faults.TAGGED_OFFSET_WRAP
 denial_fault Bounds = faults.TAGGED_BOUNDS
 denial_fault Rights = faults.PROTECTION_RIGHTS
 
--- the first check that n octets behind this header fail, for a stream of domain pd; none where n is 0
+-- the first check that n octets past this header fail, for a stream of domain pd; none where n is 0
 abbrev pub placing_fault : Table → ℕ → TaggedHead → ℕ → Right → Option Fault
 placing_fault table pd head n right = option_map denial_fault (denial table pd head.stag head.to n right)

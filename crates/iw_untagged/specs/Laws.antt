@@ -7,7 +7,7 @@ use Rattle.iw_untagged.specs.Receiving.{Receiving, receiving_from, ahead_of, buf
 abbrev pub NumbersFollow : Type 0
 NumbersFollow = (due i : ℕ) → due < 2 ^ 32 → i < 2 ^ 32 → ahead_of due ((due + i) % 2 ^ 32) ≡ i
 
--- the named buffer has these octets from mo on, and what stands before and behind them stays, as do all other buffers
+-- the named buffer has these octets from mo on, and what stands before and past them stays, as do all other buffers
 pub record PlacesAt (r : Receiving) (msn mo : ℕ) (octets : List ℕ) : Type 0 where
   pub there : take (length octets) (drop mo (buffer_of (written r msn mo octets) msn)) ≡ octets
   pub before : take mo (buffer_of (written r msn mo octets) msn) ≡ take mo (buffer_of r msn)
@@ -19,7 +19,7 @@ pub record PlacesAt (r : Receiving) (msn mo : ℕ) (octets : List ℕ) : Type 0 
 abbrev pub PlacesThereAlone : Type 0
 PlacesThereAlone = (r : Receiving) (msn mo : ℕ) (octets : List ℕ) → buffer_fault r msn mo (length octets) ≡ None → PlacesAt r msn mo octets
 
--- two buffers of one octet; the numbers wrap behind the first message
+-- two buffers of one octet; the numbers wrap past the first message
 abbrev pub last_number : ℕ
 last_number = 0xffff_ffff
 

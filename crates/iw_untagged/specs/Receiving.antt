@@ -29,7 +29,7 @@ oldest r = slice_index_or r.buffers 0 []
 abbrev pub full_refusal : Receiving → Option BufferRefusal
 full_refusal r = if nat_le 256 (length r.buffers) then Some Full else None
 
--- the buffer stands behind the others
+-- the buffer stands after the others
 abbrev pub with_buffer : Receiving → List ℕ → Receiving
 with_buffer r buffer = record r { buffers = r.buffers ++ buffer ∷ [] }
 

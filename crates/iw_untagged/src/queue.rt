@@ -10,6 +10,7 @@ use iw_octets::{Fault, Octets};
 use std::alloc::{AllocError, Allocator, Global};
 use std::collections::VecDeque;
 use std::marker::Model;
+use thiserror::Error;
 
 // How many buffers may be posted.
 const MAX_BUFFERS: usize = 256;
@@ -18,11 +19,13 @@ const MAX_BUFFERS: usize = 256;
 const MSN_RANGE: u32 = 256;
 
 /// Why a receive buffer was not posted: the first reason that holds.
-#[derive(Clone, Copy, Debug, PartialEq, Eq)]
+#[derive(Clone, Copy, Debug, PartialEq, Eq, Error)]
 pub enum BufferRefusal {
     /// 256 buffers are posted.
+    #[error("256 buffers are posted")]
     Full,
     /// There is no memory.
+    #[error("no memory")]
     NoMemory,
 }
 
@@ -69,7 +72,7 @@ impl<A: Allocator> RecvQueue<A> {
         })
     }
 
-    /// Posts a buffer behind the others. An `Err` changes nothing, and has the buffer.
+    /// Posts a buffer after the others. An `Err` changes nothing, and has the buffer.
     pub fn post(&mut self, buffer: Vec<u8, A>) -> Result<(), (BufferRefusal, Vec<u8, A>)>
         // The refusal, where one applies, and otherwise want of memory alone.
         ensures refused { IfSome (full_refusal self.old) (λ refusal. IfErr result (λ e. e.0 ≡ refusal) × IsErr result) }
@@ -182,7 +185,8 @@ impl<A: Allocator> RecvQueue<A> {
         if mo as usize != self.turned {
             return Err(Fault::UNTAGGED_INVALID_OFFSET);
         }
-        let _room = self.room();
+        let left = self.room() - self.turned;
+        prove!(n <= left);
         self.turned += n;
         Ok(())
     }
@@ -222,7 +226,7 @@ fn has_room(len: usize, at: usize, n: usize) -> bool
     at <= len && n <= len - at
 }
 
-// Writes pieces, one behind the other, over the octets that stand from a place on.
+// Writes pieces, one after the other, over the octets that stand from a place on.
 fn write_pieces<'a, A: Allocator, I: Iterator<Item = &'a [u8]>>(
     buffer: &mut Octets<A>,
     at: usize,
@@ -235,7 +239,8 @@ fn write_pieces<'a, A: Allocator, I: Iterator<Item = &'a [u8]>>(
     requires room { at + n ≤ length buffer.old }
     ensures { (octets : List ℕ) × JoinTo I.next_gives pieces octets × (buffer.new ≡ splice buffer.old at octets) }
 {
-    let _room = buffer.len();
+    let room = buffer.len() - at;
+    prove!(n <= room);
     let mut end = at;
     for piece in pieces {
         buffer.write_at(end, piece);

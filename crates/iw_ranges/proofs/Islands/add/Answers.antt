@@ -42,48 +42,48 @@ invariant_of-self g c =
     let n = length c.args.octets.now in
     let from = c.args.place in
     let some : 0 < n = grind (arith, nat_tests, c.is_empty.ensures, c.if-is_empty.false) in
-    let after : Fields = record { base = f.base; floor = f.floor; missing = c.end_of_first-self-inside.result; octets = c.put_behind.new.buffer.items; spans = c.put_behind.new.spans.items; gone = f.gone } in
+    let after : Fields = record { base = f.base; floor = f.floor; missing = c.end_of_first-self-inside.result; octets = c.put_after.new.buffer.items; spans = c.put_after.new.spans.items; gone = f.gone } in
     let puts : PutsIn f after from (c.args.place + n) c.args.octets.now = record {
       base = refl;
       floor = refl;
       missing = c.end_of_first-self-inside.ensures;
       gone = refl;
-      spans = c.put_behind.ensures.spans;
+      spans = c.put_after.ensures.spans;
       end = refl;
-      len = omega (arith, c.put_behind.ensures.len, c.if-fits_behind.ensures.0, c.put_behind.new.buffer.ok.0, c.self.inside.octets.ok.0);
-      written = c.put_behind.ensures.octets;
+      len = omega (arith, c.put_after.ensures.len, c.if-fits_after.ensures.0, c.put_after.new.buffer.ok.0, c.self.inside.octets.ok.0);
+      written = c.put_after.ensures.octets;
     } in
-    sound_put f after c.self.invariant from (c.args.place + n) c.args.octets.now (omega (arith, some)) (omega (arith, c.if-is_beyond.ensures)) (omega (arith, c.if-fits_behind.ensures)) puts (omega (arith, c.put_behind.ensures.few, ap length c.put_behind.ensures.spans, c.self.invariant.few))
+    sound_put f after c.self.invariant from (c.args.place + n) c.args.octets.now (omega (arith, some)) (omega (arith, c.if-is_beyond.ensures)) (omega (arith, c.if-fits_after.ensures)) puts (omega (arith, c.put_after.ensures.few, ap length c.put_after.ensures.spans, c.self.invariant.few))
 
-pub returns-then-fits_behind-clause-answer : goal.returns-then-fits_behind-clause-answer
-returns-then-fits_behind-clause-answer g c =
+pub returns-then-fits_after-clause-answer : goal.returns-then-fits_after-clause-answer
+returns-then-fits_after-clause-answer g c =
     let f : Fields = fields_of c.self.inside in
     let n = length c.args.octets.now in
     let from = c.args.place in
     let some : 0 < n = grind (arith, nat_tests, c.is_empty.ensures, c.if-is_empty.false) in
     kept_is c.args.self.now.arrived c.args.place n
-    (kept_after f c.self.invariant c.args.self.now.arrived (ap (λ (h : Held). h.arrived) c.self.view_is) c.args.place n from (omega (arith, c.if-place-self.true, c.self.invariant.missing)) (omega (arith, c.if-place-self.true, some, c.self.invariant.missing)) (omega (arith, c.if-is_beyond.ensures)) some (omega (arith, c.put_behind.ensures.few, ap length c.put_behind.ensures.spans, c.self.invariant.few)))
+    (kept_after f c.self.invariant c.args.self.now.arrived (ap (λ (h : Held). h.arrived) c.self.view_is) c.args.place n from (omega (arith, c.if-place-self.true, c.self.invariant.missing)) (omega (arith, c.if-place-self.true, some, c.self.invariant.missing)) (omega (arith, c.if-is_beyond.ensures)) some (omega (arith, c.put_after.ensures.few, ap length c.put_after.ensures.spans, c.self.invariant.few)))
 
-pub returns-then-fits_behind-clause-ok : goal.returns-then-fits_behind-clause-ok
-returns-then-fits_behind-clause-ok g c =
+pub returns-then-fits_after-clause-ok : goal.returns-then-fits_after-clause-ok
+returns-then-fits_after-clause-ok g c =
     let f : Fields = fields_of c.self.inside in
     let n = length c.args.octets.now in
     let from = c.args.place in
     let some : 0 < n = grind (arith, nat_tests, c.is_empty.ensures, c.if-is_empty.false) in
     let none : 0 ≡ first_end f.spans - from = omega (arith, c.if-place-self.true, c.self.invariant.missing) in
-    let after : Fields = record { base = f.base; floor = f.floor; missing = c.end_of_first-self-inside.result; octets = c.put_behind.new.buffer.items; spans = c.put_behind.new.spans.items; gone = f.gone } in
+    let after : Fields = record { base = f.base; floor = f.floor; missing = c.end_of_first-self-inside.result; octets = c.put_after.new.buffer.items; spans = c.put_after.new.spans.items; gone = f.gone } in
     let puts : PutsIn f after from (c.args.place + n) c.args.octets.now = record {
       base = refl;
       floor = refl;
       missing = c.end_of_first-self-inside.ensures;
       gone = refl;
-      spans = c.put_behind.ensures.spans;
+      spans = c.put_after.ensures.spans;
       end = refl;
-      len = omega (arith, c.put_behind.ensures.len, c.if-fits_behind.ensures.0, c.put_behind.new.buffer.ok.0, c.self.inside.octets.ok.0);
-      written = c.put_behind.ensures.octets;
+      len = omega (arith, c.put_after.ensures.len, c.if-fits_after.ensures.0, c.put_after.new.buffer.ok.0, c.self.inside.octets.ok.0);
+      written = c.put_after.ensures.octets;
     } in
     put_delivers f after c.self.invariant c.args.self.now.arrived (ap (λ (h : Held). h.arrived) c.self.view_is) c.args.place from c.args.octets.now c.args.octets.now
-    (omega (arith, c.if-place-self.true, some, c.self.invariant.missing)) some (omega (arith, c.if-place-self.true, c.self.invariant.missing)) (ap (λ k. drop k c.args.octets.now) none) (omega (arith, c.if-is_beyond.ensures)) (omega (arith, c.put_behind.ensures.few, ap length c.put_behind.ensures.spans, c.self.invariant.few)) puts
+    (omega (arith, c.if-place-self.true, some, c.self.invariant.missing)) some (omega (arith, c.if-place-self.true, c.self.invariant.missing)) (ap (λ k. drop k c.args.octets.now) none) (omega (arith, c.if-is_beyond.ensures)) (omega (arith, c.put_after.ensures.few, ap length c.put_after.ensures.spans, c.self.invariant.few)) puts
 
 pub end_of_first-self-inside-requires : goal.end_of_first-self-inside-requires
 end_of_first-self-inside-requires g c =
@@ -91,5 +91,5 @@ end_of_first-self-inside-requires g c =
     let n = length c.args.octets.now in
     let from = c.args.place in
     let some : 0 < n = grind (arith, nat_tests, c.is_empty.ensures, c.if-is_empty.false) in
-    subst IsFromStart (sym c.put_behind.ensures.spans)
+    subst IsFromStart (sym c.put_after.ensures.spans)
     (add_from_start from (from + n) f.spans (omega (arith, some)) c.self.invariant.order)

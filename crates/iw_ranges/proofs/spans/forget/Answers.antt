@@ -1,12 +1,12 @@
 use Rattle.std.proofs.Common.{◌≡◌, length, arith, ap, ◌∙◌, sym}
 use Rattle.std.proofs.lemmas.Bool.Decides.{nat_tests}
-use Rattle.iw_ranges.specs.Spans.{spans_behind}
+use Rattle.iw_ranges.specs.Spans.{spans_past}
 use Rattle.iw_ranges.proofs.Joins.{forget_one, forget_done, forget_none}
 use Rattle.iw_ranges.proofs.spans.forget.Goals as goal
 
 pub passed-preserved : goal.passed-preserved
 passed-preserved g c = record {
-  items = ap (spans_behind c.args.to) c.pop_front.ensures.rest ∙ sym (forget_one c.args.to c.passed.gone.items c.index.result.now c.index.ensures c.if-index-to.true) ∙ c.passed.invariant.items;
+  items = ap (spans_past c.args.to) c.pop_front.ensures.rest ∙ sym (forget_one c.args.to c.passed.gone.items c.index.result.now c.index.ensures c.if-index-to.true) ∙ c.passed.invariant.items;
   capacity = c.pop_front.ensures.capacity ∙ c.passed.invariant.capacity;
   len = omega (arith, c.pop_front.ensures.len, c.passed.invariant.len);
 }

@@ -6,7 +6,7 @@ use Rattle.iw_octets.proofs.Runs.{next_fits, joined_push}
 use Rattle.iw_untagged.proofs.Splices.{splice-nothing, length-splice, splice-next}
 use Rattle.iw_untagged.proofs.queue.write_pieces.Goals as goal
 
--- where pieces were written behind one another, there is room for the next
+-- where pieces were written one after the other, there is room for the next
 room_left : {S : Type 0} (steps : S → Option (Bor (List ℕ)) → S → Type 0) (pieces : S) (n : ℕ) (given : List (Bor (List ℕ))) (t : S) (piece : Bor (List ℕ)) (u : S) (old buffer : List ℕ) (at : ℕ)
     → AddUpTo steps pieces n → Yields steps pieces given t → steps t (Some piece) u → at + n ≤ length old → buffer ≡ splice old at (joined given)
     → (at + length (joined given) + length piece.now ≤ length old) × (length buffer ≡ length old)
@@ -31,7 +31,7 @@ overflow_add-end g c =
     let step = subst (λ r. steps c.loop-piece.piece-iterator r c.next.new.self) c.in-Some.is c.next.ensures.steps in
     let given_by = subst (λ s. Yields steps s c.loop-piece.yielded c.loop-piece.piece-iterator) c.into_iter-piece-iterator.ensures.into_iter_gives c.loop-piece.yielded_by in
     let left = room_left steps c.args.pieces c.args.n c.loop-piece.yielded c.loop-piece.piece-iterator c.in-Some.piece c.next.new.self c.args.buffer.now c.loop-piece.buffer c.args.at c.requires.fills given_by step c.requires.room c.loop-piece.invariant.1 in
-    omega (arith, left.0, c.loop-piece.invariant.0, c.len-room.ensures, c.len-room.type_inv)
+    omega (arith, left.0, c.loop-piece.invariant.0, c.len.ensures, c.len.type_inv)
 
 pub loop-piece-preserved : goal.loop-piece-preserved
 loop-piece-preserved g c =
