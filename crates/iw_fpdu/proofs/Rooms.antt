@@ -14,15 +14,15 @@ room_front {m} {start} {at} {n} h k fits =
 pub room_later : {m : Bool} {start at n len capacity : ℕ} → HasRoom m start at n len capacity → (k b : ℕ) → k ≤ n → b ≡ place_after m at k → at ≤ b
 room_later {m} {start} {at} {n} h k b fits e = omega (arith, e, at_most_after m at k h.edge)
 
--- behind the first k of them
-pub room_behind : {m : Bool} {start at n len capacity : ℕ} → HasRoom m start at n len capacity → (k b rest : ℕ) {long wide : ℕ} → n ≡ k + rest → b ≡ place_after m at k
-    → long ≡ len + (b - at) → capacity ≤ wide → HasRoom m start b rest long wide
-room_behind {m} {start} {at} {n} h k b rest {long} {wide} e f l w =
+-- past the first k of them, by a writer that has moved on
+pub room_past : {m : Bool} {start at n len capacity : ℕ} → HasRoom m start at n len capacity → (k first b rest : ℕ) {long wide : ℕ} → n ≡ k + rest → first ≡ start
+    → b ≡ place_after m at k → long ≡ len + (b - at) → capacity ≤ wide → HasRoom m first b rest long wide
+room_past {m} {start} {at} {n} h k first b rest {long} {wide} e s f l w =
     let end : place_after m b rest ≡ place_after m at n = ap (λ x. place_after m x rest) f ∙ after_after m at k rest ∙ ap (place_after m at) (sym e) in
     let later : at ≤ b = omega (arith, f, at_most_after m at k h.edge) in
     let edge : IsEdge m b = subst (IsEdge m) (sym f) (after_edge m at k h.edge) in
-    let behind : b ≤ place_after m b rest = at_most_after m b rest edge in
-    record { edge = edge; room = omega (arith, h.room, end, later, behind, l, w); near = omega (arith, h.near, end); low = omega (arith, h.low, end) }
+    let past : b ≤ place_after m b rest = at_most_after m b rest edge in
+    record { edge = edge; room = omega (arith, h.room, end, later, past, l, w); near = omega (arith, h.near, end, s); low = omega (arith, h.low, end) }
 
 -- for a whole frame
 pub room_whole : (m : Bool) (start at len used capacity : ℕ) → at % 4 ≡ 0 → at < 2 ^ 63 → len ≤ 64512 → start ≡ data_place m (data_index m at)

@@ -11,7 +11,7 @@ use Rattle.iw_fpdu.specs.Places.{data_place, data_index, in_marker, place_after,
 abbrev pub max_sent : ℕ
 max_sent = MAX_ULPDU
 
--- the pad octets behind a ULPDU of this length, which make length field, ULPDU and pad a multiple of four octets
+-- the pad octets past a ULPDU of this length, which make length field, ULPDU and pad a multiple of four octets
 abbrev pub pad_len : ℕ → ℕ
 pad_len len = (4 - (len + 2) % 4) % 4
 
@@ -19,7 +19,7 @@ pad_len len = (4 - (len + 2) % 4) % 4
 abbrev pub frame_size : ℕ → ℕ
 frame_size len = 2 + len + pad_len len + 4
 
--- the place behind the frame that begins at `start`
+-- the place past the frame that begins at `start`
 abbrev pub frame_end : Bool → ℕ → ℕ → ℕ
 frame_end markers start len = place_after markers start (frame_size len)
 
@@ -28,8 +28,8 @@ abbrev pub field_place : Bool → ℕ → ℕ → ℕ
 field_place markers start len = data_place markers (data_index markers start + (2 + len + pad_len len))
 
 -- ---- markers
--- the pointer of the marker at place 512 * i, in the frame that begins at `start` or directly before it: 0 where the data octet behind the marker is the
--- frame's first, else how many octets, markers counted, the marker stands behind the frame's first octet
+-- the pointer of the marker at place 512 * i, in the frame that begins at `start` or directly before it: 0 where the data octet past the marker is the
+-- frame's first, else how many octets, markers counted, the marker stands past the frame's first octet
 unfoldable pub marker_value : ℕ → ℕ → ℕ
 marker_value start i = if data_index true start == 508 * i then 0 else 512 * i - start
 

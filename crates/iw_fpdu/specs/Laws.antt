@@ -10,8 +10,8 @@ use Rattle.iw_fpdu.specs.Reading.{crc_agrees, end_at, mismatch_at}
 use Rattle.iw_fpdu.specs.Found.{Found, octet_in, IsWhole, LacksOctet, is_whole, ulpdu_len, ulpdu, mismatch}
 use Rattle.iw_fpdu.specs.Sequence.{Carried, intact, sequence, place_behind, first_frame, frames_of}
 
--- ---- one frame behind another
--- where a frame is written with its whole span: at a multiple of four octets that isn't directly behind a marker
+-- ---- one frame after another
+-- where a frame is written with its whole span: at a multiple of four octets that isn't directly after a marker
 pub record IsBetween (markers : Bool) (at : ℕ) : Type 0 where
   pub aligned : at % 4 ≡ 0
   pub span : span_start markers (frame_start markers at) ≡ at
@@ -50,8 +50,8 @@ pub record ReadsAgain : Type 0 where
       → map Here (frame_octets layout at octets) ≡ cells_between arrived (base + at) (base + frame_end layout.markers at (length octets))
       → IsReadAgain (found_at arrived layout base (frame_start layout.markers at)) octets
 
--- ---- frames one behind another
--- the first frame of octets is the same whatever comes behind them
+-- ---- frames one after another
+-- the first frame of octets is the same whatever comes past them
 abbrev pub FirstStays : Type 0
 FirstStays = (layout : Layout) (at : ℕ) (octets more : List ℕ) (carried : Carried) (rest : List ℕ) → IsBetween layout.markers at
     → first_frame layout at octets ≡ Some (carried, rest) → first_frame layout at (octets ++ more) ≡ Some (carried, rest ++ more)
@@ -87,7 +87,7 @@ pub record FoundIsFirst : Type 0 where
   pub lacking : (arrived : Arrived) (layout : Layout) (base at : ℕ) (octets : List ℕ) → IsBetween layout.markers at → StandFrom arrived base at octets
       → LacksOctet arrived layout.markers base (frame_start layout.markers at) → first_frame layout at octets ≡ None
 
--- frames that were written one behind another are those that are read, in order, and the next is written where the last ends
+-- frames that were written one after another are those that are read, in order, and the next is written where the last ends
 pub record SequenceIsRead (layout : Layout) (at : ℕ) (us : List (List ℕ)) : Type 0 where
   pub frames : frames_of layout at (sequence layout at us) ≡ map intact us
   pub place : place_behind layout at us ≡ at + length (sequence layout at us)
@@ -120,7 +120,7 @@ StaysWhole = (found : Found) (place : ℕ) (octets : List ℕ) → IsStart found
     → IsSame found (record found { arrived = delivered found.arrived place octets })
 
 -- ---- markers that are too far
--- a marker 65,536 octets or more behind the frame's first never agrees, whatever stands there
+-- a marker 65,536 octets or more past the frame's first never agrees, whatever stands there
 abbrev pub FarMarkersFail : Type 0
 FarMarkersFail = (layout : Layout) (octet : ℕ → ℕ) (start len p : ℕ) → ((q : ℕ) → octet q < 256) → layout.markers ≡ true
     → p % 512 ≡ 0 → start + 65536 ≤ p → p < frame_end true start len

@@ -1,7 +1,7 @@
 -- How the octets of a frame are laid, piece by piece.
-use Rattle.std.specs.Prelude.{ℕ, ◌+◌, ◌-◌, ◌/◌, ◌%◌, ◌^◌, ◌≤◌, ◌<◌, ◌≡◌, ◌⊎◌, Bool, true, false, ◌&&◌, ◌==◌, if◌then◌else◌, List, [], ◌∷◌}
-use Rattle.iw_fpdu.specs.Places.{place_after}
-use Rattle.iw_fpdu.specs.Frame.{marker_octets}
+use Rattle.std.specs.Prelude.{ℕ, ◌+◌, ◌-◌, ◌/◌, ◌%◌, ◌^◌, ◌≤◌, ◌<◌, ◌≡◌, ◌⊎◌, Bool, true, false, ◌&&◌, ◌==◌, if◌then◌else◌, List, [], ◌∷◌, length}
+use Rattle.iw_fpdu.specs.Places.{data_index, place_after}
+use Rattle.iw_fpdu.specs.Frame.{laid, marker_octets}
 
 -- whether a piece of a frame may end or begin at a place: not within a marker
 abbrev pub IsEdge : Bool → ℕ → Type 0
@@ -21,7 +21,11 @@ marker_before markers start at = if markers && (at % 512 == 0) then marker_octet
 unfoldable pub marker_behind : Bool → ℕ → List ℕ
 marker_behind markers at = if markers && (at % 512 == 4) then 0 ∷ 0 ∷ 0 ∷ 0 ∷ [] else []
 
--- n octets of the frame that begins at `start` may be laid from place `at` on behind `len` octets of `capacity`: the room is there, the markers among
+-- octets of the frame that begins at `start`, from place `at` on, with the markers before and among them
+abbrev pub laid_from : ℕ → ℕ → List ℕ → List ℕ
+laid_from start at octets = laid true start (data_index true at) octets at (place_after true at (length octets))
+
+-- n octets of the frame that begins at `start` may be laid from place `at` on after `len` octets of `capacity`: the room is there, the markers among
 -- them can point to the start, and no place is too large
 pub record HasRoom (markers : Bool) (start at n len capacity : ℕ) : Type 0 where
   pub edge : IsEdge markers at

@@ -3,7 +3,7 @@ use Rattle.std.specs.Prelude.{ℕ, ◌+◌, ◌-◌, ◌*◌, ◌/◌, ◌<◌, 
 use Rattle.std.specs.List.{range_with_len}
 use Rattle.iw_fpdu.specs.declared.pieces.Pieces.TheInside.{Inside}
 
--- where octet k of what is left stands among the octets at hand: the first `run` before the next marker, and then 508 behind each
+-- where octet k of what is left stands among the octets at hand: the first `run` before the next marker, and then 508 past each
 unfoldable pub rest_place : ℕ → ℕ → ℕ
 rest_place run k = if nat_lt k run then k else k + 4 * ((k - run) / 508 + 1)
 

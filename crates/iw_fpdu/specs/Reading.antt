@@ -26,7 +26,7 @@ length_at octet start = 256 * octet start + octet (start + 1)
 abbrev pub ulpdu_at : (ℕ → ℕ) → Bool → ℕ → List ℕ
 ulpdu_at octet markers start = data_at octet markers (data_index markers start + 2) (length_at octet start)
 
--- the place behind it
+-- the place past it
 abbrev pub end_at : (ℕ → ℕ) → Bool → ℕ → ℕ
 end_at octet markers start = frame_end markers start (length_at octet start)
 
@@ -41,7 +41,7 @@ crc_agrees octet markers start len =
     bytes_eq (field_at octet markers start len) (to_le_bytes w32 (crc32c (octets_at octet (span_start markers start) (field_place markers start len))))
 
 -- ---- the markers
--- how far the marker at place p says the frame's first octet stands behind it; the two low bits count as zero, and the reserved octets are not looked at
+-- how far the marker at place p says the frame's first octet stands before it; the two low bits count as zero, and the reserved octets are not looked at
 abbrev pub pointer_at : (ℕ → ℕ) → ℕ → ℕ
 pointer_at octet p = (256 * octet (p + 2) + octet (p + 3)) / 4 * 4
 

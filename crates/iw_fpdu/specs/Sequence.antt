@@ -1,4 +1,4 @@
--- The frames of one direction, one behind another: how they are written, and how they are read off octets that came without a gap.
+-- The frames of one direction, one after another: how they are written, and how they are read off octets that came without a gap.
 use Rattle.std.specs.Prelude.{ℕ, zero, suc, ◌+◌, ◌-◌, nat_lt, List, [], ◌∷◌, ◌++◌, length, drop, if◌then◌else◌, Option, Some, None}
 use Rattle.std.specs.Option.{option_map_or}
 use Rattle.iw_fpdu.specs.declared.layout.Layout.{Layout}
@@ -30,7 +30,7 @@ intact u = record { mismatch = None; ulpdu = u }
 abbrev pub carried_at : Layout → (ℕ → ℕ) → ℕ → Carried
 carried_at layout octet start = record { mismatch = mismatch_at layout octet start (length_at octet start); ulpdu = ulpdu_at octet layout.markers start }
 
--- the frame at the front of octets, the first of which stands at place `at`, where it is whole; and the octets behind it
+-- the frame at the front of octets, the first of which stands at place `at`, where it is whole; and the octets past it
 unfoldable pub first_frame : Layout → ℕ → List ℕ → Option (Carried × List ℕ)
 first_frame layout at octets =
     let start : ℕ = frame_start layout.markers at in
@@ -39,7 +39,7 @@ first_frame layout at octets =
     else if nat_lt (at + length octets) (end_at octet layout.markers start) then None
     else Some (carried_at layout octet start, drop (end_at octet layout.markers start - at) octets)
 
--- at most n frames that are whole, one behind another
+-- at most n frames that are whole, one after another
 unfoldable pub frames_within : ℕ → Layout → ℕ → List ℕ → List Carried
 frames_within zero layout at octets = []
 frames_within (suc n) layout at octets =

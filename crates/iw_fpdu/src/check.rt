@@ -28,7 +28,7 @@ fn does_crc_agree(markers: bool, start: u64, len: u16, octets: &[u8]) -> bool
     number_in(field) == crc32c(before)
 }
 
-/// How far the marker at index `at` says the frame begins behind it.
+/// How far the marker at index `at` says the frame begins before it.
 fn pointer(octets: &[u8], at: usize) -> u16
     requires { at + 4 ≤ length octets.now }
     ensures { result ≡ (256 * slice_index octets.now (at + 2) + slice_index octets.now (at + 3)) / 4 * 4 }

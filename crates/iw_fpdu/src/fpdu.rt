@@ -13,13 +13,16 @@ use iw_octets::gather;
 use iw_ranges::Islands;
 use std::alloc::{Allocator, Global};
 use std::marker::Model;
+use thiserror::Error;
 
 /// What is wrong with a frame (RFC 5044 8, errors 2 and 3).
-#[derive(Clone, Copy, Debug, PartialEq, Eq)]
+#[derive(Clone, Copy, Debug, PartialEq, Eq, Error)]
 pub enum Mismatch {
     /// The CRC field is not the CRC of the octets before it.
+    #[error("the CRC does not match")]
     CrcMismatch,
     /// A marker does not point to the beginning of the frame.
+    #[error("a marker does not match")]
     MarkerMismatch,
 }
 
@@ -56,7 +59,7 @@ fn all_came<A: Allocator>(islands: &Islands<A>, base: u64, from: u64, to: u64) -
         ((p : ℕ) × (from ≤ p) × (p < to) × (has_come islands.now.arrived (base + p) ≡ false)) }
     ensures fits { OnTrue result (base + to < 2 ^ 64) }
 {
-    // Its contract has the limits: nothing comes as far behind the in-order point as the end of all places.
+    // Its contract has the limits: nothing comes as far past the in-order point as the end of all places.
     let _ = islands.floor();
     let Some(end) = base.checked_add(to) else {
         return false;
@@ -112,7 +115,7 @@ impl<'a, A: Allocator> Fpdu<'a, A> {
         usize::from(self.len)
     }
 
-    /// The frame place behind the frame.
+    /// The frame place past the frame.
     pub fn end(&self) -> u64
         ensures { result ≡ end_at (octet_in self.now.arrived self.now.base) self.now.layout.markers self.now.start }
     {

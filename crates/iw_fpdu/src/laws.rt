@@ -17,13 +17,13 @@ pub fn frames_follow_one_another()
     ensures { FramesFollow }
 {}
 
-/// Frames are read off octets in sequence: the first is the one that was written there, whatever comes behind it, and what is
+/// Frames are read off octets in sequence: the first is the one that was written there, whatever comes past it, and what is
 /// found among octets that came is the first of those without a gap.
 pub fn frames_are_read_in_sequence()
     ensures { FramesInSequence }
 {}
 
-/// A marker that stands 65,536 octets or more behind the beginning of its frame cannot be right: no pointer says so much.
+/// A marker that stands 65,536 octets or more past the beginning of its frame cannot be right: no pointer says so much.
 pub fn far_markers_fail()
     ensures { FarMarkersFail }
 {}

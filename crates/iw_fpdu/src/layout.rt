@@ -27,7 +27,7 @@ impl Layout {
         place_of(self.markers, k)
     }
 
-    /// The frame place where the frame that is written at frame place `at` begins: there, or behind the marker there.
+    /// The frame place where the frame that is written at frame place `at` begins: there, or past the marker there.
     pub fn start_of(self, at: u64) -> u64
         requires { at < 2 ^ 63 }
         ensures { result ≡ frame_start self.markers at }
@@ -35,7 +35,7 @@ impl Layout {
         place_of(self.markers, index_of(self.markers, at))
     }
 
-    /// The frame place behind the frame that begins at frame place `start` with a ULPDU of `len` octets.
+    /// The frame place past the frame that begins at frame place `start` with a ULPDU of `len` octets.
     pub fn end_of(self, start: u64, len: u16) -> u64
         requires { start < 2 ^ 63 }
         ensures { result ≡ frame_end self.markers start len }
@@ -83,7 +83,7 @@ pub(crate) fn span_of(markers: bool, start: u64) -> u64
     }
 }
 
-/// How many pad octets stand behind a ULPDU of this length.
+/// How many pad octets stand past a ULPDU of this length.
 pub(crate) fn pad_of(len: u16) -> u64
     ensures value { result ≡ pad_len len }
     ensures few { result < 4 }
@@ -99,14 +99,14 @@ pub(crate) fn end_of(markers: bool, start: u64, len: u16) -> u64
     let size = 2 + u64::from(len) + pad_of(len) + 4;
     if markers {
         let into = start % SPACING;
-        let behind_marker = into.saturating_sub(MARKER) + size;
-        start - into + MARKER + behind_marker + MARKER * ((behind_marker - 1) / (SPACING - MARKER))
+        let past_marker = into.saturating_sub(MARKER) + size;
+        start - into + MARKER + past_marker + MARKER * ((past_marker - 1) / (SPACING - MARKER))
     } else {
         start + size
     }
 }
 
-/// How many of `len` octets go to `at` and the places behind it before the next marker.
+/// How many of `len` octets go to `at` and the places past it before the next marker.
 pub(crate) fn run_at(markers: bool, at: u64, len: usize) -> usize
     requires { in_marker markers at ≡ false }
     ensures within { result ≤ len }

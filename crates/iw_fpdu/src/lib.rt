@@ -1,6 +1,6 @@
 //! Frames of MPA: FPDUs with pad, markers and CRC (RFC 5044 4).
 //!
-//! Frame places count the octets of one direction of a connection from the first that a frame or marker may have, behind the
+//! Frame places count the octets of one direction of a connection from the first that a frame or marker may have, past the
 //! start-up frame. [`write_fpdu`] lays a ULPDU out at such a place; [`Fpdu`] is a frame among octets that came.
 #![tactic(auto)]
 
@@ -10,6 +10,7 @@ pub mod laws;
 mod layout;
 mod pieces;
 mod write;
+mod writer;
 
 pub use fpdu::{Fpdu, Mismatch};
 pub use layout::Layout;

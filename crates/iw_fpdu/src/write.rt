@@ -1,44 +1,26 @@
 ghost use Rattle.std.specs.Int.{w32, to_le_bytes};
-ghost use Rattle.std.specs.Prelude.{◌≡◌, ◌<◌, ◌≤◌, ◌+◌, ◌-◌, ◌/◌, ◌%◌, ◌^◌, ◌++◌, [], ◌∷◌, length, if◌then◌else◌, nat_lt, replicate, vec_len, vec_capacity, MatchOption, OnOk, OnErr, IfErr, IsOk, true};
+ghost use Rattle.std.specs.Prelude.{◌≡◌, ◌<◌, ◌≤◌, ◌+◌, ◌-◌, ◌%◌, ◌^◌, ◌++◌, [], ◌∷◌, length, if◌then◌else◌, nat_lt, vec_len, vec_capacity, MatchOption, OnOk, OnErr, IfErr, IsOk, true};
 ghost use Rattle.iw_octets.specs.Crc.{after_octets, all_ones, crc32c};
 ghost use Rattle.iw_octets.specs.Pieces.{joined};
-ghost use Rattle.iw_fpdu.specs.Frame.{max_sent, bare_data, frame_end, frame_octets, frame_size, field_place, laid, marker_octets};
-ghost use Rattle.iw_fpdu.specs.Laying.{HasRoom, IsEdge, marker_before, marker_behind};
-ghost use Rattle.iw_fpdu.specs.Places.{data_place, data_index, frame_start, place_after};
+ghost use Rattle.iw_fpdu.specs.Frame.{max_sent, bare_data, frame_end, frame_octets, frame_size, field_place, laid};
+ghost use Rattle.iw_fpdu.specs.Laying.{marker_behind};
+ghost use Rattle.iw_fpdu.specs.Places.{data_index, frame_start};
 
-use crate::layout::{Layout, MARKER, SPACING, end_of, index_of, pad_of, place_of, run_at};
+use crate::layout::{Layout, MARKER, SPACING, end_of, index_of, pad_of, place_of};
+use crate::writer::{Writer, append};
 use iw_octets::{Crc, MAX_ULPDU, TAGGED_HEADER};
 use std::alloc::Allocator;
+use thiserror::Error;
 
 /// Why a frame isn't written.
-#[derive(Clone, Copy, Debug, PartialEq, Eq)]
+#[derive(Clone, Copy, Debug, PartialEq, Eq, Error)]
 pub enum WriteRefusal {
     /// The ULPDU has more than 64,512 octets.
+    #[error("the ULPDU is too long")]
     TooLong,
     /// No memory could be had.
+    #[error("no memory")]
     NoMemory,
-}
-
-/// The marker at a place: two reserved octets, and how far the frame's start lies before it.
-#[tactic(auto, using(crate::proofs::Counted::marker_value_is))]
-fn marker(start: u64, at: u64) -> [u8; 4]
-    requires marker { at % 512 ≡ 0 }
-    requires near { at - start < 2 ^ 16 }
-    ensures { result ≡ marker_octets start (at / 512) }
-{
-    let pointer = at.saturating_sub(start);
-    [0, 0, (pointer / 256) as u8, (pointer % 256) as u8]
-}
-
-/// Appends octets, for which there is room.
-#[inline(always)]
-fn append<A: Allocator>(out: &mut Vec<u8, A>, octets: &[u8])
-    requires { vec_len out.old + length octets.now ≤ vec_capacity out.old }
-    ensures items { out.new.items ≡ out.old.items ++ octets.now }
-    ensures len { vec_len out.new ≡ vec_len out.old + length octets.now }
-    ensures capacity { vec_capacity out.old ≤ vec_capacity out.new }
-{
-    let _ = out.extend_from_slice(octets);
 }
 
 /// Appends a piece of a ULPDU, for which there is room. One as long as the header of a tagged segment is copied in place.
@@ -57,70 +39,6 @@ fn append_piece<A: Allocator>(out: &mut Vec<u8, A>, octets: &[u8])
     }
 }
 
-/// Appends the marker at `at`, if there is one. Gives the place of the data octet that comes next.
-#[inline(always)]
-fn put_marker<A: Allocator>(markers: bool, start: u64, at: u64, out: &mut Vec<u8, A>) -> u64
-    requires low { at < 2 ^ 63 + 2 ^ 17 }
-    requires edge { IsEdge markers at }
-    requires near { at - start < 2 ^ 16 }
-    requires room { vec_len out.old + (data_place markers (data_index markers at) - at) ≤ vec_capacity out.old }
-    ensures place { result ≡ data_place markers (data_index markers at) }
-    ensures items { out.new.items ≡ out.old.items ++ marker_before markers start at }
-    ensures len { vec_len out.new ≡ vec_len out.old + (result - at) }
-    ensures capacity { vec_capacity out.old ≤ vec_capacity out.new }
-{
-    if markers && at % SPACING == 0 {
-        append(out, &marker(start, at));
-        at + MARKER
-    } else {
-        at
-    }
-}
-
-/// Appends octets of the frame that begins at `start`, the first of them at place `at` or behind a marker there, with the
-/// markers among them. Gives the place behind the last.
-#[inline(always)]
-fn put<A: Allocator>(markers: bool, start: u64, at: u64, octets: &[u8], out: &mut Vec<u8, A>) -> u64
-    requires { HasRoom markers start at (length octets.now) (vec_len out.old) (vec_capacity out.old) }
-    ensures place { result ≡ place_after markers at (length octets.now) }
-    ensures items { out.new.items ≡ out.old.items ++ laid markers start (data_index markers at) octets.now at (place_after markers at (length octets.now)) }
-    ensures len { vec_len out.new ≡ vec_len out.old + (result - at) }
-    ensures capacity { vec_capacity out.old ≤ vec_capacity out.new }
-{
-    let mut at = at;
-    let mut rest = octets;
-    while !rest.is_empty() {
-        at = put_marker(markers, start, at, out);
-        let run = run_at(markers, at, rest.len());
-        let (front, behind) = rest.split_at(run);
-        append(out, front);
-        at += run as u64;
-        rest = behind;
-    }
-    at
-}
-
-/// Appends the pieces one behind the other, as `put` does each.
-fn put_all<A: Allocator>(
-    markers: bool,
-    start: u64,
-    at: u64,
-    parts: &[&[u8]],
-    out: &mut Vec<u8, A>,
-) -> u64
-    requires { HasRoom markers start at (length (joined parts.now)) (vec_len out.old) (vec_capacity out.old) }
-    ensures place { result ≡ place_after markers at (length (joined parts.now)) }
-    ensures items { out.new.items ≡ out.old.items ++ laid markers start (data_index markers at) (joined parts.now) at (place_after markers at (length (joined parts.now))) }
-    ensures len { vec_len out.new ≡ vec_len out.old + (result - at) }
-    ensures capacity { vec_capacity out.old ≤ vec_capacity out.new }
-{
-    let mut at = at;
-    for part in parts {
-        at = put(markers, start, at, part, out);
-    }
-    at
-}
-
 /// How many octets the pieces have, or `None` where they have more than a ULPDU that is sent.
 fn len_of(parts: &[&[u8]]) -> Option<u16>
     ensures { MatchOption result (max_sent < length (joined parts.now)) (λ n. (n ≡ length (joined parts.now)) × (n ≤ max_sent)) }
@@ -135,46 +53,7 @@ fn len_of(parts: &[&[u8]]) -> Option<u16>
     Some(len as u16)
 }
 
-/// Appends the length field of a frame, behind the marker at `at`, if there is one. Gives the place behind it.
-#[inline(always)]
-fn put_length<A: Allocator>(
-    markers: bool,
-    start: u64,
-    at: u64,
-    len: u16,
-    out: &mut Vec<u8, A>,
-) -> u64
-    requires room { HasRoom markers start at 2 (vec_len out.old) (vec_capacity out.old) }
-    requires aligned { at % 4 ≡ 0 }
-    ensures place { result ≡ place_after markers at 2 }
-    ensures items { out.new.items ≡ out.old.items ++ laid markers start (data_index markers at) (len / 256 ∷ len % 256 ∷ []) at (place_after markers at 2) }
-    ensures len { vec_len out.new ≡ vec_len out.old + (result - at) }
-    ensures capacity { vec_capacity out.old ≤ vec_capacity out.new }
-{
-    let place = put_marker(markers, start, at, out);
-    append(out, &[(len / 256) as u8, (len % 256) as u8]);
-    place + 2
-}
-
-/// Appends the pad, which comes up to a multiple of four octets, so that no marker stands in it or before it; there is room for
-/// the CRC field behind it. Gives the place behind it.
-#[inline(always)]
-fn put_pad<A: Allocator>(markers: bool, start: u64, at: u64, pad: u64, out: &mut Vec<u8, A>) -> u64
-    requires room { HasRoom markers start at (pad + 4) (vec_len out.old) (vec_capacity out.old) }
-    requires few { pad < 4 }
-    requires aligned { (data_index markers at + pad) % 4 ≡ 0 }
-    ensures place { result ≡ place_after markers at pad }
-    ensures items { out.new.items ≡ out.old.items ++ laid markers start (data_index markers at) (replicate pad 0) at (place_after markers at pad) }
-    ensures len { vec_len out.new ≡ vec_len out.old + (result - at) }
-    ensures capacity { vec_capacity out.old ≤ vec_capacity out.new }
-{
-    let len = out.len() + pad as usize;
-    append(out, &[0; 4]);
-    out.truncate(len);
-    at + pad
-}
-
-/// Appends the pieces one behind the other.
+/// Appends the pieces one after the other.
 #[inline(always)]
 fn append_all<A: Allocator>(parts: &[&[u8]], out: &mut Vec<u8, A>)
     requires { vec_len out.old + length (joined parts.now) ≤ vec_capacity out.old }
@@ -212,10 +91,11 @@ fn put_among_markers<A: Allocator>(at: u64, len: u16, parts: &[&[u8]], out: &mut
     ensures room { vec_len out.new + 4 ≤ vec_capacity out.new }
 {
     let start = place_of(true, index_of(true, at));
-    let behind_length = put_length(true, start, at, len, out);
-    let behind_ulpdu = put_all(true, start, behind_length, parts, out);
-    let behind_pad = put_pad(true, start, behind_ulpdu, pad_of(len), out);
-    put_marker(true, start, behind_pad, out);
+    let mut writer = Writer { start, at };
+    writer.put_length(len, out);
+    writer.put_all(parts, out);
+    writer.put_pad(pad_of(len), out);
+    writer.put_marker(out);
 }
 
 /// Appends all of a frame that stands before its CRC field.

@@ -3,14 +3,14 @@ use Rattle.std.proofs.lemmas.List.{length-replicate}
 use Rattle.iw_octets.specs.Pieces.{joined}
 use Rattle.iw_fpdu.specs.Places.{data_place, data_index, place_after, frame_start}
 use Rattle.iw_fpdu.specs.Frame.{frame_size, pad_len, laid, bare_data, field_place}
-use Rattle.iw_fpdu.specs.Laying.{HasRoom}
+use Rattle.iw_fpdu.specs.Laying.{HasRoom, marker_before}
 use Rattle.iw_fpdu.proofs.Counted.{aligned_edge, behind_edge, after_high, at_most_after, four_behind, index_after, index_aligned}
-use Rattle.iw_fpdu.proofs.Rooms.{room_whole, room_front, room_behind}
+use Rattle.iw_fpdu.proofs.Rooms.{room_whole, room_front, room_past}
 use Rattle.iw_fpdu.proofs.Written.{bare_written}
 use Rattle.iw_fpdu.proofs.write.put_among_markers.Goals as goal
 
-pub put_length-behind_length-requires-clause-room : goal.put_length-behind_length-requires-clause-room
-put_length-behind_length-requires-clause-room g c =
+pub put_length-requires-clause-room : goal.put_length-requires-clause-room
+put_length-requires-clause-room g c =
     let m = true in
     let at = c.args.at in
     let start = c.place_of-start.result in
@@ -20,8 +20,8 @@ put_length-behind_length-requires-clause-room g c =
     let all : HasRoom m start at (frame_size len) _ _ = room_whole m start at len _ _ c.requires.aligned c.requires.place c.requires.short start_is c.requires.room in
     room_front all 2 (omega arith)
 
-pub put_all-behind_ulpdu-requires : goal.put_all-behind_ulpdu-requires
-put_all-behind_ulpdu-requires g c =
+pub put_all-requires : goal.put_all-requires
+put_all-requires g c =
     let m = true in
     let at = c.args.at in
     let start = c.place_of-start.result in
@@ -29,12 +29,12 @@ put_all-behind_ulpdu-requires g c =
     let n = length (joined c.args.parts.now) in
     let start_is : start ≡ data_place m (data_index m at) = c.place_of-start.ensures.value ∙ ap (data_place m) c.index_of.ensures.value in
     let all : HasRoom m start at (frame_size len) _ _ = room_whole m start at len _ _ c.requires.aligned c.requires.place c.requires.short start_is c.requires.room in
-    let first = c.put_length-behind_length in
-    let behind = room_behind all 2 first.result (n + pad_len len + 4) (omega (arith, c.requires.len)) first.ensures.place first.ensures.len first.ensures.capacity in
+    let first = c.put_length in
+    let behind = room_past all 2 first.new.self.start first.new.self.at (n + pad_len len + 4) (omega (arith, c.requires.len)) first.ensures.start first.ensures.place first.ensures.len first.ensures.capacity in
     room_front behind n (omega arith)
 
-pub put_pad-behind_pad-requires-clause-room : goal.put_pad-behind_pad-requires-clause-room
-put_pad-behind_pad-requires-clause-room g c =
+pub put_pad-requires-clause-room : goal.put_pad-requires-clause-room
+put_pad-requires-clause-room g c =
     let m = true in
     let at = c.args.at in
     let start = c.place_of-start.result in
@@ -42,17 +42,17 @@ put_pad-behind_pad-requires-clause-room g c =
     let n = length (joined c.args.parts.now) in
     let start_is : start ≡ data_place m (data_index m at) = c.place_of-start.ensures.value ∙ ap (data_place m) c.index_of.ensures.value in
     let all : HasRoom m start at (frame_size len) _ _ = room_whole m start at len _ _ c.requires.aligned c.requires.place c.requires.short start_is c.requires.room in
-    let first = c.put_length-behind_length in
-    let behind = room_behind all 2 first.result (n + pad_len len + 4) (omega (arith, c.requires.len)) first.ensures.place first.ensures.len first.ensures.capacity in
-    let second = c.put_all-behind_ulpdu in
-    let later = room_behind behind n second.result (pad_len len + 4) (omega arith) second.ensures.place second.ensures.len second.ensures.capacity in
-    let index : data_index m second.result ≡ data_index m at + (2 + n) =
-    ap (data_index m) second.ensures.place ∙ index_after m first.result n ∙ omega (arith, ap (data_index m) first.ensures.place ∙ index_after m at 2) in
+    let first = c.put_length in
+    let behind = room_past all 2 first.new.self.start first.new.self.at (n + pad_len len + 4) (omega (arith, c.requires.len)) first.ensures.start first.ensures.place first.ensures.len first.ensures.capacity in
+    let second = c.put_all in
+    let later = room_past behind n second.new.self.start second.new.self.at (pad_len len + 4) (omega arith) second.ensures.start second.ensures.place second.ensures.len second.ensures.capacity in
+    let index : data_index m second.new.self.at ≡ data_index m at + (2 + n) =
+    ap (data_index m) second.ensures.place ∙ index_after m first.new.self.at n ∙ omega (arith, ap (data_index m) first.ensures.place ∙ index_after m at 2) in
     let pad : c.pad_of.result ≡ pad_len len = c.pad_of.ensures.value in
     room_front later (c.pad_of.result + 4) (omega (arith, pad))
 
-pub put_pad-behind_pad-requires-clause-aligned : goal.put_pad-behind_pad-requires-clause-aligned
-put_pad-behind_pad-requires-clause-aligned g c =
+pub put_pad-requires-clause-aligned : goal.put_pad-requires-clause-aligned
+put_pad-requires-clause-aligned g c =
     let m = true in
     let at = c.args.at in
     let start = c.place_of-start.result in
@@ -60,12 +60,12 @@ put_pad-behind_pad-requires-clause-aligned g c =
     let n = length (joined c.args.parts.now) in
     let start_is : start ≡ data_place m (data_index m at) = c.place_of-start.ensures.value ∙ ap (data_place m) c.index_of.ensures.value in
     let all : HasRoom m start at (frame_size len) _ _ = room_whole m start at len _ _ c.requires.aligned c.requires.place c.requires.short start_is c.requires.room in
-    let first = c.put_length-behind_length in
-    let behind = room_behind all 2 first.result (n + pad_len len + 4) (omega (arith, c.requires.len)) first.ensures.place first.ensures.len first.ensures.capacity in
-    let second = c.put_all-behind_ulpdu in
-    let later = room_behind behind n second.result (pad_len len + 4) (omega arith) second.ensures.place second.ensures.len second.ensures.capacity in
-    let index : data_index m second.result ≡ data_index m at + (2 + n) =
-    ap (data_index m) second.ensures.place ∙ index_after m first.result n ∙ omega (arith, ap (data_index m) first.ensures.place ∙ index_after m at 2) in
+    let first = c.put_length in
+    let behind = room_past all 2 first.new.self.start first.new.self.at (n + pad_len len + 4) (omega (arith, c.requires.len)) first.ensures.start first.ensures.place first.ensures.len first.ensures.capacity in
+    let second = c.put_all in
+    let later = room_past behind n second.new.self.start second.new.self.at (pad_len len + 4) (omega arith) second.ensures.start second.ensures.place second.ensures.len second.ensures.capacity in
+    let index : data_index m second.new.self.at ≡ data_index m at + (2 + n) =
+    ap (data_index m) second.ensures.place ∙ index_after m first.new.self.at n ∙ omega (arith, ap (data_index m) first.ensures.place ∙ index_after m at 2) in
     let pad : c.pad_of.result ≡ pad_len len = c.pad_of.ensures.value in
     omega (arith, index, pad, index_aligned m at c.requires.aligned, c.requires.len)
 
@@ -78,16 +78,16 @@ put_marker-requires-clause-low g c =
     let n = length (joined c.args.parts.now) in
     let start_is : start ≡ data_place m (data_index m at) = c.place_of-start.ensures.value ∙ ap (data_place m) c.index_of.ensures.value in
     let all : HasRoom m start at (frame_size len) _ _ = room_whole m start at len _ _ c.requires.aligned c.requires.place c.requires.short start_is c.requires.room in
-    let first = c.put_length-behind_length in
-    let behind = room_behind all 2 first.result (n + pad_len len + 4) (omega (arith, c.requires.len)) first.ensures.place first.ensures.len first.ensures.capacity in
-    let second = c.put_all-behind_ulpdu in
-    let later = room_behind behind n second.result (pad_len len + 4) (omega arith) second.ensures.place second.ensures.len second.ensures.capacity in
-    let index : data_index m second.result ≡ data_index m at + (2 + n) =
-    ap (data_index m) second.ensures.place ∙ index_after m first.result n ∙ omega (arith, ap (data_index m) first.ensures.place ∙ index_after m at 2) in
+    let first = c.put_length in
+    let behind = room_past all 2 first.new.self.start first.new.self.at (n + pad_len len + 4) (omega (arith, c.requires.len)) first.ensures.start first.ensures.place first.ensures.len first.ensures.capacity in
+    let second = c.put_all in
+    let later = room_past behind n second.new.self.start second.new.self.at (pad_len len + 4) (omega arith) second.ensures.start second.ensures.place second.ensures.len second.ensures.capacity in
+    let index : data_index m second.new.self.at ≡ data_index m at + (2 + n) =
+    ap (data_index m) second.ensures.place ∙ index_after m first.new.self.at n ∙ omega (arith, ap (data_index m) first.ensures.place ∙ index_after m at 2) in
     let pad : c.pad_of.result ≡ pad_len len = c.pad_of.ensures.value in
-    let third = c.put_pad-behind_pad in
-    let field = room_behind later c.pad_of.result third.result 4 (omega (arith, pad)) third.ensures.place third.ensures.len third.ensures.capacity in
-    let p = third.result in
+    let third = c.put_pad in
+    let field = room_past later c.pad_of.result third.new.self.start third.new.self.at 4 (omega (arith, pad)) third.ensures.start third.ensures.place third.ensures.len third.ensures.capacity in
+    let p = third.new.self.at in
     omega (arith, field.low, at_most_after m p 4 field.edge)
 
 pub put_marker-requires-clause-edge : goal.put_marker-requires-clause-edge
@@ -99,16 +99,16 @@ put_marker-requires-clause-edge g c =
     let n = length (joined c.args.parts.now) in
     let start_is : start ≡ data_place m (data_index m at) = c.place_of-start.ensures.value ∙ ap (data_place m) c.index_of.ensures.value in
     let all : HasRoom m start at (frame_size len) _ _ = room_whole m start at len _ _ c.requires.aligned c.requires.place c.requires.short start_is c.requires.room in
-    let first = c.put_length-behind_length in
-    let behind = room_behind all 2 first.result (n + pad_len len + 4) (omega (arith, c.requires.len)) first.ensures.place first.ensures.len first.ensures.capacity in
-    let second = c.put_all-behind_ulpdu in
-    let later = room_behind behind n second.result (pad_len len + 4) (omega arith) second.ensures.place second.ensures.len second.ensures.capacity in
-    let index : data_index m second.result ≡ data_index m at + (2 + n) =
-    ap (data_index m) second.ensures.place ∙ index_after m first.result n ∙ omega (arith, ap (data_index m) first.ensures.place ∙ index_after m at 2) in
+    let first = c.put_length in
+    let behind = room_past all 2 first.new.self.start first.new.self.at (n + pad_len len + 4) (omega (arith, c.requires.len)) first.ensures.start first.ensures.place first.ensures.len first.ensures.capacity in
+    let second = c.put_all in
+    let later = room_past behind n second.new.self.start second.new.self.at (pad_len len + 4) (omega arith) second.ensures.start second.ensures.place second.ensures.len second.ensures.capacity in
+    let index : data_index m second.new.self.at ≡ data_index m at + (2 + n) =
+    ap (data_index m) second.ensures.place ∙ index_after m first.new.self.at n ∙ omega (arith, ap (data_index m) first.ensures.place ∙ index_after m at 2) in
     let pad : c.pad_of.result ≡ pad_len len = c.pad_of.ensures.value in
-    let third = c.put_pad-behind_pad in
-    let field = room_behind later c.pad_of.result third.result 4 (omega (arith, pad)) third.ensures.place third.ensures.len third.ensures.capacity in
-    let p = third.result in
+    let third = c.put_pad in
+    let field = room_past later c.pad_of.result third.new.self.start third.new.self.at 4 (omega (arith, pad)) third.ensures.start third.ensures.place third.ensures.len third.ensures.capacity in
+    let p = third.new.self.at in
     field.edge
 
 pub put_marker-requires-clause-near : goal.put_marker-requires-clause-near
@@ -120,16 +120,16 @@ put_marker-requires-clause-near g c =
     let n = length (joined c.args.parts.now) in
     let start_is : start ≡ data_place m (data_index m at) = c.place_of-start.ensures.value ∙ ap (data_place m) c.index_of.ensures.value in
     let all : HasRoom m start at (frame_size len) _ _ = room_whole m start at len _ _ c.requires.aligned c.requires.place c.requires.short start_is c.requires.room in
-    let first = c.put_length-behind_length in
-    let behind = room_behind all 2 first.result (n + pad_len len + 4) (omega (arith, c.requires.len)) first.ensures.place first.ensures.len first.ensures.capacity in
-    let second = c.put_all-behind_ulpdu in
-    let later = room_behind behind n second.result (pad_len len + 4) (omega arith) second.ensures.place second.ensures.len second.ensures.capacity in
-    let index : data_index m second.result ≡ data_index m at + (2 + n) =
-    ap (data_index m) second.ensures.place ∙ index_after m first.result n ∙ omega (arith, ap (data_index m) first.ensures.place ∙ index_after m at 2) in
+    let first = c.put_length in
+    let behind = room_past all 2 first.new.self.start first.new.self.at (n + pad_len len + 4) (omega (arith, c.requires.len)) first.ensures.start first.ensures.place first.ensures.len first.ensures.capacity in
+    let second = c.put_all in
+    let later = room_past behind n second.new.self.start second.new.self.at (pad_len len + 4) (omega arith) second.ensures.start second.ensures.place second.ensures.len second.ensures.capacity in
+    let index : data_index m second.new.self.at ≡ data_index m at + (2 + n) =
+    ap (data_index m) second.ensures.place ∙ index_after m first.new.self.at n ∙ omega (arith, ap (data_index m) first.ensures.place ∙ index_after m at 2) in
     let pad : c.pad_of.result ≡ pad_len len = c.pad_of.ensures.value in
-    let third = c.put_pad-behind_pad in
-    let field = room_behind later c.pad_of.result third.result 4 (omega (arith, pad)) third.ensures.place third.ensures.len third.ensures.capacity in
-    let p = third.result in
+    let third = c.put_pad in
+    let field = room_past later c.pad_of.result third.new.self.start third.new.self.at 4 (omega (arith, pad)) third.ensures.start third.ensures.place third.ensures.len third.ensures.capacity in
+    let p = third.new.self.at in
     omega (arith, field.near, behind_edge m p field.edge, after_high m p 4 (omega arith))
 
 pub put_marker-requires-clause-room : goal.put_marker-requires-clause-room
@@ -141,16 +141,16 @@ put_marker-requires-clause-room g c =
     let n = length (joined c.args.parts.now) in
     let start_is : start ≡ data_place m (data_index m at) = c.place_of-start.ensures.value ∙ ap (data_place m) c.index_of.ensures.value in
     let all : HasRoom m start at (frame_size len) _ _ = room_whole m start at len _ _ c.requires.aligned c.requires.place c.requires.short start_is c.requires.room in
-    let first = c.put_length-behind_length in
-    let behind = room_behind all 2 first.result (n + pad_len len + 4) (omega (arith, c.requires.len)) first.ensures.place first.ensures.len first.ensures.capacity in
-    let second = c.put_all-behind_ulpdu in
-    let later = room_behind behind n second.result (pad_len len + 4) (omega arith) second.ensures.place second.ensures.len second.ensures.capacity in
-    let index : data_index m second.result ≡ data_index m at + (2 + n) =
-    ap (data_index m) second.ensures.place ∙ index_after m first.result n ∙ omega (arith, ap (data_index m) first.ensures.place ∙ index_after m at 2) in
+    let first = c.put_length in
+    let behind = room_past all 2 first.new.self.start first.new.self.at (n + pad_len len + 4) (omega (arith, c.requires.len)) first.ensures.start first.ensures.place first.ensures.len first.ensures.capacity in
+    let second = c.put_all in
+    let later = room_past behind n second.new.self.start second.new.self.at (pad_len len + 4) (omega arith) second.ensures.start second.ensures.place second.ensures.len second.ensures.capacity in
+    let index : data_index m second.new.self.at ≡ data_index m at + (2 + n) =
+    ap (data_index m) second.ensures.place ∙ index_after m first.new.self.at n ∙ omega (arith, ap (data_index m) first.ensures.place ∙ index_after m at 2) in
     let pad : c.pad_of.result ≡ pad_len len = c.pad_of.ensures.value in
-    let third = c.put_pad-behind_pad in
-    let field = room_behind later c.pad_of.result third.result 4 (omega (arith, pad)) third.ensures.place third.ensures.len third.ensures.capacity in
-    let p = third.result in
+    let third = c.put_pad in
+    let field = room_past later c.pad_of.result third.new.self.start third.new.self.at 4 (omega (arith, pad)) third.ensures.start third.ensures.place third.ensures.len third.ensures.capacity in
+    let p = third.new.self.at in
     omega (arith, field.room, after_high m p 4 (omega arith))
 
 pub returns-clause-room : goal.returns-clause-room
@@ -162,17 +162,17 @@ returns-clause-room g c =
     let n = length (joined c.args.parts.now) in
     let start_is : start ≡ data_place m (data_index m at) = c.place_of-start.ensures.value ∙ ap (data_place m) c.index_of.ensures.value in
     let all : HasRoom m start at (frame_size len) _ _ = room_whole m start at len _ _ c.requires.aligned c.requires.place c.requires.short start_is c.requires.room in
-    let first = c.put_length-behind_length in
-    let behind = room_behind all 2 first.result (n + pad_len len + 4) (omega (arith, c.requires.len)) first.ensures.place first.ensures.len first.ensures.capacity in
-    let second = c.put_all-behind_ulpdu in
-    let later = room_behind behind n second.result (pad_len len + 4) (omega arith) second.ensures.place second.ensures.len second.ensures.capacity in
-    let index : data_index m second.result ≡ data_index m at + (2 + n) =
-    ap (data_index m) second.ensures.place ∙ index_after m first.result n ∙ omega (arith, ap (data_index m) first.ensures.place ∙ index_after m at 2) in
+    let first = c.put_length in
+    let behind = room_past all 2 first.new.self.start first.new.self.at (n + pad_len len + 4) (omega (arith, c.requires.len)) first.ensures.start first.ensures.place first.ensures.len first.ensures.capacity in
+    let second = c.put_all in
+    let later = room_past behind n second.new.self.start second.new.self.at (pad_len len + 4) (omega arith) second.ensures.start second.ensures.place second.ensures.len second.ensures.capacity in
+    let index : data_index m second.new.self.at ≡ data_index m at + (2 + n) =
+    ap (data_index m) second.ensures.place ∙ index_after m first.new.self.at n ∙ omega (arith, ap (data_index m) first.ensures.place ∙ index_after m at 2) in
     let pad : c.pad_of.result ≡ pad_len len = c.pad_of.ensures.value in
-    let third = c.put_pad-behind_pad in
-    let field = room_behind later c.pad_of.result third.result 4 (omega (arith, pad)) third.ensures.place third.ensures.len third.ensures.capacity in
-    let p = third.result in
-    let last : data_index m p ≡ data_index m second.result + c.pad_of.result = ap (data_index m) third.ensures.place ∙ index_after m second.result c.pad_of.result in
+    let third = c.put_pad in
+    let field = room_past later c.pad_of.result third.new.self.start third.new.self.at 4 (omega (arith, pad)) third.ensures.start third.ensures.place third.ensures.len third.ensures.capacity in
+    let p = third.new.self.at in
+    let last : data_index m p ≡ data_index m second.new.self.at + c.pad_of.result = ap (data_index m) third.ensures.place ∙ index_after m second.new.self.at c.pad_of.result in
     let four = four_behind m p (omega (arith, last, index, pad, index_aligned m at c.requires.aligned, c.requires.len)) in
     omega (arith, field.room, four, c.put_marker.ensures.place, c.put_marker.ensures.len, c.put_marker.ensures.capacity, behind_edge m p field.edge)
 
@@ -182,15 +182,27 @@ returns-clause-items g c =
     let at = c.args.at in
     let start = c.place_of-start.result in
     let ulpdu = joined c.args.parts.now in
+    let first = c.put_length in
+    let second = c.put_all in
+    let third = c.put_pad in
+    let b = first.new.self.at in
+    let d = second.new.self.at in
+    let e = third.new.self.at in
     let start_is : start ≡ data_place m (data_index m at) = c.place_of-start.ensures.value ∙ ap (data_place m) c.index_of.ensures.value in
+    let one : first.new.self.start ≡ start = first.ensures.start in
+    let two : second.new.self.start ≡ start = second.ensures.start ∙ one in
+    let three : third.new.self.start ≡ start = third.ensures.start ∙ two in
     let head : c.args.len / 256 ∷ c.args.len % 256 ∷ [] ≡ length ulpdu / 256 ∷ length ulpdu % 256 ∷ [] = ap (λ k. k / 256 ∷ k % 256 ∷ []) c.requires.len in
-    let pad : replicate c.pad_of.result 0 ≡ replicate (pad_len (length ulpdu)) 0 = ap (λ k. replicate k 0) (c.pad_of.ensures.value ∙ ap pad_len c.requires.len) in
-    let long : length (replicate c.pad_of.result 0) ≡ c.pad_of.result = length-replicate c.pad_of.result 0 in
-    bare_written m at start c.put_length-behind_length.result c.put_all-behind_ulpdu.result c.put_pad-behind_pad.result c.args.out.now.items _ _ _ _ (c.args.len / 256 ∷ c.args.len % 256 ∷ []) ulpdu
-    (replicate c.pad_of.result 0) (aligned_edge m at c.requires.aligned) start_is head pad c.put_length-behind_length.ensures.place c.put_all-behind_ulpdu.ensures.place
-    (c.put_pad-behind_pad.ensures.place ∙ ap (place_after m c.put_all-behind_ulpdu.result) (sym long)) c.put_length-behind_length.ensures.items
-    c.put_all-behind_ulpdu.ensures.items
-    (c.put_pad-behind_pad.ensures.items
-    ∙ ap (λ k. c.put_all-behind_ulpdu.new.out.items ++ laid m start (data_index m c.put_all-behind_ulpdu.result) (replicate c.pad_of.result 0) c.put_all-behind_ulpdu.result (place_after m c.put_all-behind_ulpdu.result k)) (sym long))
-    c.put_marker.ensures.items
+    let zeros = replicate c.pad_of.result 0 in
+    let pad : zeros ≡ replicate (pad_len (length ulpdu)) 0 = ap (λ k. replicate k 0) (c.pad_of.ensures.value ∙ ap pad_len c.requires.len) in
+    let long : length zeros ≡ c.pad_of.result = length-replicate c.pad_of.result 0 in
+    bare_written m at start b d e c.args.out.now.items _ _ _ _ (c.args.len / 256 ∷ c.args.len % 256 ∷ []) ulpdu zeros
+    (aligned_edge m at c.requires.aligned) start_is head pad first.ensures.place second.ensures.place
+    (third.ensures.place ∙ ap (place_after m d) (sym long))
+    first.ensures.items
+    (second.ensures.items ∙ ap (λ s. first.new.out.items ++ laid m s (data_index m b) ulpdu b (place_after m b (length ulpdu))) one)
+    (third.ensures.items
+    ∙ ap (λ s. second.new.out.items ++ laid m s (data_index m d) zeros d (place_after m d c.pad_of.result)) two
+    ∙ ap (λ k. second.new.out.items ++ laid m start (data_index m d) zeros d (place_after m d k)) (sym long))
+    (c.put_marker.ensures.items ∙ ap (λ s. third.new.out.items ++ marker_before m s e) three)
     ∙ ap (λ k. c.args.out.now.items ++ laid m (frame_start m at) (data_index m at) (bare_data ulpdu) at (field_place m at k)) (sym c.requires.len)

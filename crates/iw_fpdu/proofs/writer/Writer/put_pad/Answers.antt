@@ -1,0 +1,22 @@
+use Rattle.std.proofs.Common.{◌≡◌, true, ◌++◌, replicate, ap, ◌∙◌, sym, arith}
+use Rattle.iw_fpdu.proofs.Written.{pad_behind, laid_pad, cut_pad}
+use Rattle.iw_fpdu.proofs.writer.Writer.put_pad.Goals as goal
+
+pub append-requires : goal.append-requires
+append-requires g c =
+    let room = c.requires.room in
+    omega (arith, room.room, pad_behind true c.args.self.now.at c.args.pad room.edge c.requires.few c.requires.aligned)
+
+pub returns-clause-items : goal.returns-clause-items
+returns-clause-items g c =
+    let old = c.args.out.now.items in
+    let cut : c.truncate.new.self.items ≡ old ++ replicate c.args.pad 0 =
+    c.truncate.ensures.items ∙ cut_pad old c.append.new.out.items _ c.args.pad c.append.ensures.items (omega (arith, c.len.ensures, c.args.out.now.ok.0)) c.requires.few in
+    cut ∙ ap (λ ys. old ++ ys) (sym (laid_pad true c.args.self.now.start c.args.self.now.at c.args.pad c.requires.room.edge c.requires.few c.requires.aligned))
+
+pub overflow_add-self : goal.overflow_add-self
+overflow_add-self g c =
+    omega (arith, c.requires.room.low, pad_behind true c.args.self.now.at c.args.pad c.requires.room.edge c.requires.few c.requires.aligned)
+
+pub returns-clause-place : goal.returns-clause-place
+returns-clause-place g c = omega (arith, pad_behind true c.args.self.now.at c.args.pad c.requires.room.edge c.requires.few c.requires.aligned)

@@ -1,0 +1,138 @@
+ghost use Rattle.std.specs.Prelude.{◌≡◌, ◌<◌, ◌≤◌, ◌+◌, ◌-◌, ◌/◌, ◌%◌, ◌^◌, ◌++◌, [], ◌∷◌, true};
+ghost use Rattle.std.specs.Prelude.{length, replicate, vec_len, vec_capacity};
+ghost use Rattle.iw_octets.specs.Pieces.{joined};
+ghost use Rattle.iw_fpdu.specs.Frame.{laid, marker_octets};
+ghost use Rattle.iw_fpdu.specs.Laying.{HasRoom, IsEdge, laid_from, marker_before};
+ghost use Rattle.iw_fpdu.specs.Places.{data_place, data_index, place_after};
+
+use crate::layout::{MARKER, SPACING, run_at};
+use std::alloc::Allocator;
+
+/// Appends octets, for which there is room.
+#[inline(always)]
+pub(crate) fn append<A: Allocator>(out: &mut Vec<u8, A>, octets: &[u8])
+    requires { vec_len out.old + length octets.now ≤ vec_capacity out.old }
+    ensures items { out.new.items ≡ out.old.items ++ octets.now }
+    ensures len { vec_len out.new ≡ vec_len out.old + length octets.now }
+    ensures capacity { vec_capacity out.old ≤ vec_capacity out.new }
+{
+    let _ = out.extend_from_slice(octets);
+}
+
+/// The marker at a place: two reserved octets, and how far the frame's start lies before it.
+#[tactic(auto, using(crate::proofs::Counted::marker_value_is))]
+fn marker(start: u64, at: u64) -> [u8; 4]
+    requires marker { at % 512 ≡ 0 }
+    requires near { at - start < 2 ^ 16 }
+    ensures { result ≡ marker_octets start (at / 512) }
+{
+    let pointer = at.saturating_sub(start);
+    [0, 0, (pointer / 256) as u8, (pointer % 256) as u8]
+}
+
+/// Lays the octets of one frame, and the markers among them, at the end of a vector.
+#[derive(Drop)]
+pub(crate) struct Writer {
+    /// The frame place where the frame begins.
+    pub(crate) start: u64,
+    /// The frame place that is laid next: that of a marker, or of the frame's next octet.
+    pub(crate) at: u64,
+}
+
+impl Writer {
+    /// Appends the marker, if one is next. The frame's next octet is next then.
+    #[inline(always)]
+    pub(crate) fn put_marker<A: Allocator>(&mut self, out: &mut Vec<u8, A>)
+        requires low { self.old.at < 2 ^ 63 + 2 ^ 17 }
+        requires edge { IsEdge true self.old.at }
+        requires near { self.old.at - self.old.start < 2 ^ 16 }
+        requires room { vec_len out.old + (data_place true (data_index true self.old.at) - self.old.at)
+            ≤ vec_capacity out.old }
+        ensures start { self.new.start ≡ self.old.start }
+        ensures place { self.new.at ≡ data_place true (data_index true self.old.at) }
+        ensures items { out.new.items ≡ out.old.items ++ marker_before true self.old.start self.old.at }
+        ensures len { vec_len out.new ≡ vec_len out.old + (self.new.at - self.old.at) }
+        ensures capacity { vec_capacity out.old ≤ vec_capacity out.new }
+    {
+        if self.at % SPACING == 0 {
+            append(out, &marker(self.start, self.at));
+            self.at += MARKER;
+        }
+    }
+
+    /// Appends octets of the frame, with the markers before and among them.
+    #[inline(always)]
+    fn put<A: Allocator>(&mut self, octets: &[u8], out: &mut Vec<u8, A>)
+        requires { HasRoom true self.old.start self.old.at (length octets.now)
+            (vec_len out.old) (vec_capacity out.old) }
+        ensures start { self.new.start ≡ self.old.start }
+        ensures place { self.new.at ≡ place_after true self.old.at (length octets.now) }
+        ensures items { out.new.items ≡ out.old.items ++ laid_from self.old.start self.old.at octets.now }
+        ensures len { vec_len out.new ≡ vec_len out.old + (self.new.at - self.old.at) }
+        ensures capacity { vec_capacity out.old ≤ vec_capacity out.new }
+    {
+        let mut rest = octets;
+        while !rest.is_empty() {
+            self.put_marker(out);
+            let run = run_at(true, self.at, rest.len());
+            let (front, back) = rest.split_at(run);
+            append(out, front);
+            self.at += run as u64;
+            rest = back;
+        }
+    }
+
+    /// Appends the pieces one after the other, as `put` does each.
+    #[inline(always)]
+    pub(crate) fn put_all<A: Allocator>(&mut self, parts: &[&[u8]], out: &mut Vec<u8, A>)
+        requires { HasRoom true self.old.start self.old.at (length (joined parts.now))
+            (vec_len out.old) (vec_capacity out.old) }
+        ensures start { self.new.start ≡ self.old.start }
+        ensures place { self.new.at ≡ place_after true self.old.at (length (joined parts.now)) }
+        ensures items { out.new.items ≡ out.old.items ++ laid_from self.old.start self.old.at (joined parts.now) }
+        ensures len { vec_len out.new ≡ vec_len out.old + (self.new.at - self.old.at) }
+        ensures capacity { vec_capacity out.old ≤ vec_capacity out.new }
+    {
+        for part in parts {
+            self.put(part, out);
+        }
+    }
+
+    /// Appends the length field, with the marker before it, if there is one.
+    #[inline(always)]
+    pub(crate) fn put_length<A: Allocator>(&mut self, len: u16, out: &mut Vec<u8, A>)
+        requires room { HasRoom true self.old.start self.old.at 2 (vec_len out.old) (vec_capacity out.old) }
+        requires aligned { self.old.at % 4 ≡ 0 }
+        ensures start { self.new.start ≡ self.old.start }
+        ensures place { self.new.at ≡ place_after true self.old.at 2 }
+        ensures items { out.new.items ≡ out.old.items
+            ++ laid_from self.old.start self.old.at (len / 256 ∷ len % 256 ∷ []) }
+        ensures len { vec_len out.new ≡ vec_len out.old + (self.new.at - self.old.at) }
+        ensures capacity { vec_capacity out.old ≤ vec_capacity out.new }
+    {
+        self.put_marker(out);
+        append(out, &[(len / 256) as u8, (len % 256) as u8]);
+        self.at += 2;
+    }
+
+    /// Appends the pad, which comes up to a multiple of four octets, so that no marker stands in it or before it; there
+    /// is room for the CRC field after it.
+    #[inline(always)]
+    pub(crate) fn put_pad<A: Allocator>(&mut self, pad: u64, out: &mut Vec<u8, A>)
+        requires room { HasRoom true self.old.start self.old.at (pad + 4) (vec_len out.old) (vec_capacity out.old) }
+        requires few { pad < 4 }
+        requires aligned { (data_index true self.old.at + pad) % 4 ≡ 0 }
+        ensures start { self.new.start ≡ self.old.start }
+        ensures place { self.new.at ≡ place_after true self.old.at pad }
+        ensures items { out.new.items ≡ out.old.items
+            ++ laid true self.old.start (data_index true self.old.at) (replicate pad 0)
+            self.old.at (place_after true self.old.at pad) }
+        ensures len { vec_len out.new ≡ vec_len out.old + (self.new.at - self.old.at) }
+        ensures capacity { vec_capacity out.old ≤ vec_capacity out.new }
+    {
+        let len = out.len() + pad as usize;
+        append(out, &[0; 4]);
+        out.truncate(len);
+        self.at += pad;
+    }
+}
