@@ -4,6 +4,7 @@ ghost use Rattle.iw_queues.specs.Request.{kind_of, payload, size_of, header_len}
 use bytes::Bytes;
 use iw_octets::{Message, ReadRequest, TAGGED_HEADER, UNTAGGED_HEADER};
 use std::alloc::Allocator;
+use thiserror::Error;
 
 /// What is posted: a message with octets of this end, or a Read of octets of the peer. The payload's type is the parameter.
 #[derive(Debug, PartialEq, Eq, Drop)]
@@ -21,12 +22,15 @@ pub enum Kind {
 }
 
 /// Why a message is not posted: the first reason that holds, in the order of the variants.
-#[derive(Clone, Copy, Debug, PartialEq, Eq)]
+#[derive(Clone, Copy, Debug, PartialEq, Eq, Error)]
 pub enum Refusal {
     /// 256 messages are posted and not yet handed out.
+    #[error("256 messages are posted and not yet handed out")]
     Full,
     /// The message has more than 16,777,216 octets, or is a Read of more.
+    #[error("the message or Read has more than 16,777,216 octets")]
     TooLong,
+    #[error("out of memory")]
     NoMemory,
 }
 

@@ -122,6 +122,7 @@ impl Reads {
     /// oldest Read, at the tagged offset behind the octets that had their turn. It may not run past the Read's size,
     /// and is its response's last only where the size is reached; without octets, it may come behind it. Otherwise, and
     /// where no Read is outstanding, it is [`Fault::PROTECTION_BOUNDS`], which changes nothing.
+    #[inline(always)]
     pub fn turn(&mut self, head: &TaggedHead, n: usize) -> Result<Option<u64>, Fault>
         ensures refused { result_err result ≡ response_turn_fault self.old head.now n }
         ensures finished { IfOk result (λ finished. finished ≡ finished_read self.old head.now) }
@@ -145,6 +146,7 @@ impl Reads {
 }
 
 // The Read with `n` octets more that had their turn.
+#[inline(always)]
 fn turned_by(read: Outstanding, n: usize) -> Outstanding
     requires { read.turned + n ≤ read.request.size }
     ensures { result ≡ record read { turned = read.turned + n } }
@@ -155,6 +157,7 @@ fn turned_by(read: Outstanding, n: usize) -> Outstanding
     }
 }
 
+#[inline(always)]
 fn same_stag(a: &Stag, b: &Stag) -> bool
     ensures { result ≡ same_stag a.now b.now }
 {
@@ -171,6 +174,7 @@ fn is_inside(request: &ReadRequest, to: u64, n: usize) -> bool
 }
 
 // The response of the Read goes on with this segment.
+#[inline(always)]
 fn goes_on(read: &Outstanding, head: &TaggedHead, n: usize) -> bool
     requires { read.now.turned ≤ read.now.request.size }
     ensures goes_on { result ≡ goes_on read.now head.now n }
@@ -183,6 +187,7 @@ fn goes_on(read: &Outstanding, head: &TaggedHead, n: usize) -> bool
 }
 
 // The `n` octets behind those that had their turn are not past the size, and reach it where they are the last.
+#[inline(always)]
 fn fits(size: u32, turned: u32, last: bool, n: usize) -> bool
     requires { turned ≤ size }
     ensures small { IsTrue result → n < 2 ^ 32 }

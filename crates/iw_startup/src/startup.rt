@@ -8,9 +8,11 @@ use crate::progress::Progress;
 use crate::side::{REPLY_KEY, REQUEST_KEY, Reply, Side};
 use arrayvec::ArrayVec;
 use std::marker::Model;
+use thiserror::Error;
 
 /// Nobody waits for an answer: this end is an initiator, or the Request is not whole, faulty, or answered already.
-#[derive(Clone, Copy, Debug, PartialEq, Eq)]
+#[derive(Clone, Copy, Debug, PartialEq, Eq, Error)]
+#[error("no Request waits for an answer")]
 pub struct NotAsked;
 
 /// One end's part in the start-up of a connection.
