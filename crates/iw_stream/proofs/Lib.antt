@@ -1,7 +1,7 @@
 pub mod Heads
 pub mod Headers
 pub mod Landings
-pub mod Writes
+pub mod Tagged
 pub mod Fronts
 pub mod Reading
 pub mod Keeping

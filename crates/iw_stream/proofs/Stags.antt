@@ -1,8 +1,7 @@
 -- STags and their numbers.
 use Rattle.std.proofs.Common.{◌≡◌, ℕ, ◌/◌, ◌%◌, sym, ap, ◌∙◌, arith}
 use Rattle.iw_octets.specs.declared.stag.Stag.{Stag}
-use Rattle.iw_octets.specs.Stag.{number_of, FitsStag}
-use Rattle.iw_stream.specs.Judging.{stag_of}
+use Rattle.iw_octets.specs.Stag.{number_of, stag_of, FitsStag}
 
 pub stag_of-number_of : (stag : Stag) → FitsStag stag → stag_of (number_of stag) ≡ stag
 stag_of-number_of stag fits =

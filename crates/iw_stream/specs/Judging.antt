@@ -1,5 +1,5 @@
 -- How a frame is judged, and what its turn comes to.
-use Rattle.std.specs.Prelude.{◌≡◌, ℕ, ◌/◌, ◌%◌, ◌≤◌, ◌++◌, min, List, length, Bool, true, false, if◌then◌else◌, Option, Some, None, Result, Ok, Err}
+use Rattle.std.specs.Prelude.{◌≡◌, ℕ, ◌≤◌, ◌++◌, min, List, length, Bool, true, false, if◌then◌else◌, Option, Some, None, Result, Ok, Err}
 use Rattle.std.specs.Option.{option_map, option_map_or}
 use Rattle.iw_octets.specs.declared.fault.Fault.{Fault}
 use Rattle.iw_octets.specs.declared.fault.TheConstants.Fault as faults
@@ -15,8 +15,10 @@ use Rattle.iw_octets.specs.declared.segment.Segment.TheVariants.{Tagged, Untagge
 use Rattle.iw_octets.specs.declared.stag.Stag.{Stag}
 use Rattle.iw_octets.specs.Operation.{opcode_of, tagged_operation, untagged_operation}
 use Rattle.iw_octets.specs.Segment.{read_segment}
+use Rattle.iw_octets.specs.Stag.{stag_of}
 use Rattle.iw_memory.specs.declared.refusal.InvalidateDeny.{InvalidateDeny}
 use Rattle.iw_memory.specs.declared.refusal.InvalidateDeny.TheVariants.{NotAssociated, Invalid, NotAllowed}
+use Rattle.iw_memory.specs.declared.rights.Right.{Right}
 use Rattle.iw_memory.specs.declared.rights.Right.TheVariants as rights
 use Rattle.iw_memory.specs.Table.{Table, put, invalidate_denial, invalidated}
 use Rattle.iw_fpdu.specs.declared.fpdu.Mismatch.{Mismatch}
@@ -109,10 +111,19 @@ segment_verdict at ulpdu = head_verdict at (judged_head at ulpdu) (length (paylo
 abbrev pub verdict : Standing → Frame → Result Landing Fault
 verdict at frame = option_map_or (λ m. Err (mismatch_fault m)) frame.mismatch (segment_verdict at frame.ulpdu)
 
--- of a Write's frame: where its payload was placed, or the first check that failed
-abbrev pub as_write : Result Placed Fault → Result Landing Fault
-as_write (Ok at) = Ok (Write at)
-as_write (Err fault) = Err fault
+-- a tagged frame's payload that was placed, a Read Response's or else a Write's, and the right that it is placed with
+abbrev pub landing_of : Bool → Placed → Landing
+landing_of true at = Response at
+landing_of false at = Write at
+
+abbrev pub right_of : Bool → Right
+right_of true = rights.Sink
+right_of false = rights.Write
+
+-- where it was placed, or the first check that failed
+abbrev pub as_tagged : Bool → Result Placed Fault → Result Landing Fault
+as_tagged response (Ok at) = Ok (landing_of response at)
+as_tagged response (Err fault) = Err fault
 
 -- what the placement leaves of the regions, and of the receive buffers
 abbrev pub table_landed : Table → List ℕ → Landing → Table
@@ -143,10 +154,6 @@ has_stag None = false
 has_stag (Some untagged.ReadRequest) = false
 has_stag (Some (untagged.Send solicited invalidates)) = invalidates
 has_stag (Some untagged.Terminate) = false
-
--- the STag that a number of 32 bits is
-abbrev pub stag_of : ℕ → Stag
-stag_of number = record { domain = number / 0x1000000; slot = number / 0x100 % 0x10000; key = number % 0x100 }
 
 abbrev pub stag_to_invalidate : UntaggedHead → Option Stag
 stag_to_invalidate head = if has_stag (untagged_operation (opcode_of head.control)) then Some (stag_of head.tail) else None
@@ -200,6 +207,11 @@ segment_turn table domain r reads n (Some (Untagged head payload)) = send_turn t
 
 abbrev pub turn_of : Standing → PlacedFrame → Result Turning Fault
 turn_of at frame = segment_turn at.table at.domain at.receiving at.reads (payload_len frame) (head_in frame)
+
+-- and by the Read that a tagged segment finishes, or the check of its turn that fails
+abbrev pub answered : Result (Option ℕ) Fault → Result Turning Fault
+answered (Ok finished) = Ok (answering_by finished)
+answered (Err fault) = Err fault
 
 -- what a turn leaves of the regions: that of a Send which is complete and invalidates goes out of use
 abbrev pub table_turned : Table → Turning → Table

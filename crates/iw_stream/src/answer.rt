@@ -2,45 +2,58 @@ use iw_memory::Right;
 use iw_octets::{Fault, Stag};
 use iw_queues::Kind;
 use iw_startup::{Agreed, StartupFault};
+use thiserror::Error;
 
 /// Why a stream is not opened: the first reason that holds.
-#[derive(Clone, Copy, Debug, PartialEq, Eq)]
+#[derive(Clone, Copy, Debug, PartialEq, Eq, Error)]
 pub enum OpenRefusal {
     /// The number was opened before.
+    #[error("a stream with this number was opened before")]
     NumberTaken,
     /// No stream has this number.
+    #[error("no stream has this number")]
     BadNumber,
     /// The domain was not added.
+    #[error("the domain was not added")]
     NoDomain,
+    #[error("out of memory")]
     NoMemory,
 }
 
 /// Why a message or a Read is not posted: the first reason that holds, in the order `NotOpen`, `Full`, `TooLong`,
 /// `NoMemory`.
-#[derive(Clone, Copy, Debug, PartialEq, Eq)]
+#[derive(Clone, Copy, Debug, PartialEq, Eq, Error)]
 pub enum PostRefusal {
     /// 256 messages are posted and not yet handed out.
+    #[error("256 messages are posted and not yet handed out")]
     Full,
     /// The message has too many octets, or the Read asks for too many.
+    #[error("the message or Read has more than 16,777,216 octets")]
     TooLong,
     /// The stream is not open yet, or has ended.
+    #[error("the stream is not open")]
     NotOpen,
+    #[error("out of memory")]
     NoMemory,
 }
 
 /// Why a receive buffer is not posted: the first reason that holds, in the order `Ended`, `Full`, `NoMemory`.
-#[derive(Clone, Copy, Debug, PartialEq, Eq)]
+#[derive(Clone, Copy, Debug, PartialEq, Eq, Error)]
 pub enum RecvRefusal {
     /// 256 buffers are posted and not yet handed back.
+    #[error("256 receive buffers are posted and not yet handed back")]
     Full,
+    #[error("out of memory")]
     NoMemory,
+    #[error("the stream has ended")]
     Ended,
 }
 
 /// Why a ULPDU size is not set.
-#[derive(Clone, Copy, Debug, PartialEq, Eq)]
+#[derive(Clone, Copy, Debug, PartialEq, Eq, Error)]
 pub enum SizeRefusal {
     /// It is outside 128 to 64,512 octets.
+    #[error("the ULPDU size is outside 128 to 64,512 octets")]
     BadSize,
 }
 

@@ -1,29 +1,26 @@
-ghost use Rattle.std.specs.Result.{result_err};
-ghost use Rattle.std.specs.Option.{option_map};
-ghost use Rattle.std.specs.Prelude.{◌≡◌, ◌+◌, ◌-◌, ◌<◌, ◌≤◌, ◌++◌, ℕ, List, [], take, drop, length, slice_index, true, Some, Ok, IfOk, IfSome, OnOk, OnErr};
+ghost use Rattle.std.specs.Prelude.{◌≡◌, ◌-◌, ◌≤◌, ◌++◌, if◌then◌else◌, ℕ, List, [], take, drop, length, slice_index, true, Some, None, IfOk, IfSome, OnOk, OnErr};
 ghost use Rattle.iw_octets.specs.Head.{is_tagged};
 ghost use Rattle.iw_octets.specs.Segment.{read_segment};
-ghost use Rattle.iw_memory.specs.Table.{Table, put, invalidate_denial, invalidated};
+ghost use Rattle.iw_memory.specs.Table.{Table, put};
 ghost use Rattle.iw_fpdu.specs.Found.{HoldsSpan, ulpdu, ulpdu_len};
 ghost use Rattle.iw_rdmap.specs.Head.{header_octets};
-ghost use Rattle.iw_rdmap.specs.Judging.{write_in};
-ghost use Rattle.iw_reads.specs.Outstanding.{response_turn_fault, reads_turned, finished_read};
+ghost use Rattle.iw_rdmap.specs.Judging.{tagged_in};
+ghost use Rattle.std.specs.Result.{result_err};
+ghost use Rattle.iw_reads.specs.Outstanding.{sink_fault};
 ghost use Rattle.iw_reads.specs.Requests.{Requested};
 ghost use Rattle.iw_reads.specs.Source.{source_fault};
 ghost use Rattle.iw_tagged.specs.Placing.{placing_fault};
-ghost use Rattle.iw_untagged.specs.Receiving.{Receiving, HasRoom, written, buffer_fault, turned};
-ghost use Rattle.iw_stream.specs.Frames.{frame_by, payload_of, placed, header_in, head_in, payload_len};
-ghost use Rattle.iw_stream.specs.Judging.{Standing, IsFirst, as_write, mismatch_fault, fault_or, place_in, write_verdict, response_verdict, place_verdict, segment_verdict, verdict, table_landed, receiving_landed, answering_by, is_response, stag_of, send_turning, invalidate_fault, send_turn, table_turned, tagged_turn, tagged_left, segment_turn, receiving_turned, reads_left};
-ghost use Rattle.iw_stream.specs.Kept.{HasBuffer, IsPosted};
+ghost use Rattle.iw_untagged.specs.Receiving.{Receiving, buffer_fault};
+ghost use Rattle.iw_stream.specs.Frames.{frame_by, payload_of, placed, header_in, payload_len};
+ghost use Rattle.iw_stream.specs.Judging.{Standing, IsFirst, as_tagged, right_of, is_response, mismatch_fault, fault_or, place_in, write_verdict, response_verdict, place_verdict, segment_verdict, verdict, table_landed, receiving_landed};
 
 use arrayvec::ArrayVec;
 use iw_fpdu::{Fpdu, Mismatch};
-use iw_memory::{InvalidateDeny, Memory, Right};
+use iw_memory::{Memory, Right};
 use iw_octets::{
-    Fault, ReadRequest, Segment, Short, Stag, TAGGED_HEADER, TaggedHead, TaggedOperation,
-    UNTAGGED_HEADER, UntaggedHead, is_tagged,
+    Fault, ReadRequest, Stag, TAGGED_HEADER, TaggedHead, UNTAGGED_HEADER, UntaggedHead, is_tagged,
 };
-use iw_rdmap::{FIRST_OCTETS, Head, UntaggedOperation, judge};
+use iw_rdmap::{FIRST_OCTETS, Head, judge};
 use iw_reads::{Reads, Requests, check_source};
 use iw_tagged::Placed;
 use iw_untagged::RecvQueue;
@@ -153,25 +150,52 @@ fn place_tagged<A: Allocator, B: Allocator>(
     Ok(placed)
 }
 
-/// Judges a whole frame that begins with this header of a Write, what is wrong with the frame itself first, and places its
-/// payload (RFC 5044 8, RFC 5041 7.1). An `Err` changes nothing.
+/// The right that a tagged segment is placed with.
 #[inline(always)]
-pub(crate) fn land_write<A: Allocator, B: Allocator>(
+pub(crate) fn right_of(response: bool) -> Right
+    ensures { result ≡ right_of response }
+{
+    if response { Right::Sink } else { Right::Write }
+}
+
+// Whether a Read asked for the `n` octets of a Read Response. A Write is not asked for.
+#[inline(always)]
+fn check_sink(response: bool, head: &TaggedHead, n: usize, reads: &Reads) -> Result<(), Fault>
+    ensures { result_err result ≡ (if response then sink_fault reads.now head.now n else None) }
+{
+    if !response {
+        return Ok(());
+    }
+    // A copy is lent, so that the header needs no place in memory.
+    let asked = *head;
+    reads.check(&asked, n)
+}
+
+/// Judges a whole frame that begins with this header of a Write or a Read Response, what is wrong with the frame itself
+/// first, and places its payload (RFC 5044 8, RFC 5041 7.1, RFC 5040 4.8). An `Err` changes nothing.
+#[inline(always)]
+pub(crate) fn land_tagged<A: Allocator, B: Allocator>(
+    response: bool,
     head: TaggedHead,
     fpdu: &Fpdu<'_, A>,
     domain: u8,
+    reads: &Reads,
     memory: &mut Memory<B>,
 ) -> Result<Placed, Fault>
     requires holds { HoldsSpan fpdu.now }
-    requires write { Some head ≡ write_in (read_segment (ulpdu fpdu.now)) }
-    ensures landed { (at : Standing) → at.table ≡ memory.old → at.domain ≡ domain → as_write result ≡ verdict at (frame_by fpdu.now) }
+    requires tagged { Some head ≡ tagged_in (read_segment (ulpdu fpdu.now)) }
+    requires response { response ≡ is_response head }
+    ensures landed { (at : Standing) → at.table ≡ memory.old → at.domain ≡ domain → at.reads ≡ reads.now → as_tagged response result ≡ verdict at (frame_by fpdu.now) }
     ensures memory { IfOk result (λ at. memory.new ≡ put memory.old at.stag at.to (payload_of (read_segment (ulpdu fpdu.now)))) }
     ensures err { OnErr result (memory.new ≡ memory.old) }
 {
     if let Err(wrong) = fpdu.check() {
         return Err(fault_of(wrong));
     }
-    place_tagged(head, Right::Write, fpdu, domain, memory)
+    if let Err(fault) = check_sink(response, &head, fpdu.len() - TAGGED_HEADER, reads) {
+        return Err(fault);
+    }
+    place_tagged(head, right_of(response), fpdu, domain, memory)
 }
 
 // Places the payload of a Write's segment. An `Err` changes nothing.
@@ -412,10 +436,10 @@ pub(crate) fn keep_frame<A: Allocator>(
     keep_header(&mut frame.header, fpdu);
 }
 
-/// Keeps what is kept of a Write's frame that was placed, in place of what was kept. It begins at frame place `start`, and
+/// Keeps what is kept of a tagged frame that was placed, in place of what was kept. It begins at frame place `start`, and
 /// its ULPDU with these octets, the header among them.
 #[inline(always)]
-pub(crate) fn keep_write<A: Allocator>(
+pub(crate) fn keep_tagged<A: Allocator>(
     kept: &mut Option<PlacedFrame>,
     fpdu: &Fpdu<'_, A>,
     front: &[u8],
@@ -434,167 +458,4 @@ pub(crate) fn keep_write<A: Allocator>(
     });
     let (header, _) = front.split_at(TAGGED_HEADER);
     let _ = frame.header.try_extend_from_slice(header);
-}
-
-// The STag that a number is.
-fn stag_of(number: u32) -> Stag
-    ensures { result ≡ stag_of number }
-{
-    let stag = Stag::from(number);
-    stag.known();
-    stag
-}
-
-// A Send is complete with its last segment, whose opcode and STag count.
-fn send_turning(head: &UntaggedHead) -> Turning
-    ensures { result ≡ send_turning head.now }
-{
-    if !head.last {
-        return Turning::Passed;
-    }
-    match UntaggedOperation::of(head.control) {
-        Some(
-            UntaggedOperation::Send {
-                solicited,
-                invalidates,
-            },
-        ) => {
-            let invalidate = if invalidates {
-                Some(stag_of(head.tail))
-            } else {
-                None
-            };
-            Turning::Completed {
-                solicited,
-                invalidate,
-            }
-        }
-        _ => Turning::Completed {
-            solicited: false,
-            invalidate: None,
-        },
-    }
-}
-
-// What a denial is reported as.
-fn invalidate_fault(deny: InvalidateDeny) -> Fault
-    ensures { result ≡ invalidate_fault deny }
-{
-    match deny {
-        InvalidateDeny::NotAssociated => Fault::PROTECTION_NOT_ASSOCIATED,
-        InvalidateDeny::Invalid => Fault::PROTECTION_INVALID_STAG,
-        InvalidateDeny::NotAllowed => Fault::PROTECTION_CANNOT_INVALIDATE,
-    }
-}
-
-// Invalidates a region for a peer in this domain. An `Err` changes nothing.
-fn invalidate<A: Allocator>(stag: Stag, domain: u8, memory: &mut Memory<A>) -> Result<(), Fault>
-    ensures denied { result_err result ≡ option_map invalidate_fault (invalidate_denial memory.old domain stag) }
-    ensures ok { OnOk result (memory.new ≡ invalidated memory.old stag) }
-    ensures err { OnErr result (memory.new ≡ memory.old) }
-{
-    match memory.invalidate_remote(domain, stag) {
-        Ok(()) => Ok(()),
-        Err(deny) => Err(invalidate_fault(deny)),
-    }
-}
-
-// Gives a Send's segment of `n` octets that was placed its turn. An `Err` changes nothing.
-fn turn_send<A: Allocator, B: Allocator>(
-    head: UntaggedHead,
-    n: usize,
-    domain: u8,
-    memory: &mut Memory<B>,
-    receiving: &mut RecvQueue<A>,
-) -> Result<Turning, Fault>
-    requires { head.msn ≡ receiving.old.due → HasRoom receiving.old (head.mo + n) }
-    ensures turn { result ≡ send_turn memory.old domain receiving.old head }
-    ensures ok { OnOk result (receiving.new ≡ turned receiving.old n) }
-    ensures memory { IfOk result (λ turning. memory.new ≡ table_turned memory.old turning) }
-    ensures err { OnErr result ((receiving.new ≡ receiving.old) × (memory.new ≡ memory.old)) }
-{
-    let turning = send_turning(&head);
-    if let Turning::Completed {
-        invalidate: Some(stag),
-        ..
-    } = turning
-    {
-        // With no octets a turn is its checks alone.
-        receiving.turn(head.msn, head.mo, 0)?;
-        invalidate(stag, domain, memory)?;
-    }
-    receiving.turn(head.msn, head.mo, n)?;
-    Ok(turning)
-}
-
-fn answering_by(finished: Option<u64>) -> Turning
-    ensures { result ≡ answering_by finished }
-{
-    match finished {
-        None => Turning::Passed,
-        Some(ticket) => Turning::Answered(ticket),
-    }
-}
-
-// A tagged segment carries part of the response to a Read.
-#[inline(always)]
-fn is_response(head: &TaggedHead) -> bool
-    ensures { result ≡ is_response head.now }
-{
-    matches!(
-        TaggedOperation::of(head.control),
-        Some(TaggedOperation::ReadResponse)
-    )
-}
-
-// Gives a segment of a Read Response with `n` octets that was placed its turn. An `Err` changes nothing.
-fn turn_response(head: TaggedHead, n: usize, reads: &mut Reads) -> Result<Turning, Fault>
-    ensures turn { result ≡ fault_or (response_turn_fault reads.old head n) (answering_by (finished_read reads.old head)) }
-    ensures ok { OnOk result (reads.new ≡ reads_turned reads.old head n) }
-    ensures err { OnErr result (reads.new ≡ reads.old) }
-{
-    let finished = reads.turn(&head, n)?;
-    Ok(answering_by(finished))
-}
-
-// Gives a tagged segment with `n` octets that was placed its turn. An `Err` changes nothing.
-#[inline(always)]
-fn turn_tagged(head: TaggedHead, n: usize, reads: &mut Reads) -> Result<Turning, Fault>
-    ensures turn { result ≡ tagged_turn reads.old head n }
-    ensures ok { OnOk result (reads.new ≡ tagged_left reads.old head n) }
-    ensures err { OnErr result (reads.new ≡ reads.old) }
-{
-    if is_response(&head) {
-        turn_response(head, n, reads)
-    } else {
-        Ok(Turning::Passed)
-    }
-}
-
-/// Gives a frame that was placed its turn. An `Err` changes nothing.
-#[inline(always)]
-pub(crate) fn turn_frame<A: Allocator, B: Allocator>(
-    frame: &PlacedFrame,
-    domain: u8,
-    reads: &mut Reads,
-    memory: &mut Memory<B>,
-    receiving: &mut RecvQueue<A>,
-) -> Result<Turning, Fault>
-    requires header { length frame.now.header.items ≤ frame.now.len }
-    requires placed { HasBuffer receiving.old (payload_len frame.now) (head_in frame.now) }
-    ensures turn { result ≡ segment_turn memory.old domain receiving.old reads.old (payload_len frame.now) (head_in frame.now) }
-    ensures receiving { OnOk result (receiving.new ≡ receiving_turned receiving.old frame.now) }
-    ensures reads { OnOk result (reads.new ≡ reads_left reads.old frame.now) }
-    ensures memory { IfOk result (λ turning. memory.new ≡ table_turned memory.old turning) }
-    ensures err { OnErr result ((receiving.new ≡ receiving.old) × (reads.new ≡ reads.old) × (memory.new ≡ memory.old)) }
-    ensures posted { IfOk result (λ turning. IsPosted turning receiving.new) }
-{
-    match Segment::read(frame.header.as_slice()) {
-        Err(Short) => Err(Fault::SEGMENT_SHORT),
-        Ok(Segment::Tagged(head, _)) => turn_tagged(head, frame.payload_len(), reads),
-        Ok(Segment::Untagged(head, _)) => {
-            receiving.limits();
-            turn_send(head, frame.payload_len(), domain, memory, receiving)
-        }
-    }
 }

@@ -26,6 +26,7 @@ mod judging;
 mod starting;
 mod stream;
 mod terminating;
+mod turning;
 
 pub use answer::{Emission, OpenRefusal, PostRefusal, RecvRefusal, Role, SizeRefusal, Step};
 pub use ending::Ending;

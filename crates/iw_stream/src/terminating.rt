@@ -53,15 +53,14 @@ pub(crate) fn end_judged<A: Allocator>(
     asked: &Requests,
     start: &Start,
     arrived: &Islands<A>,
-    ending: &mut Ending,
-)
+) -> Ending
     requires holds { HoldsSpan fpdu.now }
     requires fits { FitsFault fault }
     requires cause { HasCause fault (take 46 (ulpdu fpdu.now)) (is_request_of asked.now (ulpdu fpdu.now)) }
-    ensures { ending.new ≡ over start.now arrived.now.arrived (terminate_judged asked.now (frame_by fpdu.now) fault) }
+    ensures { result ≡ over start.now arrived.now.arrived (terminate_judged asked.now (frame_by fpdu.now) fault) }
 {
     let terminate = terminate_judged(fpdu, fault, asked);
-    *ending = over(terminate, start, arrived);
+    over(terminate, start, arrived)
 }
 
 /// The payload of the Terminate for a frame whose turn has this fault.

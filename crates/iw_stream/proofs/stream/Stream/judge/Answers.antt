@@ -1,17 +1,18 @@
 use Rattle.std.proofs.Common.{◌≡◌, true, Some, Ok, refl, ap, sym, ◌∙◌, subst}
 use Rattle.std.specs.Option.{option_map_or}
 use Rattle.iw_fpdu.specs.Found.{ulpdu}
-use Rattle.iw_rdmap.proofs.Writes.{IsWrite, is_write}
-use Rattle.iw_stream.specs.declared.judging.Landing.TheVariants as landings
+use Rattle.iw_octets.specs.Segment.{read_segment}
+use Rattle.iw_rdmap.proofs.Tags.{Passes, passes}
+use Rattle.iw_stream.specs.declared.answer.Step.TheVariants as steps
 use Rattle.iw_stream.specs.Fields.{state_of}
-use Rattle.iw_stream.specs.Frames.{IsNext, frame_by}
-use Rattle.iw_stream.specs.Judging.{verdict}
+use Rattle.iw_stream.specs.Frames.{IsNext, frame_by, payload_of}
+use Rattle.iw_stream.specs.Judging.{landing_of, verdict}
 use Rattle.iw_stream.specs.Kept.{Keeps}
 use Rattle.iw_stream.specs.Starting.{is_open, expecting, first_place_in}
 use Rattle.iw_stream.specs.Stream.{StreamState}
 use Rattle.iw_stream.specs.Work.{Judge, Rest, standing, next_frame, step_of, left_by, table_left, judged_step, after_judging, table_judged}
 use Rattle.iw_stream.proofs.Keeping.{keeps_judged}
-use Rattle.iw_stream.proofs.Writes.{next_is, none_next, write_front, write_there, write_tagged, write_long}
+use Rattle.iw_stream.proofs.Tagged.{is_placing, leaves_receiving, next_is, none_next, step_placed, stream_placed, table_placed, tagged_first, tagged_front, tagged_long, tagged_there}
 use Rattle.iw_stream.proofs.stream.Stream.judge.Goals as goal
 
 pub returns-then-missing-floor-clause-step : goal.returns-then-missing-floor-clause-step
@@ -36,25 +37,25 @@ returns-then-missing-floor-clause-memory g c =
     let none = none_next s c.missing.result c.floor.result c.self.invariant c.missing.ensures.missing c.floor.ensures.floor c.if-missing-floor.true in
     ap (λ o. table_left table s (option_map_or Judge o Rest)) (sym none) ∙ ap (λ t. table_left table t (option_map_or Judge (next_frame t) Rest)) c.self.view_is
 
-pub land_write-requires-clause-write : goal.land_write-requires-clause-write
-land_write-requires-clause-write g c =
+pub land_tagged-requires-clause-tagged : goal.land_tagged-requires-clause-tagged
+land_tagged-requires-clause-tagged g c =
     let u = ulpdu c.in-Some.fpdu in
     let front = c.in-Some-front.front.now in
-    let head = c.in-Some-write_head.head in
-    let w : IsWrite c.in-Some-front.front.now c.in-Some-write_head.head = is_write front head c.in-Some-write_head.ensures in
-    write_there u head (write_front u front head c.in-Some-front.ensures w)
+    let head = c.in-Some-tagged_head.head in
+    let p : Passes c.in-Some-front.front.now c.in-Some-tagged_head.head = passes front head c.in-Some-tagged_head.ensures in
+    tagged_there u head (tagged_front u front head c.in-Some-front.ensures p)
 
-pub keep_write-requires-clause-tagged : goal.keep_write-requires-clause-tagged
-keep_write-requires-clause-tagged g c =
+pub keep_tagged-requires-clause-tagged : goal.keep_tagged-requires-clause-tagged
+keep_tagged-requires-clause-tagged g c =
     let front = c.in-Some-front.front.now in
-    let head = c.in-Some-write_head.head in
-    write_tagged front head (is_write front head c.in-Some-write_head.ensures)
+    let head = c.in-Some-tagged_head.head in
+    tagged_first front head (passes front head c.in-Some-tagged_head.ensures)
 
-pub keep_write-requires-clause-long : goal.keep_write-requires-clause-long
-keep_write-requires-clause-long g c =
+pub keep_tagged-requires-clause-long : goal.keep_tagged-requires-clause-long
+keep_tagged-requires-clause-long g c =
     let front = c.in-Some-front.front.now in
-    let head = c.in-Some-write_head.head in
-    write_long front head (is_write front head c.in-Some-write_head.ensures)
+    let head = c.in-Some-tagged_head.head in
+    tagged_long front head (passes front head c.in-Some-tagged_head.ensures)
 
 pub invariant_of-self : goal.invariant_of-self
 invariant_of-self g c =
@@ -63,9 +64,11 @@ invariant_of-self g c =
     let next : IsNext (expecting c.self.inside.start) c.self.inside.arrived.arrived (first_place_in c.self.inside.start) c.in-Some.fpdu =
     subst (λ l. IsNext l c.self.inside.arrived.arrived (first_place_in c.self.inside.start) c.in-Some.fpdu) c.expecting-layout.ensures
     (subst (λ b. IsNext c.expecting-layout.result c.self.inside.arrived.arrived b c.in-Some.fpdu) c.first_place_in-base.ensures.place c.in-Some.ensures.next) in
-    let ok : verdict (standing c.args.memory.now s) (frame_by c.in-Some.fpdu) ≡ Ok (landings.Write c.in-Ok.placed) = sym (c.in-Ok.ensures.landed (standing c.args.memory.now s) refl refl) in
-    subst (λ f. Keeps (record s { front = f })) (sym c.keep_write.ensures)
-    (keeps_judged s c.args.memory.now c.in-Some.fpdu c.self.inside.receiving (landings.Write c.in-Ok.placed) running next ok tt refl c.self.invariant)
+    let response = c.is_response-response.result in
+    let at = c.in-Ok.placed in
+    let ok : verdict (standing c.args.memory.now s) (frame_by c.in-Some.fpdu) ≡ Ok (landing_of c.is_response-response.result c.in-Ok.placed) = sym (c.in-Ok.ensures.landed (standing c.args.memory.now s) refl refl refl) in
+    subst (λ f. Keeps (record s { front = f })) (sym c.keep_tagged.ensures)
+    (keeps_judged s c.args.memory.now c.in-Some.fpdu c.self.inside.receiving (landing_of response at) running next ok (is_placing response at) (leaves_receiving response at c.self.inside.receiving (payload_of (read_segment (ulpdu c.in-Some.fpdu)))) c.self.invariant)
 
 pub returns-in-Err-clause-step : goal.returns-in-Err-clause-step
 returns-in-Err-clause-step g c =
@@ -84,9 +87,11 @@ returns-in-Ok-clause-step g c =
     let s = state_of c.self.inside in
     let table = c.args.memory.now in
     let frame = frame_by c.in-Some.fpdu in
+    let response = c.is_response-response.result in
+    let at = c.in-Ok.placed in
     let next = next_is s c.expecting-layout.result c.first_place_in-base.result c.start_of-start.result c.floor-2.result (Some (frame_by c.in-Some.fpdu)) c.expecting-layout.ensures c.first_place_in-base.ensures.place c.floor-2.ensures.floor c.start_of-start.ensures c.in-Some.ensures.frame in
-    let ok : verdict (standing table s) frame ≡ Ok (landings.Write c.in-Ok.placed) = sym (c.in-Ok.ensures.landed (standing table s) refl refl) in
-    c.placed_step.ensures ∙ ap judged_step (sym ok)
+    let ok : verdict (standing table s) frame ≡ Ok (landing_of response at) = sym (c.in-Ok.ensures.landed (standing table s) refl refl refl) in
+    c.placed_step.ensures ∙ ap (λ r. steps.Placed r at.stag at.to at.n) c.right_of.ensures ∙ step_placed response at ∙ ap judged_step (sym ok)
     ∙ ap (λ o. step_of table s (option_map_or Judge o Rest)) (sym next) ∙ ap (λ t. step_of table t (option_map_or Judge (next_frame t) Rest)) c.self.view_is
 
 pub returns-in-Ok-clause-after : goal.returns-in-Ok-clause-after
@@ -94,9 +99,11 @@ returns-in-Ok-clause-after g c =
     let s = state_of c.self.inside in
     let table = c.args.memory.now in
     let frame = frame_by c.in-Some.fpdu in
+    let response = c.is_response-response.result in
+    let at = c.in-Ok.placed in
     let next = next_is s c.expecting-layout.result c.first_place_in-base.result c.start_of-start.result c.floor-2.result (Some (frame_by c.in-Some.fpdu)) c.expecting-layout.ensures c.first_place_in-base.ensures.place c.floor-2.ensures.floor c.start_of-start.ensures c.in-Some.ensures.frame in
-    let ok : verdict (standing table s) frame ≡ Ok (landings.Write c.in-Ok.placed) = sym (c.in-Ok.ensures.landed (standing table s) refl refl) in
-    ap (λ f. record s { front = f }) c.keep_write.ensures ∙ ap (after_judging s frame) (sym ok)
+    let ok : verdict (standing table s) frame ≡ Ok (landing_of response at) = sym (c.in-Ok.ensures.landed (standing table s) refl refl refl) in
+    ap (λ f. record s { front = f }) c.keep_tagged.ensures ∙ stream_placed response at s frame ∙ ap (after_judging s frame) (sym ok)
     ∙ ap (λ o. left_by table s (option_map_or Judge o Rest)) (sym next) ∙ ap (λ t. left_by table t (option_map_or Judge (next_frame t) Rest)) c.self.view_is
 
 pub returns-in-Ok-clause-memory : goal.returns-in-Ok-clause-memory
@@ -104,7 +111,9 @@ returns-in-Ok-clause-memory g c =
     let s = state_of c.self.inside in
     let table = c.args.memory.now in
     let frame = frame_by c.in-Some.fpdu in
+    let response = c.is_response-response.result in
+    let at = c.in-Ok.placed in
     let next = next_is s c.expecting-layout.result c.first_place_in-base.result c.start_of-start.result c.floor-2.result (Some (frame_by c.in-Some.fpdu)) c.expecting-layout.ensures c.first_place_in-base.ensures.place c.floor-2.ensures.floor c.start_of-start.ensures c.in-Some.ensures.frame in
-    let ok : verdict (standing table s) frame ≡ Ok (landings.Write c.in-Ok.placed) = sym (c.in-Ok.ensures.landed (standing table s) refl refl) in
-    c.in-Ok.ensures.memory ∙ ap (table_judged table frame) (sym ok)
+    let ok : verdict (standing table s) frame ≡ Ok (landing_of response at) = sym (c.in-Ok.ensures.landed (standing table s) refl refl refl) in
+    c.in-Ok.ensures.memory ∙ table_placed response at table frame ∙ ap (table_judged table frame) (sym ok)
     ∙ ap (λ o. table_left table s (option_map_or Judge o Rest)) (sym next) ∙ ap (λ t. table_left table t (option_map_or Judge (next_frame t) Rest)) c.self.view_is

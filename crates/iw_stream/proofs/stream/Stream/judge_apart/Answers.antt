@@ -62,13 +62,13 @@ take_up-requires-clause-header g c =
     let m = may_take (standing c.args.memory.now (state_of c.self.inside)) c.in-Some.fpdu c.in-Ok-Request.request (sym c.land_frame.ensures.landed ∙ c.in-Ok-Request.is ∙ ap Ok c.in-Ok-Request.field-0-is) in
     ap (λ (f : PlacedFrame). length f.header.items) c.placed_frame-frame.ensures ∙ m.header
 
-pub end_judged-requires-clause-fits : goal.end_judged-requires-clause-fits
-end_judged-requires-clause-fits g c =
+pub end_judged-self-inside-requires-clause-fits : goal.end_judged-self-inside-requires-clause-fits
+end_judged-self-inside-requires-clause-fits g c =
     let k = caused (standing c.args.memory.now (state_of c.self.inside)) c.in-Some.fpdu c.in-Err.fault (sym c.land_frame.ensures.landed ∙ c.in-Err.is) in
     k.fits
 
-pub end_judged-requires-clause-cause : goal.end_judged-requires-clause-cause
-end_judged-requires-clause-cause g c =
+pub end_judged-self-inside-requires-clause-cause : goal.end_judged-self-inside-requires-clause-cause
+end_judged-self-inside-requires-clause-cause g c =
     let k = caused (standing c.args.memory.now (state_of c.self.inside)) c.in-Some.fpdu c.in-Err.fault (sym c.land_frame.ensures.landed ∙ c.in-Err.is) in
     k.cause
 
@@ -92,6 +92,6 @@ returns-in-Err-clause-after g c =
     c.start_of-start.ensures ∙ (λ i. frame_start (layout i).markers (c.floor.ensures.floor i - base i)) in
     let next : next_frame s ≡ Some (frame_by found) =
     (λ i. frame_at (sym layout i) s.arrived (sym base i) (sym start i)) ∙ sym c.frame_at.ensures.frame ∙ ap (option_map frame_by) c.in-Some.is in
-    (λ i. record s { ending = c.end_judged.ensures i; receiving = c.in-Err.ensures.err.1 i })
+    (λ i. record s { ending = c.end_judged-self-inside.ensures i; receiving = c.in-Err.ensures.err.1 i })
     ∙ judged_over table s (frame_by found) c.in-Err.fault next (sym c.land_frame.ensures.landed ∙ c.in-Err.is)
     ∙ ap (λ (t : StreamState). left_by table t (option_map_or Judge (next_frame t) Rest)) c.self.view_is

@@ -4,8 +4,8 @@ use Rattle.std.specs.Result.{IsOk}
 use Rattle.iw_fpdu.specs.Found.{ulpdu}
 use Rattle.iw_stream.specs.declared.judging.PlacedFrame.{PlacedFrame}
 use Rattle.iw_stream.proofs.Landings.{length_ulpdu}
-use Rattle.iw_stream.proofs.Writes.{header_front}
-use Rattle.iw_stream.proofs.judging.keep_write.Goals as goal
+use Rattle.iw_stream.proofs.Tagged.{header_front}
+use Rattle.iw_stream.proofs.judging.keep_tagged.Goals as goal
 
 from_ok : {A E : Type 0} (r : Result A E) (P : Type 0) → IsOk r → OnOk r P → P
 from_ok (Ok x) P is h = h

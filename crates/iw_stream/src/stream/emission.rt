@@ -1,0 +1,235 @@
+ghost use Rattle.std.specs.Prelude.{◌≡◌, ◌≤◌, ◌^◌, ◌++◌, ◌&&◌, nat_le, length, true, false, is_ok, Some, None, Ok, IfOk, IsSome, OnOk, OnErr};
+ghost use Rattle.std.specs.Option.{option_map_or};
+ghost use Rattle.iw_octets.specs.declared.fault.Fault.{Fault};
+ghost use Rattle.iw_octets.specs.declared.segment.Segment.TheVariants.{Tagged};
+ghost use Rattle.iw_memory.specs.Table.{Table};
+ghost use Rattle.iw_stream.specs.Starting.{is_open, first_place_out};
+ghost use Rattle.iw_reads.specs.Outstanding.{most_reads};
+ghost use Rattle.iw_stream.specs.Stream.{is_read, reads_with};
+
+use super::Stream;
+use crate::answer::Emission;
+use crate::emitting::{write_part, write_response, write_terminate};
+use crate::ending::Ending;
+use crate::terminating::{over, terminate_fetched};
+use bytes::Bytes;
+use iw_memory::Memory;
+use iw_queues::Request;
+use iw_reads::{Reads, ResponsePart, fetch};
+use std::alloc::{AllocError, Allocator};
+
+// A Read is not begun while 16 are outstanding.
+fn must_wait<A: Allocator>(reads: &Reads, request: &Request<Bytes<A>>) -> bool
+    ensures { result ≡ is_read request.now && nat_le most_reads (length reads.now) }
+{
+    matches!(request, Request::Read(_)) && reads.is_full()
+}
+
+// A Read is outstanding once its request was sent.
+fn read_sent<A: Allocator>(reads: &mut Reads, ticket: u64, request: &Request<Bytes<A>>)
+    requires { (is_read request.now && nat_le most_reads (length reads.old)) ≡ false }
+    ensures { reads.new ≡ reads_with reads.old ticket request.now }
+{
+    match request {
+        Request::Message(_) => {}
+        Request::Read(request) => reads.add(ticket, *request),
+    }
+}
+
+impl<A: Allocator> Stream<A> {
+    ghost use Rattle.iw_stream.specs.Ending.{last_word};
+    ghost use Rattle.iw_stream.specs.Stream.{owes_frame, is_mute, keeps_silent, part_due, response_due, frame_of, StartUp, LastWord, Response, NextPart, NoneDue, octets_due, emission_due, left_due, emission_fetched, left_fetched, emission_of, emitted, after_emit};
+
+    // This end's start-up frame is to be emitted.
+    fn owes_frame(&self) -> bool
+        ensures { result ≡ owes_frame self.now }
+    {
+        !self.ending.is_broken() && self.sent < self.start.first_place_out()
+    }
+
+    // A responder sends no frame before a frame of the peer had its turn (RFC 5044 7.1.2).
+    fn keeps_silent(&self) -> bool
+        ensures { result ≡ keeps_silent self.now }
+    {
+        self.start.is_responder() && self.arrived.floor() == self.start.first_place_in()
+    }
+
+    // No frame may be sent.
+    fn is_mute(&self) -> bool
+        ensures { result ≡ is_mute self.now }
+    {
+        self.ending.has_ended() || !self.start.is_open() || self.keeps_silent()
+    }
+
+    /// Appends to `out` what is to be emitted next: this end's start-up frame, or else, where the stream has ended by a fault,
+    /// its Terminate, after which there is nothing more, or else, if frames may be sent, the frame of the next part of a message
+    /// that is begun, of the response to the peer's oldest Read Request, or of the next message. A Read is not begun while 16
+    /// are outstanding, and what was posted behind it waits too.
+    ///
+    /// The octets of a response are fetched as they are sent; where the peer may not read them, nothing is appended and the
+    /// stream has ended. An `Err` is want of memory, comes only where something is appended, and changes nothing.
+    pub fn emit(&mut self, memory: &Memory<A>, out: &mut Vec<u8, A>) -> Result<Emission, AllocError>
+        requires { self.old.sent ≤ 2 ^ 62 }
+        ensures emission { IfOk result (λ emission. emission ≡ emission_of memory.now self.old) }
+        ensures out { OnOk result (out.new.items ≡ out.old.items ++ emitted memory.now self.old) }
+        ensures after { OnOk result (self.new ≡ after_emit memory.now self.old) }
+        ensures err { OnErr result ((self.new ≡ self.old) × (out.new.items ≡ out.old.items)) }
+        ensures memory { emission_of memory.now self.old ≡ Emission.Nothing → is_ok result ≡ true }
+        ensures denied { (fault : Fault) → emission_of memory.now self.old ≡ Emission.Fault fault → is_ok result ≡ true }
+    {
+        if self.owes_frame() {
+            return self.emit_startup(out);
+        }
+        if let Ending::Over(Some(_)) = &self.ending {
+            return self.emit_last_word(out);
+        }
+        if self.is_mute() {
+            return Ok(Emission::Nothing);
+        }
+        match self.response_due() {
+            Some(part) => self.emit_response(part, memory, out),
+            None => self.emit_part(out),
+        }
+    }
+
+    // Appends this end's start-up frame.
+    fn emit_startup(&mut self, out: &mut Vec<u8, A>) -> Result<Emission, AllocError>
+        requires place { self.old.sent ≤ 2 ^ 62 }
+        requires owed { owes_frame self.old ≡ true }
+        ensures emission { (table : Table) → IfOk result (λ emission. emission ≡ emission_due table self.old StartUp) }
+        ensures out { (table : Table) → OnOk result (out.new.items ≡ out.old.items ++ octets_due table self.old StartUp) }
+        ensures after { (table : Table) → OnOk result (self.new ≡ left_due table self.old StartUp) }
+        ensures err { OnErr result ((self.new ≡ self.old) × (out.new.items ≡ out.old.items)) }
+    {
+        let from = self.sent;
+        let len = self.start.append_frame(out)?;
+        self.sent += len as u64;
+        Ok(Emission::Frame { from, len })
+    }
+
+    // Appends the frame of the Terminate that is due.
+    #[inline(never)]
+    fn emit_last_word(&mut self, out: &mut Vec<u8, A>) -> Result<Emission, AllocError>
+        requires place { self.old.sent ≤ 2 ^ 62 }
+        requires owed { first_place_out self.old.start ≤ self.old.sent }
+        requires due { IsSome (last_word self.old.ending) }
+        ensures emission { (table : Table) → IfOk result (λ emission. emission ≡ emission_due table self.old (option_map_or LastWord (last_word self.old.ending) NoneDue)) }
+        ensures out { (table : Table) → OnOk result (out.new.items ≡ out.old.items ++ octets_due table self.old (option_map_or LastWord (last_word self.old.ending) NoneDue)) }
+        ensures after { (table : Table) → OnOk result (self.new ≡ left_due table self.old (option_map_or LastWord (last_word self.old.ending) NoneDue)) }
+        ensures err { OnErr result ((self.new ≡ self.old) × (out.new.items ≡ out.old.items)) }
+    {
+        let Ending::Over(Some(terminate)) = &self.ending else {
+            return Ok(Emission::Nothing);
+        };
+        let place = self.sent - self.start.first_place_out();
+        let before = out.len();
+        write_terminate(self.start.sending(), place, terminate.as_slice(), out)?;
+        let len = out.len() - before;
+        let from = self.sent;
+        self.ending = Ending::Over(None);
+        self.sent += len as u64;
+        Ok(Emission::Frame { from, len })
+    }
+
+    // The part of a response that is to be sent next: none while a message is begun.
+    fn response_due(&self) -> Option<ResponsePart>
+        ensures { result ≡ response_due self.now }
+    {
+        if self.queue.is_begun() {
+            return None;
+        }
+        self.asked.next_part(self.mulpdu)
+    }
+
+    // Fetches the part of a response that is due, and appends its frame.
+    fn emit_response(
+        &mut self,
+        part: ResponsePart,
+        memory: &Memory<A>,
+        out: &mut Vec<u8, A>,
+    ) -> Result<Emission, AllocError>
+        requires place { self.old.sent ≤ 2 ^ 62 }
+        requires open { is_open self.old.start ≡ true }
+        requires owed { first_place_out self.old.start ≤ self.old.sent }
+        requires due { response_due self.old ≡ Some part }
+        ensures emission { IfOk result (λ emission. emission ≡ emission_due memory.now self.old (Response part)) }
+        ensures out { OnOk result (out.new.items ≡ out.old.items ++ octets_due memory.now self.old (Response part)) }
+        ensures after { OnOk result (self.new ≡ left_due memory.now self.old (Response part)) }
+        ensures err { OnErr result ((self.new ≡ self.old) × (out.new.items ≡ out.old.items)) }
+        ensures denied { (fault : Fault) → emission_due memory.now self.old (Response part) ≡ Emission.Fault fault → is_ok result ≡ true }
+    {
+        match fetch(&part, memory, self.domain) {
+            Ok(octets) => self.emit_fetched(part, octets, out),
+            Err(fault) => {
+                let terminate = terminate_fetched(&self.asked, fault);
+                self.ending = over(terminate, &self.start, &self.arrived);
+                Ok(Emission::Fault(fault))
+            }
+        }
+    }
+
+    // Appends the frame of a part of a response, with these octets.
+    fn emit_fetched(
+        &mut self,
+        part: ResponsePart,
+        octets: &[u8],
+        out: &mut Vec<u8, A>,
+    ) -> Result<Emission, AllocError>
+        requires place { self.old.sent ≤ 2 ^ 62 }
+        requires open { is_open self.old.start ≡ true }
+        requires owed { first_place_out self.old.start ≤ self.old.sent }
+        requires due { response_due self.old ≡ Some part }
+        requires octets { length octets.now ≡ part.n }
+        ensures emission { IfOk result (λ emission. emission ≡ emission_fetched self.old part (Ok (frame_of self.old (Tagged part.head octets.now)))) }
+        ensures out { OnOk result (out.new.items ≡ out.old.items ++ frame_of self.old (Tagged part.head octets.now)) }
+        ensures after { OnOk result (self.new ≡ left_fetched self.old part (Ok (frame_of self.old (Tagged part.head octets.now)))) }
+        ensures err { OnErr result ((self.new ≡ self.old) × (out.new.items ≡ out.old.items)) }
+    {
+        let place = self.sent - self.start.first_place_out();
+        let before = out.len();
+        write_response(self.start.sending(), place, part.head, octets, out)?;
+        let len = out.len() - before;
+        let from = self.sent;
+        self.asked.part_fetched(self.mulpdu);
+        self.sent += len as u64;
+        let ResponsePart { stag, to, n, .. } = part;
+        Ok(Emission::Fetched {
+            from,
+            len,
+            stag,
+            to,
+            n,
+        })
+    }
+
+    // Appends the frame of the part of what was posted that is due, if one is.
+    fn emit_part(&mut self, out: &mut Vec<u8, A>) -> Result<Emission, AllocError>
+        requires place { self.old.sent ≤ 2 ^ 62 }
+        requires open { is_open self.old.start ≡ true }
+        requires owed { first_place_out self.old.start ≤ self.old.sent }
+        ensures emission { (table : Table) → IfOk result (λ emission. emission ≡ emission_due table self.old (option_map_or NextPart (part_due self.old) NoneDue)) }
+        ensures out { (table : Table) → OnOk result (out.new.items ≡ out.old.items ++ octets_due table self.old (option_map_or NextPart (part_due self.old) NoneDue)) }
+        ensures after { (table : Table) → OnOk result (self.new ≡ left_due table self.old (option_map_or NextPart (part_due self.old) NoneDue)) }
+        ensures err { OnErr result ((self.new ≡ self.old) × (out.new.items ≡ out.old.items)) }
+        ensures memory { part_due self.old ≡ None → is_ok result ≡ true }
+    {
+        let place = self.sent - self.start.first_place_out();
+        // Its contract has the queue's limits.
+        let _ = self.queue.len();
+        let Some(part) = self.queue.next_part(self.mulpdu) else {
+            return Ok(Emission::Nothing);
+        };
+        if must_wait(&self.reads, part.message) {
+            return Ok(Emission::Nothing);
+        }
+        let before = out.len();
+        write_part(self.start.sending(), place, self.numbers, &part, out)?;
+        let len = out.len() - before;
+        let from = self.sent;
+        self.numbers = self.numbers.behind(&part);
+        read_sent(&mut self.reads, part.ticket, part.message);
+        self.queue.part_sent(self.mulpdu);
+        self.sent += len as u64;
+        Ok(Emission::Frame { from, len })
+    }
+}
