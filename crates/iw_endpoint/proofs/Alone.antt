@@ -10,10 +10,10 @@ use Rattle.iw_endpoint.proofs.Parts.{empty_size}
 use Rattle.iw_endpoint.proofs.Steps.{concerns_one}
 
 -- each stream is in the domain whose its number is
-abbrev AreOwned : (ℕ → ℕ) → EndpointState → Type 0
+abbrev pub AreOwned : (ℕ → ℕ) → EndpointState → Type 0
 AreOwned whose e = (n : ℕ) → IsOwn (whose n) (stream_of e n)
 
-concerns : (whose : ℕ → ℕ) (e : EndpointState) (call : Call) → AreOwned whose e → ((n d : ℕ) → Opens n d call → whose n ≡ d) → Concerns (concerned whose call) e call
+pub concerns : (whose : ℕ → ℕ) (e : EndpointState) (call : Call) → AreOwned whose e → ((n d : ℕ) → Opens n d call → whose n ≡ d) → Concerns (concerned whose call) e call
 concerns whose e (AddDomain pd) owned opens = refl
 concerns whose e (Register pd base octets rights) owned opens = refl
 concerns whose e (Deregister stag) owned opens = refl
@@ -29,7 +29,7 @@ owned_by : (d x : ℕ) (o : Option StreamState) → option_map (λ s. s.domain) 
 owned_by d x None e own = absurd (let no : ⊥ = cc in no)
 owned_by d x (Some s) e own = let same : s.domain ≡ x = cc in sym same ∙ own
 
-stay_owned : (whose : ℕ → ℕ) (e : EndpointState) (call : Call) (d : ℕ) → AreOwned whose e → ((n d : ℕ) → Opens n d call → whose n ≡ d) → OwnStep d e call → AreOwned whose (after e call)
+pub stay_owned : (whose : ℕ → ℕ) (e : EndpointState) (call : Call) (d : ℕ) → AreOwned whose e → ((n d : ℕ) → Opens n d call → whose n ≡ d) → OwnStep d e call → AreOwned whose (after e call)
 stay_owned whose e call d owned opens step n = go (stream_of (after e call) n) (step.owners n)
   where
     told : (s : StreamState) → (owner e n ≡ Some s.domain) ⊎ Opens n s.domain call → s.domain ≡ whose n
@@ -86,7 +86,7 @@ nothing_in zero (suc n) = refl
 nothing_in (suc k) zero = refl
 nothing_in (suc k) (suc n) = nothing_in k n
 
-nothing_owned : (whose : ℕ → ℕ) → AreOwned whose fresh
+pub nothing_owned : (whose : ℕ → ℕ) → AreOwned whose fresh
 unfolding no_streams
 nothing_owned whose n = subst (λ o. IsOwn (whose n) o) (sym (nothing_in 64 n)) tt
 

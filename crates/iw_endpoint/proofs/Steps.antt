@@ -25,7 +25,7 @@ use Rattle.iw_endpoint.proofs.Parts.{AreSeenAlike, seen_alone, stream_alike, alo
 -- ---- calls at a stream
 
 -- a stream of the domain sees two endpoints alike
-at_own : (d : ℕ) (e f : EndpointState) (s : StreamState) → IsOwn d (Some s) → AreSeenAlike d e f → AreAlike s.domain e.table f.table
+pub at_own : (d : ℕ) (e f : EndpointState) (s : StreamState) → IsOwn d (Some s) → AreSeenAlike d e f → AreAlike s.domain e.table f.table
 at_own d e f s own h = subst (λ x. AreAlike x e.table f.table) (sym own) h.table
 
 -- what is told of a stream that is the same at both
@@ -115,7 +115,7 @@ stream_leaves d e n Limits IsNew own = leaves-all d e IsNew
 
 -- ---- openings
 
-open_alike : (d : ℕ) (e f : EndpointState) (n : ℕ) → stream_of e n ≡ stream_of f n → AreSeenAlike d e f → open_refusal e n d ≡ open_refusal f n d
+pub open_alike : (d : ℕ) (e f : EndpointState) (n : ℕ) → stream_of e n ≡ stream_of f n → AreSeenAlike d e f → open_refusal e n d ≡ open_refusal f n d
 open_alike d e f n same h =
     (λ i. if is_some (same i) then Some NumberTaken else if nat_le stream_numbers n then Some BadNumber else if not (is_some (h.table.part i)) then Some NoDomain else None)
 

@@ -94,7 +94,7 @@ head-alike : (s : StreamState) (t u : Table) (r : Result Head Fault) (n : ℕ) �
 head-alike s t u (Ok head) n h = place-alike s t u head n h
 head-alike s t u (Err fault) n h = refl
 
-verdict-alike : (s : StreamState) (t u : Table) (frame : Frame) → AreAlike s.domain t u → verdict (standing t s) frame ≡ verdict (standing u s) frame
+pub verdict-alike : (s : StreamState) (t u : Table) (frame : Frame) → AreAlike s.domain t u → verdict (standing t s) frame ≡ verdict (standing u s) frame
 verdict-alike s t u frame h = ap (λ r. option_map_or (λ m. Err (mismatch_fault m)) frame.mismatch r) (head-alike s t u (judged_head (standing t s) frame.ulpdu) (length (payload_of (read_segment frame.ulpdu))) h)
 
 invalidation-alike : (d : ℕ) (t u : Table) (turning : Turning) → AreAlike d t u → invalidation_fault t d turning ≡ invalidation_fault u d turning
@@ -109,7 +109,7 @@ segment_turn-alike d t u r reads n (Some (Tagged head payload)) h = refl
 segment_turn-alike d t u r reads n (Some (Untagged head payload)) h =
     ap (λ o. fault_or (or_else (turn_fault r head.msn head.mo) o) (send_turning head)) (invalidation-alike d t u (send_turning head) h)
 
-turn-alike : (s : StreamState) (t u : Table) (frame : PlacedFrame) → AreAlike s.domain t u → turn_of (standing t s) frame ≡ turn_of (standing u s) frame
+pub turn-alike : (s : StreamState) (t u : Table) (frame : PlacedFrame) → AreAlike s.domain t u → turn_of (standing t s) frame ≡ turn_of (standing u s) frame
 turn-alike s t u frame h = segment_turn-alike s.domain t u s.receiving s.reads (payload_len frame) (head_in frame) h
 
 -- ---- work
@@ -145,7 +145,7 @@ landed-alike d t u payload (Send msn mo len) h = h
 landed-alike d t u payload (Request request) h = h
 landed-alike d t u payload (Terminate fault) h = h
 
-judged-alike : (d : ℕ) (t u : Table) (frame : Frame) (r : Result Landing Fault) → AreAlike d t u → AreAlike d (table_judged t frame r) (table_judged u frame r)
+pub judged-alike : (d : ℕ) (t u : Table) (frame : Frame) (r : Result Landing Fault) → AreAlike d t u → AreAlike d (table_judged t frame r) (table_judged u frame r)
 judged-alike d t u frame (Ok at) h = landed-alike d t u (payload_of (segment_in frame)) at h
 judged-alike d t u frame (Err fault) h = h
 
@@ -199,7 +199,7 @@ keeps-put d t stag to octets right none = elim (allows t d stag to (length octet
 ]
 
 -- what is not at fault was not denied
-undenied : {D : Type 0} (o : Option D) (fault : D → Fault) → option_map fault o ≡ None → o ≡ None
+pub undenied : {D : Type 0} (o : Option D) (fault : D → Fault) → option_map fault o ≡ None → o ≡ None
 undenied None fault e = refl
 undenied (Some deny) fault e = absurd (none-some _ (sym e))
 
@@ -294,21 +294,21 @@ keeps-worked s t = go (task s)
 
 -- ---- emission
 
-region-alike : (d : ℕ) (t u : Table) (stag : Stag) → stag.domain ≡ d → AreAlike d t u → region_at t stag ≡ region_at u stag
+pub region-alike : (d : ℕ) (t u : Table) (stag : Stag) → stag.domain ≡ d → AreAlike d t u → region_at t stag ≡ region_at u stag
 region-alike d t u stag here h =
     ap (λ e. own_region (part_of t e) stag) here ∙ ap (λ part. own_region part stag) h.part ∙ ap (λ e. own_region (part_of u e) stag) (sym here)
 
-none_taken : (o : Option Region) (to n : ℕ) → n ≡ 0 → option_map_or (λ r. octets_from r to n) o [] ≡ []
+pub none_taken : (o : Option Region) (to n : ℕ) → n ≡ 0 → option_map_or (λ r. octets_from r to n) o [] ≡ []
 none_taken None to n none = refl
 none_taken (Some r) to n none = ap (λ n. octets_from r to n) none
 
-octets-alike : (d : ℕ) (t u : Table) (stag : Stag) (to n : ℕ) (right : Right) → denial t d stag to n right ≡ None → AreAlike d t u → octets_at t stag to n ≡ octets_at u stag to n
+pub octets-alike : (d : ℕ) (t u : Table) (stag : Stag) (to n : ℕ) (right : Right) → denial t d stag to n right ≡ None → AreAlike d t u → octets_at t stag to n ≡ octets_at u stag to n
 octets-alike d t u stag to n right none h = elim (allows t d stag to n right none) [
   | inl nothing ↦ none_taken (region_at t stag) to n nothing ∙ sym (none_taken (region_at u stag) to n nothing)
   | inr allowed ↦ ap (λ o. option_map_or (λ r. octets_from r to n) o []) (region-alike d t u stag allowed.0 h)
 ]
 
-fetched-alike : (s : StreamState) (t u : Table) (part : ResponsePart) → AreAlike s.domain t u → frame_fetched t s part ≡ frame_fetched u s part
+pub fetched-alike : (s : StreamState) (t u : Table) (part : ResponsePart) → AreAlike s.domain t u → frame_fetched t s part ≡ frame_fetched u s part
 fetched-alike s t u part h = go (fetch_fault t s.domain part) refl (sym fault_is)
   where
     fault_is : fetch_fault t s.domain part ≡ fetch_fault u s.domain part

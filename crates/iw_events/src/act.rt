@@ -3,19 +3,7 @@ use iw_memory::{DomainRefusal, NoRegion, RegisterRefusal, Right, Rights, StoreRe
 use iw_octets::{Fault, Stag};
 use iw_queues::Request;
 use iw_startup::{Agreed, NotAsked, StartupFault};
-use iw_stream::{Delivery, Kind, PostRefusal, RecvRefusal, Role, SizeRefusal};
-
-/// Why a stream is not opened: the first reason that holds.
-#[derive(Clone, Copy, Debug, PartialEq, Eq)]
-pub enum OpenRefusal {
-    /// The number was opened before.
-    NumberTaken,
-    /// No stream has this number.
-    BadNumber,
-    /// The domain was not added.
-    NoDomain,
-    NoMemory,
-}
+use iw_stream::{Delivery, Kind, OpenRefusal, PostRefusal, RecvRefusal, Role, SizeRefusal};
 
 /// What a call to emit gave, with its octets.
 #[derive(Debug, PartialEq, Drop)]

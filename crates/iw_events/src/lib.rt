@@ -7,7 +7,7 @@
 mod act;
 mod call;
 
-pub use act::{Act, Entry, OpenRefusal, Seen, Shown, StreamAct};
+pub use act::{Act, Entry, Seen, Shown, StreamAct};
 pub use call::{Call, End, Event, Options, StreamCall};
 pub use iw_queues::Request;
 pub use iw_stream::Role;

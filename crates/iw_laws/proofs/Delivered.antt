@@ -29,7 +29,7 @@ use Rattle.iw_stream.specs.Stream.{StreamState}
 use Rattle.iw_stream.specs.Work.{inbox}
 use Rattle.iw_laws.specs.Words.{Octets, Sent, written}
 use Rattle.iw_laws.specs.Words as words
-use Rattle.iw_laws.specs.Rules.{Connected}
+use Rattle.iw_laws.proofs.States.{Connected}
 use Rattle.iw_laws.specs.Safe.{CoversWrites}
 use Rattle.iw_laws.proofs.Tales.{Tale}
 use Rattle.iw_laws.proofs.Nexts.{Front, fore, segment_in, segment_at}
@@ -37,8 +37,7 @@ use Rattle.iw_laws.proofs.Tracks.{Track, front_is, split_is}
 use Rattle.iw_laws.proofs.Joins.{told, count_waiting, count-append}
 use Rattle.iw_laws.specs.Sends.{farewells}
 use Rattle.iw_laws.specs.Rules.{FitsPosted, FitsOptional}
-use Rattle.iw_stream.specs.Judging.{stag_of}
-use Rattle.iw_octets.specs.Stag.{FitsStag}
+use Rattle.iw_octets.specs.Stag.{FitsStag, stag_of}
 use Rattle.iw_octets.specs.declared.head.TaggedHead.{TaggedHead}
 use Rattle.iw_octets.specs.Head.{is_tagged, tagged_fields, tagged_octets}
 use Rattle.iw_octets.specs.Segment.{read_segment}

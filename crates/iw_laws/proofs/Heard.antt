@@ -26,7 +26,7 @@ use Rattle.iw_stream.specs.Starting as starting
 use Rattle.iw_stream.specs.Stream.{StreamState}
 use Rattle.iw_stream.specs.Work.{inbox}
 use Rattle.iw_laws.specs.Words.{Octets, Opening}
-use Rattle.iw_laws.specs.Rules.{Connected}
+use Rattle.iw_laws.proofs.States.{Connected}
 use Rattle.iw_laws.specs.Safe.{Fits}
 use Rattle.iw_laws.proofs.Tales.{Tale}
 use Rattle.iw_laws.proofs.Tracks.{OnStart, start_octets, Track, IsBare}

@@ -18,7 +18,8 @@ use Rattle.iw_octets.specs.Payload.{request_fields}
 use Rattle.iw_octets.specs.Octets.{splice}
 use Rattle.iw_octets.specs.declared.operation.UntaggedOperation.{UntaggedOperation}
 use Rattle.iw_octets.specs.declared.operation.UntaggedOperation.TheVariants as operations
-use Rattle.iw_stream.specs.Judging.{has_stag, stag_of, stag_to_invalidate}
+use Rattle.iw_octets.specs.Stag.{stag_of}
+use Rattle.iw_stream.specs.Judging.{has_stag, stag_to_invalidate}
 use Rattle.iw_stream.specs.Judging as judging
 use Rattle.iw_queues.specs.Joined.{Whole, Cell, joined, completed, is_solicited, is_invalidating, count_in, count_writes, count_segments}
 use Rattle.iw_octets.specs.Operation.{opcode_of, untagged_operation}

@@ -61,7 +61,7 @@ use Rattle.iw_ranges.specs.declared.Delivery.TheVariants.{Dropped}
 use Rattle.iw_ranges.specs.Arrived.{advanced, delivery}
 use Rattle.iw_startup.specs.declared.config.Agreed.{Agreed}
 use Rattle.iw_startup.specs.declared.startup.NotAsked.{NotAsked}
-use Rattle.iw_events.specs.declared.act.OpenRefusal.TheVariants.{NumberTaken, BadNumber, NoDomain}
+use Rattle.iw_stream.specs.declared.answer.OpenRefusal.TheVariants.{NumberTaken, BadNumber, NoDomain}
 use Rattle.iw_events.specs.declared.call.End.{End}
 use Rattle.iw_events.specs.declared.call.Call.{Call}
 use Rattle.iw_events.specs.declared.call.Call.TheVariants as calls
@@ -74,7 +74,7 @@ use Rattle.iw_events.specs.declared.act.Shown.{Shown}
 use Rattle.iw_events.specs.declared.act.Seen.{Seen}
 use Rattle.iw_events.specs.declared.act.Seen.TheVariants as seen
 use Rattle.iw_events.specs.declared.act.Entry.{Entry}
-use Rattle.iw_laws.specs.Words.{Octets, other, acts, deed, buffers, handed_kinds, size_set, stream_numbers, stream_acts, Opening, opening_in, opening_of, openings, was_opened, domain_of, posted, sends, received, ended as has_ended_by, sent, placings, written, sunk, finished_kinds, table_after}
+use Rattle.iw_laws.specs.Words.{Octets, other, acts, deed, buffers, handed_kinds, size_set, stream_acts, Opening, opening_in, opening_of, openings, was_opened, domain_of, posted, sends, received, ended as has_ended_by, sent, placings, written, sunk, finished_kinds, table_after}
 use Rattle.iw_laws.specs.Safe.{IsHonest, InOrder, CoversWrites, Covered, Fits, Within, WithinStream}
 use Rattle.iw_laws.specs.Merged.{AreMerged, posts_in, response_segment}
 use Rattle.iw_laws.specs.Faithful.{FetchShown, FetchStream, count_done, AnswersReads, Answering}
@@ -85,7 +85,10 @@ use Rattle.iw_laws.specs.Rest.{IdleStream, IdleOnlyAtRest}
 use Rattle.iw_laws.specs.Ends.{HoldsNoMessage, HoldsNothing, EndSeen, IsStartDue, EndShown, EndsStream, Ends}
 use Rattle.iw_laws.specs.Calls.{deregister_answer, invalidate_refusal, IsNew, open_refusal_by, EndAnswered, ShowsMemory, recv_refusal_by, post_refusal_by, may_answer_by, Accepted, Rejected, StreamAnswered, AnsweredStream, Answered, delivery_by, KeptStream, KeepsOctets, CarriedStream, CarriesOctets}
 use Rattle.iw_laws.specs.Words.{OnSome, OnStream, AtEach}
-use Rattle.iw_laws.specs.Rules.{Connected, EndState, State, end_of, has_stream, stream_at, start, open_refusal, register_answer, accept_answer, answer_refusal, Rule, EndRule, PeerRule, WireRule, StreamRule, state_after, Follows}
+use Rattle.iw_endpoint.specs.Endpoint.{stream_numbers, has_stream, open_refusal, unasked}
+use Rattle.iw_endpoint.specs.Isolation.{answer_or}
+use Rattle.iw_laws.specs.Rules.{EndState, State, end_of, start, Rule, EndRule, PeerRule, WireRule, StreamRule, state_after, Follows, wire_at}
+use Rattle.iw_laws.proofs.States.{Connected, connected_at}
 use Rattle.iw_laws.specs.Bounds.{LacksStream, AsksTooMuch, AsksOver}
 use Rattle.iw_laws.specs.Stops.{NamesNoStream, AsksNotSent, IsUnopened}
 use Rattle.iw_stream.proofs.Tasks.{IsResting, Ended as HasEnded, Unanswered, Without}
@@ -116,17 +119,17 @@ fitting n past honest x =
 
 -- what each end has heard of the other
 heard : (past : List (Entry Octets)) (w : State) (k : BothSeen past w) (x : End) (n : ℕ) → IsHonest n past
-    → IsHeard (stream_at (end_of x w) n) (tale n (acts x past)) (stream_at (end_of (other x) w) n) (tale n (acts (other x) past)) (out_of (stream_at (end_of x w) n).stream (tale n (acts x past)) (k.pairs x n).own.emits) (k.pairs x n).own_peer.track
+    → IsHeard (connected_at (end_of x w) n) (tale n (acts x past)) (connected_at (end_of (other x) w) n) (tale n (acts (other x) past)) (out_of (connected_at (end_of x w) n).stream (tale n (acts x past)) (k.pairs x n).own.emits) (k.pairs x n).own_peer.track
 heard past w k x n honest =
     let p = k.pairs x n in
-    hears_all (opening_of n (acts x past)) (stream_at (end_of x w) n) (tale n (acts x past)) p.own (opening_of n (acts (other x) past)) (stream_at (end_of (other x) w) n) (tale n (acts (other x) past)) p.own_peer
+    hears_all (opening_of n (acts x past)) (connected_at (end_of x w) n) (tale n (acts x past)) p.own (opening_of n (acts (other x) past)) (connected_at (end_of (other x) w) n) (tale n (acts (other x) past)) p.own_peer
     (fitting n past honest x) (p.out (honest.calm (other x))) (p.back (honest.calm x))
 
 -- what was received is a prefix of the Sends posted
 prefix_of : (past : List (Entry Octets)) (w : State) → BothSeen past w → (x : End) (n : ℕ) → IsHonest n past → IsPrefixOf (received (stream_acts n (acts (other x) past))) (sends (posted (stream_acts n (acts x past))))
 prefix_of past w k x n honest =
     let p = k.pairs x n in
-    received_prefix (stream_at (end_of x w) n) (tale n (acts x past)) (stream_at (end_of (other x) w) n) (tale n (acts (other x) past)) p.own.emits p.own_peer.track (heard past w k x n honest) (p.out (honest.calm (other x)))
+    received_prefix (connected_at (end_of x w) n) (tale n (acts x past)) (connected_at (end_of (other x) w) n) (tale n (acts (other x) past)) p.own.emits p.own_peer.track (heard past w k x n honest) (p.out (honest.calm (other x)))
 
 pub in_order : (trace : List (Entry Octets)) → Follows start trace → InOrder trace
 in_order trace follows past future is x n honest = prefix_of past (state_after start past) (seen_at past future trace follows is) x n honest
@@ -136,7 +139,7 @@ covers : (past : List (Entry Octets)) (w : State) → BothSeen past w → (x : E
     → CoversWrites (posted (stream_acts n (acts x past))) (written (placings (stream_acts n (acts (other x) past)))) (length (received (stream_acts n (acts (other x) past)))) cell
 covers past w k x n honest cell =
     let p = k.pairs x n in
-    writes_covered (stream_at (end_of x w) n) (tale n (acts x past)) (stream_at (end_of (other x) w) n) (tale n (acts (other x) past)) p.own.emits p.own_peer.track (heard past w k x n honest) (p.out (honest.calm (other x))) cell
+    writes_covered (connected_at (end_of x w) n) (tale n (acts x past)) (connected_at (end_of (other x) w) n) (tale n (acts (other x) past)) p.own.emits p.own_peer.track (heard past w k x n honest) (p.out (honest.calm (other x))) cell
 
 pub covered : (trace : List (Entry Octets)) → Follows start trace → Covered trace
 covered trace follows past future is x n honest cell = covers past (state_after start past) (seen_at past future trace follows is) x n honest cell
@@ -158,8 +161,8 @@ answers_reads past w k x n honest =
     let out = p.out (honest.calm (other x)) in
     let back = p.back (honest.calm x) in
     let there = heard past w k x n honest in
-    let home = hears_all m (stream_at (end_of (other x) w) n) (tale n (acts (other x) past)) p.own_peer o (stream_at (end_of x w) n) (tale n (acts x past)) p.own (fits_both o m (fitting n past honest x)) back out in
-    reads_answered (stream_at (end_of x w) n) (tale n (acts x past)) (stream_at (end_of (other x) w) n) (tale n (acts (other x) past)) p.own.emits p.own.track p.own_peer.emits p.own_peer.track p.own_peer.doing.answered there home out back
+    let home = hears_all m (connected_at (end_of (other x) w) n) (tale n (acts (other x) past)) p.own_peer o (connected_at (end_of x w) n) (tale n (acts x past)) p.own (fits_both o m (fitting n past honest x)) back out in
+    reads_answered (connected_at (end_of x w) n) (tale n (acts x past)) (connected_at (end_of (other x) w) n) (tale n (acts (other x) past)) p.own.emits p.own.track p.own_peer.emits p.own_peer.track p.own_peer.doing.answered there home out back
 
 pub answering_all : (trace : List (Entry Octets)) → Follows start trace → Answering trace
 answering_all trace follows past future is x n honest = answers_reads past (state_after start past) (seen_at past future trace follows is) x n honest
@@ -172,8 +175,8 @@ within_stream : (done : List (Act Octets)) (n domain : ℕ) (table : Table) (act
 within_stream done n domain table act d t h = subst (λ z. WithinTale z (domain_of n done) (tale n done) act) t (subst (λ z. WithinTale table z (tale n done) act) d h)
 
 -- what holds of the acts of a stream holds of those of an end
-on_stream : (P : List (Act Octets) → ℕ → StreamAct Octets → Type 0) (done : List (Act Octets)) (s : EndState) (act : Act Octets) → EndRule s act
-    → ((n : ℕ) (a : StreamAct Octets) → has_stream s n ≡ true → StreamRule s.table (stream_at s n).stream a → P done n a) → OnStream P done act
+on_stream : (P : List (Act Octets) → ℕ → StreamAct Octets → Type 0) (done : List (Act Octets)) (s : EndState) (act : Act Octets) → EndRule s.endpoint act
+    → ((n : ℕ) (a : StreamAct Octets) → has_stream s.endpoint n ≡ true → StreamRule s.endpoint.table (connected_at s n).stream a → P done n a) → OnStream P done act
 on_stream P done s (Stream n act) rule h = h n act rule.0 rule.1
 on_stream P done s (Domain pd refused) rule h = tt
 on_stream P done s (Register pd base rights octets answer) rule h = tt
@@ -192,8 +195,8 @@ moment past e future trace follows is =
 
 -- a law of each entry of a stream, by the state before it
 each_stream : (P : List (Act Octets) → ℕ → StreamAct Octets → Type 0) (trace : List (Entry Octets)) → Follows start trace
-    → ((done : List (Act Octets)) (s : EndState) (n : ℕ) (act : StreamAct Octets) → EndKept s done → has_stream s n ≡ true → StreamRule s.table (stream_at s n).stream act
-    → Own (opening_of n done) (stream_at s n) (tale n done) → P done n act) → AtEach (OnStream P) trace
+    → ((done : List (Act Octets)) (s : EndState) (n : ℕ) (act : StreamAct Octets) → EndKept s done → has_stream s.endpoint n ≡ true → StreamRule s.endpoint.table (connected_at s n).stream act
+    → Own (opening_of n done) (connected_at s n) (tale n done) → P done n act) → AtEach (OnStream P) trace
 each_stream P trace follows one past e future is =
     let m = moment past e future trace follows is in
     let w : State = state_after start past in
@@ -202,14 +205,14 @@ each_stream P trace follows one past e future is =
 
 pub within_all : (trace : List (Entry Octets)) → Follows start trace → Within trace
 within_all trace follows = each_stream WithinStream trace follows (λ done s n act k opened rule own.
-    let c : Connected = stream_at s n in
-    within_stream done n c.stream.domain s.table act (k.domain n opened) k.table (within (opening_of n done) s.table c (tale n done) act (told s.table c.stream act (sound c.stream (tale n done) own.track) rule) own))
+    let c : Connected = connected_at s n in
+    within_stream done n c.stream.domain s.endpoint.table act (k.domain n opened) k.table (within (opening_of n done) s.endpoint.table c (tale n done) act (told s.endpoint.table c.stream act (sound c.stream (tale n done) own.track) rule) own))
 
 -- ---- what goes out
 
 first_frames : (past : List (Entry Octets)) (w : State) → BothSeen past w → (x : End) (n : ℕ) → AreFirstFrames (story_of n (acts x past)) (sent (stream_acts n (acts x past))) (posted (stream_acts n (acts x past)))
 first_frames past w k x n =
-    let s : StreamState = (stream_at (end_of x w) n).stream in
+    let s : StreamState = (connected_at (end_of x w) n).stream in
     let t : Tale = tale n (acts x past) in
     let own = (k.pairs x n).own in
     let e = own.emits in
@@ -360,7 +363,7 @@ nothing_stream o c done table (Work step) rule own = tt
 nothing_stream o c done table Break rule own = tt
 
 pub nothing_at_rest : (trace : List (Entry Octets)) → Follows start trace → NothingOnlyAtRest trace
-nothing_at_rest trace follows = each_stream NothingStream trace follows (λ done s n act k opened rule own. nothing_stream (opening_of n done) (stream_at s n) (stream_acts n done) s.table act rule own)
+nothing_at_rest trace follows = each_stream NothingStream trace follows (λ done s n act k opened rule own. nothing_stream (opening_of n done) (connected_at s n) (stream_acts n done) s.endpoint.table act rule own)
 
 -- a frame stands behind what was sent, and is the start-up frame or that of a part, as large as was set
 -- how large the frame of a part is
@@ -464,7 +467,7 @@ shown_sized o c done table (Work step) rule own = tt
 shown_sized o c done table Break rule own = tt
 
 pub sized_all : (trace : List (Entry Octets)) → Follows start trace → Sized trace
-sized_all trace follows = each_stream SizedStream trace follows (λ done s n act k opened rule own. shown_sized (opening_of n done) (stream_at s n) (stream_acts n done) s.table act rule own)
+sized_all trace follows = each_stream SizedStream trace follows (λ done s n act k opened rule own. shown_sized (opening_of n done) (connected_at s n) (stream_acts n done) s.endpoint.table act rule own)
 
 may_send : (o : Opening) (c : Connected) (done : List (StreamAct Octets)) → MaySpeak c.stream → Own o c (tale_of o done) → MaySend (has_ended_by done) (story o done)
 may_send o c done m own =
@@ -505,18 +508,18 @@ shown_allowed o c done table (Work step) rule own = tt
 shown_allowed o c done table Break rule own = tt
 
 pub speaks_all : (trace : List (Entry Octets)) → Follows start trace → Speaks trace
-speaks_all trace follows = each_stream SpeaksStream trace follows (λ done s n act k opened rule own. shown_allowed (opening_of n done) (stream_at s n) (stream_acts n done) s.table act rule own)
+speaks_all trace follows = each_stream SpeaksStream trace follows (λ done s n act k opened rule own. shown_allowed (opening_of n done) (connected_at s n) (stream_acts n done) s.endpoint.table act rule own)
 
 -- ---- the turns of frames
 
-same_standing : (done : List (Act Octets)) (n : ℕ) (s : EndState) → EndKept s done → has_stream s n ≡ true → Own (opening_of n done) (stream_at s n) (tale n done) → work.standing s.table (stream_at s n).stream ≡ standing n done
+same_standing : (done : List (Act Octets)) (n : ℕ) (s : EndState) → EndKept s done → has_stream s.endpoint n ≡ true → Own (opening_of n done) (connected_at s n) (tale n done) → work.standing s.endpoint.table (connected_at s n).stream ≡ standing n done
 same_standing done n s k there own =
     λ i. record { table = k.table i; domain = k.domain n there i; receiving = sym own.track.receiving i; reads = sym own.emits.asks.reads i; asked = sym own.emits.asks.asked i }
 
-turns_stream : (done : List (Act Octets)) (n : ℕ) (s : EndState) (act : StreamAct Octets) → EndKept s done → has_stream s n ≡ true → StreamRule s.table (stream_at s n).stream act
-    → Own (opening_of n done) (stream_at s n) (tale n done) → TurnsStream done n act
+turns_stream : (done : List (Act Octets)) (n : ℕ) (s : EndState) (act : StreamAct Octets) → EndKept s done → has_stream s.endpoint n ≡ true → StreamRule s.endpoint.table (connected_at s n).stream act
+    → Own (opening_of n done) (connected_at s n) (tale n done) → TurnsStream done n act
 turns_stream done n s (Work step) k there rule own =
-    subst (λ z. TurnsSeen (has_ended_by (stream_acts n done)) (story_of n done) z step) (same_standing done n s k there own) (answers s.table (stream_at s n).stream (tale n done) step rule own.track own.ended)
+    subst (λ z. TurnsSeen (has_ended_by (stream_acts n done)) (story_of n done) z step) (same_standing done n s k there own) (answers s.endpoint.table (connected_at s n).stream (tale n done) step rule own.track own.ended)
 turns_stream done n s (Post m refused) k there rule own = tt
 turns_stream done n s (Recv len refused) k there rule own = tt
 turns_stream done n s (Emit shown) k there rule own = tt
@@ -530,34 +533,34 @@ turns_stream done n s Break k there rule own = tt
 pub turns_all : (trace : List (Entry Octets)) → Follows start trace → Turns trace
 turns_all trace follows = each_stream TurnsStream trace follows turns_at
   where
-    turns_at : (done : List (Act Octets)) (s : EndState) (n : ℕ) (act : StreamAct Octets) → EndKept s done → has_stream s n ≡ true → StreamRule s.table (stream_at s n).stream act
-        → Own (opening_of n done) (stream_at s n) (tale n done) → TurnsStream done n act
+    turns_at : (done : List (Act Octets)) (s : EndState) (n : ℕ) (act : StreamAct Octets) → EndKept s done → has_stream s.endpoint n ≡ true → StreamRule s.endpoint.table (connected_at s n).stream act
+        → Own (opening_of n done) (connected_at s n) (tale n done) → TurnsStream done n act
     turns_at done s n act k there rule own = turns_stream done n s act k there rule own
 
 -- ---- what is fetched
 
-fetch_shown : (done : List (Act Octets)) (n : ℕ) (s : EndState) (act : StreamAct Octets) → EndKept s done → has_stream s n ≡ true → StreamRule s.table (stream_at s n).stream act → Own (opening_of n done) (stream_at s n) (tale n done)
-    → OnSome (FetchShown (story_of n done) (work.standing s.table (stream_at s n).stream)) (deed act).shown
+fetch_shown : (done : List (Act Octets)) (n : ℕ) (s : EndState) (act : StreamAct Octets) → EndKept s done → has_stream s.endpoint n ≡ true → StreamRule s.endpoint.table (connected_at s n).stream act → Own (opening_of n done) (connected_at s n) (tale n done)
+    → OnSome (FetchShown (story_of n done) (work.standing s.endpoint.table (connected_at s n).stream)) (deed act).shown
 fetch_shown done n s (Emit (Fetched from frame stag to octets)) k there rule own =
-    let c : Connected = stream_at s n in
+    let c : Connected = connected_at s n in
     let t : Tale = tale n done in
-    let w = answers_part s.table c.stream t from frame stag to octets (emits_as s.table c.stream (Fetched from frame stag to octets) rule) own.emits.asks in
-    let p = emits_as s.table c.stream (Fetched from frame stag to octets) rule in
+    let w = answers_part s.endpoint.table c.stream t from frame stag to octets (emits_as s.endpoint.table c.stream (Fetched from frame stag to octets) rule) own.emits.asks in
+    let p = emits_as s.endpoint.table c.stream (Fetched from frame stag to octets) rule in
     record {
       oldest = w.oldest;
       waits = record { others = w.others; is = ap (λ (z : Requested). z.unanswered) own.emits.asks.asked ∙ w.waiting };
       source = w.stag_is;
       place = w.to_is;
       asked_for = w.within;
-      allowed = allows s.table c.stream.domain stag to (length octets) rights.Read w.admitted;
+      allowed = allows s.endpoint.table c.stream.domain stag to (length octets) rights.Read w.admitted;
       stand = w.stand;
       carries = w.frame_is
           ∙ (λ i. frame_octets (sending (sym own.track.begins.start i)) (sym p.from_is i - first_place_out (sym own.track.begins.start i)) (segment_octets (response_segment w.oldest.request (length (story_of n done).begun) (w.last_is i) octets)));
     }
 fetch_shown done n s (Emit (Denied fault)) k there rule own =
-    let c : Connected = stream_at s n in
+    let c : Connected = connected_at s n in
     let t : Tale = tale n done in
-    let p = emits_as s.table c.stream (Denied fault) rule in
+    let p = emits_as s.endpoint.table c.stream (Denied fault) rule in
     let w = part_is_of c.stream p.part p.is_due in
     let fetched = own.emits.asks.fetched in
     let within = denied_within c.stream.asked.fetched w.oldest.request.size (c.stream.mulpdu - 14) (subst (λ z. requests.IsBegun z c.stream.asked.fetched) w.waiting own.emits.asks.begun) in
@@ -566,8 +569,8 @@ fetch_shown done n s (Emit (Denied fault)) k there rule own =
       waits = record { others = w.others; is = ap (λ (z : Requested). z.unanswered) own.emits.asks.asked ∙ w.waiting };
       n = min (w.oldest.request.size - c.stream.asked.fetched) (c.stream.mulpdu - 14);
       asked_for = omega (arith, fetched, within);
-      denied = (λ i. reading_fault s.table c.stream.domain w.oldest.request.source (w.oldest.request.source_to + sym fetched i) (min (w.oldest.request.size - c.stream.asked.fetched) (c.stream.mulpdu - 14)))
-          ∙ ap (fetch_fault s.table c.stream.domain) (sym w.is) ∙ p.denied;
+      denied = (λ i. reading_fault s.endpoint.table c.stream.domain w.oldest.request.source (w.oldest.request.source_to + sym fetched i) (min (w.oldest.request.size - c.stream.asked.fetched) (c.stream.mulpdu - 14)))
+          ∙ ap (fetch_fault s.endpoint.table c.stream.domain) (sym w.is) ∙ p.denied;
     }
   where
     denied_within : (n size room : ℕ) → (0 < n → n < size) → n + min (size - n) room ≤ size
@@ -598,10 +601,10 @@ few_reads trace follows past future is x n =
 
 -- ---- finished messages
 
-finished_stream : (done : List (Act Octets)) (n : ℕ) (s : EndState) (act : StreamAct Octets) → StreamRule s.table (stream_at s n).stream act → Own (opening_of n done) (stream_at s n) (tale n done) → FinishedStream done n act
+finished_stream : (done : List (Act Octets)) (n : ℕ) (s : EndState) (act : StreamAct Octets) → StreamRule s.endpoint.table (connected_at s n).stream act → Own (opening_of n done) (connected_at s n) (tale n done) → FinishedStream done n act
 finished_stream done n s (Work (seen.Done kind)) rule own =
-    let c : Connected = stream_at s n in
-    let d = (sees s.table c.stream (sound c.stream (tale n done) own.track) (seen.Done kind) rule).0 in
+    let c : Connected = connected_at s n in
+    let d = (sees s.endpoint.table c.stream (sound c.stream (tale n done) own.track) (seen.Done kind) rule).0 in
     subst (CanFinish (story_of n done) (stream_acts n done)) (sym d.2) (can_finish c.stream (tale n done) own.track own.emits d.0 d.1)
 finished_stream done n s (Work seen.Idle) rule own = tt
 finished_stream done n s (Work (seen.Asked private)) rule own = tt
@@ -631,10 +634,10 @@ finished_all trace follows = each_stream FinishedStream trace follows (λ done s
 
 -- ---- rest
 
-idle_stream : (s : EndState) (c : Connected) (done : List (Act Octets)) (n : ℕ) (act : StreamAct Octets) → StreamRule s.table c.stream act → Own (opening_of n done) c (tale n done) → IdleStream done n act
+idle_stream : (s : EndState) (c : Connected) (done : List (Act Octets)) (n : ℕ) (act : StreamAct Octets) → StreamRule s.endpoint.table c.stream act → Own (opening_of n done) c (tale n done) → IdleStream done n act
 idle_stream s c done n (Work seen.Idle) rule o = record {
-  reason = idles s.table c.stream (tale n done) rule o.track o.ended;
-  unfinished = cannot_finish c.stream (tale n done) o.track o.emits (idle_unfinished s.table c.stream (tale n done) rule o.track);
+  reason = idles s.endpoint.table c.stream (tale n done) rule o.track o.ended;
+  unfinished = cannot_finish c.stream (tale n done) o.track o.emits (idle_unfinished s.endpoint.table c.stream (tale n done) rule o.track);
 }
 idle_stream s c done n (Work (seen.Asked private)) rule o = tt
 idle_stream s c done n (Work (seen.Opened agreed private)) rule o = tt
@@ -660,7 +663,7 @@ idle_stream s c done n (Raw from octets delivery) rule o = tt
 idle_stream s c done n (Mulpdu size refused) rule o = tt
 
 pub idle_at_rest : (trace : List (Entry Octets)) → Follows start trace → IdleOnlyAtRest trace
-idle_at_rest trace follows = each_stream IdleStream trace follows (λ done s n act k opened rule own. idle_stream s (stream_at s n) done n act rule own)
+idle_at_rest trace follows = each_stream IdleStream trace follows (λ done s n act k opened rule own. idle_stream s (connected_at s n) done n act rule own)
 
 -- ---- the end
 
@@ -743,9 +746,9 @@ end_shown o c done table (Fetched from frame stag to octets) rule own = sym own.
 end_shown o c done table (Denied fault) rule own = sym own.ended ∙ (emits_as table c.stream (Denied fault) rule).speaks.running
 end_shown o c done table Nothing rule own = tt
 
-ends_stream : (done : List (Act Octets)) (n : ℕ) (s : EndState) (act : StreamAct Octets) → StreamRule s.table (stream_at s n).stream act → Own (opening_of n done) (stream_at s n) (tale n done) → EndsStream done n act
-ends_stream done n s (Work step) rule own = (end_seen (opening_of n done) (stream_at s n) (stream_acts n done) s.table step rule own, tt)
-ends_stream done n s (Emit shown) rule own = (tt, end_shown (opening_of n done) (stream_at s n) (stream_acts n done) s.table shown rule own)
+ends_stream : (done : List (Act Octets)) (n : ℕ) (s : EndState) (act : StreamAct Octets) → StreamRule s.endpoint.table (connected_at s n).stream act → Own (opening_of n done) (connected_at s n) (tale n done) → EndsStream done n act
+ends_stream done n s (Work step) rule own = (end_seen (opening_of n done) (connected_at s n) (stream_acts n done) s.endpoint.table step rule own, tt)
+ends_stream done n s (Emit shown) rule own = (tt, end_shown (opening_of n done) (connected_at s n) (stream_acts n done) s.endpoint.table shown rule own)
 ends_stream done n s (Post m refused) rule own = (tt, tt)
 ends_stream done n s (Recv len refused) rule own = (tt, tt)
 ends_stream done n s (Deliver from octets delivery) rule own = (tt, tt)
@@ -767,7 +770,7 @@ ended_told trace follows x n =
 -- ---- calls
 
 -- an opening is refused by what was done
-open_refused : (s : EndState) (done : List (Act Octets)) (n pd : ℕ) → EndKept s done → open_refusal s n pd ≡ open_refusal_by done n pd
+open_refused : (s : EndState) (done : List (Act Octets)) (n pd : ℕ) → EndKept s done → open_refusal s.endpoint n pd ≡ open_refusal_by done n pd
 open_refused s done n pd k = λ i. cond (k.opened n i) (Some NumberTaken) (cond (nat_le stream_numbers n) (Some BadNumber) (cond (not (is_added (k.table i) pd)) (Some NoDomain) None))
 
 -- the STag of the next region names nothing
@@ -780,17 +783,17 @@ next_free table pd base len region e = go (is_some (part_of table pd)) refl e
     go true added h = (registered-changes table pd region (there table pd added)).was_free
     go false added h = absurd (none-some _ (sym h))
 
-registers : (table : Table) (pd base len : ℕ) (region : Region) (answer : Result Stag RegisterRefusal) → answer ≡ register_answer table pd base len → (result_err answer ≡ register_refusal table pd base len) × IfOk answer (IsNew table pd)
+registers : (table : Table) (pd base len : ℕ) (region : Region) (answer : Result Stag RegisterRefusal) → answer ≡ answer_or (register_refusal table pd base len) (next_stag table pd) → (result_err answer ≡ register_refusal table pd base len) × IfOk answer (IsNew table pd)
 registers table pd base len region answer e = subst (λ z. (result_err z ≡ register_refusal table pd base len) × IfOk z (IsNew table pd)) (sym e) (go (register_refusal table pd base len) refl)
   where
-    go : (o : Option RegisterRefusal) → register_refusal table pd base len ≡ o → (result_err (option_map_or Err o (Ok (next_stag table pd))) ≡ register_refusal table pd base len) × IfOk (option_map_or Err o (Ok (next_stag table pd))) (IsNew table pd)
+    go : (o : Option RegisterRefusal) → register_refusal table pd base len ≡ o → (result_err (answer_or o (next_stag table pd)) ≡ register_refusal table pd base len) × IfOk (answer_or o (next_stag table pd)) (IsNew table pd)
     go None is = (sym is, record { domain = refl; fresh = next_free table pd base len region is })
     go (Some refusal) is = (sym is, tt)
 
-end_answered : (done : List (Act Octets)) (s : EndState) (act : Act Octets) → EndKept s done → EndRule s act → EndAnswered done act
+end_answered : (done : List (Act Octets)) (s : EndState) (act : Act Octets) → EndKept s done → EndRule s.endpoint act → EndAnswered done act
 end_answered done s (Domain pd refused) k rule = subst (λ t. refused ≡ domain_refusal t pd) k.table rule
 end_answered done s (Register pd base rights octets answer) k rule =
-    subst (λ t. (result_err answer ≡ register_refusal t pd base (length octets)) × IfOk answer (IsNew t pd)) k.table (registers s.table pd base (length octets) (record { base = base; octets = octets; rights = rights; valid = true }) answer rule)
+    subst (λ t. (result_err answer ≡ register_refusal t pd base (length octets)) × IfOk answer (IsNew t pd)) k.table (registers s.endpoint.table pd base (length octets) (record { base = base; octets = octets; rights = rights; valid = true }) answer rule)
 end_answered done s (Deregister stag answer) k rule = subst (λ t. answer ≡ deregister_answer t stag) k.table rule
 end_answered done s (Invalidate stag refused) k rule = subst (λ t. refused ≡ invalidate_refusal t stag) k.table rule
 end_answered done s (Store stag to octets refused) k rule = subst (λ t. refused ≡ store_refusal t stag to (length octets)) k.table rule
@@ -844,19 +847,19 @@ post_refused o c done m own =
 asked_is : (o : Opening) (c : Connected) (done : List (StreamAct Octets)) → Own o c (tale_of o done) → may_answer c.stream ≡ may_answer_by (story o done) done
 asked_is o c done own = λ i. not (own.ended i) && is_asked (sym own.track.begins.start i)
 
-accepts_asked : (o : Opening) (c : Connected) (done : List (StreamAct Octets)) (answer : Result Agreed NotAsked) → answer ≡ accept_answer c.stream → Own o c (tale_of o done) → Accepted (story o done) done answer
+accepts_asked : (o : Opening) (c : Connected) (done : List (StreamAct Octets)) (answer : Result Agreed NotAsked) → answer ≡ answer_or (unasked c.stream) (agreement_in c.stream.start) → Own o c (tale_of o done) → Accepted (story o done) done answer
 accepts_asked o c done (Ok agreed) rule own =
     let e = accepting c.stream agreed rule in
-    let same : Ok agreed ≡ Ok (agreement_in c.stream.start) = rule ∙ ap (λ b. cond {A = Result Agreed NotAsked} b (Ok (agreement_in c.stream.start)) (Err (record {}))) e in
+    let same : Ok agreed ≡ Ok (agreement_in c.stream.start) = rule ∙ ap (λ b. answer_or (cond {A = Option NotAsked} b None (Some (record {}))) (agreement_in c.stream.start)) e in
     let is : agreed ≡ agreement_in c.stream.start = cc in
     (sym (asked_is o c done own) ∙ e, is ∙ ap agreement_in (sym own.track.begins.start))
 accepts_asked o c done (Err refusal) rule own = sym (asked_is o c done own) ∙ go (may_answer c.stream) rule
   where
-    go : (b : Bool) → Err refusal ≡ cond {A = Result Agreed NotAsked} b (Ok (agreement_in c.stream.start)) (Err (record {})) → b ≡ false
+    go : (b : Bool) → Err refusal ≡ answer_or (cond {A = Option NotAsked} b None (Some (record {}))) (agreement_in c.stream.start) → b ≡ false
     go true h = cc
     go false h = refl
 
-rejects_asked : (o : Opening) (c : Connected) (done : List (StreamAct Octets)) (refused : Option NotAsked) → refused ≡ answer_refusal c.stream → Own o c (tale_of o done) → Rejected (story o done) done refused
+rejects_asked : (o : Opening) (c : Connected) (done : List (StreamAct Octets)) (refused : Option NotAsked) → refused ≡ unasked c.stream → Own o c (tale_of o done) → Rejected (story o done) done refused
 rejects_asked o c done None rule own = sym (asked_is o c done own) ∙ refusing c.stream rule
 rejects_asked o c done (Some refusal) rule own = sym (asked_is o c done own) ∙ go (may_answer c.stream) rule
   where
@@ -877,7 +880,7 @@ stream_answered o c done table (Work step) rule own = tt
 stream_answered o c done table Break rule own = tt
 
 pub answered_all : (trace : List (Entry Octets)) → Follows start trace → Answered trace
-answered_all trace follows = each_stream AnsweredStream trace follows (λ done s n act k opened rule own. stream_answered (opening_of n done) (stream_at s n) (stream_acts n done) s.table act rule own)
+answered_all trace follows = each_stream AnsweredStream trace follows (λ done s n act k opened rule own. stream_answered (opening_of n done) (connected_at s n) (stream_acts n done) s.endpoint.table act rule own)
 
 -- ---- octets that come
 
@@ -900,10 +903,10 @@ octets_kept o c done table (Work step) rule own = tt
 octets_kept o c done table Break rule own = tt
 
 pub keeps_octets : (trace : List (Entry Octets)) → Follows start trace → KeepsOctets trace
-keeps_octets trace follows = each_stream KeptStream trace follows (λ done s n act k opened rule own. octets_kept (opening_of n done) (stream_at s n) (stream_acts n done) s.table act rule own)
+keeps_octets trace follows = each_stream KeptStream trace follows (λ done s n act k opened rule own. octets_kept (opening_of n done) (connected_at s n) (stream_acts n done) s.endpoint.table act rule own)
 
 -- octets that are delivered are the other end's
-octets_carried : (peer : EndState) (others : List (Act Octets)) (act : Act Octets) → ((n : ℕ) → (stream_at peer n).wire ≡ sent (stream_acts n others)) → PeerRule peer act → OnStream CarriedStream others act
+octets_carried : (peer : EndState) (others : List (Act Octets)) (act : Act Octets) → ((n : ℕ) → wire_at peer n ≡ sent (stream_acts n others)) → PeerRule peer act → OnStream CarriedStream others act
 octets_carried peer others (Stream n act) wires rule = subst (λ z. WireRule z act) (wires n) rule.1
 octets_carried peer others (Domain pd refused) wires rule = tt
 octets_carried peer others (Register pd base rights octets answer) wires rule = tt
@@ -920,10 +923,10 @@ carries_octets trace follows past e future is =
 
 -- ---- events that cannot happen
 
-lacks_opening : (s : EndState) (done : List (Act Octets)) (n : ℕ) → EndKept s done → has_stream s n ≡ false → IsUnopened done n
+lacks_opening : (s : EndState) (done : List (Act Octets)) (n : ℕ) → EndKept s done → has_stream s.endpoint n ≡ false → IsUnopened done n
 lacks_opening s done n k h = unopened (openings n done) (sym (k.opened n) ∙ h)
 
-has_opening : (s : EndState) (done : List (Act Octets)) (n : ℕ) → EndKept s done → has_stream s n ≡ true → ¬ IsUnopened done n
+has_opening : (s : EndState) (done : List (Act Octets)) (n : ℕ) → EndKept s done → has_stream s.endpoint n ≡ true → ¬ IsUnopened done n
 has_opening s done n k h none = false≢true (sym (ap was_opened none) ∙ sym (k.opened n) ∙ h)
 
 pub names_no_stream : (s peer : EndState) (own others : List (Act Octets)) (call : Call Octets) → EndKept s own → EndKept peer others → LacksStream s peer call → NamesNoStream own others call
@@ -950,11 +953,11 @@ names_streams s peer own others (calls.Invalidate stag) k j h names = h
 names_streams s peer own others (calls.Store stag to octets) k j h names = h
 names_streams s peer own others (calls.Open n pd role options private) k j h names = h
 
-pub asks_not_sent : (s peer : EndState) (others : List (Act Octets)) (call : Call Octets) → ((n : ℕ) → (stream_at peer n).wire ≡ sent (stream_acts n others)) → AsksTooMuch s peer call → AsksNotSent others call
-asks_not_sent s peer others (calls.Stream n call) wires h = subst (λ z. AsksOver z call) (wires n) h.2
-asks_not_sent s peer others (calls.Domain pd) wires h = h
-asks_not_sent s peer others (calls.Register pd base rights octets) wires h = h
-asks_not_sent s peer others (calls.Deregister stag) wires h = h
-asks_not_sent s peer others (calls.Invalidate stag) wires h = h
-asks_not_sent s peer others (calls.Store stag to octets) wires h = h
-asks_not_sent s peer others (calls.Open n pd role options private) wires h = h
+pub asks_not_sent : (s peer : EndState) (own others : List (Act Octets)) (call : Call Octets) → EndKept s own → EndKept peer others → ((n : ℕ) → wire_at peer n ≡ sent (stream_acts n others)) → AsksTooMuch s peer call → AsksNotSent own others call
+asks_not_sent s peer own others (calls.Stream n call) k j wires h = (names_streams s peer own others (calls.Stream n call) k j h, subst (λ z. AsksOver z call) (wires n) h.2)
+asks_not_sent s peer own others (calls.Domain pd) k j wires h = absurd h
+asks_not_sent s peer own others (calls.Register pd base rights octets) k j wires h = absurd h
+asks_not_sent s peer own others (calls.Deregister stag) k j wires h = absurd h
+asks_not_sent s peer own others (calls.Invalidate stag) k j wires h = absurd h
+asks_not_sent s peer own others (calls.Store stag to octets) k j wires h = absurd h
+asks_not_sent s peer own others (calls.Open n pd role options private) k j wires h = absurd h

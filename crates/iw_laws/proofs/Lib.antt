@@ -1,6 +1,7 @@
 pub mod Nexts
 pub mod Tales
 pub mod Seeing
+pub mod States
 pub mod Told
 pub mod Checks
 pub mod Lists
@@ -22,5 +23,7 @@ pub mod Delivered
 pub mod Placed
 pub mod Ends
 pub mod Whole
+pub mod Apart
+pub mod RefusedApart
 pub mod Laws
 pub mod Shorts

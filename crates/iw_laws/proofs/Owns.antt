@@ -102,8 +102,9 @@ use Rattle.iw_events.specs.declared.act.StreamAct.TheVariants.{Recv, Post, Emit,
 use Rattle.iw_events.specs.declared.act.Shown.{Shown}
 use Rattle.iw_events.specs.declared.act.Shown.TheVariants.{Frame, Fetched, Fault as Denied, Nothing}
 use Rattle.iw_events.specs.declared.act.Seen.TheVariants as seen
-use Rattle.iw_laws.specs.Words.{Octets, deed, Opening, posted_by, finished_by, handed_by, size_after, received_by, ended_after, octets_shown, is_denied, sent_by, buffers_after, Sent}
-use Rattle.iw_laws.specs.Rules.{Connected, connected_after, StreamRule, shown_of, private_data}
+use Rattle.iw_laws.specs.Words.{Octets, deed, Opening, posted_by, finished_by, handed_by, size_after, received_by, ended_after, octets_shown, is_denied, sent_by, buffers_after, Sent, private_data}
+use Rattle.iw_laws.specs.Rules.{StreamRule, shown_of}
+use Rattle.iw_laws.proofs.States.{Connected, connected_after}
 use Rattle.iw_laws.specs.Safe.{InBuffer}
 use Rattle.iw_laws.specs.Words.{OnSome}
 use Rattle.iw_laws.proofs.Nexts.{Front, fore, segment_at, turned_by, standing}

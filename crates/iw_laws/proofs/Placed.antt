@@ -19,7 +19,8 @@ use Rattle.iw_laws.specs.Words.{Octets, sunk}
 use Rattle.iw_laws.specs.Turns.{Answer}
 use Rattle.iw_laws.specs.Sends.{asked_of, farewells}
 use Rattle.std.proofs.lemmas.Bool.{false≢true}
-use Rattle.iw_laws.specs.Rules.{Connected, FitsPosted}
+use Rattle.iw_laws.specs.Rules.{FitsPosted}
+use Rattle.iw_laws.proofs.States.{Connected}
 use Rattle.iw_laws.specs.Faithful.{laid, responses, count_done, reads_among, CoversReads, AnswersReads}
 use Rattle.iw_laws.proofs.Lists.{Each, each-first, each-both}
 use Rattle.iw_laws.proofs.Tales.{Tale}

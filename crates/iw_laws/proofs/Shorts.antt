@@ -20,7 +20,8 @@ use Rattle.iw_events.specs.declared.act.Seen.TheVariants as seen
 use Rattle.iw_events.specs.declared.act.Entry.{Entry}
 use Rattle.iw_laws.specs.Words.{Octets, other, acts, stream_acts, stream_acts_by, Opening, opening_of, sent, sent_by}
 use Rattle.iw_laws.specs.Turns.{Story, story, story_after, story_of, untold}
-use Rattle.iw_laws.specs.Rules.{EndState, State, end_of, stream_at, start, Rule, after_entry, state_after, Follows}
+use Rattle.iw_laws.specs.Rules.{EndState, State, end_of, start, Rule, after_entry, state_after, Follows}
+use Rattle.iw_laws.proofs.States.{connected_at}
 use Rattle.iw_laws.specs.Bounds.{IsShortEnd, IsShortState}
 use Rattle.iw_laws.proofs.Tales.{Tale, fold-push, stream_acts-push, acts_mine, acts_other}
 use Rattle.iw_laws.proofs.Owns.{Own}
@@ -38,7 +39,7 @@ silent n done act none = stream_acts-push n done act ∙ ap (λ z. stream_acts n
 same_sent : (n : ℕ) (done : List (Act Octets)) (act : Act Octets) → stream_acts_by n act ≡ [] → sent_on n (done ++ act ∷ []) ≤ sent_on n done + 2 ^ 17
 same_sent n done act none = let same : sent_on n (done ++ act ∷ []) ≡ sent_on n done = ap (λ z. length (sent z)) (silent n done act none) in omega arith
 
-one_frame : (s peer : EndState) (done : List (Act Octets)) (act : Act Octets) (n : ℕ) → ((n : ℕ) → Own (opening_of n done) (stream_at s n) (tale n done)) → Rule s peer act
+one_frame : (s peer : EndState) (done : List (Act Octets)) (act : Act Octets) (n : ℕ) → ((n : ℕ) → Own (opening_of n done) (connected_at s n) (tale n done)) → Rule s peer act
     → sent_on n (done ++ act ∷ []) ≤ sent_on n done + 2 ^ 17
 one_frame s peer done (Domain pd None) n p rule = same_sent n done (Domain pd None) refl
 one_frame s peer done (Domain pd (Some refusal)) n p rule = same_sent n done (Domain pd (Some refusal)) refl
@@ -52,7 +53,7 @@ one_frame s peer done (Stream m act) n p rule = go (eqb m n) refl
     go : (b : Bool) → eqb m n ≡ b → sent_on n (done ++ Stream m act ∷ []) ≤ sent_on n done + 2 ^ 17
     go false e = same_sent n done (Stream m act) (acts_none m n act e)
     go true e =
-        let few : length (sent_by act) ≤ 2 ^ 17 = emits_few (opening_of m done) s.table (stream_at s m) (tale m done) act rule.0.1 (p m) in
+        let few : length (sent_by act) ≤ 2 ^ 17 = emits_few (opening_of m done) s.endpoint.table (connected_at s m) (tale m done) act rule.0.1 (p m) in
         let more : sent_on n (done ++ Stream m act ∷ []) ≡ length (sent (stream_acts n done) ++ sent_by act) =
         ap (λ (t : Tale). length t.sent) (tale_next n done m act e) in
         omega (arith, more, length-append (sent (stream_acts n done)) (sent_by act), few)
@@ -290,7 +291,7 @@ short_end trace w k few bound x = record {
       let mine : sent_on n (acts x trace) ≤ 2 ^ 17 * length trace = few x n in
       let had : turns_on n (acts x trace) ≤ length trace = turns_all trace x n in
       let turns : frames_read (story_of n (acts x trace)) ≤ turns_on n (acts x trace) = turns_are n (acts x trace) in
-      record { sent = omega (arith, p.own.sent, mine, bound); point = omega (arith, p.own.track.point, p.own.track.near, intro_few (stream_at (end_of x w) n).stream (tale n (acts x trace)) p.own.track, p.own.track.turns, turns, had, bound) };
+      record { sent = omega (arith, p.own.sent, mine, bound); point = omega (arith, p.own.track.point, p.own.track.near, intro_few (connected_at (end_of x w) n).stream (tale n (acts x trace)) p.own.track, p.own.track.turns, turns, had, bound) };
   wires = λ n.
       let p = k.pairs x n in
       let mine : sent_on n (acts x trace) ≤ 2 ^ 17 * length trace = few x n in

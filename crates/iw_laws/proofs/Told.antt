@@ -57,9 +57,10 @@ use Rattle.iw_events.specs.declared.act.Shown.{Shown}
 use Rattle.iw_events.specs.declared.act.Shown.TheVariants as shows
 use Rattle.iw_events.specs.declared.act.Seen.{Seen}
 use Rattle.iw_events.specs.declared.act.Seen.TheVariants as seen
-use Rattle.iw_laws.specs.Words.{Octets}
+use Rattle.iw_laws.specs.Words.{Octets, private_data}
 use Rattle.iw_laws.specs.Turns.{asked_in, seen_judged, seen_turned}
-use Rattle.iw_laws.specs.Rules.{StreamRule, private_data, seen_of, shown_of, stream_after}
+use Rattle.iw_laws.specs.Rules.{StreamRule, seen_of, shown_of}
+use Rattle.iw_laws.proofs.States.{stream_after}
 use Rattle.iw_laws.proofs.Nexts.{fore, segment_in, segment_at, turned_by, behind_front, standing, Sound, first_is_here, behind_is}
 use Rattle.iw_laws.proofs.Seeing.{LandsTagged, LandsRequest, LandsAs, lands_as, stands}
 

@@ -59,7 +59,7 @@ use Rattle.iw_events.specs.declared.act.StreamAct.{StreamAct}
 use Rattle.iw_events.specs.declared.act.StreamAct.TheVariants.{Recv, Post, Emit, Deliver, Raw, Mulpdu, Accept, Reject, Work, Break}
 use Rattle.iw_events.specs.declared.act.Shown.{Shown}
 use Rattle.iw_events.specs.declared.act.Seen.TheVariants as seen
-use Rattle.iw_laws.specs.Words.{Octets, Sent, Placing, placed_by}
+use Rattle.iw_laws.specs.Words.{Octets, Sent, Placing, placed_by, private_data}
 use Rattle.iw_fpdu.specs.Places.{frame_start}
 use Rattle.iw_laws.specs.Turns.{Located, located_of, behind_last}
 use Rattle.iw_laws.specs.Sends.{asked_of}
@@ -71,7 +71,8 @@ use Rattle.iw_reads.specs.declared.requests.Asked.{Asked}
 use Rattle.iw_memory.specs.declared.rights.Right.TheVariants as rights
 use Rattle.iw_events.specs.declared.act.Shown.TheVariants as shows
 use Rattle.iw_laws.proofs.Located.{frames_at, located_are, located_first, located_none, behind_last-push}
-use Rattle.iw_laws.specs.Rules.{private_data, accept_answer, answer_refusal}
+use Rattle.iw_endpoint.specs.Endpoint.{unasked}
+use Rattle.iw_endpoint.specs.Isolation.{answer_or}
 use Rattle.iw_laws.proofs.Nexts.{Front, fore, place_in, standing, segment_in, segment_at, place_behind, behind_front, turned_by, IsFore, Sound}
 use Rattle.iw_laws.proofs.Told.{Fronts, SeesPlaced, SeesRequest, SeesTerminate, SeesSend, IsPassing, SeesReceive, Hears, Told, kept_of, fault_front, left_frame, after_act, reads_front}
 use Rattle.iw_laws.proofs.Tales.{Tale, tale_after}
@@ -745,14 +746,14 @@ may s e = go (ended s) s.start refl refl e
     go false (Unheard u) a b h = absurd (false≢true h)
     go false (Heard u) a b h = record { running = a; startup = u; is = b; asked = h }
 
-pub accepting : (s : StreamState) (agreed : Agreed) → Ok agreed ≡ accept_answer s → may_answer s ≡ true
+pub accepting : (s : StreamState) (agreed : Agreed) → Ok agreed ≡ answer_or (unasked s) (agreement_in s.start) → may_answer s ≡ true
 accepting s agreed e = go (may_answer s) e
   where
-    go : (b : Bool) → Ok agreed ≡ cond {A = Result Agreed NotAsked} b (Ok (agreement_in s.start)) (Err (record {})) → b ≡ true
+    go : (b : Bool) → Ok agreed ≡ answer_or (cond {A = Option NotAsked} b None (Some (record {}))) (agreement_in s.start) → b ≡ true
     go true h = refl
     go false h = cc
 
-pub refusing : (s : StreamState) → None ≡ answer_refusal s → may_answer s ≡ true
+pub refusing : (s : StreamState) → None ≡ unasked s → may_answer s ≡ true
 refusing s e = go (may_answer s) e
   where
     go : (b : Bool) → None ≡ cond {A = Option NotAsked} b None (Some (record {})) → b ≡ true

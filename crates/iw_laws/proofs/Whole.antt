@@ -48,12 +48,14 @@ use Rattle.iw_laws.specs.Turns.{story}
 use Rattle.iw_laws.specs.Sends.{terminate_segment}
 use Rattle.std.specs.Prelude.{nat_lt}
 use Rattle.iw_laws.specs.Words.{Octets, other, acts, stream_acts, stream_acts_by, Opening, no_opening, opening_in, opening_of, openings, openings_by, posted, finished_kinds, handed_kinds, size_set, received, ended, sent, sent_by, placings, table_after, buffers}
-use Rattle.iw_laws.specs.Rules.{opening_by, Connected, connected, unconnected, EndState, State, end_of, with_end, has_stream, stream_at, no_streams, fresh, start, Rule, WireRule, StreamRule, connected_after, streams_after, end_after, after_entry, state_after, Follows}
+use Rattle.iw_endpoint.specs.Endpoint.{stream_of, stream_at, unopened as no_stream, has_stream, no_streams}
+use Rattle.iw_laws.specs.Rules.{EndState, State, end_of, with_end, at_first, start, Rule, WireRule, StreamRule, end_after, after_entry, state_after, Follows, EndRule, wire_at, no_wires}
+use Rattle.iw_laws.proofs.States.{opening_by, Connected, connected, unconnected, connected_at, connected_after, streams_after, stream_after, wire_still, wire_more}
 use Rattle.iw_laws.proofs.Tales.{Tale, tale_of, tale_after, tale-push, stream_acts-push, openings-push, acts_mine, acts_other}
 use Rattle.iw_laws.proofs.Sending.{shown_good, EmitsStart, EmitsLast, EmitsPart, emits_as, terminate_small}
 use Rattle.iw_laws.proofs.Tracks.{OnStart, start_octets, Track, shown_stays}
 use Rattle.iw_laws.proofs.Owns.{Own, owning, answers_part, first_fits, Emits, out_of, lives, all_spoken, word_unbroken, runs_unbroken, Unspoken, IsSmall, IsStartOf, behind_start}
-use Rattle.iw_laws.proofs.Ends.{EndSeen, end_step, opens, opens_same, at_same, at_other, number_there, unopened, opening_none, opening_one}
+use Rattle.iw_laws.proofs.Ends.{EndSeen, end_step, opens, opens_same, at_act, at_same, at_other, number_there, unopened, opening_none, opening_one}
 
 -- what the acts of an end say of a stream
 abbrev pub tale : ℕ → List (Act Octets) → Tale
@@ -258,12 +260,13 @@ reopened o l m c done d u small none p = record {
 }
 
 -- an act that neither opens the stream nor is one of it
-same_stream : (s : EndState) (act : Act Octets) (n : ℕ) (done : List (Act Octets)) (m : Opening) (d : Connected) (u : Tale) → slice_index_or (streams_after s.table s.streams act) n None ≡ slice_index_or s.streams n None → openings_by n act ≡ []
-    → stream_acts_by n act ≡ [] → Pair (opening_of n done) (stream_at s n) (tale n done) m d u → Pair (opening_of n (done ++ act ∷ [])) (stream_at (end_after s act) n) (tale n (done ++ act ∷ [])) m d u
-same_stream s act n done m d u same closed none p =
+same_stream : (s : EndState) (act : Act Octets) (n : ℕ) (done : List (Act Octets)) (m : Opening) (d : Connected) (u : Tale) → EndRule s.endpoint act → slice_index_or (streams_after s.endpoint.table s.endpoint.streams act) n None ≡ slice_index_or s.endpoint.streams n None → openings_by n act ≡ []
+    → stream_acts_by n act ≡ [] → Pair (opening_of n done) (connected_at s n) (tale n done) m d u → Pair (opening_of n (done ++ act ∷ [])) (connected_at (end_after s act) n) (tale n (done ++ act ∷ [])) m d u
+same_stream s act n done m d u rule same closed none p =
     let same_opening : opening_of n (done ++ act ∷ []) ≡ opening_of n done = ap opening_in (opens_same n done act closed) in
     let acts_are : stream_acts n (done ++ act ∷ []) ≡ stream_acts n done = stream_acts-push n done act ∙ ap (λ z. stream_acts n done ++ z) none ∙ append-nil (stream_acts n done) in
-    moved m d u (sym same_opening) (ap (λ o. unwrap_or o unconnected) (sym same)) (λ i. tale_of (sym same_opening i) (sym acts_are i)) p
+    let left : stream_of s.endpoint n ≡ stream_of (end_after s act).endpoint n = sym same ∙ sym (at_act s.endpoint act n rule) in
+    moved m d u (sym same_opening) (λ i. record { stream = unwrap_or (left i) no_stream; wire = sym (wire_still s act n none) i }) (λ i. tale_of (sym same_opening i) (sym acts_are i)) p
 
 pub acts_none : (m n : ℕ) (act : StreamAct Octets) → eqb m n ≡ false → stream_acts_by n (Stream m act) ≡ []
 acts_none m n act e = ap (λ b. cond b (act ∷ []) []) e
@@ -277,51 +280,61 @@ tale_next n done m act e =
     (λ i. tale_of (opening_in (opens_same n done (Stream m act) refl i)) ((stream_acts-push n done (Stream m act) ∙ ap (λ z. stream_acts n done ++ z) (acts_one m n act e)) i))
     ∙ tale-push (opening_of n done) (stream_acts n done) act
 
+nothing_sent : sent [] ≡ []
+unfolding sent
+nothing_sent = refl
+
 -- an act of an end, as each of its streams sees it
-acted : (s peer : EndState) (done : List (Act Octets)) (act : Act Octets) (n : ℕ) (l : Opening) (u : Tale) → EndSeen s done → Rule s peer act → Pair (opening_of n done) (stream_at s n) (tale n done) l (stream_at peer n) u
-    → Pair (opening_of n (done ++ act ∷ [])) (stream_at (end_after s act) n) (tale n (done ++ act ∷ [])) l (stream_at peer n) u
-acted s peer done (Domain pd None) n l u k rule p = same_stream s (Domain pd None) n done l (stream_at peer n) u refl refl refl p
-acted s peer done (Domain pd (Some refusal)) n l u k rule p = same_stream s (Domain pd (Some refusal)) n done l (stream_at peer n) u refl refl refl p
-acted s peer done (Register pd base rights octets answer) n l u k rule p = same_stream s (Register pd base rights octets answer) n done l (stream_at peer n) u refl refl refl p
-acted s peer done (Deregister stag answer) n l u k rule p = same_stream s (Deregister stag answer) n done l (stream_at peer n) u refl refl refl p
-acted s peer done (Invalidate stag refused) n l u k rule p = same_stream s (Invalidate stag refused) n done l (stream_at peer n) u refl refl refl p
-acted s peer done (Store stag to octets refused) n l u k rule p = same_stream s (Store stag to octets refused) n done l (stream_at peer n) u refl refl refl p
-acted s peer done (Open m pd role options private (Some refusal)) n l u k rule p = same_stream s (Open m pd role options private (Some refusal)) n done l (stream_at peer n) u refl refl refl p
+acted : (s peer : EndState) (done : List (Act Octets)) (act : Act Octets) (n : ℕ) (l : Opening) (u : Tale) → EndSeen s done → Rule s peer act → Pair (opening_of n done) (connected_at s n) (tale n done) l (connected_at peer n) u
+    → Pair (opening_of n (done ++ act ∷ [])) (connected_at (end_after s act) n) (tale n (done ++ act ∷ [])) l (connected_at peer n) u
+acted s peer done (Domain pd None) n l u k rule p = same_stream s (Domain pd None) n done l (connected_at peer n) u rule.0 refl refl refl p
+acted s peer done (Domain pd (Some refusal)) n l u k rule p = same_stream s (Domain pd (Some refusal)) n done l (connected_at peer n) u rule.0 refl refl refl p
+acted s peer done (Register pd base rights octets answer) n l u k rule p = same_stream s (Register pd base rights octets answer) n done l (connected_at peer n) u rule.0 refl refl refl p
+acted s peer done (Deregister stag answer) n l u k rule p = same_stream s (Deregister stag answer) n done l (connected_at peer n) u rule.0 refl refl refl p
+acted s peer done (Invalidate stag refused) n l u k rule p = same_stream s (Invalidate stag refused) n done l (connected_at peer n) u rule.0 refl refl refl p
+acted s peer done (Store stag to octets refused) n l u k rule p = same_stream s (Store stag to octets refused) n done l (connected_at peer n) u rule.0 refl refl refl p
+acted s peer done (Open m pd role options private (Some refusal)) n l u k rule p = same_stream s (Open m pd role options private (Some refusal)) n done l (connected_at peer n) u rule.0 refl refl refl p
 acted s peer done (Open m pd role options private None) n l u k rule p = go (eqb m n) refl
   where
     act : Act Octets
     act = Open m pd role options private None
 
-    go : (b : Bool) → eqb m n ≡ b → Pair (opening_of n (done ++ act ∷ [])) (stream_at (end_after s act) n) (tale n (done ++ act ∷ [])) l (stream_at peer n) u
-    go false e = same_stream s act n done l (stream_at peer n) u (at_other s m n (Some (connected (opening_by pd role options private))) e) (opening_none (eqb m n) (opening_by pd role options private) e) refl p
+    go : (b : Bool) → eqb m n ≡ b → Pair (opening_of n (done ++ act ∷ [])) (connected_at (end_after s act) n) (tale n (done ++ act ∷ [])) l (connected_at peer n) u
+    go false e = same_stream s act n done l (connected_at peer n) u rule.0 (at_other s m n (Some (connected (opening_by pd role options private)).stream) e) (opening_none (eqb m n) (opening_by pd role options private) e) refl p
     go true e =
         let o = opens s m pd rule.0 in
         let same : m ≡ n = eqb-true m n e in
         let c : Connected = connected (opening_by pd role options private) in
-        let room : m < length s.streams = omega (arith, o.number, k.numbers) in
-        let here : slice_index_or (streams_after s.table s.streams act) n None ≡ Some c = subst (λ j. slice_index_or (streams_after s.table s.streams act) j None ≡ Some c) same (at_same s m c room) in
-        let closed : has_stream s n ≡ false = subst (λ j. has_stream s j ≡ false) same o.fresh in
+        let room : m < length s.endpoint.streams = omega (arith, o.number, k.numbers) in
+        let here : stream_of (end_after s act).endpoint n ≡ Some c.stream =
+        at_act s.endpoint act n rule.0 ∙ subst (λ j. slice_index_or (streams_after s.endpoint.table s.endpoint.streams act) j None ≡ Some c.stream) same (at_same s m c.stream room) in
+        let closed : has_stream s.endpoint n ≡ false = subst (λ j. has_stream s.endpoint j ≡ false) same o.fresh in
         let before : openings n done ≡ [] = unopened (openings n done) (sym (k.opened n) ∙ closed) in
         let now : opening_of n (done ++ act ∷ []) ≡ opening_by pd role options private =
         ap opening_in (openings-push n done act ∙ (λ i. before i ++ opening_one (eqb m n) (opening_by pd role options private) e i)) in
         let silent : stream_acts n (done ++ act ∷ []) ≡ [] = stream_acts-push n done act ∙ ap (λ z. z ++ []) (k.unused n closed) in
-        moved l (stream_at peer n) u (sym now) (ap (λ z. unwrap_or z unconnected) (sym here)) (λ i. tale_of (sym now i) (sym silent i))
-        (reopened (opening_by pd role options private) (opening_of n done) l (stream_at s n) (stream_acts n done) (stream_at peer n) u (omega (arith, length-take 512 private)) (k.unused n closed) p)
+        let quiet : [] ≡ wire_at (end_after s act) n = sym (p.own.wire ∙ ap sent (k.unused n closed) ∙ nothing_sent) in
+        moved l (connected_at peer n) u (sym now) (λ i. record { stream = unwrap_or (sym here i) no_stream; wire = quiet i }) (λ i. tale_of (sym now i) (sym silent i))
+        (reopened (opening_by pd role options private) (opening_of n done) l (connected_at s n) (stream_acts n done) (connected_at peer n) u (omega (arith, length-take 512 private)) (k.unused n closed) p)
 acted s peer done (Stream m act) n l u k rule p = go (eqb m n) refl
   where
-    go : (b : Bool) → eqb m n ≡ b → Pair (opening_of n (done ++ Stream m act ∷ [])) (stream_at (end_after s (Stream m act)) n) (tale n (done ++ Stream m act ∷ [])) l (stream_at peer n) u
-    go false e = same_stream s (Stream m act) n done l (stream_at peer n) u (at_other s m n (Some (connected_after s.table (stream_at s m) act)) e) refl (acts_none m n act e) p
+    go : (b : Bool) → eqb m n ≡ b → Pair (opening_of n (done ++ Stream m act ∷ [])) (connected_at (end_after s (Stream m act)) n) (tale n (done ++ Stream m act ∷ [])) l (connected_at peer n) u
+    go false e = same_stream s (Stream m act) n done l (connected_at peer n) u rule.0 (at_other s m n (Some (stream_after s.endpoint.table (stream_at s.endpoint m) act)) e) refl (acts_none m n act e) p
     go true e =
         let same : m ≡ n = eqb-true m n e in
-        let c : Connected = connected_after s.table (stream_at s m) act in
-        let here : slice_index_or (streams_after s.table s.streams (Stream m act)) n None ≡ Some c =
-        subst (λ j. slice_index_or (streams_after s.table s.streams (Stream m act)) j None ≡ Some c) same (at_same s m c (number_there s m rule.0.0)) in
-        let is : connected_after s.table (stream_at s n) act ≡ stream_at (end_after s (Stream m act)) n =
-        ap (λ j. connected_after s.table (stream_at s j) act) (sym same) ∙ ap (λ z. unwrap_or z unconnected) (sym here) in
-        let own_rule : StreamRule s.table (stream_at s n).stream act =
-        subst (λ j. StreamRule s.table (stream_at s j).stream act) same rule.0.1 in
-        moved l (stream_at peer n) u (ap opening_in (sym (opens_same n done (Stream m act) refl))) is (sym (tale_next n done m act e))
-        (streamed s.table (opening_of n done) (stream_at s n) (tale n done) l (stream_at peer n) u act own_rule (subst (λ j. WireRule (stream_at peer j).wire act) same rule.1.1) p)
+        let x : StreamState = stream_after s.endpoint.table (stream_at s.endpoint m) act in
+        let there : m < length s.endpoint.streams = number_there s m rule.0.0 in
+        let here : stream_of (end_after s (Stream m act)).endpoint n ≡ Some x =
+        at_act s.endpoint (Stream m act) n rule.0 ∙ subst (λ j. slice_index_or (streams_after s.endpoint.table s.endpoint.streams (Stream m act)) j None ≡ Some x) same (at_same s m x there) in
+        let stream_is : stream_after s.endpoint.table (stream_at s.endpoint n) act ≡ stream_at (end_after s (Stream m act)).endpoint n =
+        ap (λ j. stream_after s.endpoint.table (stream_at s.endpoint j) act) (sym same) ∙ ap (λ z. unwrap_or z no_stream) (sym here) in
+        let room : n < length s.wires = omega (arith, there, same, k.numbers, k.wires) in
+        let is : connected_after s.endpoint.table (connected_at s n) act ≡ connected_at (end_after s (Stream m act)) n =
+        (λ i. record { stream = stream_is i; wire = wire_more s m n act same room i }) in
+        let own_rule : StreamRule s.endpoint.table (connected_at s n).stream act =
+        subst (λ j. StreamRule s.endpoint.table (connected_at s j).stream act) same rule.0.1 in
+        moved l (connected_at peer n) u (ap opening_in (sym (opens_same n done (Stream m act) refl))) is (sym (tale_next n done m act e))
+        (streamed s.endpoint.table (opening_of n done) (connected_at s n) (tale n done) l (connected_at peer n) u act own_rule (subst (λ j. WireRule (wire_at peer j) act) same rule.1.1) p)
 
 -- ---- what an act may emit
 
@@ -383,7 +396,7 @@ emits_few opening table c t Break rule o = omega arith
 
 -- a stream of a number at two ends, by their acts
 abbrev PairAt : EndState → List (Act Octets) → EndState → List (Act Octets) → ℕ → Type 0
-PairAt s own peer others n = Pair (opening_of n own) (stream_at s n) (tale n own) (opening_of n others) (stream_at peer n) (tale n others)
+PairAt s own peer others n = Pair (opening_of n own) (connected_at s n) (tale n own) (opening_of n others) (connected_at peer n) (tale n others)
 
 -- what the entries and the state have in common
 pub record Seen (trace : List (Entry Octets)) (w : State) : Type 0 where
@@ -469,16 +482,26 @@ none_at : (n : ℕ) → slice_index_or no_streams n None ≡ None
 unfolding no_streams
 none_at n = none_in 64 n
   where
-    none_in : (k n : ℕ) → slice_index_or (replicate {A = Option Connected} k None) n None ≡ None
+    none_in : (k n : ℕ) → slice_index_or (replicate {A = Option StreamState} k None) n None ≡ None
     none_in zero n = refl
     none_in (suc k) zero = refl
     none_in (suc k) (suc n) = none_in k n
 
-fresh_end : (x : End) → EndSeen fresh (acts x [])
-unfolding acts openings stream_acts table_after no_streams
+no_wire : (n : ℕ) → slice_index_or no_wires n [] ≡ []
+unfolding no_wires
+no_wire n = none_in 64 n
+  where
+    none_in : (k n : ℕ) → slice_index_or (replicate {A = Octets} k []) n [] ≡ []
+    none_in zero n = refl
+    none_in (suc k) zero = refl
+    none_in (suc k) (suc n) = none_in k n
+
+fresh_end : (x : End) → EndSeen at_first (acts x [])
+unfolding acts openings stream_acts table_after no_streams no_wires
 fresh_end x = record {
   table = refl;
   numbers = refl;
+  wires = refl;
   opened = λ n. ap is_some (none_at n);
   domain = λ n h. absurd (false≢true (ap is_some (sym (none_at n)) ∙ h));
   unused = λ n h. refl;
@@ -493,9 +516,9 @@ nothing_said : (n : ℕ) (x : End) → tale_of no_opening [] ≡ tale n (acts x 
 unfolding acts openings stream_acts
 nothing_said n x = refl
 
-start_at : (n : ℕ) (x : End) → unconnected ≡ stream_at (end_of x start) n
-start_at n A = ap (λ o. unwrap_or o unconnected) (sym (none_at n))
-start_at n B = ap (λ o. unwrap_or o unconnected) (sym (none_at n))
+start_at : (n : ℕ) (x : End) → unconnected ≡ connected_at (end_of x start) n
+start_at n A = λ i. record { stream = unwrap_or (sym (none_at n) i) no_stream; wire = sym (no_wire n) i }
+start_at n B = λ i. record { stream = unwrap_or (sym (none_at n) i) no_stream; wire = sym (no_wire n) i }
 
 pub unsaid : Seen [] start
 unsaid = record { ends = start_end; pairs = start_pair }
@@ -506,7 +529,7 @@ unsaid = record { ends = start_end; pairs = start_pair }
 
     start_pair : (x : End) (n : ℕ) → PairAt (end_of x start) (acts x []) (end_of (other x) start) (acts (other x) []) n
     start_pair x n =
-        moved (opening_of n (acts (other x) [])) (stream_at (end_of (other x) start) n) (tale n (acts (other x) [])) (nothing_opened n x) (start_at n x) (nothing_said n x)
+        moved (opening_of n (acts (other x) [])) (connected_at (end_of (other x) start) n) (tale n (acts (other x) [])) (nothing_opened n x) (start_at n x) (nothing_said n x)
         (swapped (moved no_opening unconnected (tale_of no_opening []) (nothing_opened n (other x)) (start_at n (other x)) (nothing_said n (other x)) no_pair))
 
 pub seen_at : (past future trace : List (Entry Octets)) → Follows start trace → trace ≡ past ++ future → Seen past (state_after start past)

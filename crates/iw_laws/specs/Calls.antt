@@ -16,16 +16,17 @@ use Rattle.iw_stream.specs.declared.answer.PostRefusal.{PostRefusal}
 use Rattle.iw_stream.specs.declared.answer.PostRefusal.TheVariants as posting
 use Rattle.iw_stream.specs.declared.answer.RecvRefusal.{RecvRefusal}
 use Rattle.iw_stream.specs.declared.answer.RecvRefusal.TheVariants as receiving
+use Rattle.iw_stream.specs.declared.answer.OpenRefusal.{OpenRefusal}
+use Rattle.iw_stream.specs.declared.answer.OpenRefusal.TheVariants.{NumberTaken, BadNumber, NoDomain}
 use Rattle.iw_stream.specs.Starting.{is_open, is_asked, agreement_in}
 use Rattle.iw_stream.specs.Stream.{size_refusal}
-use Rattle.iw_events.specs.declared.act.OpenRefusal.{OpenRefusal}
-use Rattle.iw_events.specs.declared.act.OpenRefusal.TheVariants.{NumberTaken, BadNumber, NoDomain}
+use Rattle.iw_endpoint.specs.Endpoint.{stream_numbers}
 use Rattle.iw_events.specs.declared.act.Act.{Act}
 use Rattle.iw_events.specs.declared.act.Act.TheVariants.{Domain, Register, Deregister, Invalidate, Store, Open, Stream}
 use Rattle.iw_events.specs.declared.act.StreamAct.{StreamAct}
 use Rattle.iw_events.specs.declared.act.StreamAct.TheVariants.{Recv, Post, Emit, Deliver, Raw, Mulpdu, Accept, Reject, Work, Break}
 use Rattle.iw_events.specs.declared.act.Entry.{Entry}
-use Rattle.iw_laws.specs.Words.{Octets, other, acts, deed, stream_acts, openings, was_opened, stream_numbers, posted, handed_kinds, ended, sent, table_after, buffers}
+use Rattle.iw_laws.specs.Words.{Octets, other, acts, deed, stream_acts, openings, was_opened, posted, handed_kinds, ended, sent, table_after, buffers}
 use Rattle.iw_laws.specs.Turns.{Story, story_of, in_order_point}
 use Rattle.iw_laws.specs.Words.{OnSome, OnStream, AtEach}
 

@@ -9,5 +9,6 @@ pub mod Ends
 pub mod Faithful
 pub mod Calls
 pub mod WrongRuns
+pub mod Isolated
 pub mod Stops
 pub mod Bounds

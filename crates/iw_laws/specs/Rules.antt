@@ -5,29 +5,22 @@ use Rattle.iw_octets.specs.declared.stag.Stag.{Stag}
 use Rattle.iw_octets.specs.declared.message.Message.TheVariants.{Write, Send}
 use Rattle.iw_octets.specs.Payload.{FitsRequest}
 use Rattle.iw_octets.specs.Stag.{FitsStag}
-use Rattle.iw_memory.specs.declared.refusal.RegisterRefusal.{RegisterRefusal}
-use Rattle.iw_memory.specs.Table.{Table, empty, is_added, domain_refusal, register_refusal, store_refusal, next_stag, octets_at}
+use Rattle.iw_memory.specs.Table.{Table, register_refusal, next_stag, octets_at}
 use Rattle.arrayvec.specs.ArrayVec.{ArrayVec}
 use Rattle.iw_queues.specs.declared.request.Request.{Request}
 use Rattle.iw_queues.specs.declared.request.Request.TheVariants.{Message as Posted, Read}
-use Rattle.iw_startup.specs.declared.config.Agreed.{Agreed}
-use Rattle.iw_startup.specs.declared.startup.NotAsked.{NotAsked}
-use Rattle.iw_stream.specs.declared.answer.Role.{Role}
 use Rattle.iw_stream.specs.declared.answer.Step.{Step}
 use Rattle.iw_stream.specs.declared.answer.Step.TheVariants as steps
 use Rattle.iw_stream.specs.declared.answer.Emission.{Emission}
 use Rattle.iw_stream.specs.declared.answer.Emission.TheVariants as emissions
 use Rattle.iw_stream.specs.Starting.{private_in, agreement_in}
-use Rattle.iw_stream.specs.Stream.{StreamState, opened, with_buffer, with_request, with_mulpdu, recv_refusal, post_refusal, size_refusal, emission_of, emitted, after_emit, delivery_of, after_deliver, may_answer, accepted, rejected, breaks}
+use Rattle.iw_stream.specs.Stream.{StreamState, recv_refusal, post_refusal, size_refusal, emission_of, emitted, delivery_of}
 use Rattle.iw_stream.specs.Work.{work_step, worked, table_worked}
 use Rattle.iw_events.specs.declared.call.End.{End}
 use Rattle.iw_events.specs.declared.call.End.TheVariants.{A, B}
-use Rattle.iw_events.specs.declared.call.Options.{Options}
 use Rattle.iw_events.specs.declared.call.StreamCall.{StreamCall}
 use Rattle.iw_events.specs.declared.call.StreamCall.TheVariants as stream_calls
 use Rattle.iw_events.specs.Events.{stream_call_of}
-use Rattle.iw_events.specs.declared.act.OpenRefusal.{OpenRefusal}
-use Rattle.iw_events.specs.declared.act.OpenRefusal.TheVariants.{NumberTaken, BadNumber, NoDomain}
 use Rattle.iw_events.specs.declared.act.Act.{Act}
 use Rattle.iw_events.specs.declared.act.Act.TheVariants.{Domain, Register, Deregister, Invalidate, Store, Open, Stream}
 use Rattle.iw_events.specs.declared.act.StreamAct.{StreamAct}
@@ -37,7 +30,10 @@ use Rattle.iw_events.specs.declared.act.Shown.TheVariants.{Frame, Fetched, Fault
 use Rattle.iw_events.specs.declared.act.Seen.{Seen}
 use Rattle.iw_events.specs.declared.act.Seen.TheVariants as seen
 use Rattle.iw_events.specs.declared.act.Entry.{Entry}
-use Rattle.iw_laws.specs.Words.{Octets, other, deed, sent_by, table_by, Opening, no_opening, stream_numbers, config_for}
+use Rattle.iw_endpoint.specs.Endpoint.{EndpointState, fresh, has_stream, stream_at, stream_numbers, domain_refusal, store_refusal, open_refusal, unasked}
+use Rattle.iw_endpoint.specs.Isolation as calls
+use Rattle.iw_endpoint.specs.Isolation.{answer_or, after}
+use Rattle.iw_laws.specs.Words.{Octets, other, deed, octets_shown, config_for, private_data}
 use Rattle.iw_laws.specs.Calls.{deregister_answer, invalidate_refusal, StandIn}
 use Rattle.iw_laws.specs.Words.{OnSome, of_stream}
 
@@ -54,37 +50,25 @@ FitsPosted (Read request) = FitsRequest request
 
 -- ---- states
 
--- a stream, and the octets that it emitted
-pub record Connected : Type 0 where
-  pub stream : StreamState
-  pub wire : List ℕ
-
-abbrev pub connected : Opening → Connected
-connected o = record { stream = opened o.domain o.role o.config; wire = [] }
-
--- one to which nothing has happened, in no domain
-abbrev pub unconnected : Connected
-unconnected = connected no_opening
-
--- one end: its regions, and its streams by number
+-- one end: its endpoint, and the octets that each stream emitted, by its number
 pub record EndState : Type 0 where
-  pub table : Table
-  pub streams : List (Option Connected)
+  pub endpoint : EndpointState
+  pub wires : List Octets
 
 -- both ends
 pub record State : Type 0 where
   pub a : EndState
   pub b : EndState
 
--- no stream was opened
-unfoldable pub no_streams : List (Option Connected)
-no_streams = replicate stream_numbers None
+-- no stream emitted anything
+unfoldable pub no_wires : List Octets
+no_wires = replicate stream_numbers []
 
-abbrev pub fresh : EndState
-fresh = record { table = empty; streams = no_streams }
+abbrev pub at_first : EndState
+at_first = record { endpoint = fresh; wires = no_wires }
 
 abbrev pub start : State
-start = record { a = fresh; b = fresh }
+start = record { a = at_first; b = at_first }
 
 abbrev pub end_of : End → State → EndState
 end_of A w = w.a
@@ -94,12 +78,9 @@ abbrev pub with_end : End → EndState → State → State
 with_end A s w = record w { a = s }
 with_end B s w = record w { b = s }
 
-abbrev pub has_stream : EndState → ℕ → Bool
-has_stream s n = is_some (slice_index_or s.streams n None)
-
--- the stream of this number; where none was opened, one to which nothing has happened
-abbrev pub stream_at : EndState → ℕ → Connected
-stream_at s n = unwrap_or (slice_index_or s.streams n None) unconnected
+-- what the stream of this number emitted
+abbrev pub wire_at : EndState → ℕ → Octets
+wire_at s n = slice_index_or s.wires n []
 
 -- ---- which answer is right
 
@@ -127,17 +108,6 @@ seen_of table private (steps.Terminated fault) = seen.Terminated fault
 seen_of table private (steps.Fault fault) = seen.Fault fault
 seen_of table private steps.Idle = seen.Idle
 
--- why a responder's user may not answer
-abbrev pub answer_refusal : StreamState → Option NotAsked
-answer_refusal s = if may_answer s then None else Some (record {})
-
-abbrev pub accept_answer : StreamState → Result Agreed NotAsked
-accept_answer s = if may_answer s then Ok (agreement_in s.start) else Err (record {})
-
--- private data as a start-up frame has it
-abbrev pub private_data : Octets → ArrayVec ℕ
-private_data private = record { items = take 512 private }
-
 -- the right answer at a stream, whoever sent the octets that come
 abbrev pub StreamRule : Table → StreamState → StreamAct Octets → Type 0
 StreamRule table s (Recv len refused) = refused ≡ recv_refusal s
@@ -146,8 +116,8 @@ StreamRule table s (Emit shown) = shown ≡ shown_of table (emission_of table s)
 StreamRule table s (Deliver from octets delivery) = delivery ≡ delivery_of s from (length octets)
 StreamRule table s (Raw from octets delivery) = delivery ≡ delivery_of s from (length octets)
 StreamRule table s (Mulpdu size refused) = refused ≡ size_refusal size
-StreamRule table s (Accept private answer) = answer ≡ accept_answer s
-StreamRule table s (Reject private refused) = refused ≡ answer_refusal s
+StreamRule table s (Accept private answer) = answer ≡ answer_or (unasked s) (agreement_in s.start)
+StreamRule table s (Reject private refused) = refused ≡ unasked s
 StreamRule table s (Work step) =
     step ≡ seen_of (table_worked table s) (private_in (worked table s).start) (work_step table s)
 StreamRule table s Break = Unit {0}
@@ -169,78 +139,59 @@ needs_peer stream_calls.Emit = false
 needs_peer stream_calls.Work = false
 needs_peer stream_calls.Break = false
 
-abbrev pub open_refusal : EndState → ℕ → ℕ → Option OpenRefusal
-open_refusal s n pd =
-    if has_stream s n then Some NumberTaken
-    else if nat_le stream_numbers n then Some BadNumber
-    else if not (is_added s.table pd) then Some NoDomain
-    else None
-
-abbrev pub register_answer : Table → ℕ → ℕ → ℕ → Result Stag RegisterRefusal
-register_answer table pd base len = option_map_or Err (register_refusal table pd base len) (Ok (next_stag table pd))
-
 -- the right answer at an end, whatever is done at the other
-abbrev pub EndRule : EndState → Act Octets → Type 0
-EndRule s (Domain pd refused) = refused ≡ domain_refusal s.table pd
-EndRule s (Register pd base rights octets answer) = answer ≡ register_answer s.table pd base (length octets)
-EndRule s (Deregister stag answer) = answer ≡ deregister_answer s.table stag
-EndRule s (Invalidate stag refused) = refused ≡ invalidate_refusal s.table stag
-EndRule s (Store stag to octets refused) = refused ≡ store_refusal s.table stag to (length octets)
-EndRule s (Open n pd role options private refused) = refused ≡ open_refusal s n pd
-EndRule s (Stream n act) = (has_stream s n ≡ true) × StreamRule s.table (stream_at s n).stream act
+abbrev pub EndRule : EndpointState → Act Octets → Type 0
+EndRule e (Domain pd refused) = refused ≡ domain_refusal e pd
+EndRule e (Register pd base rights octets answer) = answer ≡ answer_or (register_refusal e.table pd base (length octets)) (next_stag e.table pd)
+EndRule e (Deregister stag answer) = answer ≡ deregister_answer e.table stag
+EndRule e (Invalidate stag refused) = refused ≡ invalidate_refusal e.table stag
+EndRule e (Store stag to octets refused) = refused ≡ store_refusal e stag to (length octets)
+EndRule e (Open n pd role options private refused) = refused ≡ open_refusal e n pd
+EndRule e (Stream n act) = (has_stream e n ≡ true) × StreamRule e.table (stream_at e n) act
 
 -- what the other end has to do with it
 abbrev pub PeerRule : EndState → Act Octets → Type 0
 PeerRule peer act =
-    OnSome (λ x. (needs_peer (stream_call_of x.1) ≡ true → has_stream peer x.0 ≡ true) × WireRule (stream_at peer x.0).wire x.1)
+    OnSome (λ x. (needs_peer (stream_call_of x.1) ≡ true → has_stream peer.endpoint x.0 ≡ true) × WireRule (wire_at peer x.0) x.1)
     (of_stream act)
 
 -- the right answer at an end of two
 abbrev pub Rule : EndState → EndState → Act Octets → Type 0
-Rule s peer act = EndRule s act × PeerRule peer act
+Rule s peer act = EndRule s.endpoint act × PeerRule peer act
 
 -- ---- what an entry leaves
 
-abbrev pub stream_after : Table → StreamState → StreamAct Octets → StreamState
-stream_after table s (Recv len None) = with_buffer s (replicate len 0)
-stream_after table s (Recv len (Some refusal)) = s
-stream_after table s (Post request None) = with_request s request
-stream_after table s (Post request (Some refusal)) = s
-stream_after table s (Emit shown) = after_emit table s
-stream_after table s (Deliver from octets delivery) = after_deliver s from octets delivery
-stream_after table s (Raw from octets delivery) = after_deliver s from octets delivery
-stream_after table s (Mulpdu size None) = with_mulpdu s size
-stream_after table s (Mulpdu size (Some refusal)) = s
-stream_after table s (Accept private (Ok agreed)) = accepted s (private_data private)
-stream_after table s (Accept private (Err refusal)) = s
-stream_after table s (Reject private None) = rejected s (private_data private)
-stream_after table s (Reject private (Some refusal)) = s
-stream_after table s (Work step) = worked table s
-stream_after table s Break = breaks s
+-- the call of the endpoint that an act made
+abbrev pub stream_call_made : StreamAct Octets → calls.StreamCall
+stream_call_made (Recv len refused) = calls.PostRecv (replicate len 0)
+stream_call_made (Post request refused) = calls.Post request
+stream_call_made (Emit shown) = calls.Emit
+stream_call_made (Deliver from octets delivery) = calls.Deliver from octets
+stream_call_made (Raw from octets delivery) = calls.Deliver from octets
+stream_call_made (Mulpdu size refused) = calls.SetMulpdu size
+stream_call_made (Accept private answer) = calls.Accept (private_data private)
+stream_call_made (Reject private refused) = calls.Reject (private_data private)
+stream_call_made (Work step) = calls.Work
+stream_call_made Break = calls.BreakLink
 
-abbrev pub connected_after : Table → Connected → StreamAct Octets → Connected
-connected_after table c act = record { stream = stream_after table c.stream act; wire = c.wire ++ sent_by act }
+abbrev pub call_made : Act Octets → calls.Call
+call_made (Domain pd refused) = calls.AddDomain pd
+call_made (Register pd base rights octets answer) = calls.Register pd base octets rights
+call_made (Deregister stag answer) = calls.Deregister stag
+call_made (Invalidate stag refused) = calls.Invalidate stag
+call_made (Store stag to octets refused) = calls.Store stag to octets
+call_made (Open n pd role options private refused) = calls.Open n pd role (config_for options private)
+call_made (Stream n act) = calls.AtStream n (stream_call_made act)
 
-abbrev pub opening_by : ℕ → Role → Options → Octets → Opening
-opening_by pd role options private = record { domain = pd; role = role; config = config_for options private }
-
-abbrev pub streams_after : Table → List (Option Connected) → Act Octets → List (Option Connected)
-streams_after table streams (Open n pd role options private None) = slice_set streams n (Some (connected (opening_by pd role options private)))
-streams_after table streams (Open n pd role options private (Some refusal)) = streams
-streams_after table streams (Stream n act) = slice_set streams n (Some (connected_after table (unwrap_or (slice_index_or streams n None) unconnected) act))
-streams_after table streams (Domain pd refused) = streams
-streams_after table streams (Register pd base rights octets answer) = streams
-streams_after table streams (Deregister stag answer) = streams
-streams_after table streams (Invalidate stag refused) = streams
-streams_after table streams (Store stag to octets refused) = streams
-
--- the end behind an opening
-abbrev pub opened_end : EndState → ℕ → Opening → Option OpenRefusal → EndState
-opened_end s n opening None = record s { streams = slice_set s.streams n (Some (connected opening)) }
-opened_end s n opening (Some refusal) = s
+-- what is emitted goes out behind what was
+abbrev pub wires_after : List Octets → Act Octets → List Octets
+wires_after wires act =
+    option_map_or
+    (λ x. option_map_or (λ shown. slice_set wires x.0 (slice_index_or wires x.0 [] ++ octets_shown shown)) (deed x.1).shown wires)
+    (of_stream act) wires
 
 abbrev pub end_after : EndState → Act Octets → EndState
-end_after s act = record { table = table_by s.table act; streams = streams_after s.table s.streams act }
+end_after s act = record { endpoint = after s.endpoint (call_made act); wires = wires_after s.wires act }
 
 abbrev pub after_entry : State → Entry Octets → State
 after_entry w e = with_end e.end (end_after (end_of e.end w) e.act) w

@@ -79,9 +79,12 @@ pub record Opening : Type 0 where
   pub role : Role
   pub config : Config
 
--- a start-up frame has room for 512 octets of private data
+-- private data as a start-up frame has it, which has room for 512 octets
+abbrev pub private_data : Octets → ArrayVec ℕ
+private_data private = record { items = take 512 private }
+
 abbrev pub config_for : Options → Octets → Config
-config_for options private = record { markers = options.markers; crc = options.crc; private = record { items = take 512 private } }
+config_for options private = record { markers = options.markers; crc = options.crc; private = private_data private }
 
 abbrev pub openings_by : ℕ → Act Octets → List Opening
 openings_by n (Open number pd role options private None) = if number == n then record { domain = pd; role = role; config = config_for options private } ∷ [] else []
@@ -100,10 +103,6 @@ openings n done = flat_map (openings_by n) done
 abbrev pub was_opened : List Opening → Bool
 was_opened [] = false
 was_opened (opening ∷ others) = true
-
--- how many stream numbers an end has, from 0 on
-abbrev pub stream_numbers : ℕ
-stream_numbers = 64
 
 -- what stands for an opening where there was none
 abbrev pub no_opening : Opening
@@ -198,12 +197,8 @@ abbrev pub unless : {R A : Type 0} → Option R → A → Option A
 unless None x = Some x
 unless (Some refusal) x = None
 
--- private data as a start-up frame has it
-abbrev pub reply_with : (ArrayVec ℕ → Reply) → Octets → Reply
-reply_with reply private = reply (record { items = take 512 private })
-
 abbrev pub acceptance : Octets → Result Agreed NotAsked → Option Reply
-acceptance private (Ok agreed) = Some (reply_with (λ d. replies.Accept d) private)
+acceptance private (Ok agreed) = Some (replies.Accept (private_data private))
 acceptance private (Err refusal) = None
 
 abbrev pub fetched_in : Shown Octets → Option Fetching
@@ -248,7 +243,7 @@ deed (Raw from octets delivery) =
 deed (Mulpdu size refused) = record no_deed { size = unless refused size }
 deed (Accept private answer) = record no_deed { reply = acceptance private answer }
 deed (Reject private refused) =
-    record no_deed { reply = unless refused (reply_with (λ d. replies.Reject d) private); ends = is_none refused }
+    record no_deed { reply = unless refused (replies.Reject (private_data private)); ends = is_none refused }
 deed (Work step) =
     let d : Deed = deed_of_step step in
     record no_deed {

@@ -15,6 +15,7 @@ use Rattle.iw_queues.specs.Segments.{request_segment}
 use Rattle.iw_fpdu.specs.Frame.{frame_octets}
 use Rattle.iw_startup.specs.Frame.{request_key, reply_key}
 use Rattle.iw_stream.specs.Starting.{plain}
+use Rattle.iw_stream.specs.declared.answer.RecvRefusal.TheVariants.{Full}
 use Rattle.iw_stream.specs.declared.answer.Role.{Role}
 use Rattle.iw_stream.specs.declared.answer.Role.TheVariants.{Preset, Initiator, Responder}
 use Rattle.iw_events.specs.declared.call.End.TheVariants.{A, B}
@@ -32,6 +33,7 @@ use Rattle.iw_laws.specs.Rest.{IdleOnlyAtRest}
 use Rattle.iw_laws.specs.Merged.{response_segment}
 use Rattle.iw_laws.specs.Faithful.{Faithful, Answering}
 use Rattle.iw_laws.specs.Safe.{InOrder}
+use Rattle.iw_laws.specs.Isolated.{Isolated}
 use Rattle.iw_laws.specs.Ends.{Ends}
 use Rattle.iw_laws.specs.Sends.{Sized, Speaks, Finished, FewReads}
 use Rattle.iw_laws.specs.Calls.{ShowsMemory, Answered, KeepsOctets, CarriesOctets}
@@ -203,6 +205,31 @@ RefusesWrongRefusal = ¬ ShowsMemory refuses_first_domain
 
 abbrev pub RefusesSameStag : Type 0
 RefusesSameStag = ¬ ShowsMemory answers_stag_again
+
+-- ---- domains that see one another
+
+-- two domains, each with a stream
+abbrev pub opens_two : Run
+opens_two = opens b Preset ++ (b (Domain 2 None) ∷ b (Open 1 2 Preset (record { markers = false; crc = false }) [] None) ∷ [])
+
+-- a region of the second domain, in a slot that is past the one of the first domain's region
+abbrev pub registers_second : Act Octets
+registers_second =
+    Register 2 0 (record { write = true; read = false; sink = false; invalidate = false }) (0 ∷ [])
+    (Ok (record { domain = 2; slot = 1; key = 0 }))
+
+abbrev pub numbers_over_all : Run
+numbers_over_all = opens_two ++ (b registers ∷ b registers_second ∷ [])
+
+-- the second domain's stream is full where the first one's is
+abbrev pub full_for_all : Run
+full_for_all = opens_two ++ replicate 256 (b (on (Recv 1 None))) ++ (b (Stream 1 (Recv 1 (Some Full))) ∷ [])
+
+abbrev pub RefusesNumberedOverAll : Type 0
+RefusesNumberedOverAll = ¬ Isolated numbers_over_all
+
+abbrev pub RefusesFullForAll : Type 0
+RefusesFullForAll = ¬ Isolated full_for_all
 
 -- ---- Reads
 

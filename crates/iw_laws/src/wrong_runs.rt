@@ -1,6 +1,6 @@
 //! Runs that no two ends make, each refused by one law of a trace alone, beside that every answer follows the rules.
 
-ghost use Rattle.iw_laws.specs.WrongRuns.{RefusesFramesBehindFault, RefusesFramesUnopened, RefusesRestWithReply, RefusesNeverFinished, RefusesFinishedUnsent, RefusesFinishedAsWrite, RefusesTooLarge, RefusesCutShort, RefusesElsewhere, RefusesBehindEnd, RefusesOtherOctets, RefusesKeptBehindEnd, RefusesUnaskedAccept, RefusesWrongRefusal, RefusesSameStag, RefusesFetchInvalid, RefusesReadUnanswered, RefusesFetchElsewhere, RefusesPlacesPast, RefusesEndsEarly, RefusesDoneByWrite, RefusesSeventeenReads, RefusesSinksUnfetched, RefusesDoneUnplaced, RefusesDoneUnanswered, RefusesSkippedSend, RefusesSecondTerminate, RefusesForgottenMessage, RefusesFinishedFlushed, RefusesBufferFirst, RefusesPlacedInvalidated};
+ghost use Rattle.iw_laws.specs.WrongRuns.{RefusesFramesBehindFault, RefusesFramesUnopened, RefusesRestWithReply, RefusesNeverFinished, RefusesFinishedUnsent, RefusesFinishedAsWrite, RefusesTooLarge, RefusesCutShort, RefusesElsewhere, RefusesBehindEnd, RefusesOtherOctets, RefusesKeptBehindEnd, RefusesUnaskedAccept, RefusesWrongRefusal, RefusesSameStag, RefusesNumberedOverAll, RefusesFullForAll, RefusesFetchInvalid, RefusesReadUnanswered, RefusesFetchElsewhere, RefusesPlacesPast, RefusesEndsEarly, RefusesDoneByWrite, RefusesSeventeenReads, RefusesSinksUnfetched, RefusesDoneUnplaced, RefusesDoneUnanswered, RefusesSkippedSend, RefusesSecondTerminate, RefusesForgottenMessage, RefusesFinishedFlushed, RefusesBufferFirst, RefusesPlacedInvalidated};
 
 /// A frame is not placed behind a fault, though its region was registered since.
 pub fn refuses_frames_behind_fault()
@@ -75,6 +75,16 @@ pub fn refuses_wrong_refusal()
 /// A registration is not answered by an STag that names a region.
 pub fn refuses_same_stag()
     ensures { RefusesSameStag }
+{}
+
+/// STags aren't numbered over all domains: the second domain's first region is in its first slot.
+pub fn refuses_numbered_over_all()
+    ensures { RefusesNumberedOverAll }
+{}
+
+/// A posting in one domain isn't refused for what is posted in another.
+pub fn refuses_full_for_all()
+    ensures { RefusesFullForAll }
 {}
 
 /// No more of a response is sent once its source was invalidated.

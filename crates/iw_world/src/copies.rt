@@ -5,7 +5,7 @@ ghost use Rattle.iw_laws.specs.Rules.{FitsPosted};
 ghost use Rattle.iw_octets.specs.Payload.{FitsRequest};
 ghost use Rattle.iw_octets.specs.Stag.{FitsStag};
 ghost use Rattle.iw_memory.specs.Table.{octets_at};
-ghost use Rattle.iw_laws.specs.Rules.{private_data};
+ghost use Rattle.iw_laws.specs.Words.{private_data};
 
 use bytes::Bytes;
 use iw_memory::{Memory, Stag};

@@ -5,10 +5,12 @@
 //! them in plain English.
 #![tactic(auto)]
 
-mod connection;
+mod acts;
 mod copies;
-mod endpoint;
 mod fault;
+mod host;
+mod stream;
+mod wire;
 mod world;
 
 pub use iw_laws::WorldFault;

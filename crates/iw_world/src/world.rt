@@ -11,11 +11,12 @@ ghost use Rattle.iw_laws.specs.Turns.{Turns};
 ghost use Rattle.iw_laws.specs.Rest.{IdleOnlyAtRest};
 ghost use Rattle.iw_laws.specs.Ends.{Ends};
 ghost use Rattle.iw_laws.specs.Calls.{ShowsMemory, Answered, KeepsOctets, CarriesOctets};
+ghost use Rattle.iw_laws.specs.Isolated.{Isolated};
 ghost use Rattle.iw_laws.specs.Bounds.{IsShortState, LacksStream, AsksTooMuch};
 ghost use Rattle.iw_laws.specs.Stops.{StopsAt};
 
-use crate::endpoint::Endpoint;
 use crate::fault::Failure;
+use crate::host::Host;
 use bytes::Bytes;
 use iw_events::{End, Entry, Event};
 use iw_laws::WorldFault;
@@ -25,8 +26,8 @@ use std::marker::Model;
 /// Two ends, whose streams of one number are connected.
 #[derive(Drop)]
 pub struct World<A: Allocator = Global> {
-    a: Endpoint<A>,
-    b: Endpoint<A>,
+    a: Host<A>,
+    b: Host<A>,
     alloc: A,
 }
 
@@ -43,8 +44,8 @@ impl<A: Allocator + Copy> World<A> {
         ensures { IfOk result (λ world. world ≡ start) }
     {
         Ok(World {
-            a: Endpoint::new(alloc)?,
-            b: Endpoint::new(alloc)?,
+            a: Host::new(alloc)?,
+            b: Host::new(alloc)?,
             alloc,
         })
     }
@@ -116,6 +117,8 @@ impl<A: Allocator + Copy> World<A> {
         ensures memory { IfOk result (λ trace. ShowsMemory trace.items) }
         // Each call of a stream is refused exactly where it must be.
         ensures answered { IfOk result (λ trace. Answered trace.items) }
+        // Each domain of an end is answered as where no other domain is.
+        ensures isolated { IfOk result (λ trace. Isolated trace.items) }
         // Which event has no entry, and why.
         ensures refused { IfErr result (λ fault. StopsAt events.now fault) }
     {

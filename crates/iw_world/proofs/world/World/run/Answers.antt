@@ -7,7 +7,8 @@ use Rattle.iw_laws.specs.Words.{Octets, other, acts}
 use Rattle.iw_laws.specs.Rules.{State, start, state_after, after_entry, end_of, Rule, Follows}
 use Rattle.iw_laws.specs.Bounds.{IsShortState, LacksStream, AsksTooMuch}
 use Rattle.iw_laws.proofs.Whole.{follows_push, state_after-push, seen_after}
-use Rattle.iw_laws.proofs.Laws.{in_order, covered, emission, sized_all, speaks_all, nothing_at_rest, finished_all, turns_all, idle_at_rest, ends_all, within_all, shows_memory, answered_all, keeps_octets, carries_octets, fetched_all, answering_all, few_reads, names_no_stream, names_streams, asks_not_sent}
+use Rattle.iw_laws.proofs.Laws.{in_order, covered, emission, sized_all, speaks_all, nothing_at_rest, finished_all, turns_all, idle_at_rest, ends_all, within_all, shows_memory, answered_all, keeps_octets, carries_octets, fetched_all, answering_all, few_reads, names_no_stream, asks_not_sent}
+use Rattle.iw_laws.proofs.Apart.{isolated_all}
 use Rattle.iw_laws.proofs.Shorts.{short_state}
 use Rattle.iw_world.proofs.world.World.run.Goals as goal
 
@@ -79,6 +80,9 @@ returns-clause-idle g c = idle_at_rest c.loop-event.trace.items c.loop-event.inv
 pub returns-clause-ended : goal.returns-clause-ended
 returns-clause-ended g c = ends_all c.loop-event.trace.items c.loop-event.invariant.follows
 
+pub returns-clause-isolated : goal.returns-clause-isolated
+returns-clause-isolated g c = isolated_all c.loop-event.trace.items c.loop-event.invariant.follows
+
 pub returns-clause-within : goal.returns-clause-within
 returns-clause-within g c = within_all c.loop-event.trace.items c.loop-event.invariant.follows
 
@@ -102,7 +106,7 @@ returns-in-Err-NoSuchStream-clause-refused g c =
       split = sym (take-append-drop i c.args.events.now) ∙ (λ j. sym c.loop-event.invariant.events j ++ (more ∙ ap (λ z. z ∷ drop (i + 1) c.args.events.now) (sym c.event-item.is)) j);
       number = search rules;
       follows = c.loop-event.invariant.follows;
-      no_stream = names_no_stream (end_of event.end w) (end_of (other event.end) w) (acts event.end trace) (acts (other event.end) trace) event.call (seen.ends event.end) (seen.ends (other event.end)) lacks;
+      is_so = names_no_stream (end_of event.end w) (end_of (other event.end) w) (acts event.end trace) (acts (other event.end) trace) event.call (seen.ends event.end) (seen.ends (other event.end)) lacks;
     }
 
 pub returns-in-Err-NotSent-clause-refused : goal.returns-in-Err-NotSent-clause-refused
@@ -122,6 +126,5 @@ returns-in-Err-NotSent-clause-refused g c =
       split = sym (take-append-drop i c.args.events.now) ∙ (λ j. sym c.loop-event.invariant.events j ++ (more ∙ ap (λ z. z ∷ drop (i + 1) c.args.events.now) (sym c.event-item.is)) j);
       number = search rules;
       follows = c.loop-event.invariant.follows;
-      has_stream = names_streams (end_of event.end w) (end_of (other event.end) w) (acts event.end trace) (acts (other event.end) trace) event.call (seen.ends event.end) (seen.ends (other event.end)) asks;
-      not_sent = asks_not_sent (end_of event.end w) (end_of (other event.end) w) (acts (other event.end) trace) event.call (λ n. (seen.pairs event.end n).own_peer.wire) asks;
+      is_so = asks_not_sent (end_of event.end w) (end_of (other event.end) w) (acts event.end trace) (acts (other event.end) trace) event.call (seen.ends event.end) (seen.ends (other event.end)) (λ n. (seen.pairs event.end n).own_peer.wire) asks;
     }

@@ -1,0 +1,47 @@
+-- What a call at a stream that is there leaves, and what is shown of it.
+use Rattle.std.proofs.Common.{◌≡◌, ℕ, zero, suc, ◌<◌, ◌++◌, List, [], ◌∷◌, length, Some, None, true, refl, sym, ap, ◌∙◌, arith}
+use Rattle.std.specs.Prelude.{slice_index_or, slice_set, unwrap_or}
+use Rattle.std.proofs.lemmas.List.{get_or-set_same}
+use Rattle.iw_stream.specs.declared.answer.Step.{Step}
+use Rattle.iw_stream.specs.Starting.{private_in}
+use Rattle.iw_stream.specs.Stream.{StreamState}
+use Rattle.iw_stream.specs.Work.{work_step, worked, table_worked}
+use Rattle.iw_endpoint.specs.Endpoint.{EndpointState, unopened, stream_of, stream_at, has_stream, after_work, private_at, after_emit, emission_at, emitted_at}
+use Rattle.iw_events.specs.declared.act.Act.TheVariants.{Stream}
+use Rattle.iw_events.specs.declared.act.Seen.{Seen}
+use Rattle.iw_events.specs.declared.act.Shown.{Shown}
+use Rattle.iw_events.specs.declared.act.StreamAct.TheVariants.{Emit}
+use Rattle.iw_laws.specs.Words.{Octets, octets_shown}
+use Rattle.iw_laws.specs.Rules.{EndState, seen_of, shown_of, end_after}
+use Rattle.iw_laws.proofs.Ends.{there}
+use Rattle.iw_laws.proofs.Seeing.{shown_sends}
+use Rattle.iw_laws.proofs.States.{found}
+
+worked_there : (e : EndpointState) (n : ℕ) → has_stream e n ≡ true → stream_at (after_work e n) n ≡ worked e.table (stream_at e n)
+worked_there e n h = ap (λ o. unwrap_or o unopened) (get_or-set_same e.streams n (Some (worked e.table (stream_at e n))) None (there e.streams n h))
+
+-- what is seen in the state that a step left is what the rules say
+pub step_seen : (e left : EndpointState) (n : ℕ) (step : Step Octets) (seen : Seen Octets) → has_stream e n ≡ true → step ≡ work_step e.table (stream_at e n) → left ≡ after_work e n → seen ≡ seen_of left.table (private_at left n) step
+    → seen ≡ seen_of (table_worked e.table (stream_at e n)) (private_in (worked e.table (stream_at e n)).start) (work_step e.table (stream_at e n))
+step_seen e left n step seen h step_is left_is seen_is =
+    seen_is
+    ∙ (λ i. seen_of (left_is i).table (private_at (left_is i) n) (step_is i))
+    ∙ ap (λ (z : StreamState). seen_of (table_worked e.table (stream_at e n)) (private_in z.start) (work_step e.table (stream_at e n))) (worked_there e n h)
+
+-- a place that is there, whatever stands for one that is not
+any_default : (xs : List Octets) (n : ℕ) (a b : Octets) → n < length xs → slice_index_or xs n a ≡ slice_index_or xs n b
+any_default [] n a b h = absurd (omega (arith, h))
+any_default (x ∷ xs) zero a b h = refl
+any_default (x ∷ xs) (suc n) a b h = any_default xs n a b (omega (arith, h))
+
+-- what was emitted goes out behind what was
+pub emission_left : (s : EndState) (n : ℕ) (shown : Shown Octets) (left : EndpointState) (before behind : Octets) → has_stream s.endpoint n ≡ true → length s.endpoint.streams ≡ 64 → length s.wires ≡ 64 → shown ≡ shown_of s.endpoint.table (emission_at s.endpoint n) (emitted_at s.endpoint n)
+    → left ≡ after_emit s.endpoint n → before ≡ slice_index_or s.wires n before → behind ≡ before ++ emitted_at s.endpoint n → record { endpoint = left; wires = slice_set s.wires n behind } ≡ end_after s (Stream n (Emit shown))
+emission_left s n shown left before behind h streams wires shown_is left_is before_is behind_is =
+    let octets : octets_shown shown ≡ emitted_at s.endpoint n = ap octets_shown shown_is ∙ shown_sends s.endpoint.table (stream_at s.endpoint n) in
+    let endpoint_is = left_is ∙ sym (found (stream_of s.endpoint n) s.endpoint (after_emit s.endpoint n) h) in
+    let number : n < length s.endpoint.streams = there s.endpoint.streams n h in
+    let room : n < length s.wires = omega (arith, number, streams, wires) in
+    let first : before ≡ slice_index_or s.wires n [] = before_is ∙ any_default s.wires n before [] room in
+    let wire_is = behind_is ∙ (λ i. first i ++ sym octets i) in
+    (λ i. record { endpoint = endpoint_is i; wires = slice_set s.wires n (wire_is i) })

@@ -1,5 +1,0 @@
-use Rattle.std.proofs.Common.{rules}
-use Rattle.iw_world.proofs.connection.Connection.reject.Goals as goal
-
-pub returns-clause-state : goal.returns-clause-state
-returns-clause-state g c table = let next = c.try_reject-refused.ensures.state table in search rules
