@@ -27,8 +27,8 @@ use Rattle.iw_stream.specs.declared.answer.RecvRefusal.{RecvRefusal}
 use Rattle.iw_stream.specs.declared.answer.RecvRefusal.TheVariants as recvs
 use Rattle.iw_stream.specs.declared.answer.SizeRefusal.{SizeRefusal}
 use Rattle.iw_stream.specs.declared.answer.SizeRefusal.TheVariants as sizes
-use Rattle.iw_events.specs.declared.act.OpenRefusal.{OpenRefusal}
-use Rattle.iw_events.specs.declared.act.OpenRefusal.TheVariants as opens
+use Rattle.iw_stream.specs.declared.answer.OpenRefusal.{OpenRefusal}
+use Rattle.iw_stream.specs.declared.answer.OpenRefusal.TheVariants as opens
 use Rattle.iw_events.specs.declared.act.Shown.{Shown}
 use Rattle.iw_events.specs.declared.act.Shown.TheVariants as shown
 use Rattle.iw_events.specs.declared.act.Seen.{Seen}
@@ -107,7 +107,7 @@ startup_fault startups.BadRev = (2, codes "BadRev")
 startup_fault startups.BadLength = (3, codes "BadLength")
 startup_fault startups.Rejected = (4, codes "Rejected")
 
--- a word, and a reason behind it
+-- a word, and a reason after it
 abbrev pub numbered : List ℕ → Numbered → Words
 numbered word reason = word ∷ decimal reason.0 ∷ reason.1 ∷ []
 

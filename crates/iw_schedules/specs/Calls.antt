@@ -25,7 +25,7 @@ use Rattle.iw_schedules.specs.Rights.{rights_word}
 use Rattle.iw_schedules.specs.Options.{options_word}
 use Rattle.iw_schedules.specs.Words.{role_word, call_word}
 
--- a value, and the words behind it
+-- a value, and the words after it
 abbrev pub Taken : Type 0 → Type 0
 Taken X = Result (X × List (List ℕ)) FaultName
 
@@ -184,7 +184,7 @@ break_at words = do
   stream ← field octet_number words
   Ok (one (Stream stream.0 Break), stream.1)
 
--- what stands behind each word that names a call
+-- what follows each word that names a call
 abbrev pub behind : CallWord → List (List ℕ) → Taken (List (Call (List ℕ)))
 behind named.Domain words = domain_at words
 behind named.Register words = register_at words

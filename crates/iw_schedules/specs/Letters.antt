@@ -4,6 +4,6 @@ use Rattle.std.specs.Prelude.{ℕ, ◌==◌, ◌&&◌, Bool, true, false, nat_lt
 abbrev pub letter_if : Bool → ℕ → List ℕ
 letter_if granted letter = if granted then letter ∷ [] else []
 
--- whether the letter stands at the front, and what stands behind it
+-- whether the letter stands at the front, and what stands past it
 abbrev pub letter_at : ℕ → List ℕ → Bool × List ℕ
 letter_at letter word = if nat_lt 0 (length word) && (slice_index word 0 == letter) then (true, drop 1 word) else (false, word)

@@ -1,7 +1,7 @@
 -- Text in pieces: the lines of a text, the words of a line.
 use Rattle.std.specs.Prelude.{ℕ, ◌==◌, List, [], ◌∷◌, Option, Some, None, if◌then◌else◌}
 
--- what stands before the first separator, and what stands behind it, if there is one
+-- what stands before the first separator, and what stands past it, if there is one
 abbrev pub split_at_first : ℕ → List ℕ → List ℕ × Option (List ℕ)
 split_at_first separator [] = ([], None)
 split_at_first separator (x ∷ xs) =
@@ -24,7 +24,7 @@ abbrev pub pieces_left : ℕ → Option (List ℕ) → List (List ℕ)
 pieces_left separator None = []
 pieces_left separator (Some xs) = pieces separator xs
 
--- the lines of a text, without their line feeds; behind the last line feed stands one more, which may be empty
+-- the lines of a text, without their line feeds; past the last line feed stands one more, which may be empty
 abbrev pub lines : List ℕ → List (List ℕ)
 lines text = pieces 10 text
 

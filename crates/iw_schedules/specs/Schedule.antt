@@ -36,7 +36,7 @@ events_of words = do
   calls ← calls_at end.1
   ended (map (event_at end.0) calls.0) calls.1
 
--- more events behind others
+-- more events after others
 abbrev pub with_events : Events → Events → Result Events FaultName
 with_events before events = if nat_lt MAX_EVENTS (length before + length events) then Err TooMany else Ok (before ++ events)
 

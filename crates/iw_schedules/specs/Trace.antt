@@ -69,7 +69,7 @@ stream_answer Break = codes "ok" ∷ []
 abbrev pub stream_words : ℕ → StreamAct (List ℕ) → Words
 stream_words stream act = call_text (stream_word act) ∷ decimal stream ∷ stream_answer act
 
--- a call with its answer, behind the end
+-- a call with its answer, after the end
 abbrev pub act_words : Act (List ℕ) → Words
 act_words (Domain pd refusal) = call_text named.Domain ∷ decimal pd ∷ ok_or_refused (option_map domain_refusal refusal)
 act_words (Register pd base rights octets answer) = call_text named.Register ∷ registered answer

@@ -59,7 +59,7 @@ pub(crate) fn optional_stag<A: Allocator + Copy>(
     }
 }
 
-/// A word, and a reason behind it.
+/// A word, and a reason after it.
 pub(crate) fn numbered<A: Allocator>(
     text: &mut String<A>,
     first: &str,

@@ -1,4 +1,4 @@
-//! The words behind a line's end: which calls they stand for.
+//! The words after a line's end: which calls they stand for.
 
 ghost use Rattle.std.specs.Prelude.{◌≡◌, length};
 ghost use Rattle.iw_schedules.specs.Reading.{Gives};
@@ -363,7 +363,7 @@ fn break_link<A: Allocator>(words: &mut Pieces<'_>) -> Result<Calls<Bytes<A>>, R
     Ok(Calls::One(Call::Stream { stream, call }))
 }
 
-// The calls that the words behind this one stand for.
+// The calls that the words after this one stand for.
 fn calls_behind<A: Allocator + Copy>(
     alloc: A,
     call: CallWord,

@@ -76,6 +76,8 @@ impl fmt::Display for ScheduleFault {
     }
 }
 
+impl Error for FaultName {}
+
 impl Error for ScheduleFault {}
 
 impl From<FaultName> for ReadError {

@@ -40,7 +40,7 @@ fn decimal(word: &[u8]) -> Option<u64>
     Some(number)
 }
 
-// The number with one more digit behind it.
+// The number with one more digit after it.
 fn with_digit(number: u64, digit: u8) -> Option<u64>
     requires { is_ascii_digit digit ≡ true }
     ensures value { MatchOption result (2 ^ 64 ≤ number * 10 + digit_value digit) (λ longer. longer ≡ number * 10 + digit_value digit) }
@@ -111,7 +111,7 @@ fn count(word: Option<&[u8]>) -> Result<u64, FaultName>
     }
 }
 
-// The octets, so often one behind the other.
+// The octets, so often one after the other.
 fn repeated<A: Allocator + Copy>(octets: Vec<u8, A>, count: usize) -> Result<Vec<u8, A>, AllocError>
     ensures { IfOk result (λ all. all.items ≡ repeat count octets.items) }
 {

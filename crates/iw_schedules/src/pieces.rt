@@ -41,7 +41,7 @@ impl<'a> Pieces<'a> {
     }
 }
 
-/// What stands before the first separator, and what stands behind it, if there is one.
+/// What stands before the first separator, and what stands past it, if there is one.
 pub(crate) fn split_at(text: &[u8], separator: u8) -> (&[u8], Option<&[u8]>)
     ensures front { result.0.now ≡ (split_at_first separator text.now).0 }
     ensures back { option_copied result.1 ≡ (split_at_first separator text.now).1 }

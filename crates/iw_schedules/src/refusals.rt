@@ -4,10 +4,9 @@ ghost use Rattle.std.specs.Prelude.{◌≡◌};
 ghost use Rattle.iw_schedules.specs.Answers.{domain_refusal, register_refusal, open_refusal, recv_refusal, post_refusal, size_refusal, not_asked, startup_fault, no_region, store_refusal};
 ghost use Rattle.iw_schedules.specs.Shown.{shown_refusal};
 
-use iw_events::OpenRefusal;
 use iw_memory::{DomainRefusal, NoRegion, RegisterRefusal, StoreRefusal};
 use iw_startup::{NotAsked, StartupFault};
-use iw_stream::{PostRefusal, RecvRefusal, SizeRefusal};
+use iw_stream::{OpenRefusal, PostRefusal, RecvRefusal, SizeRefusal};
 
 /// The number and the name of a refusal, or of what closed a stream.
 #[derive(Clone, Copy)]

@@ -122,15 +122,15 @@ fn read_lines<A: Allocator + Copy>(
     let mut before = 0u64;
     let mut left = text;
     'lines: loop {
-        let (line, behind) = split_at(left, b'\n');
+        let (line, rest) = split_at(left, b'\n');
         if let Err(error) = add_line(alloc, line, &mut events) {
             return Err(error.at(before + 1));
         }
-        let Some(behind) = behind else {
+        let Some(rest) = rest else {
             return Ok(events);
         };
         before += 1;
-        left = behind;
+        left = rest;
     }
 }
 
