@@ -1,5 +1,5 @@
 -- How the program ends.
-use Rattle.std.specs.Prelude.{ℕ, List, Bool, true, false, if◌then◌else◌}
+use Rattle.std.specs.Prelude.{List, ℕ, Bool, true, false, if◌then◌else◌}
 use Rattle.std.specs.List.{list_any}
 use Rattle.iw_events.specs.declared.act.Act.{Act}
 use Rattle.iw_events.specs.declared.act.Act.TheVariants as acts
@@ -10,15 +10,10 @@ use Rattle.iw_events.specs.declared.act.Shown.TheVariants as shown
 use Rattle.iw_events.specs.declared.act.Seen.{Seen}
 use Rattle.iw_events.specs.declared.act.Seen.TheVariants as seen
 use Rattle.iw_events.specs.declared.act.Entry.{Entry}
-use Rattle.iw_program.specs.declared.status.Status.{Status}
-use Rattle.iw_program.specs.declared.status.Status.TheVariants.{Completed, Failed, Refused}
+use Rattle.iw_status.specs.declared.Status.{Status}
+use Rattle.iw_status.specs.declared.Status.TheVariants.{Completed, Failed, Refused}
 use Rattle.iw_program.specs.declared.fault.ReplayFault.{ReplayFault}
 use Rattle.iw_program.specs.declared.fault.ReplayFault.TheVariants as faults
-
-abbrev pub code_of : Status → ℕ
-code_of Completed = 0
-code_of Failed = 1
-code_of Refused = 2
 
 -- a step of work found a fault, or one in the peer's start-up frame, or the peer's Terminate
 abbrev pub sees_fault : Seen (List ℕ) → Bool

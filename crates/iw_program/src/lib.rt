@@ -10,6 +10,6 @@ mod status;
 mod text;
 
 pub use fault::{Refusal, ReplayFault};
+pub use iw_status::Status;
 pub use program::replay;
-pub use status::Status;
 pub use text::{Replayed, replay_text};

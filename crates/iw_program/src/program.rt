@@ -4,8 +4,8 @@ ghost use Rattle.iw_program.specs.Replay.{Prints, Stops};
 use crate::fault::ReplayFault;
 use crate::input::read_text;
 use crate::output::write_text;
-use crate::status::Status;
 use crate::text::replay_text;
+use iw_status::Status;
 use std::alloc::Allocator;
 use std::io::{Read, Write};
 

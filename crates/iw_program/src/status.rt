@@ -1,33 +1,10 @@
 ghost use Rattle.std.specs.Prelude.{◌≡◌};
-ghost use Rattle.iw_program.specs.Status.{code_of, sees_fault, shows_fault, is_fault, status_of};
+ghost use Rattle.iw_program.specs.Status.{sees_fault, shows_fault, is_fault, status_of};
 
 use bytes::Bytes;
 use iw_events::{Act, Entry, Seen, Shown, StreamAct};
+use iw_status::Status;
 use std::alloc::Allocator;
-
-/// How a run of the program ends.
-#[derive(Clone, Copy, Debug, PartialEq, Eq)]
-pub enum Status {
-    /// It did what was asked.
-    Completed,
-    /// A stream ended by a fault, also one of start-up, or by the peer's Terminate, or input or output failed.
-    Failed,
-    /// What was asked was refused, and nothing was done.
-    Refused,
-}
-
-impl Status {
-    /// The exit status of the process.
-    pub fn code(self) -> u8
-        ensures { result ≡ code_of self }
-    {
-        match self {
-            Status::Completed => 0,
-            Status::Failed => 1,
-            Status::Refused => 2,
-        }
-    }
-}
 
 // Whether a step of work found a fault, or one in the peer's start-up frame, or the peer's Terminate.
 fn is_fault_seen<A: Allocator>(seen: &Seen<Bytes<A>>) -> bool

@@ -2,8 +2,9 @@ ghost use Rattle.std.specs.Prelude.{string_bytes, IfOk, IfErr};
 ghost use Rattle.iw_program.specs.Replay.{Replays, Refuses};
 
 use crate::fault::Refusal;
-use crate::status::{Status, trace_status};
+use crate::status::trace_status;
 use iw_schedules::{print_trace, read_schedule};
+use iw_status::Status;
 use iw_world::World;
 use std::alloc::{Allocator, Global};
 
