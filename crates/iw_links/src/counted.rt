@@ -1,0 +1,63 @@
+ghost use Rattle.std.specs.Prelude.{◌≡◌, ℕ, ◌<◌, ◌≤◌, ◌⊎◌, length, take, Ok, Err, IfOk, IfErr, OnOk, OnErr};
+ghost use Rattle.std.specs.Io.{ReadsAtMost};
+ghost use Rattle.std.specs.Io.KnownBytes.{Consumes, IsAtEnd, Keeps};
+
+use std::io::{ErrorKind, Read};
+
+/// The most reads of one input.
+pub const MOST_READS: u32 = 1_000_000;
+
+/// Why nothing was read.
+#[derive(Clone, Copy, Debug, PartialEq, Eq)]
+pub enum ReadFault {
+    /// A read failed.
+    Failed,
+    /// The input did not end within the most reads.
+    TooMany,
+}
+
+/// A reader whose reads are counted, so that no loop over it goes on without end.
+#[derive(Drop)]
+pub struct Counted<R> {
+    pub reader: R,
+    /// How many reads there were.
+    pub reads: u32,
+}
+
+impl<R: Read> Counted<R> {
+    /// A reader of which nothing was read.
+    pub fn new(reader: R) -> Counted<R>
+        ensures reader { result.reader ≡ reader }
+        ensures reads { result.reads ≡ 0 }
+    {
+        Counted { reader, reads: 0 }
+    }
+
+    /// Reads the next octets into the front of `buffer`, and says how many: none where the input is at its end. A read
+    /// that was interrupted is made again, and counts. After the most reads there is none.
+    pub fn next(&mut self, buffer: &mut [u8]) -> Result<usize, ReadFault>
+        requires bounded { self.old.reads ≤ 1000000 }
+        requires room { 0 < length buffer.old }
+        ensures count { IfOk result (λ n. n ≤ length buffer.new) }
+        ensures octets { IfOk result (λ n. Consumes (R.remaining self.old.reader) (R.remaining self.new.reader) (take n buffer.new)) }
+        ensures end { result ≡ Ok 0 → IsAtEnd (R.remaining self.new.reader) }
+        ensures err { OnErr result (Keeps (R.remaining self.old.reader) (R.remaining self.new.reader)) }
+        ensures bounded { self.new.reads ≤ 1000000 }
+        ensures progress { OnOk result (self.old.reads < self.new.reads) }
+        ensures kept { self.old.reads ≤ self.new.reads }
+        ensures fault { IfErr result (λ fault. (fault ≡ ReadFault.Failed) ⊎ ((fault ≡ ReadFault.TooMany) × (self.new.reads ≡ 1000000))) }
+    {
+        for read in self.reads..MOST_READS {
+            self.reads = read + 1;
+            match self.reader.read(buffer) {
+                Ok(n) => return Ok(n),
+                Err(error) => {
+                    if error.kind() != ErrorKind::Interrupted {
+                        return Err(ReadFault::Failed);
+                    }
+                }
+            }
+        }
+        Err(ReadFault::TooMany)
+    }
+}
