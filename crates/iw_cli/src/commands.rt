@@ -1,0 +1,117 @@
+//! The commands, with their options and their help.
+
+use clap::{Arg, ArgAction, Command, value_parser};
+use std::alloc::Global;
+
+fn replay<'a>(alloc: Global) -> Command<'a> {
+    Command::new(alloc, "replay")
+        .about("Runs the schedule on standard input and writes its trace to standard output")
+        .after_help("Example: iwarp replay < examples/first.schedule")
+}
+
+fn count_option<'a>(alloc: Global) -> Arg<'a> {
+    Arg::new(alloc, "count")
+        .long("count")
+        .value_name("N")
+        .help("How many connections, one after the other: 1 to 64")
+        .value_parser(value_parser!(u8).range(1..=64))
+        .default_value("1")
+}
+
+fn flag<'a>(alloc: Global, name: &'a str, help: &'a str) -> Arg<'a> {
+    Arg::new(alloc, name)
+        .long(name)
+        .help(help)
+        .action(ArgAction::SetTrue)
+}
+
+// The options of each command that makes connections.
+fn with_options<'a>(alloc: Global, command: Command<'a>) -> Result<Command<'a>, clap::Error> {
+    Ok(
+        command
+            .arg(count_option(alloc))?
+            .arg(flag(
+                alloc,
+                "markers",
+                "Asks the other end for markers in what it sends",
+            ))?
+            .arg(flag(alloc, "crc", "Asks for CRCs in both directions"))?,
+    )
+}
+
+fn text_option<'a>(alloc: Global) -> Arg<'a> {
+    Arg::new(alloc, "text")
+        .long("text")
+        .value_name("T")
+        .help("What is written and sent: at most 4096 octets of UTF-8")
+        .allow_hyphen_values(true)
+        .default_value("hi")
+}
+
+fn listen<'a>(alloc: Global) -> Result<Command<'a>, clap::Error> {
+    let port = Arg::new(alloc, "port")
+        .long("port")
+        .value_name("P")
+        .help("The port to bind: 0 to 65535, where 0 is any free port")
+        .value_parser(value_parser!(u16).range(0..=65_535))
+        .default_value("0");
+    with_options(
+        alloc,
+        Command::new(alloc, "listen")
+            .about(
+                "Serves connections on 127.0.0.1: prints its port, and sends back what is written into its region",
+            )
+            .after_help("Example: iwarp listen --port 4420 --count 2")
+            .arg(port)?,
+    )
+}
+
+fn connect<'a>(alloc: Global) -> Result<Command<'a>, clap::Error> {
+    let port = Arg::new(alloc, "port")
+        .long("port")
+        .value_name("P")
+        .help("The port to connect to: 1 to 65535")
+        .required(true)
+        .value_parser(value_parser!(u16).range(1..=65_535));
+    with_options(
+        alloc,
+        Command::new(alloc, "connect")
+            .about(
+                "Connects to `iwarp listen` on 127.0.0.1: writes a text into its region, and prints what comes back",
+            )
+            .after_help("Example: iwarp connect --port 4420 --count 2 --text hello --markers --crc")
+            .arg(port)?
+            .arg(text_option(alloc))?,
+    )
+}
+
+fn pair<'a>(alloc: Global) -> Result<Command<'a>, clap::Error> {
+    let program = Arg::new(alloc, "program")
+        .long("program")
+        .value_name("PATH")
+        .help("The program that is started with `listen`")
+        .required(true);
+    with_options(
+        alloc,
+        Command::new(alloc, "pair")
+            .about("Starts `PATH listen` as a second process, and does as `connect` at its port")
+            .after_help("Example: iwarp pair --program ./iwarp --count 2 --markers")
+            .arg(program)?
+            .arg(text_option(alloc))?,
+    )
+}
+
+/// The command line.
+pub(crate) fn iwarp<'a>(alloc: Global) -> Result<Command<'a>, clap::Error> {
+    Ok(
+        Command::new(alloc, "iwarp")
+            .version("0.1.0")
+            .about("iWARP: RDMA over TCP, as schedules that are replayed and between two processes")
+            .subcommand_required(true)
+            .arg_required_else_help(true)
+            .subcommand(replay(alloc))?
+            .subcommand(listen(alloc)?)?
+            .subcommand(connect(alloc)?)?
+            .subcommand(pair(alloc)?)?,
+    )
+}

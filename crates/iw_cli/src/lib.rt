@@ -1,0 +1,8 @@
+//! The command line of `iwarp`: what its words ask for, and that it is done.
+#![tactic(auto)]
+
+mod commands;
+mod running;
+mod task;
+
+pub use running::run;

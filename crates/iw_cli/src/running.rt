@@ -1,0 +1,104 @@
+use crate::commands::iwarp;
+use crate::task::{Task, task_of};
+use clap::error::ErrorKind;
+use iw_commands::{CommandFault, Request, connect, listen, pair};
+use iw_links::MOST_TEXT;
+use iw_program::{ReplayFault, replay};
+use iw_status::Status;
+use std::io;
+use std::net::Net;
+use std::process::Processes;
+use std::rt::Runtime;
+
+fn run_replay<R: Runtime + AllocGlobal>(rt: &R) -> Status {
+    let mut input = rt.reader();
+    let mut output = io::writer(rt);
+    match replay(rt.alloc(), &mut input, &mut output) {
+        Ok(status) => status,
+        Err(fault) => {
+            if let ReplayFault::Refused(refusal) = fault {
+                let _ = eprintln!(rt; "{refusal}");
+            }
+            fault.status()
+        }
+    }
+}
+
+// How a command ended. Of a fault only want of memory is told.
+fn ended<R: Runtime>(rt: &R, outcome: Result<Status, CommandFault>) -> Status {
+    match outcome {
+        Ok(status) => status,
+        Err(fault) => {
+            if fault == CommandFault::NoMemory {
+                let _ = eprintln!(rt; "no memory");
+            }
+            fault.status()
+        }
+    }
+}
+
+// Whether the text may be sent. It is tested before anything is started.
+fn is_sendable<R: Runtime>(rt: &R, request: &Request<'_>) -> bool {
+    if request.text.len() <= MOST_TEXT {
+        return true;
+    }
+    let _ = eprintln!(rt; "text too long");
+    false
+}
+
+fn run_task<R: Runtime + AllocGlobal + Net + Processes>(rt: &R, task: &Task<'_>) -> Status {
+    let alloc = rt.alloc();
+    let mut print = io::writer(rt);
+    match task {
+        Task::Replay => run_replay(rt),
+        Task::Listen {
+            port,
+            options,
+            count,
+        } => ended(rt, listen(alloc, rt, *port, *options, *count, &mut print)),
+        Task::Connect { port, request } if is_sendable(rt, request) => {
+            ended(rt, connect(alloc, rt, *port, request, &mut print))
+        }
+        Task::Pair { program, request } if is_sendable(rt, request) => {
+            ended(rt, pair(alloc, rt, program, request, &mut print))
+        }
+        Task::Connect { .. } | Task::Pair { .. } => Status::Refused,
+    }
+}
+
+// Tells why there is no task: the help, or what is wrong with the command line.
+fn tell<R: Runtime + AllocGlobal>(rt: &R, error: &clap::Error) -> Status {
+    if error.kind() == ErrorKind::OutOfMemory {
+        let _ = eprintln!(rt; "no memory");
+        return Status::Refused;
+    }
+    match error.print(rt) {
+        Err(_) if error.exit_code() == 0 => Status::Failed,
+        _ if error.exit_code() == 0 => Status::Completed,
+        _ => Status::Refused,
+    }
+}
+
+fn try_run<R: Runtime + AllocGlobal + Net + Processes>(rt: &R) -> anyhow::Result<Status> {
+    let alloc = rt.alloc();
+    let words: Vec<String> = std::env::args(rt)?.collect(alloc)?;
+    match iwarp(alloc)?.try_get_matches_from(words.as_slice()) {
+        Ok(matches) => Ok(match task_of(&matches) {
+            Some(task) => run_task(rt, &task),
+            None => Status::Refused,
+        }),
+        Err(error) => Ok(tell(rt, &error)),
+    }
+}
+
+/// Does what this process's command line asks for. What is wrong with the command line, or with what is replayed, is
+/// told on standard error.
+pub fn run<R: Runtime + AllocGlobal + Net + Processes>(rt: &R) -> Status {
+    match try_run(rt) {
+        Ok(status) => status,
+        Err(error) => {
+            let _ = eprintln!(rt; "{error}");
+            Status::Refused
+        }
+    }
+}

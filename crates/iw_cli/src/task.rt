@@ -1,0 +1,58 @@
+use clap::ArgMatches;
+use iw_commands::{Options, Request};
+
+/// What the command line asks for.
+#[derive(Clone, Copy, Debug)]
+pub(crate) enum Task<'a> {
+    Replay,
+    Listen {
+        port: u16,
+        options: Options,
+        count: u8,
+    },
+    Connect {
+        port: u16,
+        request: Request<'a>,
+    },
+    Pair {
+        program: &'a str,
+        request: Request<'a>,
+    },
+}
+
+fn options_of(matches: &ArgMatches<'_>) -> Options {
+    Options {
+        markers: matches.get_flag("markers"),
+        crc: matches.get_flag("crc"),
+    }
+}
+
+fn request_of<'a>(matches: &ArgMatches<'a>) -> Option<Request<'a>> {
+    Some(Request {
+        text: matches.get_str("text")?,
+        count: matches.get_one::<u8>("count")?,
+        options: options_of(matches),
+    })
+}
+
+/// The task that the words ask for; `None` for none, which no command line gives.
+pub(crate) fn task_of<'a>(matches: &ArgMatches<'a>) -> Option<Task<'a>> {
+    let (name, words) = matches.subcommand()?;
+    match name {
+        "replay" => Some(Task::Replay),
+        "listen" => Some(Task::Listen {
+            port: words.get_one::<u16>("port")?,
+            options: options_of(words),
+            count: words.get_one::<u8>("count")?,
+        }),
+        "connect" => Some(Task::Connect {
+            port: words.get_one::<u16>("port")?,
+            request: request_of(words)?,
+        }),
+        "pair" => Some(Task::Pair {
+            program: words.get_str("program")?,
+            request: request_of(words)?,
+        }),
+        _ => None,
+    }
+}

@@ -1,0 +1,8 @@
+use Rattle.iw_commands.proofs.MoreLines.{nothing_printed}
+use Rattle.iw_commands.proofs.asking.connect_all.Goals as goal
+
+pub returns-in_default-clause-stopped : goal.returns-in_default-clause-stopped
+returns-in_default-clause-stopped g c = nothing_printed _ _
+
+pub returns-in_default-caller-clause-stopped : goal.returns-in_default-caller-clause-stopped
+returns-in_default-caller-clause-stopped g c = nothing_printed _ _

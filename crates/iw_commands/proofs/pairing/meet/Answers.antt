@@ -1,0 +1,5 @@
+use Rattle.iw_commands.proofs.MoreLines.{nothing_printed}
+use Rattle.iw_commands.proofs.pairing.meet.Goals as goal
+
+pub returns-in-Err-clause-stopped : goal.returns-in-Err-clause-stopped
+returns-in-Err-clause-stopped g c = nothing_printed _ _

@@ -1,0 +1,5 @@
+pub mod Lines
+pub mod Port
+pub mod Printed
+pub mod Starting
+pub mod Status

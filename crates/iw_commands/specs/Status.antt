@@ -1,0 +1,29 @@
+-- How the program ends.
+use Rattle.std.specs.Prelude.{ℕ, List, [], ◌∷◌, None, true, if◌then◌else◌}
+use Rattle.iw_status.specs.declared.Status.{Status}
+use Rattle.iw_status.specs.declared.Status.TheVariants.{Completed, Failed, Refused}
+use Rattle.iw_status.specs.Status.{with}
+use Rattle.iw_links.specs.declared.report.Report.{Report}
+use Rattle.iw_links.specs.Exchange.{is_completed}
+use Rattle.iw_commands.specs.declared.fault.CommandFault.{CommandFault}
+use Rattle.iw_commands.specs.declared.fault.CommandFault.TheVariants.{Port, Program, Output, NoMemory}
+
+-- what is told of a connection that could not be made
+abbrev pub unmade : Report
+unmade = record { received = None; ended = None; broken = true }
+
+-- by one connection
+abbrev pub report_status : Report → Status
+report_status report = if is_completed report then Completed else Failed
+
+-- by connections one after the other
+abbrev pub status_of : List Report → Status
+status_of [] = Completed
+status_of (report ∷ reports) = with (report_status report) (status_of reports)
+
+-- by a command that stopped
+abbrev pub fault_status : CommandFault → Status
+fault_status Port = Failed
+fault_status Program = Failed
+fault_status Output = Failed
+fault_status NoMemory = Refused

@@ -1,0 +1,138 @@
+ghost use Rattle.std.specs.Prelude.{◌≡◌, ◌<◌, length, IfOk, OnErr};
+ghost use Rattle.iw_commands.specs.Printed.{Prints, PrintsFront};
+
+use crate::fault::CommandFault;
+use crate::options::Options;
+use crate::peers::{Calls, Peers};
+use crate::printing::{print_report, unmade};
+use iw_endpoint::Endpoint;
+use iw_links::{Counted, MOST_READ, Output, Report, Terms, ask, caller};
+use iw_status::Status;
+use std::alloc::Global;
+use std::io::{Read, Write};
+use std::net::Net;
+
+/// What `connect` sends, and on how many connections.
+#[derive(Clone, Copy, Debug)]
+pub struct Request<'a> {
+    /// What is written into the peer's region and sent: at most 4,096 octets.
+    pub text: &'a str,
+    /// How many connections are made, one after the other.
+    pub count: u8,
+    /// What each start-up frame asks for.
+    pub options: Options,
+}
+
+/// Makes a request on a connection, of which the two halves are given.
+pub(crate) fn ask_peer<R: Read + Drop, O: Output + Drop>(
+    alloc: Global,
+    endpoint: &mut Endpoint,
+    terms: Terms,
+    text: &str,
+    peer: (R, O),
+    buffer: &mut [u8],
+) -> Report
+    requires { 0 < length buffer.old }
+    ensures { length buffer.new ≡ length buffer.old }
+{
+    let (input, mut output) = peer;
+    let mut input = Counted::new(input);
+    match ask(
+        alloc,
+        endpoint,
+        terms,
+        text.as_bytes(),
+        &mut input,
+        &mut output,
+        buffer,
+    ) {
+        Ok(report) => report,
+        Err(_) => unmade(),
+    }
+}
+
+// Makes a request on the next connection.
+fn ask_next<P: Peers>(
+    alloc: Global,
+    peers: &mut P,
+    endpoint: &mut Endpoint,
+    terms: Terms,
+    text: &str,
+    buffer: &mut [u8],
+) -> Report
+    requires { 0 < length buffer.old }
+    ensures { length buffer.new ≡ length buffer.old }
+{
+    match peers.next_peer() {
+        Ok(peer) => ask_peer(alloc, endpoint, terms, text, peer, buffer),
+        Err(_) => unmade(),
+    }
+}
+
+// Makes requests on connections one after the other, and prints the lines of each.
+fn ask_each<P: Peers, W: Write>(
+    alloc: Global,
+    peers: &mut P,
+    endpoint: &mut Endpoint,
+    request: &Request<'_>,
+    buffer: &mut [u8],
+    print: &mut W,
+) -> Result<Status, CommandFault>
+    requires { 0 < length buffer.old }
+    ensures printed { IfOk result (Prints request.now.count (W.contents print.old) (W.contents print.new)) }
+    ensures stopped { OnErr result (PrintsFront request.now.count (W.contents print.old) (W.contents print.new)) }
+{
+    let mut status = Status::Completed;
+    for stream in 0..request.count {
+        let terms = request.options.at(stream);
+        let report = ask_next(alloc, peers, endpoint, terms, request.text, buffer);
+        match print_report(alloc, print, stream, &report) {
+            Ok(next) => status = status.with(next),
+            Err(fault) => return Err(fault),
+        }
+    }
+    Ok(status)
+}
+
+/// Makes a request on connections one after the other, the first as stream 0, and prints what became of each. One
+/// that breaks doesn't stop the later ones.
+///
+/// An `Err` is `Output` where a line could not be printed, and `NoMemory`; the front of what was to be printed was.
+pub fn connect_all<P: Peers, W: Write>(
+    alloc: Global,
+    peers: &mut P,
+    request: &Request<'_>,
+    print: &mut W,
+) -> Result<Status, CommandFault>
+    ensures printed { IfOk result (Prints request.now.count (W.contents print.old) (W.contents print.new)) }
+    ensures stopped { OnErr result (PrintsFront request.now.count (W.contents print.old) (W.contents print.new)) }
+{
+    let Ok(mut buffer) = vec![in alloc; 0u8; MOST_READ] else {
+        return Err(CommandFault::NoMemory);
+    };
+    let Ok(mut endpoint) = caller(alloc) else {
+        return Err(CommandFault::NoMemory);
+    };
+    ask_each(
+        alloc,
+        peers,
+        &mut endpoint,
+        request,
+        buffer.as_mut_slice(),
+        print,
+    )
+}
+
+/// Makes requests at a port of 127.0.0.1, as [`connect_all`] says.
+pub fn connect<N: Net, W: Write>(
+    alloc: Global,
+    net: &N,
+    port: u16,
+    request: &Request<'_>,
+    print: &mut W,
+) -> Result<Status, CommandFault>
+    ensures printed { IfOk result (Prints request.now.count (W.contents print.old) (W.contents print.new)) }
+    ensures stopped { OnErr result (PrintsFront request.now.count (W.contents print.old) (W.contents print.new)) }
+{
+    connect_all(alloc, &mut Calls::new(net, port), request, print)
+}

@@ -1,0 +1,41 @@
+ghost use Rattle.std.specs.Prelude.{◌≡◌};
+ghost use Rattle.iw_commands.specs.Status.{fault_status};
+
+use iw_status::Status;
+use std::alloc::AllocError;
+
+/// Why a command stopped before its end.
+#[derive(Clone, Copy, Debug, PartialEq, Eq)]
+pub enum CommandFault {
+    /// The port could not be bound.
+    Port,
+    /// The other process could not be started, or named no port.
+    Program,
+    /// The output did not take all that was to be printed.
+    Output,
+    /// There is no memory.
+    NoMemory,
+}
+
+impl CommandFault {
+    /// How the program ends by this fault.
+    pub fn status(self) -> Status
+        ensures { result ≡ fault_status self }
+    {
+        match self {
+            CommandFault::Port | CommandFault::Program | CommandFault::Output => Status::Failed,
+            CommandFault::NoMemory => Status::Refused,
+        }
+    }
+}
+
+impl From<AllocError> for CommandFault {
+    ghost use Rattle.std.specs.Prelude.{◌≡◌};
+    ghost use Rattle.iw_commands.specs.declared.fault.CommandFault.TheVariants.{NoMemory};
+
+    ghost from_gives = { λ _ e. e ≡ NoMemory };
+
+    fn from(_error: AllocError) -> CommandFault {
+        CommandFault::NoMemory
+    }
+}

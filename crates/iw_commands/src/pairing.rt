@@ -1,0 +1,248 @@
+ghost use Rattle.std.specs.Prelude.{◌≡◌, ◌<◌, ◌≤◌, length, true, IfOk, OnErr};
+ghost use Rattle.std.specs.Io.KnownBytes.{IsAtEnd};
+ghost use Rattle.iw_commands.specs.Printed.{Prints, PrintsFront, PrintsBeside};
+
+use crate::asking::{Request, ask_peer};
+use crate::fault::CommandFault;
+use crate::peers::{Calls, Peers};
+use crate::port::read_port;
+use crate::printing::{print_report, unmade};
+use crate::starting::listener;
+use iw_endpoint::Endpoint;
+use iw_links::{Counted, MOST_READ, MOST_READS, Report, Terms, caller};
+use iw_status::Status;
+use std::alloc::Global;
+use std::io::{Read, Write};
+use std::net::Net;
+use std::process::{Child, OpenProcess, Processes};
+
+/// How the requests of `pair` went.
+#[derive(Clone, Copy, Debug, PartialEq, Eq)]
+pub struct Talked {
+    /// How the program ends by them.
+    pub status: Status,
+    /// Whether each connection was made, and the other process heard after each. Where not, it may wait without end.
+    pub is_whole: bool,
+}
+
+// Makes a request on the next connection, and then reads some of what the other process prints, which is a line at
+// least for each connection that it had. Tells whether there was a connection, and such a read.
+fn ask_next<P: Peers, I: Read>(
+    alloc: Global,
+    peers: &mut P,
+    pipe: &mut Counted<I>,
+    endpoint: &mut Endpoint,
+    terms: Terms,
+    text: &str,
+    buffer: &mut [u8],
+) -> (Report, bool)
+    requires reads { pipe.old.reads ≤ 1000000 }
+    requires room { 0 < length buffer.old }
+    ensures bounded { pipe.new.reads ≤ 1000000 }
+    ensures room { length buffer.new ≡ length buffer.old }
+{
+    match peers.next_peer() {
+        Ok(peer) => {
+            let report = ask_peer(alloc, endpoint, terms, text, peer, buffer);
+            let read = pipe.next(buffer);
+            (report, read.is_ok())
+        }
+        Err(_) => (unmade(), false),
+    }
+}
+
+// Makes the requests, and prints the lines of each.
+fn ask_each<P: Peers, I: Read, W: Write>(
+    alloc: Global,
+    peers: &mut P,
+    pipe: &mut Counted<I>,
+    endpoint: &mut Endpoint,
+    request: &Request<'_>,
+    buffer: &mut [u8],
+    print: &mut W,
+) -> Result<Talked, CommandFault>
+    requires reads { pipe.old.reads ≤ 1000000 }
+    requires room { 0 < length buffer.old }
+    ensures printed { IfOk result
+        (λ talked. Prints request.now.count (W.contents print.old) (W.contents print.new) talked.status) }
+    ensures stopped { OnErr result (PrintsFront request.now.count (W.contents print.old) (W.contents print.new)) }
+    ensures bounded { pipe.new.reads ≤ 1000000 }
+{
+    let mut status = Status::Completed;
+    let mut is_whole = true;
+    for stream in 0..request.count {
+        let terms = request.options.at(stream);
+        let (report, is_heard) = ask_next(
+            alloc,
+            peers,
+            pipe,
+            endpoint,
+            terms,
+            request.text,
+            buffer,
+        );
+        match print_report(alloc, print, stream, &report) {
+            Ok(next) => status = status.with(next),
+            Err(fault) => return Err(fault),
+        }
+        is_whole = is_whole && is_heard;
+    }
+    Ok(Talked { status, is_whole })
+}
+
+/// Makes requests as [`connect_all`](crate::connect_all) does, at a process that prints its lines into `pipe`. After
+/// each connection it reads some of what is there, up to 65,536 octets at once: so the process, which prints a line
+/// at least for each connection, never waits for room in the pipe.
+pub fn talk<P: Peers, I: Read, W: Write>(
+    alloc: Global,
+    peers: &mut P,
+    pipe: &mut Counted<I>,
+    request: &Request<'_>,
+    buffer: &mut [u8],
+    print: &mut W,
+) -> Result<Talked, CommandFault>
+    requires reads { pipe.old.reads ≤ 1000000 }
+    requires room { 0 < length buffer.old }
+    ensures printed { IfOk result
+        (λ talked. Prints request.now.count (W.contents print.old) (W.contents print.new) talked.status) }
+    ensures stopped { OnErr result (PrintsFront request.now.count (W.contents print.old) (W.contents print.new)) }
+    ensures bounded { pipe.new.reads ≤ 1000000 }
+{
+    let Ok(mut endpoint) = caller(alloc) else {
+        return Err(CommandFault::NoMemory);
+    };
+    ask_each(alloc, peers, pipe, &mut endpoint, request, buffer, print)
+}
+
+/// Reads what another process prints to its end, and tells whether it came: not where a read failed, or where the
+/// pipe was read 1,000,000 times.
+pub fn drain<I: Read>(pipe: &mut Counted<I>, buffer: &mut [u8]) -> bool
+    requires reads { pipe.old.reads ≤ 1000000 }
+    requires room { 0 < length buffer.old }
+    ensures end { result ≡ true → IsAtEnd (I.remaining pipe.new.reader) }
+    ensures bounded { pipe.new.reads ≤ 1000000 }
+{
+    'reads: for _ in 0..MOST_READS {
+        match pipe.next(buffer) {
+            Ok(0) => return true,
+            Ok(_) => {}
+            Err(_) => return false,
+        }
+    }
+    false
+}
+
+// Ends with the other process: reads the rest of what it prints, and waits for it.
+fn finish<P: OpenProcess, I: Read>(
+    child: &mut Child<P>,
+    pipe: &mut Counted<I>,
+    buffer: &mut [u8],
+) -> Status
+    requires reads { pipe.old.reads ≤ 1000000 }
+    requires room { 0 < length buffer.old }
+{
+    if !drain(pipe, buffer) {
+        return give_up(child);
+    }
+    match child.wait() {
+        Ok(ended) if ended.success() => Status::Completed,
+        _ => Status::Failed,
+    }
+}
+
+// Ends the other process, and waits for it.
+fn give_up<P: OpenProcess>(child: &mut Child<P>) -> Status {
+    let _ = child.kill();
+    let _ = child.wait();
+    Status::Failed
+}
+
+// Reads the port from the other process, and makes the requests there.
+fn meet<N: Net, I: Read, W: Write>(
+    alloc: Global,
+    net: &N,
+    pipe: &mut Counted<I>,
+    request: &Request<'_>,
+    buffer: &mut [u8],
+    print: &mut W,
+) -> Result<Talked, CommandFault>
+    requires reads { pipe.old.reads ≤ 1000000 }
+    requires room { 0 < length buffer.old }
+    ensures printed { IfOk result
+        (λ talked. Prints request.now.count (W.contents print.old) (W.contents print.new) talked.status) }
+    ensures stopped { OnErr result (PrintsFront request.now.count (W.contents print.old) (W.contents print.new)) }
+    ensures bounded { pipe.new.reads ≤ 1000000 }
+{
+    match read_port(alloc, pipe) {
+        Ok(port) => talk(
+            alloc,
+            &mut Calls::new(net, port),
+            pipe,
+            request,
+            buffer,
+            print,
+        ),
+        Err(fault) => Err(fault),
+    }
+}
+
+// Starts the other process.
+fn start<R: Processes>(
+    alloc: Global,
+    rt: &R,
+    program: &str,
+    request: &Request<'_>,
+) -> Result<Child<R::Started>, CommandFault> {
+    let Ok(mut command) = listener(alloc, program, request) else {
+        return Err(CommandFault::NoMemory);
+    };
+    match command.spawn(rt) {
+        Ok(child) => Ok(child),
+        Err(_) => Err(CommandFault::Program),
+    }
+}
+
+/// Starts `program` as a second process that listens, at any free port, for as many connections and with the same
+/// options; makes the requests there, reads what that process prints, and waits for it. It prints what became of the
+/// requests, and not what the other process prints. A process that names no port, that a connection could not be made
+/// to, or that prints without end is killed.
+///
+/// An `Err` is `Program` where the process could not be started or named no port, and then nothing was printed;
+/// `Output` where a line could not be printed; and `NoMemory`. Then the process has ended too.
+pub fn pair<R: Net + Processes, W: Write>(
+    alloc: Global,
+    rt: &R,
+    program: &str,
+    request: &Request<'_>,
+    print: &mut W,
+) -> Result<Status, CommandFault>
+    ensures printed { IfOk result (PrintsBeside request.now.count (W.contents print.old) (W.contents print.new)) }
+    ensures stopped { OnErr result (PrintsFront request.now.count (W.contents print.old) (W.contents print.new)) }
+{
+    let Ok(mut buffer) = vec![in alloc; 0u8; MOST_READ] else {
+        return Err(CommandFault::NoMemory);
+    };
+    let mut child = match start(alloc, rt, program, request) {
+        Ok(child) => child,
+        Err(fault) => return Err(fault),
+    };
+    let Some(stdout) = child.stdout.take() else {
+        give_up(&mut child);
+        return Err(CommandFault::Program);
+    };
+    let mut pipe = Counted::new(stdout);
+    match meet(alloc, rt, &mut pipe, request, buffer.as_mut_slice(), print) {
+        Ok(talked) => {
+            let ended = if talked.is_whole {
+                finish(&mut child, &mut pipe, buffer.as_mut_slice())
+            } else {
+                give_up(&mut child)
+            };
+            Ok(talked.status.with(ended))
+        }
+        Err(fault) => {
+            give_up(&mut child);
+            Err(fault)
+        }
+    }
+}

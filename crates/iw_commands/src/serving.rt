@@ -1,0 +1,137 @@
+ghost use Rattle.std.specs.Prelude.{◌≡◌, ◌<◌, length, IfOk, OnErr};
+ghost use Rattle.iw_commands.specs.Printed.{Prints, PrintsFront, PrintsPort, PrintsPortFront};
+
+use crate::fault::CommandFault;
+use crate::options::Options;
+use crate::peers::{Arrivals, Peers};
+use crate::port::port_text;
+use crate::printing::{print_report, print_text, unmade};
+use iw_endpoint::{Endpoint, Stag};
+use iw_links::{Counted, MOST_READ, Report, Terms, listener, serve};
+use iw_status::Status;
+use std::alloc::Global;
+use std::io::Write;
+use std::net::Net;
+
+// Serves the next connection.
+fn serve_next<P: Peers>(
+    alloc: Global,
+    peers: &mut P,
+    endpoint: &mut Endpoint,
+    terms: Terms,
+    region: Stag,
+    buffer: &mut [u8],
+) -> Report
+    requires { 0 < length buffer.old }
+    ensures { length buffer.new ≡ length buffer.old }
+{
+    let Ok((input, mut output)) = peers.next_peer() else {
+        return unmade();
+    };
+    let mut input = Counted::new(input);
+    match serve(
+        alloc,
+        endpoint,
+        terms,
+        region,
+        &mut input,
+        &mut output,
+        buffer,
+    ) {
+        Ok(report) => report,
+        Err(_) => unmade(),
+    }
+}
+
+// Serves connections one after the other, and prints the lines of each.
+fn serve_each<P: Peers, W: Write>(
+    alloc: Global,
+    peers: &mut P,
+    endpoint: &mut Endpoint,
+    region: Stag,
+    options: Options,
+    count: u8,
+    buffer: &mut [u8],
+    print: &mut W,
+) -> Result<Status, CommandFault>
+    requires { 0 < length buffer.old }
+    ensures printed { IfOk result (Prints count (W.contents print.old) (W.contents print.new)) }
+    ensures stopped { OnErr result (PrintsFront count (W.contents print.old) (W.contents print.new)) }
+{
+    let mut status = Status::Completed;
+    for stream in 0..count {
+        let terms = options.at(stream);
+        let report = serve_next(alloc, peers, endpoint, terms, region, buffer);
+        match print_report(alloc, print, stream, &report) {
+            Ok(next) => status = status.with(next),
+            Err(fault) => return Err(fault),
+        }
+    }
+    Ok(status)
+}
+
+/// Serves connections one after the other, the first as stream 0, and prints what became of each. One that breaks
+/// doesn't stop the later ones.
+///
+/// An `Err` is `Output` where a line could not be printed, and `NoMemory`; the front of what was to be printed was.
+pub fn listen_all<P: Peers, W: Write>(
+    alloc: Global,
+    peers: &mut P,
+    options: Options,
+    count: u8,
+    print: &mut W,
+) -> Result<Status, CommandFault>
+    ensures printed { IfOk result (Prints count (W.contents print.old) (W.contents print.new)) }
+    ensures stopped { OnErr result (PrintsFront count (W.contents print.old) (W.contents print.new)) }
+{
+    let Ok(mut buffer) = vec![in alloc; 0u8; MOST_READ] else {
+        return Err(CommandFault::NoMemory);
+    };
+    let Ok((mut endpoint, region)) = listener(alloc) else {
+        return Err(CommandFault::NoMemory);
+    };
+    serve_each(
+        alloc,
+        peers,
+        &mut endpoint,
+        region,
+        options,
+        count,
+        buffer.as_mut_slice(),
+        print,
+    )
+}
+
+/// Binds 127.0.0.1 at `port`, or at any free one where that is 0, prints `port Q` with the bound port, and serves
+/// connections as [`listen_all`] says.
+///
+/// An `Err` is `Port` where it cannot be bound, and nothing was printed; else it is that of [`listen_all`].
+pub fn listen<N: Net, W: Write>(
+    alloc: Global,
+    net: &N,
+    port: u16,
+    options: Options,
+    count: u8,
+    print: &mut W,
+) -> Result<Status, CommandFault>
+    ensures printed { IfOk result (PrintsPort count (W.contents print.old) (W.contents print.new)) }
+    ensures stopped { OnErr result (PrintsPortFront count (W.contents print.old) (W.contents print.new)) }
+{
+    let Ok(mut arrivals) = Arrivals::bind(net, port) else {
+        return Err(CommandFault::Port);
+    };
+    let Ok(port) = arrivals.port() else {
+        return Err(CommandFault::Port);
+    };
+    let Ok(line) = port_text(alloc, port) else {
+        return Err(CommandFault::NoMemory);
+    };
+    match print_text(print, line.as_bytes()) {
+        Ok(()) => {}
+        Err(fault) => return Err(fault),
+    }
+    match listen_all(alloc, &mut arrivals, options, count, print) {
+        Ok(status) => Ok(status),
+        Err(fault) => Err(fault),
+    }
+}

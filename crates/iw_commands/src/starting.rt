@@ -1,0 +1,45 @@
+ghost use Rattle.std.specs.Prelude.{◌≡◌, [], ◌∷◌, ◌++◌, if◌then◌else◌, IfOk, OnOk};
+ghost use Rattle.std.specs.Process.{command_program, command_args};
+ghost use Rattle.iw_commands.specs.Starting.{listener_words};
+
+use crate::asking::Request;
+use std::alloc::{AllocError, Global};
+use std::process::{Command, Stdio};
+
+// Appends a word, where it is wanted.
+fn add_flag(command: &mut Command, is_wanted: bool, word: &str) -> Result<(), AllocError>
+    ensures program { OnOk result (command_program command.new ≡ command_program command.old) }
+    ensures args { OnOk result
+        (command_args command.new ≡ command_args command.old ++ (if is_wanted then word.now ∷ [] else [])) }
+{
+    if is_wanted {
+        command.arg(word)?;
+    }
+    Ok(())
+}
+
+/// The program that is to listen, at any free port, for as many connections as are requested, and with the same
+/// options. It reads nothing, its standard output is a pipe, and what it prints as an error is not seen.
+pub(crate) fn listener(
+    alloc: Global,
+    program: &str,
+    request: &Request<'_>,
+) -> Result<Command, AllocError>
+    ensures program { IfOk result (λ command. command_program command ≡ program.now) }
+    ensures words { IfOk result (λ command. command_args command ≡ listener_words request.now) }
+{
+    let count = request.count;
+    let count = format!(in alloc; "{count}")?;
+    let mut command = Command::new(alloc, program)?;
+    command.arg("listen")?;
+    command.arg("--port")?;
+    command.arg("0")?;
+    command.arg("--count")?;
+    command.arg(count.as_str())?;
+    add_flag(&mut command, request.options.markers, "--markers")?;
+    add_flag(&mut command, request.options.crc, "--crc")?;
+    command.stdin(Stdio::null());
+    command.stdout(Stdio::piped());
+    command.stderr(Stdio::null());
+    Ok(command)
+}
