@@ -1,0 +1,182 @@
+//! The two ends of a connection that carries a load: one sends, the other answers once all has come.
+
+use crate::end::{self, Came, REGION_BLOCKS, STREAM};
+use crate::load::{BLOCK, Load, Way};
+use anyhow::{Result, bail, ensure};
+use bytes::Bytes;
+use iw_endpoint::{Endpoint, Message, Request, Stag};
+use std::alloc::Global;
+use std::io::{Read, Write};
+
+// How many Writes are posted, and their frames written out, at once.
+const POSTED: u32 = 4;
+
+// The region of the receiving end: the first of its domain.
+fn region() -> Stag {
+    Stag::from_octets([1, 0, 0, 0])
+}
+
+fn post(endpoint: &mut Endpoint, message: Message<Bytes>) -> Result<()> {
+    match endpoint.post(STREAM, Request::Message(message)) {
+        Ok(()) => Ok(()),
+        Err((refusal, _)) => bail!("post: {refusal:?}"),
+    }
+}
+
+fn post_write(endpoint: &mut Endpoint, number: u32, octets: &Bytes) -> Result<()> {
+    let place = number % REGION_BLOCKS;
+    post(
+        endpoint,
+        Message::Write {
+            stag: region(),
+            to: u64::from(place).saturating_mul(BLOCK as u64),
+            octets: octets.clone()?,
+        },
+    )
+}
+
+fn post_end(endpoint: &mut Endpoint) -> Result<()> {
+    post(
+        endpoint,
+        Message::Send {
+            octets: Bytes::new(),
+            solicited: false,
+            invalidate: None,
+        },
+    )
+}
+
+// Writes out all that is due.
+fn flush<W: Write>(endpoint: &mut Endpoint, out: &mut Vec<u8>, output: &mut W) -> Result<()> {
+    end::gather(endpoint, out)?;
+    output.write_all(out.as_slice())?;
+    end::work(endpoint)?;
+    Ok(())
+}
+
+fn send_blocks<W: Write>(
+    endpoint: &mut Endpoint,
+    octets: &Bytes,
+    blocks: u32,
+    out: &mut Vec<u8>,
+    output: &mut W,
+) -> Result<()> {
+    for number in 0..blocks {
+        post_write(endpoint, number, octets)?;
+        if number % POSTED == POSTED - 1 {
+            flush(endpoint, out, output)?;
+        }
+    }
+    post_end(endpoint)?;
+    flush(endpoint, out, output)
+}
+
+// Reads until a message has come.
+fn hear<R: Read>(endpoint: &mut Endpoint, buffer: &mut [u8], input: &mut R) -> Result<()> {
+    let mut came = 0u64;
+    for _ in 0..u64::MAX {
+        let n = input.read(buffer)?;
+        ensure!(n > 0, "the other end is gone");
+        if end::take(endpoint, came, &buffer[..n])? == Came::Message {
+            return Ok(());
+        }
+        came = came.saturating_add(n as u64);
+    }
+    Ok(())
+}
+
+fn copy_out<W: Write>(octets: &[u8], blocks: u32, output: &mut W) -> Result<()> {
+    for _ in 0..blocks {
+        output.write_all(octets)?;
+    }
+    Ok(())
+}
+
+fn copy_in<R: Read>(blocks: u32, buffer: &mut [u8], input: &mut R) -> Result<()> {
+    let mut left = u64::from(blocks).saturating_mul(BLOCK as u64);
+    for _ in 0..u64::MAX {
+        if left == 0 {
+            break;
+        }
+        let n = input.read(buffer)?;
+        ensure!(n > 0, "the other end is gone");
+        left = left.saturating_sub(n as u64);
+    }
+    Ok(())
+}
+
+/// Sends a load, and waits until the other end says that it has come.
+pub(crate) fn send<R: Read, W: Write>(
+    alloc: Global,
+    load: &Load,
+    octets: &Bytes,
+    input: &mut R,
+    output: &mut W,
+) -> Result<()> {
+    let mut buffer = vec![in alloc; 0u8; BLOCK]?;
+    match load.way {
+        Way::Copied => {
+            copy_out(octets.as_slice(), load.blocks, output)?;
+            ensure!(input.read(buffer.as_mut_slice())? == 1, "no answer");
+            Ok(())
+        }
+        Way::Written { mulpdu, is_framed } => {
+            let mut endpoint = end::end(alloc, mulpdu, is_framed)?;
+            let mut out = Vec::new(alloc);
+            send_blocks(&mut endpoint, octets, load.blocks, &mut out, output)?;
+            hear(&mut endpoint, buffer.as_mut_slice(), input)
+        }
+    }
+}
+
+// Whether each block of the region that was written to is as it was sent.
+fn is_written(endpoint: &Endpoint, stag: Stag, octets: &[u8], blocks: u32) -> bool {
+    let Some(all) = endpoint.local(stag) else {
+        return false;
+    };
+    let count = blocks.min(REGION_BLOCKS) as usize;
+    all.chunks(BLOCK).take(count).all(|block| block == octets)
+}
+
+fn serve<R: Read, W: Write>(
+    alloc: Global,
+    load: &Load,
+    endpoint: &mut Endpoint,
+    octets: &[u8],
+    input: &mut R,
+    output: &mut W,
+) -> Result<()> {
+    let length = (REGION_BLOCKS as usize).saturating_mul(BLOCK);
+    let stag = end::lend_region(endpoint, vec![in alloc; 0u8; length]?)?;
+    let mut buffer = vec![in alloc; 0u8; BLOCK]?;
+    hear(endpoint, buffer.as_mut_slice(), input)?;
+    ensure!(
+        is_written(endpoint, stag, octets, load.blocks),
+        "other octets were written"
+    );
+    post_end(endpoint)?;
+    let mut out = Vec::new(alloc);
+    flush(endpoint, &mut out, output)
+}
+
+/// Takes a load in, and answers once it has come.
+pub(crate) fn receive<R: Read, W: Write>(
+    alloc: Global,
+    load: &Load,
+    octets: &Bytes,
+    input: &mut R,
+    output: &mut W,
+) -> Result<()> {
+    match load.way {
+        Way::Copied => {
+            let mut buffer = vec![in alloc; 0u8; BLOCK]?;
+            copy_in(load.blocks, buffer.as_mut_slice(), input)?;
+            output.write_all(&[1])?;
+            Ok(())
+        }
+        Way::Written { mulpdu, is_framed } => {
+            let mut endpoint = end::end(alloc, mulpdu, is_framed)?;
+            serve(alloc, load, &mut endpoint, octets.as_slice(), input, output)
+        }
+    }
+}
