@@ -10,6 +10,8 @@ mod reads;
 #[cfg(test)]
 mod schedules;
 #[cfg(test)]
+mod streams;
+#[cfg(test)]
 mod tagged;
 #[cfg(test)]
 mod untagged;
