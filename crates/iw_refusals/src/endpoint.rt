@@ -1,0 +1,212 @@
+use bytes::Bytes;
+use iw_endpoint::{
+    CallRefusal, Config, Emission, Endpoint, Message, OpenRefusal, PostRefusal, PrivateData,
+    RecvRefusal, RegisterRefusal, Request, Rights, Role, Stag, Step,
+};
+use iw_testing::FailsAt;
+use std::alloc::{AllocError, Allocator};
+use std::test::Fail;
+
+const DOMAIN: u8 = 1;
+
+const NUMBER: u8 = 0;
+
+// `emit` and `work` ask that a stream has come no further.
+const MAX_PLACE: u64 = 1 << 62;
+
+const TEXT: &[u8] = b"remote memory";
+
+const WRITABLE: Rights = Rights {
+    write: true,
+    read: false,
+    sink: false,
+    invalidate: false,
+};
+
+fn plain() -> Config {
+    Config {
+        markers: false,
+        crc: false,
+        private: PrivateData::new(),
+    }
+}
+
+// Each call that has no memory is made again, once; one that is refused for another reason is not.
+
+fn endpoint<A: Allocator + Copy>(alloc: A) -> Result<Endpoint<A>, AllocError> {
+    match Endpoint::new(alloc) {
+        Ok(endpoint) => Ok(endpoint),
+        Err(AllocError) => Endpoint::new(alloc),
+    }
+}
+
+fn opens<A: Allocator + Copy>(endpoint: &mut Endpoint<A>) -> bool {
+    match endpoint.open(NUMBER, DOMAIN, Role::Preset, plain()) {
+        Err(OpenRefusal::NoMemory) => endpoint.open(NUMBER, DOMAIN, Role::Preset, plain()).is_ok(),
+        opened => opened.is_ok(),
+    }
+}
+
+fn registers<A: Allocator>(endpoint: &mut Endpoint<A>, octets: Vec<u8, A>) -> Option<Stag> {
+    match endpoint.register(DOMAIN, 0, octets, WRITABLE) {
+        Ok(stag) => Some(stag),
+        Err((RegisterRefusal::NoMemory, octets)) => {
+            endpoint.register(DOMAIN, 0, octets, WRITABLE).ok()
+        }
+        Err(_) => None,
+    }
+}
+
+fn posts<A: Allocator>(endpoint: &mut Endpoint<A>, request: Request<Bytes<A>>) -> bool {
+    match endpoint.post(NUMBER, request) {
+        Ok(()) => true,
+        Err((CallRefusal::Refused(PostRefusal::NoMemory), request)) => {
+            endpoint.post(NUMBER, request).is_ok()
+        }
+        Err(_) => false,
+    }
+}
+
+fn posts_recv<A: Allocator>(endpoint: &mut Endpoint<A>, buffer: Vec<u8, A>) -> bool {
+    match endpoint.post_recv(NUMBER, buffer) {
+        Ok(()) => true,
+        Err((CallRefusal::Refused(RecvRefusal::NoMemory), buffer)) => {
+            endpoint.post_recv(NUMBER, buffer).is_ok()
+        }
+        Err(_) => false,
+    }
+}
+
+fn takes<A: Allocator>(endpoint: &mut Endpoint<A>, octets: &[u8]) -> bool {
+    match endpoint.deliver(NUMBER, 0, octets) {
+        Ok(_) => true,
+        Err(CallRefusal::Refused(AllocError)) => endpoint.deliver(NUMBER, 0, octets).is_ok(),
+        Err(CallRefusal::NoSuchStream) => false,
+    }
+}
+
+// Whether a frame was appended; none where there was no memory.
+fn emits_once<A: Allocator>(endpoint: &mut Endpoint<A>, wire: &mut Vec<u8, A>) -> Option<bool> {
+    match endpoint.sent(NUMBER) {
+        Ok(sent) if sent <= MAX_PLACE => {}
+        _ => return Some(false),
+    }
+    match endpoint.emit(NUMBER, wire) {
+        Ok(Emission::Frame { .. }) => Some(true),
+        Err(CallRefusal::Refused(AllocError)) => None,
+        _ => Some(false),
+    }
+}
+
+fn emits<A: Allocator>(endpoint: &mut Endpoint<A>, wire: &mut Vec<u8, A>) -> bool {
+    match emits_once(endpoint, wire) {
+        Some(emitted) => emitted,
+        None => emits_once(endpoint, wire) == Some(true),
+    }
+}
+
+fn octets<A: Allocator + Copy>(alloc: A) -> Result<Bytes<A>, AllocError> {
+    match Bytes::copy_from_slice(alloc, TEXT) {
+        Ok(octets) => Ok(octets),
+        Err(_) => Bytes::copy_from_slice(alloc, TEXT),
+    }
+}
+
+fn buffer<A: Allocator + Copy>(alloc: A) -> Result<Vec<u8, A>, AllocError> {
+    match Vec::from_slice(alloc, &[0; 13]) {
+        Ok(buffer) => Ok(buffer),
+        Err(_) => Vec::from_slice(alloc, &[0; 13]),
+    }
+}
+
+// Posts a Write and a Send of the text, and emits both.
+fn sends<A: Allocator + Copy>(alloc: A, wire: &mut Vec<u8, A>) -> Result<bool, AllocError> {
+    let mut endpoint = endpoint(alloc)?;
+    let write = Message::Write {
+        stag: Stag::new(DOMAIN, 0, 0),
+        to: 0,
+        octets: octets(alloc)?,
+    };
+    let send = Message::Send {
+        octets: octets(alloc)?,
+        solicited: false,
+        invalidate: None,
+    };
+    Ok(
+        endpoint.add_domain(DOMAIN).is_ok()
+            && opens(&mut endpoint)
+            && posts(&mut endpoint, Request::Message(write))
+            && posts(&mut endpoint, Request::Message(send))
+            && emits(&mut endpoint, wire)
+            && emits(&mut endpoint, wire),
+    )
+}
+
+// Whether the next steps hand out the text in a receive buffer.
+fn hands_out_text<A: Allocator>(endpoint: &mut Endpoint<A>) -> bool {
+    for _ in 0..4 {
+        match endpoint.in_order_point(NUMBER) {
+            Ok(point) if point <= MAX_PLACE => {}
+            _ => return false,
+        }
+        if let Ok(Step::Received { buffer, .. }) = endpoint.work(NUMBER) {
+            return buffer.as_slice() == TEXT;
+        }
+    }
+    false
+}
+
+// Takes what was emitted: whether the text then stands in the region, and in the message that is handed out.
+fn receives<A: Allocator + Copy>(alloc: A, wire: &[u8]) -> Result<bool, AllocError> {
+    let mut endpoint = endpoint(alloc)?;
+    let added = endpoint.add_domain(DOMAIN).is_ok();
+    let Some(stag) = registers(&mut endpoint, buffer(alloc)?) else {
+        return Ok(false);
+    };
+    Ok(
+        added
+            && opens(&mut endpoint)
+            && posts_recv(&mut endpoint, buffer(alloc)?)
+            && takes(&mut endpoint, wire)
+            && hands_out_text(&mut endpoint)
+            && endpoint.local(stag) == Some(TEXT),
+    )
+}
+
+#[test]
+fn emitting_stands_each_refusal(rt: HostRuntime) -> Result<(), Fail> {
+    let mut refusals = 0u64;
+    let mut ample = Vec::new(rt.alloc());
+    assert!(rt; sends(rt.alloc(), &mut ample)?);
+    for n in 0..100u64 {
+        let heap = FailsAt::new(rt.alloc(), n);
+        let mut wire = Vec::new(&heap);
+        assert!(rt; sends(&heap, &mut wire)?, "at allocation {n}");
+        assert!(rt; wire.as_slice() == ample.as_slice(), "at allocation {n}");
+        if !heap.has_refused() {
+            break;
+        }
+        refusals = n + 1;
+    }
+    // At least the endpoint's two tables, both texts, both queues and the wire.
+    assert!(rt; refusals >= 7);
+    Ok(())
+}
+
+#[test]
+fn receiving_stands_each_refusal(rt: HostRuntime) -> Result<(), Fail> {
+    let mut refusals = 0u64;
+    let mut wire = Vec::new(rt.alloc());
+    assert!(rt; sends(rt.alloc(), &mut wire)?);
+    for n in 0..100u64 {
+        let heap = FailsAt::new(rt.alloc(), n);
+        assert!(rt; receives(&heap, &wire)?, "at allocation {n}");
+        if !heap.has_refused() {
+            break;
+        }
+        refusals = n + 1;
+    }
+    // At least the endpoint's two tables, two buffers, the region and its slot, the receive queue and the octets that came.
+    assert!(rt; refusals >= 8);
+    Ok(())
+}
