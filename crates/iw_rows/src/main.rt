@@ -21,7 +21,7 @@ enum Ending {
 }
 
 /// The schedules, by the names of their files, `NAME.schedule`. The trace of one that has a trace is in `NAME.trace`.
-const ROWS: [(&str, Ending); 60] = [
+const ROWS: [(&str, Ending); 64] = [
     ("first", Ending::Completed),
     ("one-write", Ending::Completed),
     ("empty-messages", Ending::Completed),
@@ -71,6 +71,10 @@ const ROWS: [(&str, Ending); 60] = [
     ("a-broken-stream-hands-back", Ending::Completed),
     ("refusals-of-memory", Ending::Completed),
     ("refusals-of-streams", Ending::Faulted),
+    ("every-fault", Ending::Faulted),
+    ("every-fault-with-markers", Ending::Faulted),
+    ("a-victim-among-attackers", Ending::Faulted),
+    ("the-victim-alone", Ending::Completed),
     ("options-out-of-order", Ending::Refused("line 1: BadOctets")),
     ("empty", Ending::Completed),
     ("unknown-word", Ending::Refused("line 2: BadWord")),
