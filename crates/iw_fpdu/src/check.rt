@@ -68,7 +68,8 @@ pub(crate) fn check_span(
     requires low { start < 2 ^ 63 }
     requires start { IsStart layout.markers start }
     requires span { span_start layout.markers start + length octets.now ≡ frame_end layout.markers start len }
-    ensures { result_err result ≡ mismatch_at layout (octet_from (span_start layout.markers start) octets.now) start len }
+    ensures { result_err result
+        ≡ mismatch_at layout (octet_from (span_start layout.markers start) octets.now) start len }
 {
     if layout.crc && !does_crc_agree(layout.markers, start, len, octets) {
         return Err(Mismatch::CrcMismatch);

@@ -51,7 +51,8 @@ impl<'a, A: Allocator> Model for Fpdu<'a, A> {
     ghost invariant = { λ a. IsSound a };
 }
 
-/// Whether all octets at the frame places from `from` up to `to` came, where frame place 0 is place `base` of the stream.
+/// Whether all octets at the frame places from `from` up to `to` came, where frame place 0 is place `base` of the
+/// stream.
 #[inline(always)]
 fn all_came<A: Allocator>(islands: &Islands<A>, base: u64, from: u64, to: u64) -> bool
     requires { from < to }
@@ -59,12 +60,11 @@ fn all_came<A: Allocator>(islands: &Islands<A>, base: u64, from: u64, to: u64) -
         ((p : ℕ) × (from ≤ p) × (p < to) × (has_come islands.now.arrived (base + p) ≡ false)) }
     ensures fits { OnTrue result (base + to < 2 ^ 64) }
 {
-    // Its contract has the limits: nothing comes as far past the in-order point as the end of all places.
-    let _ = islands.floor();
+    let missing = islands.missing();
     let Some(end) = base.checked_add(to) else {
         return false;
     };
-    if end <= islands.missing() {
+    if end <= missing {
         return true;
     }
     islands.came(base + from, end)
@@ -147,8 +147,8 @@ impl<'a, A: Allocator> Fpdu<'a, A> {
         gather(self.pieces(k), out);
     }
 
-    /// Judges the CRC, where CRCs are used, and then the markers, where there are any: the octets as they came, the pad and
-    /// the reserved octets of the markers among what the CRC is over, and else not looked at.
+    /// Judges the CRC, where CRCs are used, and then the markers, where there are any: the octets as they came, the pad
+    /// and the reserved octets of the markers among what the CRC is over, and else not looked at.
     ///
     /// None of the frame's octets was given up.
     #[tactic(auto, unfolding(crate::specs::Reading::mismatch_at))]

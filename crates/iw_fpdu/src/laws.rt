@@ -1,8 +1,9 @@
 //! What holds of frames whatever is called.
-ghost use Rattle.iw_fpdu.specs.Laws.{FarMarkersFail, FramesFollow, FramesInSequence, KnownFrames, ReadsAgain, StaysWhole, TellsWhole};
+ghost use Rattle.iw_fpdu.specs.Laws.{FramesFollow, FramesInSequence, KnownFrames, ReadsAgain};
+ghost use Rattle.iw_fpdu.specs.Laws.{FarMarkersFail, StaysWhole, TellsWhole};
 
-/// What was written is read again, at any place, with and without markers and CRCs: the frame is whole, its ULPDU is the one
-/// that was written, and nothing is wrong with it.
+/// What was written is read again, at any place, with and without markers and CRCs: the frame is whole, its ULPDU is
+/// the one that was written, and nothing is wrong with it.
 pub fn written_frames_are_read_again()
     ensures { ReadsAgain }
 {}
@@ -17,8 +18,8 @@ pub fn frames_follow_one_another()
     ensures { FramesFollow }
 {}
 
-/// Frames are read off octets in sequence: the first is the one that was written there, whatever comes past it, and what is
-/// found among octets that came is the first of those without a gap.
+/// Frames are read off octets in sequence: the first is the one that was written there, whatever comes past it, and
+/// what is found among octets that came is the first of those without a gap.
 pub fn frames_are_read_in_sequence()
     ensures { FramesInSequence }
 {}

@@ -35,7 +35,8 @@ impl<'a> Pieces<'a> {
     /// `left` data octets, the first of them at place `from`, with which `octets` begins.
     pub(crate) fn new(octets: &'a [u8], from: u64, markers: bool, left: usize) -> Pieces<'a>
         requires begins { in_marker markers from ≡ false }
-        requires reaches { (k : ℕ) → k < left → data_place markers (data_index markers from + k) < from + length octets.now }
+        requires reaches { (k : ℕ) → k < left
+            → data_place markers (data_index markers from + k) < from + length octets.now }
         ensures { result ≡ data_at (octet_from from octets.now) markers (data_index markers from) left }
     {
         Pieces {

@@ -1,5 +1,7 @@
 ghost use Rattle.std.specs.Int.{w32, to_le_bytes};
-ghost use Rattle.std.specs.Prelude.{◌≡◌, ◌<◌, ◌≤◌, ◌+◌, ◌-◌, ◌%◌, ◌^◌, ◌++◌, [], ◌∷◌, length, if◌then◌else◌, nat_lt, vec_len, vec_capacity, MatchOption, OnOk, OnErr, IfErr, IsOk, true};
+ghost use Rattle.std.specs.Prelude.{◌≡◌, ◌<◌, ◌≤◌, ◌+◌, ◌-◌, ◌%◌, ◌^◌, ◌++◌, [], ◌∷◌, true};
+ghost use Rattle.std.specs.Prelude.{if◌then◌else◌, nat_lt, length, vec_len, vec_capacity};
+ghost use Rattle.std.specs.Prelude.{MatchOption, OnOk, OnErr, IfErr, IsOk};
 ghost use Rattle.iw_octets.specs.Crc.{after_octets, all_ones, crc32c};
 ghost use Rattle.iw_octets.specs.Pieces.{joined};
 ghost use Rattle.iw_fpdu.specs.Frame.{max_sent, bare_data, frame_end, frame_octets, frame_size, field_place, laid};
@@ -23,7 +25,8 @@ pub enum WriteRefusal {
     NoMemory,
 }
 
-/// Appends a piece of a ULPDU, for which there is room. One as long as the header of a tagged segment is copied in place.
+/// Appends a piece of a ULPDU, for which there is room. One as long as the header of a tagged segment is copied in
+/// place.
 #[inline(always)]
 fn append_piece<A: Allocator>(out: &mut Vec<u8, A>, octets: &[u8])
     requires { vec_len out.old + length octets.now ≤ vec_capacity out.old }
@@ -41,7 +44,8 @@ fn append_piece<A: Allocator>(out: &mut Vec<u8, A>, octets: &[u8])
 
 /// How many octets the pieces have, or `None` where they have more than a ULPDU that is sent.
 fn len_of(parts: &[&[u8]]) -> Option<u16>
-    ensures { MatchOption result (max_sent < length (joined parts.now)) (λ n. (n ≡ length (joined parts.now)) × (n ≤ max_sent)) }
+    ensures { MatchOption result (max_sent < length (joined parts.now))
+        (λ n. (n ≡ length (joined parts.now)) × (n ≤ max_sent)) }
 {
     let mut len = 0;
     for part in parts {
@@ -87,7 +91,9 @@ fn put_among_markers<A: Allocator>(at: u64, len: u16, parts: &[&[u8]], out: &mut
     requires len { len ≡ length (joined parts.now) }
     requires short { len ≤ max_sent }
     requires room { vec_len out.old + (frame_end true at len - at) ≤ vec_capacity out.old }
-    ensures items { out.new.items ≡ out.old.items ++ laid true (frame_start true at) (data_index true at) (bare_data (joined parts.now)) at (field_place true at len) }
+    ensures items { out.new.items ≡ out.old.items
+        ++ laid true (frame_start true at) (data_index true at) (bare_data (joined parts.now)) at
+        (field_place true at len) }
     ensures room { vec_len out.new + 4 ≤ vec_capacity out.new }
 {
     let start = place_of(true, index_of(true, at));
@@ -105,7 +111,9 @@ fn put_bare<A: Allocator>(markers: bool, at: u64, len: u16, parts: &[&[u8]], out
     requires len { len ≡ length (joined parts.now) }
     requires short { len ≤ max_sent }
     requires room { vec_len out.old + (frame_end markers at len - at) ≤ vec_capacity out.old }
-    ensures items { out.new.items ≡ out.old.items ++ laid markers (frame_start markers at) (data_index markers at) (bare_data (joined parts.now)) at (field_place markers at len) }
+    ensures items { out.new.items ≡ out.old.items
+        ++ laid markers (frame_start markers at) (data_index markers at) (bare_data (joined parts.now)) at
+        (field_place markers at len) }
     ensures room { vec_len out.new + 4 ≤ vec_capacity out.new }
 {
     if markers {
@@ -115,7 +123,8 @@ fn put_bare<A: Allocator>(markers: bool, at: u64, len: u16, parts: &[&[u8]], out
     }
 }
 
-/// The CRC so far of a frame that is written at `at`: over the marker directly before it, where that stands before `at`.
+/// The CRC so far of a frame that is written at `at`: over the marker directly before it, where that stands before
+/// `at`.
 #[tactic(auto, unfolding(crate::specs::Laying::marker_behind))]
 fn crc_before(markers: bool, at: u64) -> Crc
     ensures { result ≡ after_octets all_ones (marker_behind markers at) }
@@ -129,7 +138,8 @@ fn crc_before(markers: bool, at: u64) -> Crc
 
 /// The CRC field of a frame of which all before that field was written at `at`.
 fn crc_field(layout: Layout, at: u64, written: &[u8]) -> [u8; 4]
-    ensures { result ≡ (if layout.crc then to_le_bytes w32 (crc32c (marker_behind layout.markers at ++ written.now)) else 0 ∷ 0 ∷ 0 ∷ 0 ∷ []) }
+    ensures { result ≡ (if layout.crc then to_le_bytes w32 (crc32c (marker_behind layout.markers at ++ written.now))
+        else 0 ∷ 0 ∷ 0 ∷ 0 ∷ []) }
 {
     if !layout.crc {
         return [0; 4];
@@ -139,8 +149,8 @@ fn crc_field(layout: Layout, at: u64, written: &[u8]) -> [u8; 4]
     crc.finish().to_le_bytes()
 }
 
-/// Appends the frame of a ULPDU that comes in parts, to stand from frame place `at` on: where there are markers and 512 divides
-/// `at`, a marker goes before the frame (RFC 5044 4.1 to 4.4).
+/// Appends the frame of a ULPDU that comes in parts, to stand from frame place `at` on: where there are markers and 512
+/// divides `at`, a marker goes before the frame (RFC 5044 4.1 to 4.4).
 ///
 /// A ULPDU of more than 64,512 octets is TooLong. A refusal leaves `out` as it was.
 pub fn write_fpdu<A: Allocator>(
@@ -154,7 +164,8 @@ pub fn write_fpdu<A: Allocator>(
     ensures ok { OnOk result (out.new.items ≡ out.old.items ++ frame_octets layout at (joined parts.now)) }
     ensures err { OnErr result (out.new.items ≡ out.old.items) }
     ensures sent { OnOk result (length (joined parts.now) ≤ max_sent) }
-    ensures refused { IfErr result (λ refusal. refusal ≡ (if nat_lt max_sent (length (joined parts.now)) then WriteRefusal.TooLong else WriteRefusal.NoMemory)) }
+    ensures refused { IfErr result (λ refusal. refusal
+        ≡ (if nat_lt max_sent (length (joined parts.now)) then WriteRefusal.TooLong else WriteRefusal.NoMemory)) }
     ensures memory { length (joined parts.now) ≤ max_sent
         → vec_len out.old + length (frame_octets layout at (joined parts.now)) ≤ vec_capacity out.old → IsOk result }
 {

@@ -1,4 +1,6 @@
-ghost use Rattle.iw_memory.specs.Laws.{DeniesRest, PutChangesOneRegion, PutNothing, InvalidateChangesOneRegion, RegisterChangesOneStag, DeregisterChangesOneStag, DomainsAreApart};
+ghost use Rattle.iw_memory.specs.Laws.{PutChangesOneRegion, PutNothing, InvalidateChangesOneRegion};
+ghost use Rattle.iw_memory.specs.Laws.{RegisterChangesOneStag, DeregisterChangesOneStag};
+ghost use Rattle.iw_memory.specs.Laws.{DeniesRest, DomainsAreApart};
 
 /// What is not denied is allowed, and the other way round.
 pub fn denies_rest()

@@ -1,12 +1,12 @@
 //! The registered memory of an endpoint: regions, the STags that name them, and who may use them (RFC 5040, RFC 5042).
 //!
 //! A [`Memory`] begins without domains. Its owner adds one (`add_domain`), registers octets in it with a base and
-//! [`Rights`] (`register`, which answers the [`Stag`]), and takes them out again (`deregister`). `invalidate` ends the use
-//! of a region by peers; `local`, `local_mut` and `store` are the owner's own and work on invalid regions too.
+//! [`Rights`] (`register`, which answers the [`Stag`]), and takes them out again (`deregister`). `invalidate` ends the
+//! use of a region by peers; `local`, `local_mut` and `store` are the owner's own and work on invalid regions too.
 //!
-//! What a peer may use is asked by `check`: the part that an STag, a tagged offset and a length name is lent by `part` or
-//! `part_mut` where the region is valid, of the stream's domain, in bounds and with the [`Right`]; otherwise a [`Deny`]
-//! says why not. Only `new` and `register` take memory.
+//! What a peer may use is asked by `check`: the part that an STag, a tagged offset and a length name is lent by `part`
+//! or `part_mut` where the region is valid, of the stream's domain, in bounds and with the [`Right`]; otherwise a
+//! [`Deny`] says why not. Only `new` and `register` take memory.
 #![tactic(auto)]
 
 mod laws;

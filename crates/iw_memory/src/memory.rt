@@ -1,4 +1,6 @@
-ghost use Rattle.std.specs.Prelude.{◌≡◌, ◌+◌, ◌-◌, ◌<◌, ◌≤◌, [], true, length, vec_len, is_ok, is_some, IsTrue, IsSome, IfSome, IfNone, None, Some, IfOk, IfErr, IsErr, OnOk, OnErr, option_copied};
+ghost use Rattle.std.specs.Prelude.{◌≡◌, ◌+◌, ◌-◌, ◌<◌, ◌≤◌, [], true, length, vec_len};
+ghost use Rattle.std.specs.Prelude.{None, Some, option_copied, is_some, IsSome, IfSome, IfNone, IsTrue};
+ghost use Rattle.std.specs.Prelude.{is_ok, IfOk, IfErr, IsErr, OnOk, OnErr};
 ghost use Rattle.std.specs.Result.{result_err, result_ok};
 ghost use Rattle.std.specs.Option.{option_map};
 ghost use Rattle.std.specs.Borrow.{sem};
@@ -42,7 +44,9 @@ impl<A: Allocator> Model for Memory<A> {
 impl<A: Allocator> Memory<A> {
     ghost use Rattle.iw_memory.specs.Region.{facts_of, new_region, IsWithinLimits};
     ghost use Rattle.iw_memory.specs.Part.{free_slot};
-    ghost use Rattle.iw_memory.specs.Table.{region_at, slots_of, is_added, empty, denial, octets_at, put, domain_refusal, added, register_refusal, next_stag, registered, deregistered, invalidated, invalidate_denial, store_refusal};
+    ghost use Rattle.iw_memory.specs.Table.{empty, is_added, slots_of, domain_refusal, added};
+    ghost use Rattle.iw_memory.specs.Table.{region_at, register_refusal, next_stag, registered, deregistered};
+    ghost use Rattle.iw_memory.specs.Table.{denial, octets_at, put, store_refusal, invalidate_denial, invalidated};
     ghost use Rattle.iw_memory.specs.Laws.{IsWithin, HoldsLimits};
     ghost use Rattle.iw_memory.specs.TableLending.{LendsPart, LendsNothing, LendsOctetsAt, LendsLocal};
 
@@ -100,8 +104,10 @@ impl<A: Allocator> Memory<A> {
         rights: Rights,
     ) -> Result<Stag, (RegisterRefusal, Vec<u8, A>)>
         // The refusal, where one applies, and otherwise want of memory alone.
-        ensures refused { IfSome (register_refusal self.old pd base (length octets.items)) (λ refusal. IfErr result (λ e. e.0 ≡ refusal) × IsErr result) }
-        ensures memory { IfNone (register_refusal self.old pd base (length octets.items)) (IfErr result (λ e. e.0 ≡ RegisterRefusal.NoMemory)) }
+        ensures refused { IfSome (register_refusal self.old pd base (length octets.items))
+            (λ refusal. IfErr result (λ e. e.0 ≡ refusal) × IsErr result) }
+        ensures memory { IfNone (register_refusal self.old pd base (length octets.items))
+            (IfErr result (λ e. e.0 ≡ RegisterRefusal.NoMemory)) }
         ensures back { IfErr result (λ e. e.1 ≡ octets) }
         ensures err { OnErr result (self.new ≡ self.old) }
 
@@ -139,7 +145,8 @@ impl<A: Allocator> Memory<A> {
         Ok(slot)
     }
 
-    // Stores a region in the domain's lowest free slot, and tells its key. An `Err` changes nothing, and has the octets.
+    // Stores a region in the domain's lowest free slot, and tells its key. An `Err` changes nothing, and has the
+    // octets.
     fn hold(
         &mut self,
         pd: u8,
@@ -178,7 +185,8 @@ impl<A: Allocator> Memory<A> {
 
     /// Takes a region out, valid or not, and gives its octets back. An `Err` changes nothing.
     pub fn deregister(&mut self, stag: Stag) -> Result<Vec<u8, A>, NoRegion>
-        ensures octets { option_map (λ v. v.items) (result_ok result) ≡ option_map (λ r. r.octets) (region_at self.old stag) }
+        ensures octets { option_map (λ v. v.items) (result_ok result)
+            ≡ option_map (λ r. r.octets) (region_at self.old stag) }
         ensures after { self.new ≡ deregistered self.old stag }
         ensures err { OnErr result (self.new ≡ self.old) }
     {
@@ -291,6 +299,7 @@ impl<A: Allocator> Memory<A> {
     }
 
     // The stored region that the STag names.
+    #[inline(always)]
     fn stored(&self, stag: Stag) -> Option<&Stored<A>>
         ensures region { option_map (λ s. s.now.region) result ≡ region_at self.now stag }
         ensures limits { IfSome result (λ s. IsWithinLimits s.now.region.base (length s.now.region.octets)) }
@@ -393,6 +402,7 @@ impl<A: Allocator> Memory<A> {
     }
 
     // The `n` octets of the region from `to` on for writing.
+    #[inline(always)]
     fn octets_mut(&mut self, stag: Stag, to: u64, n: usize) -> &mut [u8]
         requires { IsWithin self.old stag to n }
         ensures* lends { sem 𝓛 (LendsOctetsAt A.row A.Allocator self.entry stag to result) }

@@ -46,6 +46,7 @@ impl<A: Allocator> Model for Stored<A> {
 
 impl<A: Allocator> Stored<A> {
     /// Where the octets from `to` on stand, where `n` of them may be used so.
+    #[inline(always)]
     pub(crate) fn place(&self, to: u64, n: usize, right: Right) -> Result<usize, Deny>
         requires { 0 < n }
         ensures denied { result_err result ≡ region_denial self.now.region to n right }
@@ -101,6 +102,7 @@ impl<A: Allocator> Stored<A> {
     }
 
     /// The `n` octets from `to` on, for writing.
+    #[inline(always)]
     pub(crate) fn part_mut(&mut self, to: u64, n: usize) -> &mut [u8]
         requires { Spans self.old.region to n }
         ensures* lends { sem 𝓛 (LendsOctets A.row A.Allocator self.entry (to - self.old.region.base) result) }

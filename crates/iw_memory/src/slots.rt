@@ -1,4 +1,5 @@
-ghost use Rattle.std.specs.Prelude.{◌≡◌, ◌<◌, ◌≤◌, length, is_some, slice_index_or, slice_set, IsTrue, None, IfOk, OnOk, OnErr};
+ghost use Rattle.std.specs.Prelude.{◌≡◌, ◌<◌, ◌≤◌, length, slice_index_or, slice_set};
+ghost use Rattle.std.specs.Prelude.{None, is_some, IsTrue, IfOk, OnOk, OnErr};
 ghost use Rattle.std.specs.List.{position_or_len, position};
 ghost use Rattle.std.specs.Option.{option_map};
 ghost use Rattle.iw_memory.specs.Inside.{link_of, slots_in, free, is_free, with_room_at, SetsSlots};
@@ -14,6 +15,7 @@ pub(crate) struct Slot {
 }
 
 // Where the region that the STag names is stored.
+#[inline(always)]
 pub(crate) fn find<A: Allocator>(domains: &[Option<Vec<Slot, A>>], stag: Stag) -> Option<usize>
     ensures { result ≡ link_of domains.now stag }
 {
@@ -55,7 +57,8 @@ pub(crate) fn make_room<A: Allocator>(
 ) -> Result<u8, AllocError>
     requires added { IsTrue (is_some (slice_index_or domains.old.items pd None)) }
     requires slot { slot ≤ length (slots_in domains.old.items pd) }
-    ensures ok { OnOk result (SetsSlots domains.old.items domains.new.items pd (with_room_at (slots_in domains.old.items pd) slot)) }
+    ensures ok { OnOk result (SetsSlots domains.old.items domains.new.items pd
+        (with_room_at (slots_in domains.old.items pd) slot)) }
     ensures key { IfOk result (λ key. key ≡ (slice_index_or (slots_in domains.old.items pd) slot free).key) }
     ensures err { OnErr result (SetsSlots domains.old.items domains.new.items pd (slots_in domains.old.items pd)) }
 {
@@ -87,7 +90,8 @@ pub(crate) fn set_slot<A: Allocator>(
     state: Slot,
 )
     requires { slot < length (slots_in domains.old.items domain) }
-    ensures { SetsSlots domains.old.items domains.new.items domain (slice_set (slots_in domains.old.items domain) slot state) }
+    ensures { SetsSlots domains.old.items domains.new.items domain
+        (slice_set (slots_in domains.old.items domain) slot state) }
 {
     let Some(slots) = &mut domains[domain as usize] else {
         unreachable!();

@@ -101,7 +101,8 @@ fn octet_of_half(half: u32, place: u32) -> u8
     (half >> (8 * place) & 0xff) as u8
 }
 
-/// The remainder of half a word that has been added to the remainder before it: the later half of a word's tables serves.
+/// The remainder of half a word that has been added to the remainder before it: the later half of a word's tables
+/// serves.
 fn half_added(half: u32) -> u32
     ensures { result ≡ after_bits 32 half }
 {

@@ -1,6 +1,8 @@
 ghost use Rattle.std.specs.Prelude.{IfOk, Some, codes, ◌≡◌, ◌+◌, ◌<◌, ◌≤◌, length, take, drop};
 ghost use Rattle.std.specs.Int.{w32, w64, from_be_bytes};
-ghost use Rattle.iw_octets.specs.Head.{first_octet, is_tagged, is_last, tagged_octets, untagged_octets, read_tagged, read_untagged, FitsTagged, FitsUntagged};
+ghost use Rattle.iw_octets.specs.Head.{first_octet, is_tagged, is_last};
+ghost use Rattle.iw_octets.specs.Head.{tagged_octets, read_tagged, FitsTagged};
+ghost use Rattle.iw_octets.specs.Head.{untagged_octets, read_untagged, FitsUntagged};
 ghost use Rattle.iw_octets.specs.Shown.{shown};
 ghost use Rattle.iw_octets.specs.Stag.{stag_at};
 
@@ -38,7 +40,8 @@ pub struct TaggedHead {
 
 /// The header of a segment for a queue of buffers (RFC 5041 4.3, 18 octets).
 ///
-/// `control` and `tail` are RDMAP's five octets, as they came; `msn` is the message sequence number, `mo` the offset in the message.
+/// `control` and `tail` are RDMAP's five octets, as they came; `msn` is the message sequence number, `mo` the offset in
+/// the message.
 #[derive(Clone, Copy, Debug, PartialEq, Eq)]
 pub struct UntaggedHead {
     pub last: bool,

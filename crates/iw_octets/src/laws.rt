@@ -1,4 +1,6 @@
-ghost use Rattle.iw_octets.specs.Laws.{AddsInPieces, KnownConstants, KnownFaults, KnownValues, NumbersTell, OperationsAreTold, PartsAreTaken, ReadsAgain, WritesAgain};
+ghost use Rattle.iw_octets.specs.Laws.{KnownConstants, KnownFaults, KnownValues};
+ghost use Rattle.iw_octets.specs.Laws.{NumbersTell, OperationsAreTold, ReadsAgain, WritesAgain};
+ghost use Rattle.iw_octets.specs.Laws.{AddsInPieces, PartsAreTaken};
 
 /// What is written is read again, whatever stands past it, and more octets past a segment are more of its payload.
 pub fn reads_again()
@@ -35,7 +37,8 @@ pub fn adds_in_pieces()
     ensures { AddsInPieces }
 {}
 
-/// The definition of the CRC gives the values that are known for it (RFC 3720 B.4, and the frames that RFC 5044 prints).
+/// The definition of the CRC gives the values that are known for it (RFC 3720 B.4, and the frames that RFC 5044
+/// prints).
 pub fn known_values()
     ensures { KnownValues }
 {}

@@ -1,11 +1,12 @@
 //! The shared vocabulary of the endpoint: octets, STags, messages, headers, operations, faults and the CRC.
 //!
-//! A ULPDU is read by [`Segment::read`], which tells a [`TaggedHead`] from an [`UntaggedHead`] (RFC 5041 4.2, 4.3); what
-//! RDMAP carries in it is told by [`TaggedOperation`] and [`UntaggedOperation`] (RFC 5040 4). Each header has a `write`
-//! that spells it and a `read` that takes it off the front of octets, and each is the other's inverse. [`Fault`] has the
-//! RFCs' error numbers as constants, and `constants` every limit that several crates share.
+//! A ULPDU is read by [`Segment::read`], which tells a [`TaggedHead`] from an [`UntaggedHead`] (RFC 5041 4.2, 4.3);
+//! what RDMAP carries in it is told by [`TaggedOperation`] and [`UntaggedOperation`] (RFC 5040 4). Each header has a
+//! `write` that spells it and a `read` that takes it off the front of octets, and each is the other's inverse.
+//! [`Fault`] has the RFCs' error numbers as constants, and `constants` every limit that several crates share.
 //!
-//! [`Octets`] is a `Vec<u8>` that contracts see as a list, and [`gather`] copies the pieces of a payload into one place.
+//! [`Octets`] is a `Vec<u8>` that contracts see as a list, and [`gather`] copies the pieces of a payload into one
+//! place.
 #![tactic(auto)]
 
 mod constants;

@@ -1,6 +1,7 @@
 //! RDMAP's operations: their opcodes, and which segments carry them (RFC 5040 4.1, figure 4).
 ghost use Rattle.std.specs.Prelude.{◌≡◌, ◌<◌};
-ghost use Rattle.iw_octets.specs.Operation.{rdmap_version, opcode_of, control_of, tagged_opcode, untagged_opcode, tagged_operation, untagged_operation, queue_of};
+ghost use Rattle.iw_octets.specs.Operation.{rdmap_version, opcode_of, control_of, queue_of};
+ghost use Rattle.iw_octets.specs.Operation.{tagged_opcode, untagged_opcode, tagged_operation, untagged_operation};
 
 use crate::constants::RDMAP_VERSION;
 

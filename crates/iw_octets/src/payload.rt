@@ -1,5 +1,6 @@
 ghost use Rattle.std.specs.Prelude.{IfOk, ◌≡◌, ◌<◌};
-ghost use Rattle.iw_octets.specs.Payload.{request_octets, read_request, word_octets, read_word, flags_octet, FitsRequest, FitsWord};
+ghost use Rattle.iw_octets.specs.Payload.{request_octets, read_request, FitsRequest};
+ghost use Rattle.iw_octets.specs.Payload.{word_octets, read_word, flags_octet, FitsWord};
 ghost use Rattle.iw_octets.specs.Shown.{shown};
 
 use crate::constants::READ_REQUEST_HEADER;
@@ -18,8 +19,8 @@ pub struct ReadRequest {
     pub source_to: u64,
 }
 
-/// The first word of a Terminate's payload (RFC 5040 4.8, 4 octets): a fault, and which parts of its cause come after it:
-/// the segment's length, its DDP header, its Read Request.
+/// The first word of a Terminate's payload (RFC 5040 4.8, 4 octets): a fault, and which parts of its cause come after
+/// it: the segment's length, its DDP header, its Read Request.
 #[derive(Clone, Copy, Debug, PartialEq, Eq)]
 pub struct TerminateWord {
     pub layer: u8,

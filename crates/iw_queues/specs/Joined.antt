@@ -17,7 +17,7 @@ use Rattle.iw_queues.specs.declared.request.Request.TheVariants.{Message, Read}
 abbrev pub IsPrefixOf : {A : Type 0} → List A → List A → Type 0
 IsPrefixOf {A} xs ys = (rest : List A) × (xs ++ rest ≡ ys)
 
--- the octets behind the headers
+-- the octets after the headers
 abbrev pub payloads : List (Segment (List ℕ)) → List ℕ
 payloads [] = []
 payloads (Tagged head octets ∷ ss) = octets ++ payloads ss

@@ -12,7 +12,7 @@ use Rattle.iw_queues.specs.Completions.{Outstanding, nothing_sent, next_ticket, 
 
 pub record Queue : Type 0 where
   pub sent : Outstanding  -- sent to their end
-  pub unsent : List (Request (List ℕ))  -- the others, posted behind them, oldest first
+  pub unsent : List (Request (List ℕ))  -- the others, posted after them, oldest first
   pub offset : ℕ  -- how many octets of the first of the others were sent
 
 abbrev pub nothing_posted : Queue
@@ -34,7 +34,7 @@ abbrev pub posted : Queue → Request (List ℕ) → Queue
 posted q message = record q { unsent = q.unsent ++ message ∷ [] }
 
 -- ---- sending
--- the part from `offset` on of a message, where a ULPDU may have `max` octets: as many as fit behind the header, or what is left
+-- the part from `offset` on of a message, where a ULPDU may have `max` octets: as many as fit after the header, or what is left
 abbrev pub part_from : ℕ → Request (List ℕ) → ℕ → ℕ → Part (Request (List ℕ))
 part_from ticket message offset max =
     let part = part_at (length (payload message)) (max - header_len message) offset in
@@ -48,7 +48,7 @@ part_of_first ticket (message ∷ messages) offset max = Some (part_from ticket 
 abbrev pub next_part : Queue → ℕ → Option (Part (Request (List ℕ)))
 next_part q max = part_of_first (next_ticket q.sent) q.unsent q.offset max
 
--- what is left to be sent behind this part
+-- what is left to be sent after this part
 abbrev pub part_sent : Queue → Option (Part (Request (List ℕ))) → Queue
 part_sent q None = q
 part_sent q (Some part) =
@@ -72,7 +72,7 @@ oldest_among first (m ∷ ms) unsent = Some (record { ticket = first; kind = m.k
 abbrev pub oldest_in : Queue → Option Done
 oldest_in q = oldest_among q.sent.first q.sent.messages q.unsent
 
--- what is left behind the oldest message; of one that was not sent to its end nothing more is sent
+-- what is left after the oldest message; of one that was not sent to its end nothing more is sent
 abbrev pub behind_oldest : ℕ → List Sent → List (Request (List ℕ)) → ℕ → Queue
 behind_oldest next [] unsent offset = record { sent = record { first = next; messages = [] }; unsent = drop 1 unsent; offset = 0 }
 behind_oldest next (m ∷ ms) unsent offset = record { sent = record { first = next; messages = ms }; unsent = unsent; offset = offset }

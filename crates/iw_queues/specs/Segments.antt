@@ -1,4 +1,4 @@
--- The segments that carry posted messages: any cut of the octets of each, one message behind the other.
+-- The segments that carry posted messages: any cut of the octets of each, one message after the other.
 use Rattle.std.specs.Prelude.{ℕ, ◌≡◌, ◌+◌, ◌%◌, ◌^◌, ◌<◌, ◌≤◌, Bool, true, false, List, [], ◌∷◌, ◌++◌, length, take, drop, if◌then◌else◌, Option, is_some, ◌-◌}
 use Rattle.std.specs.Option.{option_map_or}
 use Rattle.iw_octets.specs.declared.constants.TheConstants.{DDP_VERSION, TAGGED_HEADER, UNTAGGED_HEADER, MAX_ULPDU}
@@ -80,14 +80,14 @@ IsCut room segment offset octets (s ∷ []) = (length octets ≤ room) × (s ≡
 IsCut room segment offset octets (s ∷ t ∷ ss) =
     (front back : List ℕ) × IsFront room segment offset octets s front back × IsCut room segment (offset + length front) back (t ∷ ss)
 
--- the segments of what is left of a message behind its first `offset` octets (RFC 5041 5.2)
+-- the segments of what is left of a message past its first `offset` octets (RFC 5041 5.2)
 abbrev pub AreSegments : Numbers → Request (List ℕ) → ℕ → List (Segment (List ℕ)) → Type 0
 AreSegments numbers (Message (Write stag to octets)) offset ss = IsCut (MAX_ULPDU - TAGGED_HEADER) (write_segment stag to) offset (drop offset octets) ss
 AreSegments numbers (Message (Send octets solicited invalidate)) offset ss =
     IsCut (MAX_ULPDU - UNTAGGED_HEADER) (send_segment numbers.send solicited invalidate) offset (drop offset octets) ss
 AreSegments numbers (Read request) offset ss = ss ≡ request_segment numbers.read request ∷ []
 
--- the segments of these messages, one message behind the other, `offset` octets of the first having gone before (RFC 5041 5.3)
+-- the segments of these messages, one message after the other, `offset` octets of the first having gone before (RFC 5041 5.3)
 abbrev pub AreSpelled : Numbers → ℕ → List (Request (List ℕ)) → List (Segment (List ℕ)) → Type 0
 AreSpelled numbers offset [] ss = ss ≡ []
 AreSpelled numbers offset (m ∷ ms) ss =
@@ -98,6 +98,6 @@ AreSpelled numbers offset (m ∷ ms) ss =
 abbrev pub segment_of : Numbers → Part (Request (List ℕ)) → Segment (List ℕ)
 segment_of numbers part = segment_with numbers part.message part.offset part.last (take part.n (drop part.offset (payload part.message)))
 
--- the numbers behind it
+-- the numbers after it
 abbrev pub numbers_behind : Numbers → Part (Request (List ℕ)) → Numbers
 numbers_behind numbers part = if part.last then numbers_after numbers part.message else numbers

@@ -44,7 +44,8 @@ impl<A: Allocator> Model for Completions<A> {
 }
 
 impl<A: Allocator> Completions<A> {
-    ghost use Rattle.iw_queues.specs.Completions.{nothing_sent, next_ticket, added, IsAwaited, finished, done, oldest, handed_out};
+    ghost use Rattle.iw_queues.specs.Completions.{nothing_sent, next_ticket, oldest, added, handed_out};
+    ghost use Rattle.iw_queues.specs.Completions.{IsAwaited, finished, done};
 
     /// No message yet.
     pub fn new(alloc: A) -> Completions<A>
@@ -78,8 +79,8 @@ impl<A: Allocator> Completions<A> {
         self.first.wrapping_add(self.messages.len() as u64)
     }
 
-    /// Makes room for `n` more messages. The room stays until it is used. An `Err`, where there is no memory, leaves the
-    /// messages as they are, and comes only where the room is not there.
+    /// Makes room for `n` more messages. The room stays until it is used. An `Err`, where there is no memory, leaves
+    /// the messages as they are, and comes only where the room is not there.
     pub fn ready(&mut self, n: usize) -> Result<(), AllocError>
         ensures same { self.new.outstanding ≡ self.old.outstanding }
         ensures ok { OnOk result (n ≤ self.new.room) }

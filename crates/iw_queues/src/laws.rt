@@ -1,5 +1,6 @@
 //! What holds of the segments that carry posted messages, in whatever parts each was cut.
-ghost use Rattle.iw_queues.specs.Laws.{JoinsToMessage, CompletesInOrder, CoversWrites, SendsInOrder, FillsParts, AwaitsReads, KeepsOrder};
+ghost use Rattle.iw_queues.specs.Laws.{JoinsToMessage, CompletesInOrder, CoversWrites};
+ghost use Rattle.iw_queues.specs.Laws.{SendsInOrder, FillsParts, AwaitsReads, KeepsOrder};
 
 /// Joined, the parts of a message are its octets.
 pub fn parts_join_to_their_message()
@@ -22,8 +23,8 @@ pub fn parts_are_sent_in_order()
     ensures { SendsInOrder }
 {}
 
-/// No part is shorter than the ULPDU allows but a message's last, which is what is left, and none is empty but that of a
-/// message without octets.
+/// No part is shorter than the ULPDU allows but a message's last, which is what is left, and none is empty but that of
+/// a message without octets.
 pub fn parts_are_filled()
     ensures { FillsParts }
 {}

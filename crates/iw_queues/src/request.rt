@@ -6,7 +6,8 @@ use iw_octets::{Message, ReadRequest, TAGGED_HEADER, UNTAGGED_HEADER};
 use std::alloc::Allocator;
 use thiserror::Error;
 
-/// What is posted: a message with octets of this end, or a Read of octets of the peer. The payload's type is the parameter.
+/// What is posted: a message with octets of this end, or a Read of octets of the peer. The payload's type is the
+/// parameter.
 #[derive(Debug, PartialEq, Eq, Drop)]
 pub enum Request<O> {
     Message(Message<O>),

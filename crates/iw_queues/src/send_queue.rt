@@ -1,4 +1,5 @@
-ghost use Rattle.std.specs.Prelude.{◌≡◌, ◌+◌, ◌<◌, ◌≤◌, ◌^◌, nat_lt, length, take, drop, OnOk, OnErr, IfOk, IfErr, IsErr, IsSome, IfSome, IfNone, IsTrue, MatchBool, ◌↔◌, slice_get};
+ghost use Rattle.std.specs.Prelude.{◌≡◌, ◌↔◌, ◌+◌, ◌<◌, ◌≤◌, ◌^◌, nat_lt, length, take, drop, slice_get};
+ghost use Rattle.std.specs.Prelude.{IsTrue, MatchBool, IsSome, IfSome, IfNone, IfOk, IfErr, IsErr, OnOk, OnErr};
 ghost use Rattle.std.specs.Option.{option_map};
 ghost use Rattle.iw_queues.specs.Request.{kind_of, payload};
 
@@ -64,7 +65,9 @@ impl<A: Allocator> Model for SendQueue<A> {
 
 impl<A: Allocator> SendQueue<A> {
     ghost use Rattle.iw_queues.specs.Completions.{IsAwaited, finished};
-    ghost use Rattle.iw_queues.specs.Queue.{nothing_posted, post_refusal, ticket_behind, posted, next_part, part_sent, sent_with, done_in, oldest_in, handed_from, IsWithinLimits};
+    ghost use Rattle.iw_queues.specs.Queue.{nothing_posted, post_refusal, ticket_behind, posted, IsWithinLimits};
+    ghost use Rattle.iw_queues.specs.Queue.{next_part, part_sent, sent_with};
+    ghost use Rattle.iw_queues.specs.Queue.{done_in, oldest_in, handed_from};
     ghost use Rattle.iw_queues.specs.Shown.{shown};
 
     /// A queue to which nothing was posted.
@@ -102,11 +105,12 @@ impl<A: Allocator> SendQueue<A> {
         self.offset > 0
     }
 
-    /// Posts a message behind the others, and tells its ticket. `NoMemory` comes only where no other refusal applies.
+    /// Posts a message after the others, and tells its ticket. `NoMemory` comes only where no other refusal applies.
     /// An `Err` changes nothing, and has the message.
     pub fn post(&mut self, message: Request<Bytes<A>>) -> Result<u64, (Refusal, Request<Bytes<A>>)>
         // The refusal, where one applies, and otherwise want of memory alone.
-        ensures refused { IfSome (post_refusal self.old message) (λ refusal. IfErr result (λ e. e.0 ≡ refusal) × IsErr result) }
+        ensures refused { IfSome (post_refusal self.old message)
+            (λ refusal. IfErr result (λ e. e.0 ≡ refusal) × IsErr result) }
         ensures memory { IfNone (post_refusal self.old message) (IfErr result (λ e. e.0 ≡ Refusal.NoMemory)) }
         ensures back { IfErr result (λ e. e.1 ≡ message) }
         ensures err { OnErr result (self.new ≡ self.old) }
@@ -141,8 +145,8 @@ impl<A: Allocator> SendQueue<A> {
 
     /// The part that is to be sent next, if a message is left to be sent. It only looks.
     ///
-    /// `max` is the largest ULPDU that may be sent, in octets. A part is as long as the ULPDU allows behind the header, and
-    /// the last one what is left: none is empty but that of an empty message. A Read is one part without octets.
+    /// `max` is the largest ULPDU that may be sent, in octets. A part is as long as the ULPDU allows after the header,
+    /// and the last one what is left: none is empty but that of an empty message. A Read is one part without octets.
     #[inline(always)]
     pub fn next_part(&self, max: usize) -> Option<Part<&Request<Bytes<A>>>>
         requires { 128 ≤ max }

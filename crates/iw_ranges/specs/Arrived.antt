@@ -62,11 +62,11 @@ held (Gone ∷ cells) = []
 abbrev pub in_order : Arrived → List ℕ
 in_order a = held a.cells
 
--- ---- a segment: n octets from `place` on
+-- ---- a delivery: n octets from `place` on
 abbrev pub in_segment : ℕ → ℕ → ℕ → Bool
 in_segment place n p = nat_le place p && nat_lt p (place + n)
 
--- the places that came once the segment came too
+-- the places that came once these came too
 abbrev pub come_after : Arrived → ℕ → ℕ → ℕ → Bool
 come_after a place n p = has_come a p || in_segment place n p
 
@@ -86,7 +86,7 @@ max_islands = 1024
 unfoldable pub island_count : (ℕ → Bool) → ℕ → ℕ
 island_count came floor = starts_in came (floor + 1) window
 
--- an octet of the segment lies out of the window, or there would be too many islands
+-- one of the octets lies out of the window, or there would be too many islands
 unfoldable pub is_dropped : Arrived → ℕ → ℕ → Bool
 is_dropped a place n = nat_lt 0 n && (nat_lt (a.floor + window) (place + n) || nat_lt max_islands (island_count (come_after a place n) a.floor))
 
@@ -103,11 +103,11 @@ unfoldable pub taken_in : Arrived → ℕ → List ℕ → Arrived
 taken_in a place octets =
     if nat_lt 0 (length octets) then drawn a.floor (max (end_of a) (place + length octets)) (λ p. first_copy place octets p (cell_at a p)) else a
 
--- a segment is dropped whole, or taken in
+-- a delivery is dropped whole, or taken in
 abbrev pub delivered : Arrived → ℕ → List ℕ → Arrived
 delivered a place octets = if is_dropped a place (length octets) then a else taken_in a place octets
 
--- a segment that is kept and has an octet whose place didn't come: memory may have to grow
+-- a delivery that is kept and has an octet whose place didn't come: memory may have to grow
 abbrev pub BringsOctets : Arrived → ℕ → ℕ → Type 0
 BringsOctets a place n = (delivery a place n ≡ Kept) × ((p : ℕ) × (place ≤ p) × (p < place + n) × (has_come a p ≡ false))
 

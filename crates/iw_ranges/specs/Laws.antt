@@ -4,12 +4,12 @@ use Rattle.iw_ranges.specs.declared.Delivery.TheVariants.{Kept}
 use Rattle.iw_ranges.specs.Arrived.{Arrived, Here, Gone, cell_at, has_come, cells_between, in_order, come_after, first_copy, given_up, delivery, delivered, taken_in, advanced, released}
 use Rattle.iw_ranges.specs.InOrder.{IsHeld, IsOf}
 
--- a segment that is kept leaves each octet that came before as it was, and else the segment's
+-- a delivery that is kept leaves each octet that came before as it was, and else its own
 abbrev pub KeepsFirstCopies : Type 0
 KeepsFirstCopies = (a : Arrived) (place : ℕ) (octets : List ℕ) (p : ℕ) → delivery a place (length octets) ≡ Kept
     → cell_at (delivered a place octets) p ≡ first_copy place octets p (cell_at a p)
 
--- a segment that is kept adds its places, and takes none away
+-- a delivery that is kept adds its places, and takes none away
 abbrev pub AddsPlaces : Type 0
 AddsPlaces = (a : Arrived) (place : ℕ) (octets : List ℕ) (p : ℕ) → delivery a place (length octets) ≡ Kept
     → has_come (delivered a place octets) p ≡ come_after a place (length octets) p
@@ -24,7 +24,7 @@ StaysCome = (a : Arrived) (from to p : ℕ) → has_come (released a from to) p 
 abbrev pub GivesUpBefore : Type 0
 GivesUpBefore = (a : Arrived) (to p : ℕ) → cell_at (advanced a to) p ≡ (if nat_lt p to then Gone else cell_at a p)
 
--- what came in order stands past the in-order point, and the place past it didn't come; a segment only adds to its end, the in-order point takes
+-- what came in order stands past the in-order point, and the place past it didn't come; a delivery only adds to its end, the in-order point takes
 -- away its front, in either order; and from the beginning of the stream on it is the first octets that were sent, where each one that came was sent
 pub record InOrderGrows : Type 0 where
   pub stands : (a : Arrived) → map Here (in_order a) ≡ cells_between a a.floor (a.floor + length (in_order a))

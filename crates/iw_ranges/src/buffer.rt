@@ -1,4 +1,6 @@
-ghost use Rattle.std.specs.Prelude.{◌≡◌, ◌<◌, ◌≤◌, ◌+◌, ◌-◌, ◌*◌, ◌^◌, ◌&&◌, ◌++◌, ℕ, length, vec_len, vec_capacity, true, slice_index, if◌then◌else◌, nat_le, nat_lt, OnOk, OnErr, max, take, drop};
+ghost use Rattle.std.specs.Prelude.{◌≡◌, ◌<◌, ◌≤◌, ◌+◌, ◌-◌, ◌*◌, ◌^◌, ◌&&◌, nat_le, nat_lt, max, true};
+ghost use Rattle.std.specs.Prelude.{ℕ, ◌++◌, length, take, drop, slice_index, vec_len, vec_capacity};
+ghost use Rattle.std.specs.Prelude.{if◌then◌else◌, OnOk, OnErr};
 ghost use Rattle.std.specs.Bool.{OnTrue};
 ghost use Rattle.std.specs.VecDeque.{deque_len, deque_capacity};
 ghost use Rattle.iw_ranges.specs.Spans.{in_spans, add_span, IsFromStart, IsFirstReaching, first_end, octet_after};
@@ -14,7 +16,8 @@ const MAX_HELD: usize = 327_680;
 fn write_at(buffer: &mut [u8], at: usize, octets: &[u8])
     requires { at + length octets.now ≤ length buffer.old }
     ensures { (i : ℕ) → i < length buffer.old → slice_index buffer.new i
-        ≡ (if nat_le at i && nat_lt i (at + length octets.now) then slice_index octets.now (i - at) else slice_index buffer.old i) }
+        ≡ (if nat_le at i && nat_lt i (at + length octets.now) then slice_index octets.now (i - at)
+        else slice_index buffer.old i) }
 {
     buffer[at..at + octets.len()].copy_from_slice(octets);
 }
@@ -34,7 +37,8 @@ fn fill<A: Allocator>(
     requires small { from + length octets.now < 2 ^ 64 }
     requires order { IsFromStart spans.now.items }
     requires place { IsFirstReaching spans.now.items from low }
-    ensures { (i : ℕ) → i < length buffer.old → slice_index buffer.new i ≡ octet_after base spans.now.items from octets.now buffer.old i }
+    ensures { (i : ℕ) → i < length buffer.old
+        → slice_index buffer.new i ≡ octet_after base spans.now.items from octets.now buffer.old i }
 {
     let mut next = from;
     let mut rest = octets;
@@ -53,8 +57,8 @@ fn fill<A: Allocator>(
     write_at(buffer, (next - base) as usize, rest);
 }
 
-/// How many octets a buffer of `capacity` should have room for, so that `len` fit: twice as many where they don't, but 327,680
-/// at most.
+/// How many octets a buffer of `capacity` should have room for, so that `len` fit: twice as many where they don't, but
+/// 327,680 at most.
 fn room_for(capacity: usize, len: usize) -> usize
     requires { len ≤ 327680 }
     ensures enough { max len capacity ≤ result }
@@ -71,7 +75,8 @@ fn lay_past<A: Allocator>(buffer: &mut Vec<u8, A>, at: usize, octets: &[u8])
     requires past { vec_len buffer.old ≤ at }
     requires room { at + length octets.now ≤ vec_capacity buffer.old }
     ensures octets { (i : ℕ) → slice_index buffer.new.items i
-        ≡ (if nat_le at i && nat_lt i (at + length octets.now) then slice_index octets.now (i - at) else slice_index buffer.old.items i) }
+        ≡ (if nat_le at i && nat_lt i (at + length octets.now) then slice_index octets.now (i - at)
+        else slice_index buffer.old.items i) }
     ensures len { vec_len buffer.new ≡ at + length octets.now }
 {
     let _ = buffer.resize(at, 0);
@@ -83,8 +88,10 @@ fn append<A: Allocator>(buffer: &mut Vec<u8, A>, at: usize, octets: &[u8]) -> Re
     requires past { 0 < length octets.now → vec_len buffer.old ≤ at }
     requires held { at + length octets.now ≤ 327680 }
     ensures octets { OnOk result ((i : ℕ) → slice_index buffer.new.items i
-        ≡ (if nat_le at i && nat_lt i (at + length octets.now) then slice_index octets.now (i - at) else slice_index buffer.old.items i)) }
-    ensures len { OnOk result (vec_len buffer.new ≡ (if nat_lt 0 (length octets.now) then at + length octets.now else vec_len buffer.old)) }
+        ≡ (if nat_le at i && nat_lt i (at + length octets.now) then slice_index octets.now (i - at)
+        else slice_index buffer.old.items i)) }
+    ensures len { OnOk result (vec_len buffer.new
+        ≡ (if nat_lt 0 (length octets.now) then at + length octets.now else vec_len buffer.old)) }
     ensures err { OnErr result (buffer.new.items ≡ buffer.old.items) }
 {
     if octets.is_empty() {
@@ -106,8 +113,8 @@ fn extend<A: Allocator>(buffer: &mut Vec<u8, A>, octets: &[u8])
     let _ = buffer.extend_from_slice(octets);
 }
 
-/// Whether the octets stand right after all of the buffer, which begins at place `base`, where they come from place `from` on,
-/// and it has room for them.
+/// Whether the octets stand right after all of the buffer, which begins at place `base`, where they come from place
+/// `from` on, and it has room for them.
 #[inline(always)]
 pub(crate) fn fits_after<A: Allocator>(
     buffer: &Vec<u8, A>,
@@ -117,13 +124,16 @@ pub(crate) fn fits_after<A: Allocator>(
 ) -> bool
     requires base { base ≤ from }
     requires held { vec_len buffer.now ≤ 327680 }
-    ensures { OnTrue result ((from ≡ base + vec_len buffer.now) × (vec_len buffer.now + length octets.now ≤ vec_capacity buffer.now) × (vec_len buffer.now + length octets.now ≤ 327680)) }
+    ensures { OnTrue result ((from ≡ base + vec_len buffer.now)
+        × (vec_len buffer.now + length octets.now ≤ vec_capacity buffer.now)
+        × (vec_len buffer.now + length octets.now ≤ 327680)) }
 {
     from - base == buffer.len() as u64
         && octets.len() <= buffer.capacity().min(MAX_HELD) - buffer.len()
 }
 
-/// Takes in the octets from place `from` on, where the first span and the buffer end, and adds their places to the spans.
+/// Takes in the octets from place `from` on, where the first span and the buffer end, and adds their places to the
+/// spans.
 #[inline(always)]
 pub(crate) fn put_after<A: Allocator>(
     buffer: &mut Vec<u8, A>,
@@ -141,14 +151,15 @@ pub(crate) fn put_after<A: Allocator>(
     ensures spans { spans.new.items ≡ add_span from (from + length octets.now) spans.old.items }
     ensures few { length spans.new.items ≤ length spans.old.items }
     ensures len { vec_len buffer.new ≡ vec_len buffer.old + length octets.now }
-    ensures octets { (i : ℕ) → slice_index buffer.new.items i ≡ octet_after base spans.old.items from octets.now buffer.old.items i }
+    ensures octets { (i : ℕ)
+        → slice_index buffer.new.items i ≡ octet_after base spans.old.items from octets.now buffer.old.items i }
 {
     extend(buffer, octets);
     widen(spans, 0, from, from + octets.len() as u64);
 }
 
-/// Takes in the octets from place `from` on, but for the places in the spans, and adds their places to the spans, of which
-/// that at `low` is the first that reaches `from`. An `Err` changes nothing.
+/// Takes in the octets from place `from` on, but for the places in the spans, and adds their places to the spans, of
+/// which that at `low` is the first that reaches `from`. An `Err` changes nothing.
 #[inline(never)]
 pub(crate) fn put<A: Allocator>(
     buffer: &mut Vec<u8, A>,
@@ -167,7 +178,8 @@ pub(crate) fn put<A: Allocator>(
     requires within { (p : ℕ) → in_spans p spans.old.items ≡ true → p < base + vec_len buffer.old }
     ensures spans { OnOk result (spans.new.items ≡ add_span from (from + length octets.now) spans.old.items) }
     ensures len { OnOk result (vec_len buffer.new ≡ max (vec_len buffer.old) (from + length octets.now - base)) }
-    ensures octets { OnOk result ((i : ℕ) → slice_index buffer.new.items i ≡ octet_after base spans.old.items from octets.now buffer.old.items i) }
+    ensures octets { OnOk result ((i : ℕ)
+        → slice_index buffer.new.items i ≡ octet_after base spans.old.items from octets.now buffer.old.items i) }
     ensures err_spans { OnErr result (spans.new.items ≡ spans.old.items) }
     ensures err_octets { OnErr result (buffer.new.items ≡ buffer.old.items) }
 {
@@ -264,11 +276,11 @@ fn drop_few<A: Allocator>(octets: &mut Vec<u8, A>, n: usize)
     octets.truncate(kept);
 }
 
-/// Lets the octets before the in-order point `floor` go, if the buffer, which begins at place `base`, would have to hold
-/// more than 327,680 octets to reach place `to`.
+/// Lets the octets before the in-order point `floor` go, if the buffer, which begins at place `base`, would have to
+/// hold more than 327,680 octets to reach place `to`.
 ///
-/// They are then more than 65,536, and no more than 262,144 stand past them: four octets are moved at most for each that
-/// the in-order point passed.
+/// They are then more than 65,536, and no more than 262,144 stand past them: four octets are moved at most for each
+/// that the in-order point passed.
 pub(crate) fn shorten<A: Allocator>(octets: &mut Vec<u8, A>, base: &mut u64, floor: u64, to: u64)
     requires low { base.old ≤ floor }
     requires high { floor ≤ base.old + vec_len octets.old }

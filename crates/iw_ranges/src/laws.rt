@@ -1,12 +1,13 @@
 //! What the calls of [`Islands`](crate::Islands) leave, said of each place of the stream.
-ghost use Rattle.iw_ranges.specs.Laws.{KeepsFirstCopies, AddsPlaces, GivesUpPlaces, StaysCome, GivesUpBefore, InOrderGrows};
+ghost use Rattle.iw_ranges.specs.Laws.{KeepsFirstCopies, AddsPlaces, StaysCome, InOrderGrows};
+ghost use Rattle.iw_ranges.specs.Laws.{GivesUpPlaces, GivesUpBefore};
 
 /// Of an octet that came twice the first copy stays.
 pub fn first_copies_stay()
     ensures { KeepsFirstCopies }
 {}
 
-/// The places of a segment that is kept count as come, with those that came before.
+/// The places of octets that are kept count as come, with those that came before.
 pub fn segments_add_places()
     ensures { AddsPlaces }
 {}
@@ -26,7 +27,7 @@ pub fn the_in_order_point_gives_up_what_is_before()
     ensures { GivesUpBefore }
 {}
 
-/// What came in order stands past the in-order point without a gap, and grows at its end with each segment.
+/// What came in order stands past the in-order point without a gap, and grows at its end with each delivery.
 pub fn what_is_in_order_grows()
     ensures { InOrderGrows }
 {}

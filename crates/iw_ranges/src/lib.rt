@@ -1,13 +1,15 @@
 //! The octets of a stream that came, in whatever order they came.
 //!
-//! [`Islands`] takes in segments at any places of a stream, keeps the first copy of each octet that lies within a window
-//! past the in-order point, and hands the octets out in order.
+//! [`Islands`] takes in octets at any places of a stream, keeps the first copy of each octet that lies within a
+//! window past the in-order point, and hands the octets out in order.
 #![tactic(auto)]
 
-ghost use Rattle.std.specs.Prelude.{◌≡◌, ◌<◌, ◌≤◌, ◌+◌, ◌^◌, ℕ, length, map, All, IfOk, OnOk, OnErr, MatchBool, true, false};
+ghost use Rattle.std.specs.Prelude.{◌≡◌, ◌<◌, ◌≤◌, ◌+◌, ◌^◌, ℕ, length, map, All};
+ghost use Rattle.std.specs.Prelude.{true, false, MatchBool, IfOk, OnOk, OnErr};
 ghost use Rattle.std.specs.List.{concat};
 ghost use Rattle.std.specs.Iterator.{YieldsFirstBy, item_count};
-ghost use Rattle.iw_ranges.specs.Arrived.{nothing, cell_at, has_come, cells_between, delivery, delivered, advanced, released, BringsOctets, IsHere, Here, Missing, IsWithinLimits, window};
+ghost use Rattle.iw_ranges.specs.Arrived.{nothing, cell_at, has_come, cells_between, window, IsHere, Here, Missing};
+ghost use Rattle.iw_ranges.specs.Arrived.{delivery, delivered, advanced, released, BringsOctets, IsWithinLimits};
 
 mod buffer;
 pub mod laws;
@@ -25,7 +27,7 @@ const WINDOW: u64 = 262_144;
 /// No memory could be had, and nothing changed: the call may be made again.
 pub type NoMemory = AllocError;
 
-/// What became of a segment that was delivered.
+/// What became of octets that were delivered.
 #[derive(Debug, Clone, Copy, PartialEq, Eq)]
 pub enum Delivery {
     /// Its octets count as come.
@@ -84,14 +86,14 @@ impl<A: Allocator> Islands<A> {
         })
     }
 
-    /// Takes in a segment, whose first octet has place `place`, or drops it whole.
+    /// Takes in octets that came, the first of them at place `place`, or drops them all.
     ///
-    /// It is dropped if one of its octets lies 262,144 or more past the in-order point, or if there would then be more
-    /// than 1,024 islands: runs of octets apart from those that came without a gap from the in-order point on. Otherwise
-    /// octets before the in-order point are ignored, and of an octet that came before the first copy stays. A segment
-    /// without octets is kept at any place.
+    /// They are dropped if one of them lies 262,144 or more past the in-order point, or if there would then be more
+    /// than 1,024 islands: runs of octets apart from those that came without a gap from the in-order point on.
+    /// Otherwise octets before the in-order point are ignored, and of an octet that came before the first copy stays.
+    /// A delivery without octets is kept at any place.
     ///
-    /// `NoMemory` leaves all as it was. It comes only where the segment would be kept and one of its octets is new.
+    /// `NoMemory` leaves all as it was. It comes only where the octets would be kept and one of them is new.
     #[inline]
     pub fn add(&mut self, place: u64, octets: &[u8]) -> Result<Delivery, NoMemory>
         ensures answer { IfOk result (λ answer. answer ≡ delivery self.old.arrived place (length octets.now)) }
@@ -164,6 +166,7 @@ impl<A: Allocator> Islands<A> {
     pub fn missing(&self) -> u64
         ensures come { (p : ℕ) → p < result → has_come self.now.arrived p ≡ true }
         ensures missing { cell_at self.now.arrived result ≡ Missing }
+        ensures limits { IsWithinLimits self.now.arrived }
     {
         self.missing
     }
@@ -221,8 +224,8 @@ impl<A: Allocator> Islands<A> {
         self.gone.reserve(1)
     }
 
-    /// Gives up the octets from place `from` up to place `to`, which came. Their places still count as come. It takes the
-    /// room that one `ready` made.
+    /// Gives up the octets from place `from` up to place `to`, which came. Their places still count as come. It takes
+    /// the room that one `ready` made.
     pub fn release(&mut self, from: u64, to: u64)
         requires room { 0 < self.old.room }
         requires come { (p : ℕ) → from ≤ p → p < to → has_come self.old.arrived p ≡ true }
@@ -236,8 +239,8 @@ impl<A: Allocator> Islands<A> {
         }
     }
 
-    /// Moves the in-order point on to `to`, before which all came, and gives up what lies before it. An in-order point that
-    /// lies further on stays.
+    /// Moves the in-order point on to `to`, before which all came, and gives up what lies before it. An in-order point
+    /// that lies further on stays.
     #[inline]
     pub fn advance(&mut self, to: u64)
         requires come { (p : ℕ) → p < to → has_come self.old.arrived p ≡ true }

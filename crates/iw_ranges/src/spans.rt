@@ -1,6 +1,7 @@
 ghost use Rattle.std.specs.Prelude.{◌≡◌, ◌<◌, ◌≤◌, ◌+◌, ◌^◌, ℕ, length, true, false, MatchBool, slice_index_or, nat_lt};
 ghost use Rattle.std.specs.VecDeque.{deque_len, deque_capacity};
-ghost use Rattle.iw_ranges.specs.Spans.{in_spans, add_span, merge_span, spans_past, IsFromStart, IsInOrder, IsFirstReaching, first_end};
+ghost use Rattle.iw_ranges.specs.Spans.{in_spans, spans_past, first_end, IsFromStart, IsInOrder, IsFirstReaching};
+ghost use Rattle.iw_ranges.specs.Spans.{add_span, merge_span};
 ghost use Rattle.std.specs.Prelude.{take, drop, ◌++◌};
 
 use std::alloc::Allocator;
@@ -33,7 +34,8 @@ pub(crate) fn first_reaching<A: Allocator>(spans: &VecDeque<Span, A>, from: u64)
     )
 }
 
-/// Whether the places from `from` up to `to` touch none of the spans, of which that at `low` is the first that reaches `from`.
+/// Whether the places from `from` up to `to` touch none of the spans, of which that at `low` is the first that reaches
+/// `from`.
 pub(crate) fn is_apart<A: Allocator>(
     spans: &VecDeque<Span, A>,
     low: usize,
@@ -43,7 +45,8 @@ pub(crate) fn is_apart<A: Allocator>(
     requires order { IsInOrder spans.now.items }
     requires place { IsFirstReaching spans.now.items from low }
     requires some { from < to }
-    ensures { MatchBool result (length (add_span from to spans.now.items) ≡ deque_len spans.now + 1) (length (add_span from to spans.now.items) ≤ deque_len spans.now) }
+    ensures { MatchBool result (length (add_span from to spans.now.items) ≡ deque_len spans.now + 1)
+        (length (add_span from to spans.now.items) ≤ deque_len spans.now) }
 {
     low == spans.len() || to < spans[low].from
 }
@@ -59,7 +62,8 @@ pub(crate) fn is_one_too_many<A: Allocator>(
     requires place { IsFirstReaching spans.now.items from low }
     requires some { from < to }
     requires few { length spans.now.items ≤ 1025 }
-    ensures { MatchBool result (1025 < length (add_span from to spans.now.items)) (length (add_span from to spans.now.items) ≤ 1025) }
+    ensures { MatchBool result (1025 < length (add_span from to spans.now.items))
+        (length (add_span from to spans.now.items) ≤ 1025) }
 {
     spans.len() > MAX_ISLANDS && is_apart(spans, low, from, to)
 }

@@ -29,7 +29,7 @@ ResponsesAreWhole = (request : ReadRequest) (max : ℕ) (source : List ℕ) → 
 abbrev pub parts_left : ReadRequest → ℕ → ℕ → List ResponsePart
 parts_left request offset max = map (part_of_response request) (parts_from offset (request.size - offset) (max - 14))
 
--- what is to be fetched for all requests, where a ULPDU may have `max` octets: the responses, one behind the other
+-- what is to be fetched for all requests, where a ULPDU may have `max` octets: the responses, one after the other
 abbrev pub to_fetch_for : List Asked → ℕ → ℕ → List ResponsePart
 to_fetch_for [] fetched max = []
 to_fetch_for (asked ∷ behind) fetched max =
@@ -61,7 +61,7 @@ AnswersAreAskedFor = (read : Outstanding) (reads : List Outstanding) (max : ℕ)
     let part = part_of_response read.request (part_at read.request.size (max - 14) read.turned) in
     (sink_fault (read ∷ reads) part.head part.n ≡ None) × (response_turn_fault (read ∷ reads) part.head part.n ≡ None)
 
--- the Read asked for the n octets behind this header
+-- the Read asked for the n octets after this header
 pub record AskedFor (head : TaggedHead) (n : ℕ) (read : Outstanding) : Type 0 where
   pub stag : read.request.sink ≡ head.stag
   pub inside : (n ≡ 0) ⊎ (sink_offset read.request head.to + n ≤ read.request.size)
@@ -98,7 +98,7 @@ worked_part from to n = record {
   n = n;
 }
 
--- the same, with others behind it
+-- the same, with others after it
 abbrev pub worked_front : ℕ → ℕ → ℕ → ResponsePart
 worked_front from to n = record {
   head = record { last = false; ddp_version = 1; control = 0x42; stag = first_stag; to = to };

@@ -14,7 +14,7 @@ use Rattle.iw_reads.specs.declared.reads.Outstanding.{Outstanding}
 abbrev pub most_reads : ℕ
 most_reads = 16
 
--- the Read is outstanding behind the others, and nothing of its response had its turn
+-- the Read is outstanding after the others, and nothing of its response had its turn
 abbrev pub asked_for : List Outstanding → ℕ → ReadRequest → List Outstanding
 asked_for reads ticket request = reads ++ record { ticket = ticket; request = request; turned = 0 } ∷ []
 
@@ -23,7 +23,7 @@ asked_for reads ticket request = reads ++ record { ticket = ticket; request = re
 abbrev pub same_stag : Stag → Stag → Bool
 same_stag a b = (a.domain == b.domain) && (a.slot == b.slot) && (a.key == b.key)
 
--- how far a tagged offset lies behind the sink's first, modulo 2^64
+-- how far a tagged offset lies past the sink's first, modulo 2^64
 abbrev pub sink_offset : ReadRequest → ℕ → ℕ
 sink_offset request to = (to + (2 ^ 64 - request.sink_to)) % 2 ^ 64
 

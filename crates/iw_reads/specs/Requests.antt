@@ -22,7 +22,7 @@ nothing_asked = record { next = 1; unanswered = []; fetched = 0 }
 abbrev pub most_unanswered : ℕ
 most_unanswered = 16
 
--- the request waits behind the others, and the next one is due
+-- the request waits after the others, and the next one is due
 abbrev pub taken_up : Requested → Asked → Requested
 taken_up s asked = record s { next = (s.next + 1) % 2 ^ 32; unanswered = s.unanswered ++ asked ∷ [] }
 
@@ -36,14 +36,14 @@ part_for (asked ∷ behind) fetched max =
 abbrev pub response_part : Requested → ℕ → Option ResponsePart
 response_part s max = part_for s.unanswered s.fetched max
 
--- what is left to be fetched behind this part; the last part answers the oldest request
+-- what is left to be fetched after this part; the last part answers the oldest request
 abbrev pub part_fetched : Requested → Option ResponsePart → Requested
 part_fetched s None = s
 part_fetched s (Some part) =
     if part.head.last then record s { unanswered = drop 1 s.unanswered; fetched = 0 }
     else record s { fetched = s.fetched + part.n }
 
--- the headers of a request: DDP's, as it came, and the Read Request's behind it
+-- the headers of a request: DDP's, as it came, and the Read Request's after it
 abbrev pub headers_of : Asked → List ℕ
 headers_of asked = asked.header.items ++ request_octets asked.request
 

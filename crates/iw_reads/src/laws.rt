@@ -1,4 +1,5 @@
-ghost use Rattle.iw_reads.specs.Laws.{AnswersAreAskedFor, AnswersInOrder, ChecksTell, KnownResponses, PartsMayBeFetched, ResponsesAreWhole};
+ghost use Rattle.iw_reads.specs.Laws.{AnswersAreAskedFor, ChecksTell};
+ghost use Rattle.iw_reads.specs.Laws.{AnswersInOrder, KnownResponses, PartsMayBeFetched, ResponsesAreWhole};
 
 /// The parts of a response, joined, are all octets that were asked for.
 pub fn responses_are_whole()
@@ -20,7 +21,8 @@ pub fn answers_are_asked_for()
     ensures { AnswersAreAskedFor }
 {}
 
-/// What `check` and `turn` of [`Reads`](crate::Reads) pass, and nothing else, was asked for and goes on with the oldest Read.
+/// What `check` and `turn` of [`Reads`](crate::Reads) pass, and nothing else, was asked for and goes on with the oldest
+/// Read.
 pub fn checks_tell()
     ensures { ChecksTell }
 {}

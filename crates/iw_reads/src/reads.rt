@@ -1,6 +1,9 @@
-ghost use Rattle.std.specs.Prelude.{◌≡◌, ◌↔◌, ◌+◌, ◌<◌, ◌≤◌, ◌^◌, ◌==◌, ◌&&◌, ◌||◌, not, [], length, nat_le, IsTrue, IfOk, OnOk, OnErr};
+ghost use Rattle.std.specs.Prelude.{◌≡◌, ◌↔◌, ◌+◌, ◌<◌, ◌≤◌, ◌^◌, ◌==◌, ◌&&◌, ◌||◌, not, nat_le};
+ghost use Rattle.std.specs.Prelude.{[], length, IsTrue, IfOk, OnOk, OnErr};
 ghost use Rattle.std.specs.Result.{result_err};
-ghost use Rattle.iw_reads.specs.Outstanding.{most_reads, same_stag, is_inside, asks_for, is_asked, goes_on, response_turn_fault, sink_fault, reads_turned, finished_read, asked_for, HoldsLimits};
+ghost use Rattle.iw_reads.specs.Outstanding.{most_reads, asked_for, HoldsLimits};
+ghost use Rattle.iw_reads.specs.Outstanding.{same_stag, is_inside, asks_for, is_asked, sink_fault};
+ghost use Rattle.iw_reads.specs.Outstanding.{goes_on, response_turn_fault, reads_turned, finished_read};
 
 use arrayvec::ArrayVec;
 use iw_octets::{Fault, ReadRequest, Stag, TaggedHead};
@@ -119,8 +122,8 @@ impl Reads {
     /// tells the ticket of the Read that the segment ends, if it is the last of its response.
     ///
     /// Responses come in the order of the requests (RFC 5040 5.2.2): the segment must go on with the response of the
-    /// oldest Read, at the tagged offset behind the octets that had their turn. It may not run past the Read's size,
-    /// and is its response's last only where the size is reached; without octets, it may come behind it. Otherwise, and
+    /// oldest Read, at the tagged offset past the octets that had their turn. It may not run past the Read's size,
+    /// and is its response's last only where the size is reached; without octets, it may come after it. Otherwise, and
     /// where no Read is outstanding, it is [`Fault::PROTECTION_BOUNDS`], which changes nothing.
     #[inline(always)]
     pub fn turn(&mut self, head: &TaggedHead, n: usize) -> Result<Option<u64>, Fault>
@@ -186,7 +189,7 @@ fn goes_on(read: &Outstanding, head: &TaggedHead, n: usize) -> bool
         && fits(read.request.size, read.turned, head.last, n)
 }
 
-// The `n` octets behind those that had their turn are not past the size, and reach it where they are the last.
+// The `n` octets after those that had their turn are not past the size, and reach it where they are the last.
 #[inline(always)]
 fn fits(size: u32, turned: u32, last: bool, n: usize) -> bool
     requires { turned ≤ size }

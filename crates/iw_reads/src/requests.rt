@@ -1,7 +1,8 @@
 ghost use Rattle.std.specs.Prelude.{◌≡◌, ◌↔◌, ◌+◌, ◌<◌, ◌≤◌, [], length, IsTrue, IsSome, IfSome};
 ghost use Rattle.iw_octets.specs.Head.{FitsTagged};
 ghost use Rattle.iw_octets.specs.Parts.{part_at};
-ghost use Rattle.iw_reads.specs.Requests.{most_unanswered, nothing_asked, taken_up, response_part, part_fetched, oldest_headers, HoldsLimits};
+ghost use Rattle.iw_reads.specs.Requests.{most_unanswered, nothing_asked, taken_up, HoldsLimits};
+ghost use Rattle.iw_reads.specs.Requests.{response_part, part_fetched, oldest_headers};
 ghost use Rattle.iw_reads.specs.Source.{IsInRange};
 
 use crate::reads::no_request;
@@ -13,11 +14,11 @@ use std::marker::Model;
 /// How many Read Requests may wait for their responses at one end of a stream.
 pub const MAX_UNANSWERED: usize = 16;
 
-/// How many octets the headers of a Read Request have: DDP's, and its own behind it.
+/// How many octets the headers of a Read Request have: DDP's, and its own after it.
 pub const REQUEST_HEADERS: usize = UNTAGGED_HEADER + READ_REQUEST_HEADER;
 
-/// A Read Request of the peer that was taken: its DDP header as it came, 18 octets, which a later Terminate takes along,
-/// and the request behind it.
+/// A Read Request of the peer that was taken: its DDP header as it came, 18 octets, which a later Terminate takes
+/// along, and the request after it.
 #[derive(Debug, Drop)]
 pub struct Asked {
     pub header: ArrayVec<u8, 18>,
@@ -87,8 +88,8 @@ impl Requests {
         self.unanswered.is_empty()
     }
 
-    /// The headers of the request that has waited longest, 46 octets: DDP's, as it came, and the Read Request's behind it.
-    /// No octets where none waits.
+    /// The headers of the request that has waited longest, 46 octets: DDP's, as it came, and the Read Request's after
+    /// it. No octets where none waits.
     pub fn oldest_headers(&self) -> ArrayVec<u8, REQUEST_HEADERS>
         ensures octets { result.items ≡ oldest_headers self.now }
         ensures len { 0 < length self.now.unanswered → length result.items ≡ REQUEST_HEADERS }
@@ -101,8 +102,9 @@ impl Requests {
         headers
     }
 
-    /// Takes the request that is due: it waits behind the others, and the next number is due. There must be room for it,
-    /// its header must be whole, and the offsets of its source may not wrap, as [`check_source`](crate::check_source) tells.
+    /// Takes the request that is due: it waits after the others, and the next number is due. There must be room for
+    /// it, its header must be whole, and the offsets of its source may not wrap, as
+    /// [`check_source`](crate::check_source) tells.
     pub fn take(&mut self, asked: Asked)
         requires room { length self.old.unanswered < most_unanswered }
         requires header { length asked.header.items ≡ UNTAGGED_HEADER }
@@ -115,7 +117,7 @@ impl Requests {
 
     /// The part that is to be fetched next, of the response to the oldest request, if one waits. It only looks.
     ///
-    /// `max` is the largest ULPDU that may be sent, in octets. A part is as long as the ULPDU allows behind the header,
+    /// `max` is the largest ULPDU that may be sent, in octets. A part is as long as the ULPDU allows after the header,
     /// and the last one what is left: none is empty but that of a Read of no octets.
     pub fn next_part(&self, max: usize) -> Option<ResponsePart>
         requires { 14 < max }

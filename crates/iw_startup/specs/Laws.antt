@@ -35,11 +35,11 @@ abbrev pub AnswersStay : Type 0
 AnswersStay = (s : StartupState) (octets : List ℕ) → IsReached s → progress s ≢ answer.More →
     (used s octets ≡ 0) × (pushed s octets ≡ s)
 
--- the pieces are the frame that this end sends, and whatever octets behind it
+-- the pieces are the frame that this end sends, and whatever octets past it
 abbrev pub Carries : List (List ℕ) → StartupState → Type 0
 Carries pieces sender = (behind : List ℕ) × (concat pieces ≡ frame_of sender ++ behind)
 
--- the sender's frame, brought by these pieces, was read whole: this is told, this private data shown, and nothing behind the frame was used
+-- the sender's frame, brought by these pieces, was read whole: this is told, this private data shown, and nothing past the frame was used
 pub record IsRead (receiver : StartupState) (pieces : List (List ℕ)) (sender : StartupState) (private : List ℕ) (told : Progress) : Type 0 where
   pub progress : progress (pushed_all receiver pieces) ≡ told
   pub shown : private_of (pushed_all receiver pieces) ≡ private

@@ -30,7 +30,7 @@ frame_end side octets =
 abbrev pub is_whole : Side → List ℕ → Bool
 is_whole side octets = nat_le (frame_end side octets) (length octets)
 
--- the octets of the peer's frame, without those behind it
+-- the octets of the peer's frame, without those past it
 unfoldable pub frame_part : Side → List ℕ → List ℕ
 frame_part side octets = take (frame_end side octets) octets
 

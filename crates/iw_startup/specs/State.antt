@@ -97,7 +97,7 @@ is_answered (Responder reply) = is_some reply
 
 -- what holds of every start-up
 pub record IsReached (s : StartupState) : Type 0 where
-  -- nothing behind the peer's frame was taken
+  -- nothing past the peer's frame was taken
   pub within : length s.octets ≤ frame_end s.side s.octets
   -- only a whole Request was answered
   pub asked : IsTrue (is_answered s.side) → progress s ≡ answer.Asked

@@ -11,7 +11,7 @@ use crate::side::Side;
 use arrayvec::ArrayVec;
 use iw_octets::MAX_PRIVATE;
 
-// Where the fields behind the key stand.
+// Where the fields after the key stand.
 const FLAGS_AT: usize = 16;
 
 const REVISION_AT: usize = 17;

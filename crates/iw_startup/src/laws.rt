@@ -1,4 +1,5 @@
-ghost use Rattle.iw_startup.specs.Laws.{CutsDoNotMatter, AnswersStay, RequestsAreAsked, AcceptedEndsAgree, RejectionsAreTold};
+ghost use Rattle.iw_startup.specs.Laws.{CutsDoNotMatter, AnswersStay};
+ghost use Rattle.iw_startup.specs.Laws.{RequestsAreAsked, AcceptedEndsAgree, RejectionsAreTold};
 
 /// However the peer's octets are cut into pieces, the progress, the private data and the octets used are the same.
 pub fn cuts_do_not_matter()
@@ -10,7 +11,8 @@ pub fn answers_stay()
     ensures { AnswersStay }
 {}
 
-/// An initiator's frame, in any pieces and whatever follows it, makes a responder ask its user, and shows the private data.
+/// An initiator's frame, in any pieces and whatever follows it, makes a responder ask its user, and shows the private
+/// data.
 pub fn requests_are_asked()
     ensures { RequestsAreAsked }
 {}
@@ -21,7 +23,8 @@ pub fn accepted_ends_agree()
     ensures { AcceptedEndsAgree }
 {}
 
-/// The frame of a responder that rejects, in any pieces and whatever follows it, is told as a fault, and neither end has agreed.
+/// The frame of a responder that rejects, in any pieces and whatever follows it, is told as a fault, and neither end
+/// has agreed.
 pub fn rejections_are_told()
     ensures { RejectionsAreTold }
 {}

@@ -1,6 +1,7 @@
 ghost use Rattle.std.specs.Prelude.{◌≡◌, ◌≤◌, length, IsTrue, is_ok, OnOk, OnErr, IfOk, Some, None};
 ghost use Rattle.iw_startup.specs.Peer.{progress_of};
-ghost use Rattle.iw_startup.specs.State.{begun, is_responder, pushed, used, progress, private_of, frame_of, agreement, agreed_of, awaits_answer, answered, IsReached};
+ghost use Rattle.iw_startup.specs.State.{begun, is_responder, pushed, used, progress, IsReached};
+ghost use Rattle.iw_startup.specs.State.{private_of, frame_of, agreement, agreed_of, awaits_answer, answered};
 
 use crate::config::{Agreed, Config, FIXED_OCTETS, MAX_FRAME, PrivateData};
 use crate::frame;
@@ -60,7 +61,8 @@ impl Startup {
     /// Takes the next octets from the peer as far as its frame goes. It tells how many octets were used, and how far
     /// the frame has come (RFC 5044 7.1.1, 7.1.2).
     ///
-    /// The flags that are reserved, and R in a Request, are not looked at. Nothing behind the frame is used. After any answer but [`Progress::More`] it uses none and answers the same.
+    /// The flags that are reserved, and R in a Request, are not looked at. Nothing past the frame is used. After any
+    /// answer but [`Progress::More`] it uses none and answers the same.
     pub fn push(&mut self, octets: &[u8]) -> (usize, Progress)
         ensures used { result.0 ≡ used self.old octets.now }
         ensures after { self.new ≡ pushed self.old octets.now }

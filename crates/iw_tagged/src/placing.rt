@@ -18,9 +18,9 @@ pub struct Placed {
 }
 
 /// Whether a segment with this header and `n` octets of payload may be placed, on a stream of domain `pd`: with the
-/// right `Write` for an RDMA Write, `Sink` for a Read Response. The fault is the first that applies: the STag is another
-/// domain's, it names no valid region, the offsets wrap, they leave the region, or the region does not grant the right
-/// (RFC 5041 7.1, RFC 5040 4.8). With no octets nothing is checked.
+/// right `Write` for an RDMA Write, `Sink` for a Read Response. The fault is the first that applies: the STag is
+/// another domain's, it names no valid region, the offsets wrap, they leave the region, or the region does not grant
+/// the right (RFC 5041 7.1, RFC 5040 4.8). With no octets nothing is checked.
 #[inline(always)]
 pub fn check<A: Allocator>(
     head: TaggedHead,
@@ -53,7 +53,8 @@ pub fn place<'a, A: Allocator, I: Iterator<Item = &'a [u8]>>(
     requires fits { AddUpTo I.next_gives pieces n }
     ensures refused { result_err result ≡ placing_fault memory.old pd head n right }
     ensures placed { IfOk result (λ placed. placed ≡ record { stag = head.stag; to = head.to; n = n }) }
-    ensures ok { OnOk result ((octets : List ℕ) × JoinTo I.next_gives pieces octets × (memory.new ≡ put memory.old head.stag head.to octets)) }
+    ensures ok { OnOk result ((octets : List ℕ) × JoinTo I.next_gives pieces octets
+        × (memory.new ≡ put memory.old head.stag head.to octets)) }
     ensures err { OnErr result (memory.new ≡ memory.old) }
 {
     let TaggedHead { stag, to, .. } = head;

@@ -1,4 +1,5 @@
-ghost use Rattle.std.specs.Prelude.{◌≡◌, ◌+◌, ◌<◌, ◌≤◌, ◌↔◌, ℕ, List, [], nat_le, length, IsTrue, IfSome, IfNone, IsOkAnd, IfErr, IsErr, OnOk, OnErr, slice_get};
+ghost use Rattle.std.specs.Prelude.{◌≡◌, ◌+◌, ◌<◌, ◌≤◌, ◌↔◌, nat_le, ℕ, List, [], length, slice_get};
+ghost use Rattle.std.specs.Prelude.{IsTrue, IfSome, IfNone, IsOkAnd, IfErr, IsErr, OnOk, OnErr};
 ghost use Rattle.std.specs.Result.{result_err};
 ghost use Rattle.std.specs.Option.{option_map};
 ghost use Rattle.std.specs.Iterator.{IsFinite};
@@ -52,7 +53,9 @@ impl<A: Allocator> Model for RecvQueue<A> {
 }
 
 impl<A: Allocator> RecvQueue<A> {
-    ghost use Rattle.iw_untagged.specs.Receiving.{nothing_received, receiving_from, ahead_of, oldest, full_refusal, with_buffer, buffer_fault, written, turn_fault, HasRoom, turned, received, finished, flushed, HoldsLimits};
+    ghost use Rattle.iw_untagged.specs.Receiving.{nothing_received, receiving_from, ahead_of, oldest, HoldsLimits};
+    ghost use Rattle.iw_untagged.specs.Receiving.{full_refusal, with_buffer, buffer_fault, HasRoom, written};
+    ghost use Rattle.iw_untagged.specs.Receiving.{turn_fault, turned, received, finished, flushed};
 
     /// A queue with no buffer. Its first message has the number 1.
     pub fn new(alloc: A) -> Result<RecvQueue<A>, AllocError>
@@ -143,7 +146,8 @@ impl<A: Allocator> RecvQueue<A> {
         requires ends { IsFinite (I.remaining pieces) }
         requires fills { AddUpTo I.next_gives pieces n }
         ensures refused { result_err result ≡ buffer_fault self.old msn mo n }
-        ensures ok { OnOk result ((octets : List ℕ) × JoinTo I.next_gives pieces octets × (self.new ≡ written self.old msn mo octets)) }
+        ensures ok { OnOk result ((octets : List ℕ) × JoinTo I.next_gives pieces octets
+            × (self.new ≡ written self.old msn mo octets)) }
         ensures err { OnErr result (self.new ≡ self.old) }
     {
         self.check(msn, mo, n)?;

@@ -1,7 +1,8 @@
-use Rattle.std.proofs.Common.{arith, ap, ◌∙◌, sym}
-use Rattle.iw_ranges.specs.Arrived.{Held, cell_at}
+use Rattle.std.proofs.Common.{arith, ap, subst, ◌∙◌, sym}
+use Rattle.iw_ranges.specs.Arrived.{Held, IsWithinLimits, cell_at}
 use Rattle.iw_ranges.specs.Spans.{in_spans}
 use Rattle.iw_ranges.specs.Fields.{Fields, fields_of}
+use Rattle.iw_ranges.proofs.Counts.{within_limits}
 use Rattle.iw_ranges.proofs.Cells.{come_via, first_missing, first_covers, cell_is, cell_missing}
 use Rattle.iw_ranges.proofs.Islands.missing.Goals as goal
 
@@ -17,3 +18,6 @@ returns-clause-missing g c =
     ap (λ (h : Held). cell_at h.arrived f.missing) (sym c.self.view_is)
     ∙ cell_is f c.self.invariant f.missing (omega (arith, c.self.invariant.missing, c.self.invariant.reached))
     ∙ cell_missing f f.missing (ap (λ q. in_spans q f.spans) c.self.invariant.missing ∙ first_missing f.spans c.self.invariant.order)
+
+pub returns-clause-limits : goal.returns-clause-limits
+returns-clause-limits g c = subst (λ (h : Held). IsWithinLimits h.arrived) c.self.view_is (within_limits (fields_of c.self.inside) c.self.invariant)
