@@ -95,6 +95,35 @@ module _ {T : Type 0} (rs : List (Record T)) (apart : AreApart rs) where
     past = λ k d le lt. absurd (omega (arith, le, lt, is));
   }
 
+  -- nor before it, where the first ends past a place
+  pub all_past : (place : ℕ) → (first : Record T) → 0 < length rs → first ≡ get_or rs 0 first → place < first.end → IsFirstPast rs place 0
+  all_past place first some here high = record {
+    within = omega arith;
+    before = λ k d lt. absurd (omega (arith, lt));
+    past = λ k d le lt. omega (arith, ends_rise 0 k d (omega arith) lt, ap (λ (x : Record T). x.end) (here ∙ get_or_default rs 0 first d some), high);
+  }
+
+  -- all begin before a place, where the last does
+  pub last_point : (start count : ℕ) → count ≡ length rs → (last : Record T) → 0 < count → last ≡ get_or rs (count - 1) last → last.start < start
+      → IsPartitionPoint (λ (r : Record T). nat_lt r.start start ≡ true) (λ (r : Record T). nat_lt r.start start ≡ false) rs count
+  last_point start count is last some here low = (
+    λ k d lt fits.
+        let t : (get_or rs k d).start < start =
+        omega (arith, starts_rise k (count - 1) d (omega (arith, lt)) (omega (arith, is, some)), ap (λ (x : Record T). x.start) (here ∙ get_or_default rs (count - 1) last d (omega (arith, is, some))), low) in
+        grind (arith, nat_tests),
+    λ k d le lt. absurd (omega (arith, le, lt, is)),
+  )
+
+  -- and none, where the first doesn't
+  pub first_point : (start : ℕ) → (first : Record T) → 0 < length rs → first ≡ get_or rs 0 first → start ≤ first.start
+      → IsPartitionPoint (λ (r : Record T). nat_lt r.start start ≡ true) (λ (r : Record T). nat_lt r.start start ≡ false) rs 0
+  first_point start first some here high = (
+    λ k d lt fits. absurd (omega (arith, lt)),
+    λ k d le lt.
+        let t : start ≤ (get_or rs k d).start = omega (arith, starts_rise 0 k d (omega arith) lt, ap (λ (x : Record T). x.start) (here ∙ get_or_default rs 0 first d some), high) in
+        grind (arith, nat_tests),
+  )
+
   -- where none ends past a place, none lies over it
   pub none_past_all : (place i : ℕ) → IsFirstPast rs place i → length rs ≤ i → (r : Record T) → Contains rs r → r.end ≤ place
   none_past_all place i first past r (k, lt, is) = omega (arith, first.before k r (omega (arith, lt, past)), ap (λ (x : Record T). x.end) is)

@@ -12,3 +12,9 @@ pub mod Delivering
 pub mod Releasing
 pub mod Turning
 pub mod Starting
+pub mod Telling
+pub mod Stays
+pub mod Sequenced
+pub mod Honest
+pub mod Sublists
+pub mod Recorded

@@ -117,6 +117,14 @@ module _ {T : Type 0} (v : Scene T) (can : CanLocate v) (m : v.layout.markers �
         | inr touched ↦ absurd (none_touched u.from u.to s (omega (arith, none)) touched)
       ]
 
+  -- no place is unsearched past the in-order point
+  pub quiet : (u : Unsearched) → IsWithinLimits v.arrived → Tells v u → u.high ≤ max u.low (point_of v) → u.to ≤ max u.from (point_of v) → IsNone v
+  quiet u limits tells high to can_be s free =
+      elim (tells.free m s free) [
+        | inl within ↦ omega (arith, within.low, within.high, high, free.open_.past, span_low v.layout.markers s)
+        | inr touched ↦ none_touched (max u.from (point_of v)) (min u.to (point_of v + 262144)) s (omega (arith, to)) (clipped u.from u.to s limits free.open_ touched)
+      ]
+
   -- the octets that came are taken in
   pub nothing_came : (u : Unsearched) → IsWithinLimits v.arrived → Tells v u → min u.to (point_of v + 262144) ≤ max u.from (point_of v) → Tells v (only_from u u.low (min u.high (2 ^ 63)))
   nothing_came u limits tells le =

@@ -41,7 +41,6 @@ record_of f state = record { start = f.start; length = f.length; end = f.end; st
 -- the frame at the in-order point has its turn, and ends at place `to` of the stream, over which no placed frame reaches
 pub record IsPassed {T : Type 0} (v : Scene T) (to : ℕ) : Type 0 where
   pub past : front_of v < to - v.base
-  pub low : to ≤ 2 ^ 62
   pub between : IsBetween v.layout.markers (to - v.base)
   pub come : (p : ℕ) → p < to → has_come v.arrived p ≡ true
   pub placed : (r : Record T) → Contains v.records r → IsPlaced r.state → from_of r < to - v.base → r.end ≤ to - v.base

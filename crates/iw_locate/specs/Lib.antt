@@ -4,5 +4,6 @@ pub mod Next
 pub mod Among
 pub mod Unsearched
 pub mod Keeping
+pub mod Lowest
 pub mod Laws
 pub mod Known

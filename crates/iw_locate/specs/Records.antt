@@ -1,5 +1,5 @@
 -- Records of the frames that were judged before their turn.
-use Rattle.std.specs.Prelude.{ℕ, ◌<◌, ◌≤◌, Bool, true, nat_lt, nat_le, List, length, slice_index_or}
+use Rattle.std.specs.Prelude.{ℕ, ◌<◌, ◌≤◌, true, nat_lt, nat_le, List, length, slice_index_or}
 use Rattle.std.specs.List.{Contains, count_by, filter, insert}
 use Rattle.iw_fpdu.specs.Places.{IsStart, span_start}
 use Rattle.iw_locate.specs.declared.judged.Record.{Record}

@@ -1,8 +1,10 @@
-ghost use Rattle.std.specs.Prelude.{◌≡◌, ◌<◌, ◌≤◌, ◌+◌, ◌^◌, ℕ, [], true, length, drop, slice_index_or, MatchBool, MatchOption, IsOkAnd, OnOk, OnErr, IfErr};
+ghost use Rattle.std.specs.Prelude.{◌≡◌, ◌<◌, ◌≤◌, ◌+◌, ◌^◌, ℕ, [], true, length, drop, slice_index_or};
+ghost use Rattle.std.specs.Prelude.{MatchBool, MatchOption, IsOkAnd, OnOk, OnErr, IfErr};
 ghost use Rattle.std.specs.List.{Contains, count_by, insert};
 ghost use Rattle.iw_fpdu.specs.Places.{span_start};
 ghost use Rattle.std.specs.VecDeque.{deque_len, deque_capacity};
-ghost use Rattle.iw_locate.specs.Records.{from_of, IsPlaced, AreApart, IsFirstPast, IsPlaceFor, OverlapsPlaced, IsClearOfPlaced, kept_from};
+ghost use Rattle.iw_locate.specs.Records.{from_of, IsFirstPast, IsPlaceFor, kept_from};
+ghost use Rattle.iw_locate.specs.Records.{IsPlaced, AreApart, OverlapsPlaced, IsClearOfPlaced};
 ghost use Rattle.std.specs.Prelude.{nat_lt, nat_le};
 ghost use Rattle.std.specs.Bool.{OnTrue};
 
@@ -263,6 +265,9 @@ fn first_ending_past<T, A: Allocator>(records: &VecDeque<Record<T>, A>, place: u
     if records[count - 1].end <= place {
         return count;
     }
+    if place < records[0].end {
+        return 0;
+    }
     records.partition_point(
         |record: &Record<T>| -> bool
             ensures { result ≡ nat_le record.now.end place }
@@ -276,6 +281,16 @@ fn count_before<T, A: Allocator>(records: &VecDeque<Record<T>, A>, start: u64) -
     ensures count { result ≡ count_by (λ r. nat_lt r.start start) records.now.items }
     ensures place { IsPlaceFor records.now.items start result }
 {
+    let count = records.len();
+    if count == 0 {
+        return 0;
+    }
+    if records[count - 1].start < start {
+        return count;
+    }
+    if start <= records[0].start {
+        return 0;
+    }
     records.partition_point(
         |record: &Record<T>| -> bool
             ensures { result ≡ nat_lt record.now.start start }

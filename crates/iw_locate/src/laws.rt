@@ -1,6 +1,9 @@
 //! What is so of records and of free places whatever is called.
 ghost use Rattle.iw_locate.specs.Known.{KnownPlaces};
-ghost use Rattle.iw_locate.specs.Keeping.{KeptCanLocate, NoRecordKeeps, EverythingTells, NothingTells, StartUpTells, JudgingKeeps, DeliveryKeeps, ReleaseKeeps, TurnKeeps};
+ghost use Rattle.iw_locate.specs.Keeping.{KeptCanLocate, NoRecordKeeps};
+ghost use Rattle.iw_locate.specs.Keeping.{EverythingTells, NothingTells, StartUpTells};
+ghost use Rattle.iw_locate.specs.Keeping.{JudgingKeeps, DeliveryKeeps, ReleaseKeeps, TurnKeeps};
+ghost use Rattle.iw_locate.specs.Lowest.{LowestIsTold, OverlapsAreTold};
 ghost use Rattle.iw_locate.specs.Laws.{AddsOne, KeepsFrom, ReleasesLoseNothing};
 
 /// What is added is one record more.
@@ -69,4 +72,14 @@ pub fn a_release_keeps<T>()
 /// that lie before it were dropped.
 pub fn a_turn_keeps<T>()
     ensures { TurnKeeps T }
+{}
+
+/// The lowest place where a frame can be judged early can be worked out.
+pub fn the_lowest_free_place_is_told<T>()
+    ensures { LowestIsTold T }
+{}
+
+/// So can whether a frame overlaps one that was placed.
+pub fn overlaps_are_told<T>()
+    ensures { OverlapsAreTold T }
 {}

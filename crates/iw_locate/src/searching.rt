@@ -4,9 +4,11 @@ ghost use Rattle.iw_ranges.specs.Arrived.{IsHere, cell_at};
 ghost use Rattle.iw_fpdu.specs.Reading.{pointer_at};
 ghost use Rattle.iw_fpdu.specs.Found.{octet_in};
 ghost use Rattle.iw_locate.specs.declared.judged.Record.{Record};
-ghost use Rattle.iw_locate.specs.Free.{scene_of, point_of, front_of, IsMarkerSeen, PointsTo, EndsBefore, IsFound, IsOpen, CanLocate};
+ghost use Rattle.iw_locate.specs.Free.{scene_of, point_of, front_of, IsOpen, CanLocate};
+ghost use Rattle.iw_locate.specs.Free.{IsMarkerSeen, PointsTo, EndsBefore, IsFound};
 ghost use Rattle.iw_locate.specs.Next.{frame_at};
-ghost use Rattle.iw_locate.specs.Among.{IsWithin, IsLowestAmong, IsPointedWithin, IsPastWithin, IsFoundWithin, lower_of};
+ghost use Rattle.iw_locate.specs.Among.{IsWithin, IsLowestAmong, lower_of};
+ghost use Rattle.iw_locate.specs.Among.{IsPointedWithin, IsPastWithin, IsFoundWithin};
 
 use crate::frame::{Frame, frame_of};
 use crate::judged::{Judged, span_of};

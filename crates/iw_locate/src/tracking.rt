@@ -1,4 +1,4 @@
-ghost use Rattle.std.specs.Prelude.{◌≡◌, ◌<◌, ◌≤◌, ◌+◌, ◌%◌, ◌^◌, ℕ, true, MatchOption};
+ghost use Rattle.std.specs.Prelude.{◌≡◌, ◌<◌, ◌≤◌, ◌+◌, ◌%◌, ◌^◌, ℕ, true, MatchOption, IsTrue};
 ghost use Rattle.iw_fpdu.specs.Places.{IsStart};
 ghost use Rattle.iw_locate.specs.Free.{scene_of, point_of, octet_of, end_of, IsOpen, CanLocate};
 ghost use Rattle.iw_locate.specs.Next.{CanBeEarly, IsLowest, IsNone, IsNext, frame_at};
@@ -39,8 +39,28 @@ impl Locator {
         }
     }
 
-    /// The frame at the lowest free place, while there is room for a record.
-    fn early_since<T, A: Allocator, B: Allocator>(
+    /// Whether it is plain without a search that no place is free, or that none may be taken.
+    #[inline(always)]
+    pub fn is_quiet<T, A: Allocator, B: Allocator>(
+        &self,
+        islands: &Islands<A>,
+        judged: &Judged<T, B>,
+        unsearched: &Unsearched,
+    ) -> bool
+        requires can { CanLocate (scene_of self.now.layout self.now.base islands.now.arrived judged.now.records) }
+        requires tells { Tells (scene_of self.now.layout self.now.base islands.now.arrived judged.now.records) unsearched.now }
+        ensures { IsTrue result → IsNone (scene_of self.now.layout self.now.base islands.now.arrived judged.now.records) }
+    {
+        if !self.layout.markers || judged.len() >= MAX_RECORDS {
+            return true;
+        }
+        let point = islands.floor() - self.base;
+        unsearched.high <= unsearched.low.max(point) && unsearched.to <= unsearched.from.max(point)
+    }
+
+    /// The frame at the lowest free place, while there is room for a record, as [`next_since`](Locator::next_since) finds it where
+    /// the frame at the in-order point is not whole.
+    pub fn early_since<T, A: Allocator, B: Allocator>(
         &self,
         islands: &Islands<A>,
         judged: &Judged<T, B>,
