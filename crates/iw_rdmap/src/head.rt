@@ -41,14 +41,15 @@ impl Head {
     }
 }
 
-/// Whether the segment may be placed before those in front of it have come (RFC 5041 5.3, RFC 5040 5.5).
+/// Whether the segment is placed before those in front of it have come (RFC 5041 5.3, RFC 5040 5.5).
 ///
-/// Exactly the parts of Writes, Read Responses and Sends may: Read Requests and Terminates have no place to go to.
+/// Exactly the parts of Writes and Read Responses are: their headers name a place of a region. Sends wait for their turn, as
+/// do Read Requests and Terminates, which have no place to go to.
 pub fn early(head: &Head) -> bool
     ensures { result ≡ is_early head.now }
 {
     match head {
-        Head::Write(_) | Head::Response(_) | Head::Send(_) => true,
-        Head::Request(..) | Head::Terminate(..) => false,
+        Head::Write(_) | Head::Response(_) => true,
+        Head::Send(_) | Head::Request(..) | Head::Terminate(..) => false,
     }
 }

@@ -1,7 +1,8 @@
 ghost use Rattle.std.specs.Prelude.{◌≡◌, ◌≤◌, Bool, IfOk, IfErr};
 ghost use Rattle.iw_octets.specs.Segment.{read_segment};
 ghost use Rattle.iw_rdmap.specs.Head.{header_octets};
-ghost use Rattle.iw_rdmap.specs.Judging.{IsFront, judged, tagged_checked, untagged_checked, judged_request, judged_terminate, tagged_in};
+ghost use Rattle.iw_rdmap.specs.Judging.{IsFront, judged, judged_request, judged_terminate};
+ghost use Rattle.iw_rdmap.specs.Judging.{tagged_checked, untagged_checked, tagged_in};
 ghost use Rattle.iw_rdmap.specs.Terminate.{FitsFault, HasCause, HasHeaders};
 
 use crate::head::Head;

@@ -1,6 +1,7 @@
 ghost use Rattle.std.specs.Prelude.{◌≡◌, ◌+◌, ◌≤◌, ◌++◌, length};
 ghost use Rattle.arrayvec.specs.ArrayVec.{array_vec_len};
-ghost use Rattle.iw_rdmap.specs.Terminate.{FitsFault, HasCause, has_segment, has_request, word_for, header_len, terminate_octets};
+ghost use Rattle.iw_rdmap.specs.Terminate.{FitsFault, HasCause, has_segment, has_request};
+ghost use Rattle.iw_rdmap.specs.Terminate.{word_for, header_len, terminate_octets};
 
 use crate::sizes::MAX_TERMINATE;
 use arrayvec::ArrayVec;

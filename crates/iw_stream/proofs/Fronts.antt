@@ -46,7 +46,7 @@ pub start_near : (m : Bool) (at : ℕ) → IsBetween m at → (at ≤ frame_star
 start_near m at b = (omega (arith, b.span, span_low m (frame_start m at)), omega (arith, b.span, span_near m (frame_start m at)))
 
 -- ---- whether it is whole
-frame_whole : (layout : Layout) (a : Arrived) (base start : ℕ) → IsWhole a layout.markers base start → frame_at layout a base start ≡ Some (frame_by (found_at a layout base start))
+pub frame_whole : (layout : Layout) (a : Arrived) (base start : ℕ) → IsWhole a layout.markers base start → frame_at layout a base start ≡ Some (frame_by (found_at a layout base start))
 frame_whole layout a base start whole =
     ap (λ b. if b then Some (frame_by (found_at a layout base start)) else None) ((tells_whole a layout.markers base start).1 whole)
 

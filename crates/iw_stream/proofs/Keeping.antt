@@ -42,7 +42,11 @@ use Rattle.iw_stream.specs.Judging.{Standing, mismatch_fault, fault_or, fault_to
 use Rattle.iw_stream.specs.declared.ending.Ending.{Ending}
 use Rattle.iw_stream.specs.declared.ending.Ending.TheVariants.{Runs, Over, Broken}
 use Rattle.iw_stream.specs.Ending.{has_ended, is_broken, last_word}
-use Rattle.iw_stream.specs.Kept.{HasBuffer, Stands, IsPlaced, AreAwaited, Keeps}
+use Rattle.std.specs.List.{Contains}
+use Rattle.iw_locate.specs.Records.{kept_from}
+use Rattle.iw_locate.proofs.Holds.{keeps_from}
+use Rattle.iw_stream.specs.Frames.{EarlyRecord}
+use Rattle.iw_stream.specs.Kept.{HasBuffer, Stands, IsPlaced, NoneReachesOver, AreAwaited, Keeps}
 use Rattle.iw_stream.specs.Starting.{is_open, expecting, first_place_in, first_place_out}
 use Rattle.iw_stream.specs.Stream.{StreamState, ended, owes_frame}
 use Rattle.iw_stream.specs.Work.{place_behind, standing}
@@ -75,6 +79,9 @@ keeps_taken s place octets k =
       enough = k.enough;
       few = k.few;
       is_placed = λ e. go s.front (k.is_placed e);
+      clear = k.clear;
+      headed = k.headed;
+      unopened = k.unopened;
       first = k.first;
       awaited = k.awaited;
     }
@@ -85,6 +92,7 @@ keeps_taken s place octets k =
         let floor = floor_takes s.arrived place octets in
         let at = p.stands in record {
           stands = record {
+            begins = at.begins ∙ ap (λ f. frame_start (expecting s.start).markers (f - first_place_in s.start)) (sym floor);
             low = omega (arith, floor, at.low);
             whole = at.whole;
             header = at.header;
@@ -107,10 +115,10 @@ keeps_delivered s place octets (Ok d) after ok err k = go (is_dropped s.arrived 
 
 -- ---- a frame that had its turn
 -- its end is the in-order point, whatever else it changes
-pub keeps_behind : (s : StreamState) (frame : PlacedFrame) (place : ℕ) (after : Arrived) (r : Receiving) (queue : Queue) (reads : List Outstanding) (asked : Requested) → is_open s.start ≡ true → Stands s frame
-    → place ≡ place_behind s frame → after ≡ advanced s.arrived place → queue.sent.first < 2 ^ 64 → AreAwaited queue.sent reads → Keeps s
-    → Keeps (record s { receiving = r; arrived = after; front = None; queue = queue; reads = reads; asked = asked })
-keeps_behind s frame place after r queue reads asked running p there moved first awaited k =
+pub keeps_behind : (s : StreamState) (frame : PlacedFrame) (place : ℕ) (after : Arrived) (r : Receiving) (queue : Queue) (reads : List Outstanding) (asked : Requested) (left : List EarlyRecord) (base : ℕ) → is_open s.start ≡ true → Stands s frame
+    → place ≡ place_behind s frame → after ≡ advanced s.arrived place → left ≡ kept_from (place - base) s.early → queue.sent.first < 2 ^ 64 → AreAwaited queue.sent reads → Keeps s
+    → Keeps (record s { receiving = r; arrived = after; front = None; early = left; queue = queue; reads = reads; asked = asked })
+keeps_behind s frame place after r queue reads asked left base running p there moved fewer first awaited k =
     let floor : after.floor ≡ max s.arrived.floor place = ap (λ a. a.floor) moved ∙ floor_moves s.arrived place in
     let end : after.floor - first_place_in s.start ≡ frame_end (expecting s.start).markers frame.start frame.len = omega (arith, floor, there, p.on) in
     record {
@@ -126,6 +134,9 @@ keeps_behind s frame place after r queue reads asked running p there moved first
       enough = k.enough;
       few = k.few;
       is_placed = λ e. tt;
+      clear = λ e. tt;
+      headed = λ x within. k.headed x ((keeps_from (place - base) s.early x).0 (subst (λ (rs : List EarlyRecord). Contains rs x) fewer within)).0;
+      unopened = λ e. absurd (true≢false (sym running ∙ e));
       first = first;
       awaited = λ e. awaited;
     }
@@ -149,6 +160,9 @@ keeps_ended s ending over silent k = record {
   enough = k.enough;
   few = k.few;
   is_placed = λ e. absurd (true≢false (sym over ∙ e));
+  clear = λ e. absurd (true≢false (sym over ∙ e));
+  headed = k.headed;
+  unopened = k.unopened;
   first = k.first;
   awaited = λ e. absurd (true≢false (sym over ∙ e));
 }
@@ -170,6 +184,7 @@ placed_still s t (Some frame) start arrived receiving p =
     let there : place_behind s frame ≡ place_behind t frame = ap (λ x. first_place_in x + frame_end (expecting x).markers frame.start frame.len) start in
     let floor : s.arrived.floor ≡ t.arrived.floor = ap (λ (a : Arrived). a.floor) arrived in record {
       stands = record {
+        begins = at.begins ∙ (λ i. frame_start (expecting (start i)).markers ((arrived i).floor - first_place_in (start i)));
         low = omega (arith, floor, at.low);
         whole = at.whole;
         header = at.header;
@@ -195,6 +210,9 @@ keeps_queue s queue first awaited k = record {
   enough = k.enough;
   few = k.few;
   is_placed = λ e. placed_still s (record s { queue = queue }) s.front refl refl refl (k.is_placed e);
+  clear = k.clear;
+  headed = k.headed;
+  unopened = k.unopened;
   first = first;
   awaited = awaited;
 }
@@ -222,6 +240,9 @@ keeps_flushed s r over k = record {
   enough = k.enough;
   few = k.few;
   is_placed = λ e. absurd (true≢false (sym over ∙ e));
+  clear = λ e. absurd (true≢false (sym over ∙ e));
+  headed = k.headed;
+  unopened = k.unopened;
   first = k.first;
   awaited = k.awaited;
 }
@@ -266,6 +287,9 @@ keeps_sent s queue numbers n reads asked running low aligned first awaited k = r
   enough = k.enough;
   few = k.few;
   is_placed = λ e. placed_still s (record s { queue = queue; numbers = numbers; sent = s.sent + n; reads = reads; asked = asked }) s.front refl refl refl (k.is_placed e);
+  clear = k.clear;
+  headed = k.headed;
+  unopened = k.unopened;
   first = first;
   awaited = awaited;
 }
@@ -359,6 +383,7 @@ stands_next s found n whole =
     let m : Bool = (expecting s.start).markers in
     let base : ℕ = first_place_in s.start in
     let long : length (ulpdu found) ≡ ulpdu_len found = length_ulpdu found in record {
+      begins = ap (λ (f : Found). f.start) n.is;
       low = n.low;
       whole = whole;
       header = header_short (ulpdu found);
@@ -372,9 +397,9 @@ stands_next s found n whole =
 pub keeps_judged : (s : StreamState) (table : Table) (found : Found) (after : Receiving) (x : Landing) → is_open s.start ≡ true
     → IsNext (expecting s.start) s.arrived (first_place_in s.start) found
     → verdict (standing table s) (frame_by found) ≡ Ok x → IsPlacing x
-    → after ≡ receiving_landed s.receiving (payload_of (read_segment (ulpdu found))) x → Keeps s
+    → after ≡ receiving_landed s.receiving (payload_of (read_segment (ulpdu found))) x → NoneReachesOver s (placed (frame_by found)) → Keeps s
     → Keeps (record s { front = Some (placed (frame_by found)); receiving = after })
-keeps_judged s table found after x running n ok placing there k =
+keeps_judged s table found after x running n ok placing there over k =
     let at : Standing = standing table s in
     let sound = frame_judged at found x ok in
     let has = stands_next s found n (whole_judged at found x ok) in
@@ -391,10 +416,13 @@ keeps_judged s table found after x running n ok placing there k =
       enough = k.enough;
       few = k.few;
       is_placed = λ e. record {
-        stands = record { low = has.low; whole = has.whole; header = has.header; on = has.on; near = has.near; come = has.come; next = has.next };
+        stands = record { begins = has.begins; low = has.low; whole = has.whole; header = has.header; on = has.on; near = has.near; come = has.come; next = has.next };
         buffer = subst (λ r. HasBuffer r (payload_len (placed (frame_by found))) (head_in (placed (frame_by found)))) (sym there)
             (kept_buffer (receiving_landed s.receiving (payload_of (read_segment (ulpdu found))) x) (ulpdu found) (segment_placed at (ulpdu found) (length s.asked.unanswered) sound.head x sound.judged sound.placed placing));
       };
+      clear = λ e. over;
+      headed = k.headed;
+      unopened = k.unopened;
       first = k.first;
       awaited = k.awaited;
     }

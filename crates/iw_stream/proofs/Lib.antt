@@ -12,3 +12,7 @@ pub mod Dues
 pub mod Handing
 pub mod Origins
 pub mod Stags
+pub mod Arriving
+pub mod Waiting
+pub mod Early
+pub mod Lengths

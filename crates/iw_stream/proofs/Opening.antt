@@ -30,7 +30,8 @@ use Rattle.iw_stream.specs.declared.answer.Role.{Role}
 use Rattle.iw_stream.specs.declared.answer.Role.TheVariants.{Preset, Initiator, Responder}
 use Rattle.iw_stream.specs.declared.starting.Start.TheInside.{Inside}
 use Rattle.iw_stream.specs.Fields.{IsStart, start_of}
-use Rattle.iw_stream.specs.Kept.{IsPlaced, Keeps}
+use Rattle.iw_stream.specs.Frames.{EarlyRecord}
+use Rattle.iw_stream.specs.Kept.{IsPlaced, NoneReachesOver, Keeps}
 use Rattle.iw_stream.specs.Starting.{StartState, AtOnce, Unheard, Heard, IsFresh, start_by, start_at_first, is_open, expecting, own_frame, awaits_frame, heard, answered_with, agreed_in, agreement_in, first_place_in, first_place_out}
 use Rattle.iw_stream.specs.Starting as starting
 use Rattle.iw_stream.specs.declared.ending.Ending.TheVariants.{Runs}
@@ -69,8 +70,8 @@ pub waits : (u : StartupState) → awaits_answer u ≡ true → Waits u
 waits u e = waits_at u.config u.side u.octets e
 
 -- ---- a stream to which nothing has happened
-abbrev pub fresh : ℕ → StartState → Queue → Numbers → Receiving → List Outstanding → Requested → Arrived → StreamState
-fresh domain start queue numbers receiving reads asked arrived = record {
+abbrev pub fresh : ℕ → StartState → Queue → Numbers → Receiving → List Outstanding → Requested → Arrived → List EarlyRecord → StreamState
+fresh domain start queue numbers receiving reads asked arrived early = record {
   domain = domain;
   start = start;
   mulpdu = 1400;
@@ -82,15 +83,16 @@ fresh domain start queue numbers receiving reads asked arrived = record {
   asked = asked;
   arrived = arrived;
   front = None;
+  early = early;
   ending = Runs;
 }
 
-none_read : (role : Role) (config : Config) → first_place_in (start_at_first role config) ≡ 0
+pub none_read : (role : Role) (config : Config) → first_place_in (start_at_first role config) ≡ 0
 none_read Preset config = refl
 none_read Initiator config = refl
 none_read Responder config = refl
 
-keeps_nothing : (role : Role) (config : Config) (domain : ℕ) (numbers : Numbers) (receiving : Receiving) (asked : Requested) → Keeps (fresh domain (start_at_first role config) nothing_posted numbers receiving [] asked nothing)
+keeps_nothing : (role : Role) (config : Config) (domain : ℕ) (numbers : Numbers) (receiving : Receiving) (asked : Requested) → Keeps (fresh domain (start_at_first role config) nothing_posted numbers receiving [] asked nothing [])
 keeps_nothing role config domain numbers receiving asked =
     let start = start_at_first role config in record {
       started = record {
@@ -105,14 +107,17 @@ keeps_nothing role config domain numbers receiving asked =
       enough = omega arith;
       few = omega arith;
       is_placed = λ e. tt;
+      clear = λ e. tt;
+      headed = λ r within. absurd (omega (arith, within.1));
+      unopened = λ e. refl;
       first = omega arith;
       awaited = λ e. tt;
     }
 
-pub keeps_fresh : (role : Role) (config : Config) (domain : ℕ) (start : StartState) (queue : Queue) (numbers : Numbers) (receiving : Receiving) (reads : List Outstanding) (asked : Requested) (arrived : Arrived)
-    → start ≡ start_at_first role config → queue ≡ nothing_posted → reads ≡ [] → arrived ≡ nothing → Keeps (fresh domain start queue numbers receiving reads asked arrived)
-keeps_fresh role config domain start queue numbers receiving reads asked arrived first posted read none =
-    subst Keeps (λ i. fresh domain (sym first i) (sym posted i) numbers receiving (sym read i) asked (sym none i)) (keeps_nothing role config domain numbers receiving asked)
+pub keeps_fresh : (role : Role) (config : Config) (domain : ℕ) (start : StartState) (queue : Queue) (numbers : Numbers) (receiving : Receiving) (reads : List Outstanding) (asked : Requested) (arrived : Arrived) (early : List EarlyRecord)
+    → start ≡ start_at_first role config → queue ≡ nothing_posted → reads ≡ [] → arrived ≡ nothing → early ≡ [] → Keeps (fresh domain start queue numbers receiving reads asked arrived early)
+keeps_fresh role config domain start queue numbers receiving reads asked arrived early first posted read none unjudged =
+    subst Keeps (λ i. fresh domain (sym first i) (sym posted i) numbers receiving (sym read i) asked (sym none i) (sym unjudged i)) (keeps_nothing role config domain numbers receiving asked)
 
 -- ---- an answer
 none_placed : (s t : StreamState) → s.front ≡ None → IfSome s.front (IsPlaced t)
@@ -138,6 +143,9 @@ answers s u reply is asked k =
       enough = k.enough;
       few = k.few;
       is_placed = λ e. none_placed s (record s { start = Heard (answered u reply) }) rest.1;
+      clear = λ e. subst (λ o. IfSome o (NoneReachesOver (record s { start = Heard (answered u reply) }))) (sym rest.1) tt;
+      headed = k.headed;
+      unopened = λ e. k.unopened closed;
       first = k.first;
       awaited = k.awaited;
     }
@@ -151,6 +159,11 @@ keeps_answered s reply asked k = go s.start refl asked
     go (Heard u) is e = answers s u reply is e k
 
 -- ---- the peer's frame is read
+pub awaits_closed : (x : StartState) → awaits_frame x ≡ true → is_open x ≡ false
+awaits_closed (AtOnce layout) e = absurd (false≢true e)
+awaits_closed (Unheard u) e = refl
+awaits_closed (Heard u) e = absurd (false≢true e)
+
 hears : (s : StreamState) (u : StartupState) (octets : List ℕ) → s.start ≡ Unheard u → Keeps s
     → Keeps (record s { start = Heard (pushed u octets); arrived = advanced s.arrived (length (pushed u octets).octets) })
 hears s u octets is k =
@@ -173,14 +186,18 @@ hears s u octets is k =
       enough = k.enough;
       few = k.few;
       is_placed = λ e. none_placed s (record s { start = Heard (pushed u octets); arrived = advanced s.arrived n }) rest.1;
+      clear = λ e. subst (λ o. IfSome o (NoneReachesOver (record s { start = Heard (pushed u octets); arrived = advanced s.arrived n }))) (sym rest.1) tt;
+      headed = k.headed;
+      unopened = λ e. k.unopened closed;
       first = k.first;
       awaited = k.awaited;
     }
 
-pub keeps_heard : (s : StreamState) (octets : List ℕ) (start : StartState) (arrived : Arrived) → awaits_frame s.start ≡ true
-    → start ≡ heard s.start octets → arrived ≡ advanced s.arrived (first_place_in start) → Keeps s
-    → Keeps (record s { start = start; arrived = arrived })
-keeps_heard s octets start arrived awaits now moved k = go s.start refl awaits now
+pub keeps_heard : (s : StreamState) (octets : List ℕ) (start : StartState) (arrived : Arrived) (early : List EarlyRecord) → awaits_frame s.start ≡ true
+    → start ≡ heard s.start octets → arrived ≡ advanced s.arrived (first_place_in start) → early ≡ [] → Keeps s
+    → Keeps (record s { start = start; arrived = arrived; early = early })
+keeps_heard s octets start arrived early awaits now moved none k =
+    subst (λ es. Keeps (record s { start = start; arrived = arrived; early = es })) (k.unopened (awaits_closed s.start awaits) ∙ sym none) (go s.start refl awaits now)
   where
     go : (x : StartState) → s.start ≡ x → awaits_frame x ≡ true → start ≡ heard x octets → Keeps (record s { start = start; arrived = arrived })
     go (AtOnce layout) is e n = absurd (false≢true e)
@@ -235,3 +252,20 @@ pub told_of : (s : Inside) (start : StartState) (u v : StartupState) (octets : L
 told_of s start u v octets view is awaits now f e =
     let new : Heard v ≡ heard (start_of s) octets = ap Heard now ∙ sym (heard_is s.frames s.heard s.sending u octets is (ap awaits_frame view ∙ awaits)) in
     ap agreed_in new ∙ told (start_of s) octets f (ap (λ x. starting.progress_in x octets) view ∙ e) ∙ ap (λ x. Some (agreement_in x)) (sym new)
+
+-- and leaves the layout of the peer's frames, and the place where they begin
+pub expecting_rejected : (start : StartState) (private : ArrayVec ℕ) → starting.is_asked start ≡ true → expecting start ≡ expecting (answered_with start (Reject private))
+expecting_rejected (AtOnce layout) private e = absurd (false≢true e)
+expecting_rejected (Unheard u) private e = absurd (false≢true e)
+expecting_rejected (Heard u) private e = ap (λ o. option_map_or starting.layout_in o starting.plain) (no_some (agreed_of u) (waits u e).closed ∙ sym (rejects u private))
+
+pub first_answered : (start : StartState) (reply : Reply) → first_place_in start ≡ first_place_in (answered_with start reply)
+first_answered (AtOnce layout) reply = refl
+first_answered (Unheard u) reply = refl
+first_answered (Heard u) reply = refl
+
+-- a responder's user that may answer has a stream that is not open
+pub asked_closed : (start : StartState) → starting.is_asked start ≡ true → is_open start ≡ false
+asked_closed (AtOnce layout) e = absurd (false≢true e)
+asked_closed (Unheard u) e = absurd (false≢true e)
+asked_closed (Heard u) e = (waits u e).closed

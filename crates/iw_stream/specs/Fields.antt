@@ -4,7 +4,7 @@ use Rattle.iw_stream.specs.declared.starting.Start.TheInside as start
 use Rattle.iw_stream.specs.declared.stream.Stream.TheInside as stream
 use Rattle.iw_stream.specs.Emitting.{numbers_of}
 use Rattle.iw_stream.specs.Kept.{Keeps}
-use Rattle.iw_stream.specs.Starting.{StartState, IsFresh, start_by, is_open, sending, expecting}
+use Rattle.iw_stream.specs.Starting.{StartState, IsFresh, start_by, is_open, sending, expecting, first_place_in}
 use Rattle.iw_stream.specs.Stream.{StreamState}
 
 abbrev pub start_of : start.Inside → StartState
@@ -30,8 +30,12 @@ state_of {A} s = record {
   asked = s.asked;
   arrived = s.arrived.arrived;
   front = s.front;
+  early = s.arrived.early;
   ending = s.ending;
 }
 
-abbrev pub IsSound : {A : Type 0} → stream.Inside A → Type 0
-IsSound {A} s = Keeps (state_of s)
+-- what came is looked at as the peer's frames are laid out
+pub record IsSound {A : Type 0} (s : stream.Inside A) : Type 0 where
+  pub keeps : Keeps (state_of s)
+  pub layout : s.arrived.layout ≡ expecting s.start
+  pub base : s.arrived.base ≡ first_place_in s.start

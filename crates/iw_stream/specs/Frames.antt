@@ -1,5 +1,5 @@
 -- The frames of the peer among the octets that came, each by its place, and what is kept of one that was placed.
-use Rattle.std.specs.Prelude.{◌≡◌, ℕ, ◌+◌, ◌-◌, ◌<◌, ◌≤◌, ◌^◌, true, List, [], length, take, slice_index_or, if◌then◌else◌, Option, Some, None}
+use Rattle.std.specs.Prelude.{◌≡◌, ℕ, ◌+◌, ◌-◌, ◌<◌, ◌≤◌, ◌^◌, ◌==◌, true, List, [], ◌∷◌, length, take, slice_index_or, if◌then◌else◌, Option, Some, None}
 use Rattle.iw_octets.specs.declared.segment.Segment.{Segment}
 use Rattle.iw_octets.specs.declared.segment.Segment.TheVariants.{Tagged, Untagged}
 use Rattle.iw_octets.specs.Head.{is_tagged}
@@ -12,6 +12,10 @@ use Rattle.iw_fpdu.specs.Found.{Found, HoldsSpan, is_whole, ulpdu, ulpdu_len, mi
 use Rattle.iw_fpdu.specs.Laws.{IsBetween, found_at}
 use Rattle.iw_fpdu.specs.Places.{frame_start}
 use Rattle.iw_fpdu.specs.Sequence.{Carried}
+use Rattle.iw_locate.specs.declared.judged.Record.{Record}
+use Rattle.iw_locate.specs.declared.judged.State.{State}
+use Rattle.iw_locate.specs.declared.judged.State.TheVariants.{Tried, Placed}
+use Rattle.arrayvec.specs.ArrayVec.{ArrayVec}
 use Rattle.iw_stream.specs.declared.judging.PlacedFrame.{PlacedFrame}
 
 -- a frame: its place, what is wrong with it, and its ULPDU
@@ -66,3 +70,30 @@ head_in frame = read_segment frame.header.items
 -- how many octets its payload has
 abbrev pub payload_len : PlacedFrame → ℕ
 payload_len frame = frame.len - length frame.header.items
+
+-- ---- what is kept of one that was judged before its turn
+
+-- its place, and where it was placed the octets of its DDP header
+abbrev pub EarlyRecord : Type 0
+EarlyRecord = Record (ArrayVec ℕ)
+
+abbrev pub record_of : Frame → State (ArrayVec ℕ) → EarlyRecord
+record_of frame state = record { start = frame.start; length = length frame.ulpdu; end = frame_end true frame.start (length frame.ulpdu); state = state }
+
+-- it was placed, or left for its turn
+abbrev pub state_tried : {A : Type 0} → Frame → Option A → State (ArrayVec ℕ)
+state_tried frame None = Tried
+state_tried frame (Some at) = Placed (placed frame).header
+
+abbrev pub record_tried : {A : Type 0} → Frame → Option A → EarlyRecord
+record_tried frame at = record_of frame (state_tried frame at)
+
+-- what is kept of the frame for its turn, where it was placed
+abbrev pub kept_by : EarlyRecord → State (ArrayVec ℕ) → Option PlacedFrame
+kept_by r Tried = None
+kept_by r (Placed header) = Some (record { start = r.start; len = r.length; header = header })
+
+-- the frame that begins at a place, where it was placed early
+abbrev pub placed_at : List EarlyRecord → ℕ → Option PlacedFrame
+placed_at [] start = None
+placed_at (r ∷ rs) start = if r.start == start then kept_by r r.state else placed_at rs start

@@ -25,6 +25,7 @@ use Rattle.iw_fpdu.specs.declared.fpdu.Mismatch.{Mismatch}
 use Rattle.iw_fpdu.specs.declared.fpdu.Mismatch.TheVariants.{CrcMismatch, MarkerMismatch}
 use Rattle.iw_rdmap.specs.declared.head.Head.{Head}
 use Rattle.iw_rdmap.specs.declared.head.Head.TheVariants as heads
+use Rattle.iw_rdmap.specs.Head.{is_early}
 use Rattle.iw_rdmap.specs.Judging.{judged}
 use Rattle.iw_reads.specs.declared.reads.Outstanding.{Outstanding}
 use Rattle.iw_reads.specs.Outstanding.{sink_fault, response_turn_fault, reads_turned, finished_read}
@@ -39,7 +40,7 @@ use Rattle.iw_stream.specs.declared.judging.Landing.TheVariants.{Write, Response
 use Rattle.iw_stream.specs.declared.judging.PlacedFrame.{PlacedFrame}
 use Rattle.iw_stream.specs.declared.judging.Turning.{Turning}
 use Rattle.iw_stream.specs.declared.judging.Turning.TheVariants.{Passed, Completed, Answered}
-use Rattle.iw_stream.specs.Frames.{Frame, payload_of, head_in, payload_len}
+use Rattle.iw_stream.specs.Frames.{Frame, segment_in, payload_of, head_in, payload_len}
 
 -- what the checks of a frame look at: the regions, the stream's domain, the receive buffers, the Reads of this end that are outstanding,
 -- and the peer's requests
@@ -111,6 +112,19 @@ segment_verdict at ulpdu = head_verdict at (judged_head at ulpdu) (length (paylo
 abbrev pub verdict : Standing → Frame → Result Landing Fault
 verdict at frame = option_map_or (λ m. Err (mismatch_fault m)) frame.mismatch (segment_verdict at frame.ulpdu)
 
+-- the header passed its checks, and its segment may be placed before its turn
+abbrev pub may_be_early : Result Head Fault → Bool
+may_be_early (Ok head) = is_early head
+may_be_early (Err fault) = false
+
+abbrev pub landing_in : Result Landing Fault → Option Landing
+landing_in (Ok at) = Some at
+landing_in (Err fault) = None
+
+-- where the payload of a frame that is judged before its turn goes; nowhere, if the frame fails a check or has to wait for its turn
+abbrev pub early_verdict : Standing → Frame → Option Landing
+early_verdict at frame = if may_be_early (judged_head at frame.ulpdu) then landing_in (verdict at frame) else None
+
 -- a tagged frame's payload that was placed, a Read Response's or else a Write's, and the right that it is placed with
 abbrev pub landing_of : Bool → Placed → Landing
 landing_of true at = Response at
@@ -139,6 +153,15 @@ receiving_landed r payload (Response at) = r
 receiving_landed r payload (Send msn mo len) = written r msn mo payload
 receiving_landed r payload (Request request) = r
 receiving_landed r payload (Terminate fault) = r
+
+-- and that of a frame that was judged early; one that was not placed leaves them as they were
+abbrev pub table_tried : Table → Frame → Option Landing → Table
+table_tried table frame None = table
+table_tried table frame (Some at) = table_landed table (payload_of (segment_in frame)) at
+
+abbrev pub receiving_tried : Receiving → Frame → Option Landing → Receiving
+receiving_tried r frame None = r
+receiving_tried r frame (Some at) = receiving_landed r (payload_of (segment_in frame)) at
 
 -- ---- its turn
 

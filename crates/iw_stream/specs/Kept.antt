@@ -6,6 +6,14 @@ use Rattle.iw_ranges.specs.Arrived.{IsWithinLimits, has_come}
 use Rattle.iw_ranges.specs.InOrder.{IsHeld}
 use Rattle.iw_fpdu.specs.Frame.{frame_end}
 use Rattle.iw_fpdu.specs.Laws.{IsBetween}
+use Rattle.std.specs.List.{Contains}
+use Rattle.arrayvec.specs.ArrayVec.{ArrayVec}
+use Rattle.iw_octets.specs.Segment.{read_segment}
+use Rattle.iw_locate.specs.declared.judged.State.{State}
+use Rattle.iw_locate.specs.declared.judged.State.TheVariants as states
+use Rattle.iw_locate.specs.Records as records
+use Rattle.iw_locate.specs.Records.{from_of, max_records}
+use Rattle.iw_locate.specs.Free.{front_of}
 use Rattle.iw_untagged.specs.Receiving.{Receiving, HoldsLimits, ahead_of, buffer_of}
 use Rattle.iw_queues.specs.Completions as completions
 use Rattle.iw_queues.specs.Completions.{IsAwaited}
@@ -15,15 +23,15 @@ use Rattle.iw_reads.specs.declared.reads.Outstanding.{Outstanding}
 use Rattle.iw_reads.specs.Outstanding as outstanding
 use Rattle.iw_reads.specs.Requests as requests
 use Rattle.iw_stream.specs.declared.answer.Step.{Step}
-use Rattle.iw_stream.specs.declared.answer.Step.TheVariants.{Done, Flushed, FlushedRecv, Asked, Opened, Closed, Placed, Buffered, Requested, Passed, Received, Terminated, Fault, Idle}
+use Rattle.iw_stream.specs.declared.answer.Step.TheVariants.{Done, Flushed, FlushedRecv, Asked, Opened, Closed, Placed, Buffered, Requested, Tried, Passed, Received, Terminated, Fault, Idle}
 use Rattle.iw_stream.specs.declared.judging.PlacedFrame.{PlacedFrame}
 use Rattle.iw_stream.specs.declared.judging.Turning.{Turning}
 use Rattle.iw_stream.specs.declared.judging.Turning.TheVariants as turnings
 use Rattle.iw_stream.specs.Ending.{last_word}
-use Rattle.iw_stream.specs.Frames.{head_in, payload_len}
+use Rattle.iw_stream.specs.Frames.{EarlyRecord, head_in, payload_len}
 use Rattle.iw_stream.specs.Starting.{is_open, expecting, first_place_in, first_place_out}
 use Rattle.iw_stream.specs.Stream.{StreamState, ended}
-use Rattle.iw_stream.specs.Work.{place_behind}
+use Rattle.iw_stream.specs.Work.{scene, place_behind}
 
 -- a Send's segment of n octets that was placed has its buffer, with room for it
 abbrev pub HasBuffer : Receiving → ℕ → Option (Segment (List ℕ)) → Type 0
@@ -39,6 +47,7 @@ IsPosted (turnings.Answered ticket) r = Unit {0}
 
 -- the frame at the in-order point: it came whole, and the next one begins where it ends
 pub record Stands (s : StreamState) (frame : PlacedFrame) : Type 0 where
+  pub begins : frame.start ≡ front_of (scene s)
   pub low : frame.start ≤ s.arrived.floor + 4
   pub whole : header_len frame.header.items ≤ length frame.header.items
   pub header : length frame.header.items ≤ frame.len
@@ -52,6 +61,27 @@ pub record IsPlaced (s : StreamState) (frame : PlacedFrame) : Type 0 where
   pub stands : Stands s frame
   pub buffer : HasBuffer s.receiving (payload_len frame) (head_in frame)
 
+-- no frame that was placed early reaches over the end of this one
+abbrev pub NoneReachesOver : StreamState → PlacedFrame → Type 0
+NoneReachesOver s frame =
+    let end = frame_end (expecting s.start).markers frame.start frame.len in
+    (r : EarlyRecord) → Contains s.early r → records.IsPlaced r.state → from_of r < end → r.end ≤ end
+
+-- of a frame that was placed early the whole header of a tagged segment is kept
+abbrev pub IsTagged : Option (Segment (List ℕ)) → Type 0
+IsTagged None = ⊥
+IsTagged (Some (Tagged head payload)) = Unit {0}
+IsTagged (Some (Untagged head payload)) = ⊥
+
+pub record HasHeader (len : ℕ) (header : List ℕ) : Type 0 where
+  pub whole : header_len header ≤ length header
+  pub within : length header ≤ len
+  pub tagged : IsTagged (read_segment header)
+
+abbrev pub KeepsHeader : EarlyRecord → State (ArrayVec ℕ) → Type 0
+KeepsHeader r states.Tried = Unit {0}
+KeepsHeader r (states.Placed header) = HasHeader r.length header.items
+
 -- how far the start-up has come
 pub record IsStarted (s : StreamState) : Type 0 where
   -- before the stream is open no frame had its turn, or was placed, and no Terminate is due
@@ -59,7 +89,7 @@ pub record IsStarted (s : StreamState) : Type 0 where
   -- this end's start-up frame is the first that it emits, whole, and the only one before the stream is open
   pub unsent : s.sent < first_place_out s.start → s.sent ≡ 0
   pub alone : is_open s.start ≡ false → s.sent ≤ first_place_out s.start
-  -- the peer's frames stand behind its start-up frame
+  -- the peer's frames stand past its start-up frame
   pub behind : first_place_in s.start ≤ s.arrived.floor
 
 -- none of the Reads has this ticket
@@ -80,13 +110,17 @@ pub record Keeps (s : StreamState) : Type 0 where
   pub enough : 128 ≤ s.mulpdu
   pub few : s.mulpdu ≤ 64512
   pub is_placed : ended s ≡ false → IfSome s.front (IsPlaced s)
+  pub clear : ended s ≡ false → IfSome s.front (NoneReachesOver s)
+  pub headed : (r : EarlyRecord) → Contains s.early r → KeepsHeader r r.state
+  pub unopened : is_open s.start ≡ false → s.early ≡ []
   pub first : s.queue.sent.first < 2 ^ 64
   pub awaited : ended s ≡ false → AreAwaited s.queue.sent s.reads
 
--- at most 1,024 islands and 262,144 octets behind the in-order point, 256 messages of 16,777,216 octets, 256 receive buffers, 16 outstanding
+-- at most 1,024 islands and 262,144 octets past the in-order point, 4,096 frames judged before their turn, 256 messages of 16,777,216 octets, 256 receive buffers, 16 outstanding
 -- Reads each way, a maximum ULPDU of 128 to 64,512 octets
 pub record IsWithin (s : StreamState) : Type 0 where
   pub arrived : IsWithinLimits s.arrived
+  pub early : length s.early ≤ max_records
   pub queue : queues.IsWithinLimits s.queue
   pub receiving : HoldsLimits s.receiving
   pub reads : outstanding.HoldsLimits s.reads
@@ -106,6 +140,7 @@ IsWithinBuffer (Closed fault) = Unit {0}
 IsWithinBuffer (Placed right stag to len) = Unit {0}
 IsWithinBuffer (Buffered msn mo len) = Unit {0}
 IsWithinBuffer (Requested size stag to) = Unit {0}
+IsWithinBuffer (Tried place) = Unit {0}
 IsWithinBuffer Passed = Unit {0}
 IsWithinBuffer (Terminated fault) = Unit {0}
 IsWithinBuffer (Fault fault) = Unit {0}

@@ -1,6 +1,7 @@
 pub mod Ending
 pub mod Starting
 pub mod Frames
+pub mod Incoming
 pub mod Judging
 pub mod Terminating
 pub mod Stream

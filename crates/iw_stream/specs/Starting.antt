@@ -64,7 +64,7 @@ own_frame (AtOnce layout) = []
 own_frame (Unheard u) = frame_of u
 own_frame (Heard u) = frame_of u
 
--- the places in the stream at which the frames of each direction begin: behind the start-up frames
+-- the places in the stream at which the frames of each direction begin: past the start-up frames
 abbrev pub first_place_out : StartState → ℕ
 first_place_out s = length (own_frame s)
 

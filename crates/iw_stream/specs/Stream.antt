@@ -44,6 +44,7 @@ use Rattle.iw_stream.specs.declared.judging.PlacedFrame.{PlacedFrame}
 use Rattle.iw_stream.specs.declared.ending.Ending.{Ending}
 use Rattle.iw_stream.specs.declared.ending.Ending.TheVariants.{Runs, Over, Broken}
 use Rattle.iw_stream.specs.Ending.{has_ended, is_broken, last_word, with_last_word}
+use Rattle.iw_stream.specs.Frames.{EarlyRecord}
 use Rattle.iw_stream.specs.Judging.{fault_or}
 use Rattle.iw_stream.specs.Terminating.{terminate_fetched}
 use Rattle.iw_stream.specs.Starting.{StartState, start_at_first, is_open, sending, own_frame, first_place_in, first_place_out, is_responder, is_asked, answered_with}
@@ -59,7 +60,8 @@ pub record StreamState : Type 0 where
   pub reads : List Outstanding  -- the Reads whose requests were emitted and whose responses have not come whole, oldest first
   pub asked : Requested  -- the peer's Read Requests
   pub arrived : Arrived  -- what came, from the in-order point on
-  pub front : Option PlacedFrame  -- the frame at the in-order point, once it was placed
+  pub front : Option PlacedFrame  -- the frame at the in-order point, once it was placed there
+  pub early : List EarlyRecord  -- the frames that were judged before their turn, lowest first
   pub ending : Ending
 
 -- a stream of a domain to which nothing has happened
@@ -76,6 +78,7 @@ opened domain role config = record {
   asked = nothing_asked;
   arrived = nothing;
   front = None;
+  early = [];
   ending = Runs;
 }
 
@@ -133,7 +136,7 @@ abbrev pub is_read : Request (List ℕ) → Bool
 is_read (requests.Message m) = false
 is_read (requests.Read request) = true
 
--- a Read is not begun while 16 are outstanding, and all behind it wait too
+-- a Read is not begun while 16 are outstanding, and all after it wait too
 abbrev pub may_go : List Outstanding → Option (Part (Request (List ℕ))) → Option (Part (Request (List ℕ)))
 may_go reads None = None
 may_go reads (Some part) = if is_read part.message && nat_le most_reads (length reads) then None else Some part

@@ -1,12 +1,18 @@
 -- What a call to work does: one task, by the state alone, and what it answers and leaves.
-use Rattle.std.specs.Prelude.{ℕ, ◌+◌, ◌-◌, not, List, slice_get, if◌then◌else◌, Option, Some, None, Result, Ok, Err}
-use Rattle.std.specs.Option.{option_map_or}
+use Rattle.std.specs.Prelude.{ℕ, ◌+◌, ◌-◌, not, Bool, List, length, slice_get, if◌then◌else◌, Option, Some, None, Result, Ok, Err}
+use Rattle.std.specs.Option.{option_map, option_map_or, option_or}
+use Rattle.arrayvec.specs.ArrayVec.{ArrayVec}
 use Rattle.iw_octets.specs.declared.fault.Fault.{Fault}
+use Rattle.iw_octets.specs.declared.fault.TheConstants.Fault as faults
 use Rattle.iw_memory.specs.declared.rights.Right.TheVariants as rights
 use Rattle.iw_memory.specs.Table.{Table}
 use Rattle.iw_ranges.specs.Arrived.{in_order, advanced}
 use Rattle.iw_fpdu.specs.Frame.{frame_end}
 use Rattle.iw_fpdu.specs.Places.{frame_start}
+use Rattle.iw_fpdu.specs.Laws.{found_at}
+use Rattle.iw_locate.specs.Records.{added, kept_from}
+use Rattle.iw_locate.specs.Free.{Scene, scene_of, front_of}
+use Rattle.iw_locate.specs.Lowest.{overlaps_placed, early_place}
 use Rattle.iw_queues.specs.declared.completions.Done.{Done}
 use Rattle.iw_octets.specs.declared.payload.ReadRequest.{ReadRequest}
 use Rattle.iw_queues.specs.Completions as completions
@@ -22,8 +28,8 @@ use Rattle.iw_stream.specs.declared.judging.Landing.TheVariants.{Write, Response
 use Rattle.iw_stream.specs.declared.judging.PlacedFrame.{PlacedFrame}
 use Rattle.iw_stream.specs.declared.judging.Turning.{Turning}
 use Rattle.iw_stream.specs.declared.judging.Turning.TheVariants.{Passed, Completed, Answered}
-use Rattle.iw_stream.specs.Frames.{Frame, frame_at, segment_in, payload_of, placed, payload_len}
-use Rattle.iw_stream.specs.Judging.{Standing, verdict, table_landed, receiving_landed, turn_of, table_turned, receiving_turned, reads_left}
+use Rattle.iw_stream.specs.Frames.{Frame, frame_by, frame_at, segment_in, payload_of, placed, payload_len, record_tried, placed_at}
+use Rattle.iw_stream.specs.Judging.{Standing, verdict, early_verdict, table_landed, receiving_landed, turn_of, table_turned, receiving_turned, reads_left, table_tried, receiving_tried}
 use Rattle.iw_stream.specs.Starting.{StartState, is_open, expecting, first_place_in, awaits_frame, progress_in, heard, agreement_in}
 use Rattle.iw_stream.specs.Stream.{StreamState, ended, ends, ends_by}
 use Rattle.iw_stream.specs.Terminating.{terminate_judged, terminate_turned}
@@ -39,6 +45,22 @@ next_frame s =
     let layout = expecting s.start in
     frame_at layout s.arrived base (frame_start layout.markers (s.arrived.floor - base))
 
+-- what came, and which frames of it were judged early
+abbrev pub scene : StreamState → Scene (ArrayVec ℕ)
+scene s = scene_of (expecting s.start) (first_place_in s.start) s.arrived s.early
+
+-- what is kept of the frame at the in-order point, where it was placed, there or before its turn
+abbrev pub waiting : StreamState → Option PlacedFrame
+waiting s = option_or s.front (placed_at s.early (front_of (scene s)))
+
+-- the frame there lies over one that was placed
+abbrev pub clashes : StreamState → Frame → Bool
+clashes s frame = overlaps_placed s.early frame.start (frame_end (expecting s.start).markers frame.start (length frame.ulpdu))
+
+-- the frame that can be judged early: that at the lowest place
+abbrev pub early_frame : StreamState → Option Frame
+early_frame s = option_map (λ start. frame_by (found_at s.arrived (expecting s.start) (first_place_in s.start) start)) (early_place (scene s))
+
 -- ---- the rules
 
 pub data Task : Type 0 where
@@ -47,12 +69,32 @@ pub data Task : Type 0 where
   GiveBack : List ℕ → Task  -- hand back its oldest receive buffer
   Hear : Task  -- read the peer's start-up frame, as far as it has come
   Turn : PlacedFrame → Task  -- give the frame at the in-order point, which was placed, its turn
+  Clash : Frame → Task  -- the frame at the in-order point lies over one that was placed early
   Judge : Frame → Task  -- judge the frame at the in-order point
+  Try : Frame → Task  -- judge a frame before its turn
   Rest : Task
 
--- a stream that has ended hands back its messages, and behind them its receive buffers
+-- a stream that has ended hands back its messages, and after them its receive buffers
 abbrev pub handing_back : StreamState → Task
 handing_back s = option_map_or GiveUp (oldest_in s.queue) (option_map_or GiveBack (slice_get s.receiving.buffers 0) Rest)
+
+abbrev pub IsTry : Task → Type 0
+IsTry (HandOut done) = ⊥
+IsTry (GiveUp done) = ⊥
+IsTry (GiveBack buffer) = ⊥
+IsTry Hear = ⊥
+IsTry (Turn frame) = ⊥
+IsTry (Clash frame) = ⊥
+IsTry (Judge frame) = ⊥
+IsTry (Try frame) = Unit {0}
+IsTry Rest = ⊥
+
+abbrev pub front_task : StreamState → Frame → Task
+front_task s frame = if clashes s frame then Clash frame else Judge frame
+
+-- of the frames of an open stream that at the in-order point is the first
+abbrev pub frame_task : StreamState → Task
+frame_task s = option_map_or Turn (waiting s) (option_map_or (front_task s) (next_frame s) (option_map_or Try (early_frame s) Rest))
 
 abbrev pub task : StreamState → Task
 task s =
@@ -60,7 +102,7 @@ task s =
     (if ended s then handing_back s
     else if awaits_frame s.start then Hear
     else if not (is_open s.start) then Rest
-    else option_map_or Turn s.front (option_map_or Judge (next_frame s) Rest))
+    else frame_task s)
 
 -- what its checks look at
 abbrev pub standing : Table → StreamState → Standing
@@ -88,18 +130,29 @@ judged_step (Ok (Request request)) = steps.Requested request.size request.source
 judged_step (Ok (Terminate fault)) = steps.Terminated fault
 judged_step (Err fault) = steps.Fault fault
 
+-- a frame that was judged early was placed, or is left for its turn
+abbrev pub tried_step : ℕ → Option Landing → Step (List ℕ)
+tried_step place (Some at) = judged_step (Ok at)
+tried_step place None = steps.Tried place
+
+-- the markers do not agree with the lengths on where frames begin (RFC 5044 8)
+abbrev pub clash_fault : Fault
+clash_fault = faults.MARKER_MISMATCH
+
 abbrev pub step_of : Table → StreamState → Task → Step (List ℕ)
 step_of table s (HandOut done) = steps.Done done.kind
 step_of table s (GiveUp done) = steps.Flushed done.kind
 step_of table s (GiveBack buffer) = steps.FlushedRecv buffer
 step_of table s Hear = heard_step s.start (inbox s) (progress_in s.start (inbox s))
 step_of table s (Turn frame) = turned_step s.receiving frame (turn_of (standing table s) frame)
+step_of table s (Clash frame) = steps.Fault clash_fault
 step_of table s (Judge frame) = judged_step (verdict (standing table s) frame)
+step_of table s (Try frame) = tried_step (first_place_in s.start + frame.start) (early_verdict (standing table s) frame)
 step_of table s Rest = steps.Idle
 
 -- ---- what is left of the stream
 
--- the peer's start-up frame is read, and the in-order point lies behind it
+-- the peer's start-up frame is read, and the in-order point lies past it
 abbrev pub hears : StreamState → StreamState
 hears s = record s { start = heard s.start (inbox s); arrived = advanced s.arrived (first_place_in (heard s.start (inbox s))) }
 
@@ -109,13 +162,17 @@ after_hearing s progress.Asked = hears s
 after_hearing s progress.Agreed = hears s
 after_hearing s (progress.Faulted fault) = ends (hears s)
 
--- the place behind a frame
+-- the place past a frame
 abbrev pub place_behind : StreamState → PlacedFrame → ℕ
 place_behind s frame = first_place_in s.start + frame_end (expecting s.start).markers frame.start frame.len
 
--- a frame had its turn, and the in-order point lies behind it
+-- a frame had its turn, the in-order point lies past it, and the records of frames that begin before that point go
 abbrev pub behind : StreamState → PlacedFrame → StreamState
-behind s frame = record s { front = None; arrived = advanced s.arrived (place_behind s frame) }
+behind s frame = record s {
+  front = None;
+  arrived = advanced s.arrived (place_behind s frame);
+  early = kept_from (frame_end (expecting s.start).markers frame.start frame.len) s.early;
+}
 
 abbrev pub after_turn : StreamState → PlacedFrame → Result Turning Fault → StreamState
 after_turn s frame (Ok Passed) = record (behind s frame) {
@@ -146,13 +203,19 @@ after_judging s frame (Ok (Request request)) = takes_up s (placed frame) request
 after_judging s frame (Ok (Terminate fault)) = ends (behind s (placed frame))
 after_judging s frame (Err fault) = ends_by s (terminate_judged s.asked frame fault)
 
+-- a frame that was judged early, and not placed, leaves nothing but its record
+abbrev pub after_trying : StreamState → Frame → Option Landing → StreamState
+after_trying s frame at = record s { early = added s.early (record_tried frame at); receiving = receiving_tried s.receiving frame at }
+
 abbrev pub left_by : Table → StreamState → Task → StreamState
 left_by table s (HandOut done) = record s { queue = handed_from s.queue (Some done) }
 left_by table s (GiveUp done) = record s { queue = handed_from s.queue (Some done) }
 left_by table s (GiveBack buffer) = record s { receiving = flushed s.receiving }
 left_by table s Hear = after_hearing s (progress_in s.start (inbox s))
 left_by table s (Turn frame) = after_turn s frame (turn_of (standing table s) frame)
+left_by table s (Clash frame) = ends_by s (terminate_judged s.asked frame clash_fault)
 left_by table s (Judge frame) = after_judging s frame (verdict (standing table s) frame)
+left_by table s (Try frame) = after_trying s frame (early_verdict (standing table s) frame)
 left_by table s Rest = s
 
 -- ---- and of the regions
@@ -171,7 +234,9 @@ table_left table s (GiveUp done) = table
 table_left table s (GiveBack buffer) = table
 table_left table s Hear = table
 table_left table s (Turn frame) = table_passed table (turn_of (standing table s) frame)
+table_left table s (Clash frame) = table
 table_left table s (Judge frame) = table_judged table frame (verdict (standing table s) frame)
+table_left table s (Try frame) = table_tried table frame (early_verdict (standing table s) frame)
 table_left table s Rest = table
 
 -- ---- a call

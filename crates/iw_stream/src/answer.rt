@@ -124,6 +124,9 @@ pub enum Step<O> {
         stag: Stag,
         to: u64,
     },
+    /// The frame whose first octet has this stream place was judged before its turn and is left for it: only its place is
+    /// kept.
+    Tried(u64),
     /// A frame had its turn, and there is nothing more to say of it.
     Passed,
     /// A Send is complete: its buffer, of which the first `len` octets are the message, whether it is solicited, and the

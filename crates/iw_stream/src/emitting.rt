@@ -30,7 +30,7 @@ impl Numbers {
         Numbers { send: 1, read: 1 }
     }
 
-    /// Those behind a part that is sent: a message has its number until its last part.
+    /// Those after a part that is sent: a message has its number until its last part.
     pub(crate) fn behind<A: Allocator>(self, part: &Part<&Request<Bytes<A>>>) -> Numbers
         ensures { numbers_of result ≡ numbers_behind (numbers_of self) (shown_part part.now) }
     {

@@ -1,10 +1,11 @@
-ghost use Rattle.std.specs.Prelude.{◌≡◌, ◌-◌, ◌≤◌, ◌++◌, if◌then◌else◌, ℕ, List, [], take, drop, length, slice_index, true, Some, None, IfOk, IfSome, OnOk, OnErr};
+ghost use Rattle.std.specs.Prelude.{◌≡◌, ◌-◌, ◌≤◌, ◌++◌, if◌then◌else◌, ℕ, List, [], take, drop, length, slice_index};
+ghost use Rattle.std.specs.Prelude.{true, Some, None, IfOk, IfSome, OnOk, OnErr};
 ghost use Rattle.iw_octets.specs.Head.{is_tagged};
 ghost use Rattle.iw_octets.specs.Segment.{read_segment};
 ghost use Rattle.iw_memory.specs.Table.{Table, put};
 ghost use Rattle.iw_fpdu.specs.Found.{HoldsSpan, ulpdu, ulpdu_len};
 ghost use Rattle.iw_rdmap.specs.Head.{header_octets};
-ghost use Rattle.iw_rdmap.specs.Judging.{tagged_in};
+ghost use Rattle.iw_rdmap.specs.Judging.{judged, tagged_in};
 ghost use Rattle.std.specs.Result.{result_err};
 ghost use Rattle.iw_reads.specs.Outstanding.{sink_fault};
 ghost use Rattle.iw_reads.specs.Requests.{Requested};
@@ -12,7 +13,11 @@ ghost use Rattle.iw_reads.specs.Source.{source_fault};
 ghost use Rattle.iw_tagged.specs.Placing.{placing_fault};
 ghost use Rattle.iw_untagged.specs.Receiving.{Receiving, buffer_fault};
 ghost use Rattle.iw_stream.specs.Frames.{frame_by, payload_of, placed, header_in, payload_len};
-ghost use Rattle.iw_stream.specs.Judging.{Standing, IsFirst, as_tagged, right_of, is_response, mismatch_fault, fault_or, place_in, write_verdict, response_verdict, place_verdict, segment_verdict, verdict, table_landed, receiving_landed};
+ghost use Rattle.iw_stream.specs.Judging.{Standing, IsFirst, as_tagged, right_of, is_response};
+ghost use Rattle.iw_stream.specs.Judging.{mismatch_fault, fault_or, write_verdict, response_verdict};
+ghost use Rattle.iw_stream.specs.Judging.{place_in, place_verdict, segment_verdict, verdict};
+ghost use Rattle.iw_stream.specs.Judging.{may_be_early, early_verdict, table_tried, receiving_tried};
+ghost use Rattle.iw_stream.specs.Judging.{table_landed, receiving_landed};
 
 use arrayvec::ArrayVec;
 use iw_fpdu::{Fpdu, Mismatch};
@@ -20,7 +25,7 @@ use iw_memory::{Memory, Right};
 use iw_octets::{
     Fault, ReadRequest, Stag, TAGGED_HEADER, TaggedHead, UNTAGGED_HEADER, UntaggedHead, is_tagged,
 };
-use iw_rdmap::{FIRST_OCTETS, Head, judge};
+use iw_rdmap::{FIRST_OCTETS, Head, early, judge};
 use iw_reads::{Reads, Requests, check_source};
 use iw_tagged::Placed;
 use iw_untagged::RecvQueue;
@@ -55,6 +60,9 @@ pub enum Turning {
     Answered(u64),
 }
 
+/// The octets of a frame's DDP header, as they came.
+pub(crate) type Header = ArrayVec<u8, 18>;
+
 /// What is kept of a frame from its placement to its turn: the frame place where it begins, the length of its ULPDU, and the
 /// octets of its DDP header as they came.
 #[derive(Debug, Drop)]
@@ -65,6 +73,17 @@ pub struct PlacedFrame {
 }
 
 impl PlacedFrame {
+    /// The same.
+    pub(crate) fn copied(&self) -> PlacedFrame
+        ensures { result ≡ self.now }
+    {
+        PlacedFrame {
+            header: copy_of(&self.header),
+            start: self.start,
+            len: self.len,
+        }
+    }
+
     /// How many octets the segment's payload has.
     #[inline(always)]
     pub(crate) fn payload_len(&self) -> usize
@@ -73,6 +92,15 @@ impl PlacedFrame {
     {
         usize::from(self.len) - self.header.len()
     }
+}
+
+/// The same octets.
+pub(crate) fn copy_of(header: &Header) -> Header
+    ensures { result ≡ header.now }
+{
+    let mut copy = ArrayVec::new();
+    let _ = copy.try_extend_from_slice(header.as_slice());
+    copy
 }
 
 fn fault_of(mismatch: Mismatch) -> Fault
@@ -361,6 +389,57 @@ pub(crate) fn land_frame<A: Allocator, B: Allocator>(
             )
         }
     }
+}
+
+/// Judges a whole frame before its turn, and places its payload where it may be placed then and passes every check. Where it is
+/// not placed, nothing changes.
+pub(crate) fn land_early<A: Allocator, B: Allocator>(
+    fpdu: &Fpdu<'_, A>,
+    domain: u8,
+    reads: &Reads,
+    asked: &Requests,
+    memory: &mut Memory<B>,
+    receiving: &mut RecvQueue<B>,
+) -> Option<Landing>
+    requires { HoldsSpan fpdu.now }
+    ensures landed { result ≡ early_verdict (record { table = memory.old; domain = domain; receiving = receiving.old; reads = reads.now; asked = asked.now }) (frame_by fpdu.now) }
+    ensures memory { memory.new ≡ table_tried memory.old (frame_by fpdu.now) result }
+    ensures receiving { receiving.new ≡ receiving_tried receiving.old (frame_by fpdu.now) result }
+{
+    if !is_early(fpdu, asked) {
+        return None;
+    }
+    match land_frame(fpdu, domain, reads, asked, memory, receiving) {
+        Ok(landing) => Some(landing),
+        Err(_) => None,
+    }
+}
+
+// Whether the frame's header passes its checks and its segment may be placed before its turn.
+fn is_early<A: Allocator>(fpdu: &Fpdu<'_, A>, asked: &Requests) -> bool
+    requires { HoldsSpan fpdu.now }
+    ensures { result ≡ may_be_early (judged (ulpdu fpdu.now) (length (ulpdu fpdu.now)) asked.now.next (length asked.now.unanswered)) }
+{
+    let first = first_octets(fpdu);
+    match judge(
+        first.as_slice(),
+        fpdu.len() as u16,
+        asked.next_msn(),
+        asked.len(),
+    ) {
+        Ok(head) => early(&head),
+        Err(_) => false,
+    }
+}
+
+/// The octets of a frame's DDP header.
+pub(crate) fn header_of<A: Allocator>(fpdu: &Fpdu<'_, A>) -> Header
+    requires { HoldsSpan fpdu.now }
+    ensures { result ≡ (placed (frame_by fpdu.now)).header }
+{
+    let mut header = ArrayVec::new();
+    keep_header(&mut header, fpdu);
+    header
 }
 
 // Appends DDP's header at the front of these octets.

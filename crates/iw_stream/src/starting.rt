@@ -2,11 +2,13 @@ ghost use Rattle.std.specs.Prelude.{◌≡◌, ◌+◌, ◌≤◌, ◌^◌, ◌+
 ghost use Rattle.iw_ranges.specs.Arrived.{advanced, in_order};
 ghost use Rattle.iw_ranges.specs.InOrder.{IsHeld};
 ghost use Rattle.iw_startup.specs.declared.side.Reply.TheVariants.{Accept, Reject};
-ghost use Rattle.iw_stream.specs.Starting.{layout_out, layout_in};
+ghost use Rattle.std.specs.Option.{option_map_or};
+ghost use Rattle.iw_startup.specs.State.{agreed_of};
+ghost use Rattle.iw_stream.specs.Starting.{plain, layout_out, layout_in};
 
 use crate::answer::Role;
+use crate::incoming::Incoming;
 use iw_fpdu::Layout;
-use iw_ranges::Islands;
 use iw_startup::{Agreed, Config, MAX_FRAME, NotAsked, PrivateData, Progress, Startup};
 use std::alloc::{AllocError, Allocator};
 use std::marker::Model;
@@ -62,8 +64,21 @@ fn layout_in(agreed: Agreed) -> Layout
     }
 }
 
+// The layout of the frames that the peer sends: plain before both ends agree.
+fn layout_agreed(startup: &Startup) -> Layout
+    ensures { result ≡ option_map_or layout_in (agreed_of startup.now) plain }
+{
+    match startup.agreed() {
+        Some(agreed) => layout_in(agreed),
+        None => PLAIN,
+    }
+}
+
 impl Start {
-    ghost use Rattle.iw_stream.specs.Starting.{Unheard, start_at_first, is_open, sending, expecting, own_frame, first_place_in, first_place_out, is_responder, awaits_frame, progress_in, heard, private_in, agreed_in, agreement_in, is_asked, answered_with};
+    ghost use Rattle.iw_stream.specs.Starting.{Unheard, start_at_first, is_open, sending, expecting};
+    ghost use Rattle.iw_stream.specs.Starting.{own_frame, first_place_in, first_place_out, is_responder};
+    ghost use Rattle.iw_stream.specs.Starting.{awaits_frame, progress_in, heard, private_in};
+    ghost use Rattle.iw_stream.specs.Starting.{agreed_in, agreement_in, is_asked, answered_with};
 
     /// Open at once, with the markers and CRCs that `config` asks for in both directions, or with start-up frames, which
     /// agree on them.
@@ -127,7 +142,7 @@ impl Start {
         self.expecting
     }
 
-    /// How many octets this end's start-up frame has: its frames begin behind it.
+    /// How many octets this end's start-up frame has: its frames begin past it.
     pub(crate) fn first_place_out(&self) -> u64
         ensures place { result ≡ first_place_out self.now }
         ensures fits { result ≤ MAX_FRAME }
@@ -138,7 +153,7 @@ impl Start {
         }
     }
 
-    /// How many octets of the peer's start-up frame were read: the peer's frames begin behind it.
+    /// How many octets of the peer's start-up frame were read: the peer's frames begin past it.
     pub(crate) fn first_place_in(&self) -> u64
         ensures place { result ≡ first_place_in self.now }
         ensures fits { result ≤ MAX_FRAME }
@@ -243,13 +258,17 @@ impl Start {
         }
     }
 
-    /// Reads the peer's start-up frame, which is awaited, off the octets that came, and moves the in-order point behind it.
-    pub(crate) fn hear<A: Allocator>(&mut self, arrived: &mut Islands<A>)
+    /// Reads the peer's start-up frame, which is awaited, off the octets that came, and moves the in-order point past it.
+    pub(crate) fn hear<A: Allocator>(&mut self, arrived: &mut Incoming<A>)
+        requires none { arrived.old.early ≡ [] }
         requires awaits { awaits_frame self.old ≡ true }
         requires held { IsHeld arrived.old.arrived }
         requires begin { arrived.old.arrived.floor ≡ 0 }
         ensures after { self.new ≡ heard self.old (in_order arrived.old.arrived) }
         ensures arrived { arrived.new.arrived ≡ advanced arrived.old.arrived (first_place_in self.new) }
+        ensures early { arrived.new.early ≡ [] }
+        ensures layout { arrived.new.layout ≡ expecting self.new }
+        ensures base { arrived.new.base ≡ first_place_in self.new }
         ensures few { first_place_in self.new ≤ 2 ^ 18 }
         ensures agreed { progress_in self.old (in_order arrived.old.arrived) ≡ Progress.Agreed → agreed_in self.new ≡ Some (agreement_in self.new) }
     {
@@ -257,7 +276,7 @@ impl Start {
             return;
         };
         let (used, _) = startup.push(octets_in_order(arrived));
-        arrived.advance(used as u64);
+        arrived.begin(layout_agreed(startup), used as u64);
         self.heard = true;
         if let Some(agreed) = startup.agreed() {
             self.running = true;
@@ -279,10 +298,10 @@ impl Start {
 }
 
 /// The octets that came without a gap from the in-order point on.
-pub(crate) fn octets_in_order<A: Allocator>(arrived: &Islands<A>) -> &[u8]
+pub(crate) fn octets_in_order<A: Allocator>(arrived: &Incoming<A>) -> &[u8]
     requires { IsHeld arrived.now.arrived }
     ensures octets { result.now ≡ in_order arrived.now.arrived }
     ensures few { length result.now ≤ 2 ^ 18 }
 {
-    arrived.part(arrived.floor(), arrived.missing())
+    arrived.islands().part(arrived.floor(), arrived.missing())
 }

@@ -6,17 +6,19 @@ ghost use Rattle.iw_stream.specs.Stream.{post_refusal_of, recv_refusal_of};
 
 mod emission;
 mod judgement;
+mod room;
 mod tasks;
 mod turns;
 
 use crate::answer::{PostRefusal, RecvRefusal, Role, SizeRefusal};
 use crate::emitting::Numbers;
 use crate::ending::Ending;
+use crate::incoming::Incoming;
 use crate::judging::PlacedFrame;
 use crate::starting::Start;
 use bytes::Bytes;
 use iw_queues::{Refusal, Request, SendQueue};
-use iw_ranges::{Delivery, Islands};
+use iw_ranges::Delivery;
 use iw_reads::{Reads, Requests};
 use iw_startup::{Agreed, Config, NotAsked, PrivateData};
 use iw_untagged::{BufferRefusal, RecvQueue};
@@ -33,8 +35,8 @@ const MAX_MULPDU: u32 = 64_512;
 /// One stream of a domain: what was posted at it, and what came.
 #[derive(Drop)]
 pub struct Stream<A: Allocator = Global> {
-    // What came from the peer, from the in-order point on.
-    arrived: Islands<A>,
+    // What came from the peer, from the in-order point on, and the frames among it that were judged early.
+    arrived: Incoming<A>,
     // The frame at the in-order point, once it was placed.
     front: Option<PlacedFrame>,
     ending: Ending,
@@ -83,7 +85,9 @@ fn recv_refusal_of(refusal: BufferRefusal) -> RecvRefusal
 }
 
 impl<A: Allocator> Stream<A> {
-    ghost use Rattle.iw_stream.specs.Stream.{opened, ended, breaks, may_answer, accepted, rejected, post_refusal, with_request, recv_refusal, with_buffer, delivery_of, after_deliver, size_refusal, with_mulpdu};
+    ghost use Rattle.iw_stream.specs.Stream.{opened, ended, breaks, may_answer, accepted, rejected};
+    ghost use Rattle.iw_stream.specs.Stream.{post_refusal, with_request, recv_refusal, with_buffer};
+    ghost use Rattle.iw_stream.specs.Stream.{delivery_of, after_deliver, size_refusal, with_mulpdu};
     ghost use Rattle.iw_stream.specs.Kept.{IsWithin};
 
     /// A stream of this domain with a ULPDU size of 1,400 octets, which begins as its role says: open at once, with the
@@ -96,7 +100,8 @@ impl<A: Allocator> Stream<A> {
         ensures { IfOk result (λ stream. stream ≡ opened domain role config) }
     {
         let receiving = RecvQueue::new(alloc)?;
-        let arrived = Islands::new(alloc)?;
+        let start = Start::new(role, config);
+        let arrived = Incoming::new(alloc, start.expecting())?;
         Ok(Stream {
             arrived,
             front: None,
@@ -109,7 +114,7 @@ impl<A: Allocator> Stream<A> {
             receiving,
             reads: Reads::new(),
             asked: Requests::new(),
-            start: Start::new(role, config),
+            start,
         })
     }
 
@@ -120,13 +125,14 @@ impl<A: Allocator> Stream<A> {
         ensures { IsWithin self.now }
     {
         let _ = self.arrived.floor();
+        let _ = self.arrived.records();
         let _ = self.queue.len();
         self.receiving.limits();
         let _ = self.reads.len();
         let _ = self.asked.len();
     }
 
-    /// How many octets were emitted: the place behind them in the stream.
+    /// How many octets were emitted: the place past them in the stream.
     pub fn sent(&self) -> u64
         ensures { result ≡ self.now.sent }
     {
@@ -154,7 +160,9 @@ impl<A: Allocator> Stream<A> {
         if self.ending.has_ended() {
             return Err(NotAsked);
         }
-        self.start.accept(private)
+        let agreed = self.start.accept(private)?;
+        self.arrived.lay_out(self.start.expecting());
+        Ok(agreed)
     }
 
     /// Rejects the peer's Request; the Reply carries this private data. The stream has ended, and the Reply is still emitted.
@@ -180,7 +188,7 @@ impl<A: Allocator> Stream<A> {
         self.start.private()
     }
 
-    /// Posts a message or a Read behind the others. An `Err` changes nothing, and has what was to be posted.
+    /// Posts a message or a Read after the others. An `Err` changes nothing, and has what was to be posted.
     pub fn post(
         &mut self,
         request: Request<Bytes<A>>,
@@ -201,7 +209,7 @@ impl<A: Allocator> Stream<A> {
         }
     }
 
-    /// Posts a receive buffer behind the others. An `Err` changes nothing, and has the vector.
+    /// Posts a receive buffer after the others. An `Err` changes nothing, and has the vector.
     pub fn post_recv(&mut self, buffer: Vec<u8, A>) -> Result<(), (RecvRefusal, Vec<u8, A>)>
         // The refusal, where one applies, and otherwise want of memory alone.
         ensures refused { IfSome (recv_refusal self.old) (λ refusal. IfErr result (λ e. e.0 ≡ refusal) × IsErr result) }
@@ -235,7 +243,7 @@ impl<A: Allocator> Stream<A> {
 
     /// Takes octets that came, the first of them at the stream place `from`.
     ///
-    /// They are dropped whole where one of them lies 262,144 octets or more behind the in-order point, or where they would
+    /// They are dropped whole where one of them lies 262,144 octets or more past the in-order point, or where they would
     /// make more than 1,024 islands; where the stream has ended, they are dropped too. An `Err` is want of memory, comes
     /// only where they would be kept and one of them is new, and changes nothing.
     pub fn deliver(&mut self, from: u64, octets: &[u8]) -> Result<Delivery, AllocError>

@@ -6,12 +6,12 @@ ghost use Rattle.iw_stream.specs.Stream.{over};
 ghost use Rattle.iw_stream.specs.Terminating.{is_request_of, terminate_judged, terminate_turned, terminate_fetched};
 
 use crate::ending::Ending;
+use crate::incoming::Incoming;
 use crate::judging::{PlacedFrame, first_octets};
 use crate::starting::Start;
 use arrayvec::ArrayVec;
 use iw_fpdu::Fpdu;
 use iw_octets::Fault;
-use iw_ranges::Islands;
 use iw_rdmap::{MAX_TERMINATE, judge, terminate};
 use iw_reads::{REQUEST_HEADERS, Requests};
 use std::alloc::Allocator;
@@ -20,7 +20,11 @@ use std::alloc::Allocator;
 pub(crate) type LastWord = ArrayVec<u8, MAX_TERMINATE>;
 
 /// The end by a fault, with the Terminate that is due then; of a responder at which no frame had its turn it is silent.
-pub(crate) fn over<A: Allocator>(terminate: LastWord, start: &Start, arrived: &Islands<A>) -> Ending
+pub(crate) fn over<A: Allocator>(
+    terminate: LastWord,
+    start: &Start,
+    arrived: &Incoming<A>,
+) -> Ending
     ensures { result ≡ over start.now arrived.now.arrived terminate.items }
 {
     if start.is_responder() && arrived.floor() == start.first_place_in() {
@@ -52,7 +56,7 @@ pub(crate) fn end_judged<A: Allocator>(
     fault: Fault,
     asked: &Requests,
     start: &Start,
-    arrived: &Islands<A>,
+    arrived: &Incoming<A>,
 ) -> Ending
     requires holds { HoldsSpan fpdu.now }
     requires fits { FitsFault fault }

@@ -5,7 +5,9 @@ ghost use Rattle.iw_memory.specs.Table.{invalidate_denial, invalidated};
 ghost use Rattle.iw_octets.specs.Stag.{stag_of};
 ghost use Rattle.iw_untagged.specs.Receiving.{HasRoom, turned};
 ghost use Rattle.iw_stream.specs.Frames.{placed, head_in, payload_len};
-ghost use Rattle.iw_stream.specs.Judging.{answered, answering_by, is_response, send_turning, invalidate_fault, send_turn, table_turned, tagged_turn, tagged_left, segment_turn, receiving_turned, reads_left};
+ghost use Rattle.iw_stream.specs.Judging.{answered, answering_by, is_response, tagged_turn, tagged_left};
+ghost use Rattle.iw_stream.specs.Judging.{send_turning, invalidate_fault, send_turn, table_turned};
+ghost use Rattle.iw_stream.specs.Judging.{segment_turn, receiving_turned, reads_left};
 ghost use Rattle.iw_stream.specs.Kept.{HasBuffer, IsPosted};
 
 use crate::judging::{PlacedFrame, Turning};

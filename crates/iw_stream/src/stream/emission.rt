@@ -1,4 +1,5 @@
-ghost use Rattle.std.specs.Prelude.{◌≡◌, ◌≤◌, ◌^◌, ◌++◌, ◌&&◌, nat_le, length, true, false, is_ok, Some, None, Ok, IfOk, IsSome, OnOk, OnErr};
+ghost use Rattle.std.specs.Prelude.{◌≡◌, ◌≤◌, ◌^◌, ◌++◌, ◌&&◌, nat_le, length, true, false};
+ghost use Rattle.std.specs.Prelude.{is_ok, Some, None, Ok, IfOk, IsSome, OnOk, OnErr};
 ghost use Rattle.std.specs.Option.{option_map_or};
 ghost use Rattle.iw_octets.specs.declared.fault.Fault.{Fault};
 ghost use Rattle.iw_octets.specs.declared.segment.Segment.TheVariants.{Tagged};
@@ -19,7 +20,7 @@ use iw_reads::{Reads, ResponsePart, fetch};
 use std::alloc::{AllocError, Allocator};
 
 // A Read is not begun while 16 are outstanding.
-fn must_wait<A: Allocator>(reads: &Reads, request: &Request<Bytes<A>>) -> bool
+pub(super) fn must_wait<A: Allocator>(reads: &Reads, request: &Request<Bytes<A>>) -> bool
     ensures { result ≡ is_read request.now && nat_le most_reads (length reads.now) }
 {
     matches!(request, Request::Read(_)) && reads.is_full()
@@ -38,10 +39,13 @@ fn read_sent<A: Allocator>(reads: &mut Reads, ticket: u64, request: &Request<Byt
 
 impl<A: Allocator> Stream<A> {
     ghost use Rattle.iw_stream.specs.Ending.{last_word};
-    ghost use Rattle.iw_stream.specs.Stream.{owes_frame, is_mute, keeps_silent, part_due, response_due, frame_of, StartUp, LastWord, Response, NextPart, NoneDue, octets_due, emission_due, left_due, emission_fetched, left_fetched, emission_of, emitted, after_emit};
+    ghost use Rattle.iw_stream.specs.Stream.{owes_frame, is_mute, keeps_silent, part_due, response_due, frame_of};
+    ghost use Rattle.iw_stream.specs.Stream.{StartUp, LastWord, Response, NextPart, NoneDue};
+    ghost use Rattle.iw_stream.specs.Stream.{octets_due, emission_due, left_due, emission_fetched, left_fetched};
+    ghost use Rattle.iw_stream.specs.Stream.{emission_of, emitted, after_emit};
 
     // This end's start-up frame is to be emitted.
-    fn owes_frame(&self) -> bool
+    pub(super) fn owes_frame(&self) -> bool
         ensures { result ≡ owes_frame self.now }
     {
         !self.ending.is_broken() && self.sent < self.start.first_place_out()
@@ -55,7 +59,7 @@ impl<A: Allocator> Stream<A> {
     }
 
     // No frame may be sent.
-    fn is_mute(&self) -> bool
+    pub(super) fn is_mute(&self) -> bool
         ensures { result ≡ is_mute self.now }
     {
         self.ending.has_ended() || !self.start.is_open() || self.keeps_silent()
@@ -64,7 +68,7 @@ impl<A: Allocator> Stream<A> {
     /// Appends to `out` what is to be emitted next: this end's start-up frame, or else, where the stream has ended by a fault,
     /// its Terminate, after which there is nothing more, or else, if frames may be sent, the frame of the next part of a message
     /// that is begun, of the response to the peer's oldest Read Request, or of the next message. A Read is not begun while 16
-    /// are outstanding, and what was posted behind it waits too.
+    /// are outstanding, and what was posted after it waits too.
     ///
     /// The octets of a response are fetched as they are sent; where the peer may not read them, nothing is appended and the
     /// stream has ended. An `Err` is want of memory, comes only where something is appended, and changes nothing.
@@ -132,7 +136,7 @@ impl<A: Allocator> Stream<A> {
     }
 
     // The part of a response that is to be sent next: none while a message is begun.
-    fn response_due(&self) -> Option<ResponsePart>
+    pub(super) fn response_due(&self) -> Option<ResponsePart>
         ensures { result ≡ response_due self.now }
     {
         if self.queue.is_begun() {

@@ -1,4 +1,15 @@
-ghost use Rattle.std.specs.Prelude.{◌≡◌, ◌+◌, ◌<◌, ◌≤◌, ◌^◌, length, true, false, Ok};
+ghost use Rattle.std.specs.Prelude.{◌≡◌, ◌+◌, ◌<◌, ◌≤◌, ◌^◌, length, true, false};
+ghost use Rattle.std.specs.Prelude.{is_some, Some, None, Ok, IfSome, IfOk, OnOk, OnErr};
+ghost use Rattle.iw_ranges.specs.InOrder.{IsHeld};
+ghost use Rattle.iw_fpdu.specs.Found.{HoldsSpan};
+ghost use Rattle.iw_locate.specs.Records.{max_records, added};
+ghost use Rattle.iw_locate.specs.Next.{IsNext};
+ghost use Rattle.iw_locate.specs.Unsearched.{IsFollowed};
+ghost use Rattle.iw_stream.specs.Frames.{Frame, frame_by, state_tried, record_tried, placed};
+ghost use Rattle.iw_stream.specs.Incoming.{IsSameStart, scene_in, frame_in};
+ghost use Rattle.iw_stream.specs.Judging.{early_verdict, landing_of, table_tried, receiving_tried};
+ghost use Rattle.iw_stream.specs.Kept.{IsWithinBuffer};
+ghost use Rattle.iw_stream.specs.Work.{judged_step};
 ghost use Rattle.std.specs.Option.{option_map_or};
 ghost use Rattle.iw_stream.specs.Starting.{is_open};
 ghost use Rattle.iw_reads.specs.Source.{IsInRange};
@@ -6,21 +17,29 @@ ghost use Rattle.iw_reads.specs.Source.{IsInRange};
 use super::Stream;
 use crate::answer::Step;
 use crate::ending::Ending;
-use crate::incoming::frame_at;
+use crate::incoming::{Incoming, frame_at};
 use crate::judging::{
-    Landing, PlacedFrame, front, keep_frame, keep_tagged, land_frame, land_tagged, placed_frame,
-    right_of,
+    Header, Landing, PlacedFrame, front, header_of, keep_frame, keep_tagged, land_early,
+    land_frame, land_tagged, placed_frame,
 };
 use crate::terminating::end_judged;
 use crate::turning::is_response;
+use iw_fpdu::Fpdu;
+use iw_locate::{Frame as EarlyFrame, Next, State};
 use iw_memory::{Memory, Right};
 use iw_octets::{Fault, Octets, ReadRequest, UNTAGGED_HEADER};
 use iw_rdmap::tagged_head;
-use iw_reads::Asked;
+use iw_reads::{Asked, Reads, Requests};
 use iw_tagged::Placed;
-use std::alloc::Allocator;
+use iw_untagged::RecvQueue;
+use std::alloc::{AllocError, Allocator};
+
+/// It is left to a call of its own.
+#[derive(Clone, Copy, Debug, PartialEq, Eq)]
+pub(crate) struct Apart;
 
 // What is said of octets that were placed with this right.
+#[inline(always)]
 fn placed_step<A: Allocator>(right: Right, placed: Placed) -> Step<Octets<A>>
     ensures { result ≡ Step.Placed right placed.stag placed.to placed.n }
 {
@@ -33,70 +52,146 @@ fn placed_step<A: Allocator>(right: Right, placed: Placed) -> Step<Octets<A>>
     }
 }
 
+// Where the payload of a Read Response, or else of a Write, was placed.
+#[inline(always)]
+fn landing_of(response: bool, placed: Placed) -> Landing
+    ensures { result ≡ landing_of response placed }
+{
+    if response {
+        Landing::Response(placed)
+    } else {
+        Landing::Write(placed)
+    }
+}
+
+// What is said of a frame whose payload went there.
+#[inline(always)]
+pub(crate) fn landed_step<A: Allocator>(landing: Landing) -> Step<Octets<A>>
+    ensures step { result ≡ judged_step (Ok landing) }
+    ensures within { IsWithinBuffer result }
+{
+    match landing {
+        Landing::Write(placed) => placed_step(Right::Write, placed),
+        Landing::Response(placed) => placed_step(Right::Sink, placed),
+        Landing::Send { msn, mo, len } => Step::Buffered { msn, mo, len },
+        Landing::Request(request) => requested_step(request),
+        Landing::Terminate(fault) => Step::Terminated(fault),
+    }
+}
+
+// What is said of a Read Request that was taken up.
+fn requested_step<A: Allocator>(request: ReadRequest) -> Step<Octets<A>>
+    ensures { result ≡ Step.Requested request.size request.source request.source_to }
+{
+    let ReadRequest {
+        size,
+        source,
+        source_to,
+        ..
+    } = request;
+    Step::Requested {
+        size,
+        stag: source,
+        to: source_to,
+    }
+}
+
+// What is kept of a frame that was judged early, and whose payload went there.
+fn state_tried<A: Allocator>(landing: &Option<Landing>, fpdu: &Fpdu<'_, A>) -> State<Header>
+    requires { HoldsSpan fpdu.now }
+    ensures { result ≡ state_tried (frame_by fpdu.now) landing.now }
+{
+    match landing {
+        None => State::Tried,
+        Some(_) => State::Placed(header_of(fpdu)),
+    }
+}
+
+// Judges the frame that was found to be the one that can be judged early, places its payload where it may be placed, and
+// keeps its record.
+fn judge_early<A: Allocator, B: Allocator>(
+    frame: EarlyFrame,
+    arrived: &mut Incoming<A>,
+    domain: u8,
+    reads: &Reads,
+    asked: &Requests,
+    memory: &mut Memory<B>,
+    receiving: &mut RecvQueue<B>,
+) -> Option<Landing>
+    requires held { IsHeld arrived.old.arrived }
+    requires low { arrived.old.arrived.floor ≤ 2 ^ 62 }
+    requires room { 0 < arrived.old.room }
+    requires few { length arrived.old.early < max_records }
+    requires next { IsNext (scene_in arrived.old) (Next.Frame frame) }
+    requires early { frame.early ≡ true }
+    requires followed { IsFollowed arrived.old.unsearched frame }
+    ensures landed { result ≡ early_verdict (record { table = memory.old; domain = domain; receiving = receiving.old; reads = reads.now; asked = asked.now }) (frame_in arrived.old frame.start) }
+    ensures memory { memory.new ≡ table_tried memory.old (frame_in arrived.old frame.start) result }
+    ensures receiving { receiving.new ≡ receiving_tried receiving.old (frame_in arrived.old frame.start) result }
+    ensures arrived { arrived.new.arrived ≡ arrived.old.arrived }
+    ensures early { arrived.new.early ≡ added arrived.old.early (record_tried (frame_in arrived.old frame.start) result) }
+    ensures same { IsSameStart arrived.old arrived.new }
+{
+    let fpdu = arrived.read_early(&frame);
+    let landing = land_early(&fpdu, domain, reads, asked, memory, receiving);
+    let state = state_tried(&landing, &fpdu);
+    arrived.keep(frame, state);
+    landing
+}
+
 impl<A: Allocator> Stream<A> {
     ghost use Rattle.iw_stream.specs.Stream.{ended, ends};
-    ghost use Rattle.iw_stream.specs.Work.{Judge, Rest, next_frame, judged_step, takes_up, behind, step_of, left_by, table_left};
-    ghost use Rattle.iw_stream.specs.Kept.{IsWithinBuffer, Stands};
+    ghost use Rattle.iw_stream.specs.Work.{Judge, Try, Rest, IsTry, waiting, takes_up, behind};
+    ghost use Rattle.iw_stream.specs.Work.{next_frame, early_frame, frame_task, step_of, left_by, table_left};
+    ghost use Rattle.iw_stream.specs.Kept.{Stands, NoneReachesOver};
 
-    // Judges the frame at the in-order point, where it is whole. Most are Writes and Read Responses.
+    // Judges the frame at the in-order point, where it is whole, and places it, where it is of a Write or a Read Response and
+    // passes its checks: it tells where; `None` where it is not whole. An `Err` changes nothing, and comes of any other frame.
     #[inline(always)]
-    pub(crate) fn judge(&mut self, memory: &mut Memory<A>) -> Step<Octets<A>>
+    pub(crate) fn judge(&mut self, memory: &mut Memory<A>) -> Result<Option<Landing>, Apart>
         requires open { is_open self.old.start ≡ true }
         requires runs { ended self.old ≡ false }
         requires place { self.old.arrived.floor + 2 ^ 18 ≤ 2 ^ 63 }
-        ensures step { result ≡ step_of memory.old self.old (option_map_or Judge (next_frame self.old) Rest) }
-        ensures after { self.new ≡ left_by memory.old self.old (option_map_or Judge (next_frame self.old) Rest) }
-        ensures memory { memory.new ≡ table_left memory.old self.old (option_map_or Judge (next_frame self.old) Rest) }
+        requires over { (frame : Frame) → next_frame self.old ≡ Some frame → NoneReachesOver self.old (placed frame) }
+        ensures step { IfOk result (λ found. IfSome found (λ landing. judged_step (Ok landing) ≡ step_of memory.old self.old (option_map_or Judge (next_frame self.old) Rest))) }
+        ensures whole { IfOk result (λ found. is_some found ≡ is_some (next_frame self.old)) }
+        ensures after { OnOk result (self.new ≡ left_by memory.old self.old (option_map_or Judge (next_frame self.old) Rest)) }
+        ensures memory { OnOk result (memory.new ≡ table_left memory.old self.old (option_map_or Judge (next_frame self.old) Rest)) }
+        ensures err { OnErr result ((self.new ≡ self.old) × (memory.new ≡ memory.old)) }
         ensures reach { self.new.arrived.floor ≤ self.old.arrived.floor + 2 ^ 18 }
-        ensures within { IsWithinBuffer result }
     {
         if self.arrived.missing() <= self.arrived.floor() {
-            return Step::Idle;
+            return Ok(None);
         }
         let base = self.start.first_place_in();
         let layout = self.start.expecting();
         let start = layout.start_of(self.arrived.floor() - base);
         let Some(fpdu) = frame_at(layout, &self.arrived, base, start) else {
-            return Step::Idle;
+            return Ok(None);
         };
         let Some(front) = front(&fpdu) else {
-            return self.judge_any(memory);
+            return Err(Apart);
         };
         let Some(head) = tagged_head(front) else {
-            return self.judge_any(memory);
+            return Err(Apart);
         };
         let response = is_response(&head);
         match land_tagged(response, head, &fpdu, self.domain, &self.reads, memory) {
-            // Nothing has changed: it is judged again, apart.
-            Err(_) => self.judge_any(memory),
+            Err(_) => Err(Apart),
             Ok(placed) => {
                 keep_tagged(&mut self.front, &fpdu, front, start);
-                placed_step(right_of(response), placed)
+                Ok(Some(landing_of(response, placed)))
             }
         }
     }
 
     // Judges the frame at the in-order point, whatever it is, where it is whole.
-    #[inline(always)]
-    fn judge_any(&mut self, memory: &mut Memory<A>) -> Step<Octets<A>>
-        requires open { is_open self.old.start ≡ true }
-        requires runs { ended self.old ≡ false }
-        requires place { self.old.arrived.floor + 2 ^ 18 ≤ 2 ^ 63 }
-        ensures step { result ≡ step_of memory.old self.old (option_map_or Judge (next_frame self.old) Rest) }
-        ensures after { self.new ≡ left_by memory.old self.old (option_map_or Judge (next_frame self.old) Rest) }
-        ensures memory { memory.new ≡ table_left memory.old self.old (option_map_or Judge (next_frame self.old) Rest) }
-        ensures reach { self.new.arrived.floor ≤ self.old.arrived.floor + 2 ^ 18 }
-        ensures within { IsWithinBuffer result }
-    {
-        self.judge_apart(memory)
-    }
-
-    // The same, in a call of its own.
     #[inline(never)]
     fn judge_apart(&mut self, memory: &mut Memory<A>) -> Step<Octets<A>>
         requires open { is_open self.old.start ≡ true }
         requires runs { ended self.old ≡ false }
         requires place { self.old.arrived.floor + 2 ^ 18 ≤ 2 ^ 63 }
+        requires over { (frame : Frame) → next_frame self.old ≡ Some frame → NoneReachesOver self.old (placed frame) }
         ensures step { result ≡ step_of memory.old self.old (option_map_or Judge (next_frame self.old) Rest) }
         ensures after { self.new ≡ left_by memory.old self.old (option_map_or Judge (next_frame self.old) Rest) }
         ensures memory { memory.new ≡ table_left memory.old self.old (option_map_or Judge (next_frame self.old) Rest) }
@@ -151,6 +246,7 @@ impl<A: Allocator> Stream<A> {
         requires place { self.old.arrived.floor + 2 ^ 18 ≤ 2 ^ 63 }
         requires runs { ended self.old ≡ false }
         requires stands { Stands self.old frame }
+        requires over { NoneReachesOver self.old frame }
         requires header { length frame.header.items ≡ UNTAGGED_HEADER }
         requires room { length self.old.asked.unanswered < 16 }
         requires range { IsInRange request }
@@ -185,6 +281,7 @@ impl<A: Allocator> Stream<A> {
         requires place { self.old.arrived.floor + 2 ^ 18 ≤ 2 ^ 63 }
         requires runs { ended self.old ≡ false }
         requires stands { Stands self.old frame }
+        requires over { NoneReachesOver self.old frame }
         ensures step { result ≡ judged_step (Ok (Landing.Terminate fault)) }
         ensures after { self.new ≡ ends (behind self.old frame) }
         ensures reach { self.new.arrived.floor ≤ self.old.arrived.floor + 2 ^ 18 }
@@ -197,5 +294,123 @@ impl<A: Allocator> Stream<A> {
         self.arrived.advance(place);
         self.ending = Ending::Over(None);
         Step::Terminated(fault)
+    }
+
+    // Does the step that has to do with frames, where some were judged early.
+    #[inline(never)]
+    pub(crate) fn work_among(
+        &mut self,
+        memory: &mut Memory<A>,
+    ) -> Result<Step<Octets<A>>, AllocError>
+        requires open { is_open self.old.start ≡ true }
+        requires runs { ended self.old ≡ false }
+        requires place { self.old.arrived.floor ≤ 2 ^ 62 }
+        requires front { self.old.front ≡ None }
+        ensures step { IfOk result (λ step. step ≡ step_of memory.old self.old (frame_task self.old)) }
+        ensures after { OnOk result (self.new ≡ left_by memory.old self.old (frame_task self.old)) }
+        ensures memory { OnOk result (memory.new ≡ table_left memory.old self.old (frame_task self.old)) }
+        ensures err { OnErr result ((self.new ≡ self.old) × (memory.new ≡ memory.old)) }
+        ensures want { OnErr result (IsTry (frame_task self.old)) }
+        ensures reach { self.new.arrived.floor ≤ self.old.arrived.floor + 2 ^ 18 }
+        ensures within { IfOk result IsWithinBuffer }
+    {
+        match self.waiting() {
+            Some(frame) => Ok(self.turn_checked(frame, memory)),
+            None => self.judge_among(memory),
+        }
+    }
+
+    // Judges the frame at the in-order point, where it is whole, or else one before its turn.
+    fn judge_among(&mut self, memory: &mut Memory<A>) -> Result<Step<Octets<A>>, AllocError>
+        requires open { is_open self.old.start ≡ true }
+        requires runs { ended self.old ≡ false }
+        requires place { self.old.arrived.floor ≤ 2 ^ 62 }
+        requires waiting { waiting self.old ≡ None }
+        ensures step { IfOk result (λ step. step ≡ step_of memory.old self.old (frame_task self.old)) }
+        ensures after { OnOk result (self.new ≡ left_by memory.old self.old (frame_task self.old)) }
+        ensures memory { OnOk result (memory.new ≡ table_left memory.old self.old (frame_task self.old)) }
+        ensures err { OnErr result ((self.new ≡ self.old) × (memory.new ≡ memory.old)) }
+        ensures want { OnErr result (IsTry (frame_task self.old)) }
+        ensures reach { self.new.arrived.floor ≤ self.old.arrived.floor + 2 ^ 18 }
+        ensures within { IfOk result IsWithinBuffer }
+    {
+        // Its contract has what is so of the records.
+        let _ = self.arrived.records();
+        let base = self.start.first_place_in();
+        let layout = self.start.expecting();
+        let start = layout.start_of(self.arrived.floor() - base);
+        let Some(fpdu) = frame_at(layout, &self.arrived, base, start) else {
+            return self.try_early(memory);
+        };
+        if self.arrived.overlaps_placed(start, fpdu.end()) {
+            let fault = Fault::MARKER_MISMATCH;
+            self.ending = end_judged(&fpdu, fault, &self.asked, &self.start, &self.arrived);
+            return Ok(Step::Fault(fault));
+        }
+        Ok(self.judge_apart(memory))
+    }
+
+    // Judges the frame at the lowest place where one can be judged early, where that at the in-order point is not whole.
+    #[inline(always)]
+    pub(crate) fn try_early(
+        &mut self,
+        memory: &mut Memory<A>,
+    ) -> Result<Step<Octets<A>>, AllocError>
+        requires open { is_open self.old.start ≡ true }
+        requires runs { ended self.old ≡ false }
+        requires place { self.old.arrived.floor ≤ 2 ^ 62 }
+        requires waiting { waiting self.old ≡ None }
+        requires lacking { next_frame self.old ≡ None }
+        ensures step { IfOk result (λ step. step ≡ step_of memory.old self.old (option_map_or Try (early_frame self.old) Rest)) }
+        ensures after { OnOk result (self.new ≡ left_by memory.old self.old (option_map_or Try (early_frame self.old) Rest)) }
+        ensures memory { OnOk result (memory.new ≡ table_left memory.old self.old (option_map_or Try (early_frame self.old) Rest)) }
+        ensures err { OnErr result ((self.new ≡ self.old) × (memory.new ≡ memory.old)) }
+        ensures want { OnErr result (is_some (early_frame self.old) ≡ true) }
+        ensures floor { self.new.arrived.floor ≡ self.old.arrived.floor }
+        ensures within { IfOk result IsWithinBuffer }
+    {
+        // Its contract has what is so of the records.
+        let _ = self.arrived.records();
+        if self.arrived.is_quiet() {
+            return Ok(Step::Idle);
+        }
+        self.try_apart(memory)
+    }
+
+    // The same, in a call of its own, with a search.
+    #[inline(never)]
+    fn try_apart(&mut self, memory: &mut Memory<A>) -> Result<Step<Octets<A>>, AllocError>
+        requires open { is_open self.old.start ≡ true }
+        requires runs { ended self.old ≡ false }
+        requires place { self.old.arrived.floor ≤ 2 ^ 62 }
+        requires waiting { waiting self.old ≡ None }
+        requires lacking { next_frame self.old ≡ None }
+        ensures step { IfOk result (λ step. step ≡ step_of memory.old self.old (option_map_or Try (early_frame self.old) Rest)) }
+        ensures after { OnOk result (self.new ≡ left_by memory.old self.old (option_map_or Try (early_frame self.old) Rest)) }
+        ensures memory { OnOk result (memory.new ≡ table_left memory.old self.old (option_map_or Try (early_frame self.old) Rest)) }
+        ensures err { OnErr result ((self.new ≡ self.old) × (memory.new ≡ memory.old)) }
+        ensures want { OnErr result (is_some (early_frame self.old) ≡ true) }
+        ensures floor { self.new.arrived.floor ≡ self.old.arrived.floor }
+        ensures within { IfOk result IsWithinBuffer }
+    {
+        // Its contract has what is so of the records.
+        let _ = self.arrived.records();
+        let Some(frame) = self.arrived.next_early() else {
+            return Ok(Step::Idle);
+        };
+        self.arrived.ready()?;
+        let place = self.start.first_place_in() + frame.start;
+        match judge_early(
+            frame,
+            &mut self.arrived,
+            self.domain,
+            &self.reads,
+            &self.asked,
+            memory,
+            &mut self.receiving,
+        ) {
+            None => Ok(Step::Tried(place)),
+            Some(landing) => Ok(landed_step(landing)),
+        }
     }
 }

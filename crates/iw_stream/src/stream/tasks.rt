@@ -1,54 +1,114 @@
-ghost use Rattle.std.specs.Prelude.{◌≡◌, ◌+◌, ◌≤◌, ◌^◌, true};
+ghost use Rattle.std.specs.Prelude.{◌≡◌, ◌+◌, ◌≤◌, ◌^◌, true, false, IfOk, OnOk, OnErr};
 ghost use Rattle.iw_memory.specs.Table.{Table};
-ghost use Rattle.iw_stream.specs.Starting.{awaits_frame};
+ghost use Rattle.iw_stream.specs.Starting.{is_open, awaits_frame};
 
 use super::Stream;
+use super::judgement::landed_step;
 use crate::answer::Step;
 use crate::ending::Ending;
 use crate::starting::octets_in_order;
 use iw_memory::Memory;
 use iw_octets::Octets;
 use iw_startup::Progress;
-use std::alloc::Allocator;
+use std::alloc::{AllocError, Allocator};
 
 impl<A: Allocator> Stream<A> {
     ghost use Rattle.iw_stream.specs.Stream.{ended};
-    ghost use Rattle.iw_stream.specs.Work.{Hear, handing_back, step_of, left_by, work_step, worked, table_worked};
+    ghost use Rattle.iw_stream.specs.Work.{Hear, IsTry, task, frame_task, handing_back};
+    ghost use Rattle.iw_stream.specs.Work.{step_of, left_by, table_left, work_step, worked, table_worked};
     ghost use Rattle.iw_stream.specs.Kept.{IsWithinBuffer};
 
     /// Does one step: hands out a finished message, or reads the peer's start-up frame, or gives the frame at the in-order
     /// point, where it was placed, its turn, or judges and places it. A Read Request and a Terminate have their turn as they
     /// are judged. A region that a Send invalidates goes out of use in the step that completes the Send.
     ///
+    /// Where the frame at the in-order point is not whole and the peer sends markers, a later frame that they tell of is judged
+    /// before its turn (RFC 5044 4.3): one of a Write or a Read Response that passes its checks is placed, and any other is left
+    /// as it is.
+    ///
+    /// An `Err` is want of memory for the record of such a frame, and changes nothing.
+    ///
     /// Where the stream has ended, each posted message is handed out in posting order, as finished or as given up, and then
     /// each receive buffer.
     #[inline(always)]
-    pub fn work(&mut self, memory: &mut Memory<A>) -> Step<Octets<A>>
-        requires { self.old.arrived.floor + 2 ^ 18 ≤ 2 ^ 63 }
-        ensures step { result ≡ work_step memory.old self.old }
-        ensures after { self.new ≡ worked memory.old self.old }
-        ensures memory { memory.new ≡ table_worked memory.old self.old }
+    pub fn work(&mut self, memory: &mut Memory<A>) -> Result<Step<Octets<A>>, AllocError>
+        requires { self.old.arrived.floor ≤ 2 ^ 62 }
+        ensures step { IfOk result (λ step. step ≡ work_step memory.old self.old) }
+        ensures after { OnOk result (self.new ≡ worked memory.old self.old) }
+        ensures memory { OnOk result (memory.new ≡ table_worked memory.old self.old) }
+        ensures err { OnErr result ((self.new ≡ self.old) × (memory.new ≡ memory.old)) }
+        // It comes only where a frame is judged early.
+        ensures want { OnErr result (IsTry (task self.old)) }
         // The in-order point moves on by no more than may have come, and a message lies in its buffer.
         ensures reach { self.new.arrived.floor ≤ self.old.arrived.floor + 2 ^ 18 }
-        ensures within { IsWithinBuffer result }
+        ensures within { IfOk result IsWithinBuffer }
     {
         if let Some(done) = self.queue.next() {
-            return Step::Done(done.kind);
+            return Ok(Step::Done(done.kind));
         }
         if self.ending.has_ended() {
-            return self.hand_back();
+            return Ok(self.hand_back());
         }
         if self.start.awaits_frame() {
-            return self.hear();
+            return Ok(self.hear());
         }
         if !self.start.is_open() {
-            return Step::Idle;
+            return Ok(Step::Idle);
         }
+        self.work_frames(memory)
+    }
+
+    // Does the step of an open stream that has to do with frames.
+    #[inline(always)]
+    fn work_frames(&mut self, memory: &mut Memory<A>) -> Result<Step<Octets<A>>, AllocError>
+        requires open { is_open self.old.start ≡ true }
+        requires runs { ended self.old ≡ false }
+        requires place { self.old.arrived.floor ≤ 2 ^ 62 }
+        ensures step { IfOk result (λ step. step ≡ step_of memory.old self.old (frame_task self.old)) }
+        ensures after { OnOk result (self.new ≡ left_by memory.old self.old (frame_task self.old)) }
+        ensures memory { OnOk result (memory.new ≡ table_left memory.old self.old (frame_task self.old)) }
+        ensures err { OnErr result ((self.new ≡ self.old) × (memory.new ≡ memory.old)) }
+        ensures want { OnErr result (IsTry (frame_task self.old)) }
+        ensures reach { self.new.arrived.floor ≤ self.old.arrived.floor + 2 ^ 18 }
+        ensures within { IfOk result IsWithinBuffer }
+    {
         if self.front.is_some() {
-            self.turn(memory)
-        } else {
-            self.judge(memory)
+            if self.turn() {
+                return Ok(Step::Passed);
+            }
+            return self.frames_apart(memory);
         }
+        if self.arrived.records() > 0 {
+            return self.frames_apart(memory);
+        }
+        let Ok(found) = self.judge(memory) else {
+            return self.frames_apart(memory);
+        };
+        let Some(landing) = found else {
+            return self.try_early(memory);
+        };
+        Ok(landed_step(landing))
+    }
+
+    // The same, in a call of its own: for frames of other kinds than Writes and Read Responses, for those with a fault, and
+    // where some were judged early.
+    #[inline(never)]
+    fn frames_apart(&mut self, memory: &mut Memory<A>) -> Result<Step<Octets<A>>, AllocError>
+        requires open { is_open self.old.start ≡ true }
+        requires runs { ended self.old ≡ false }
+        requires place { self.old.arrived.floor ≤ 2 ^ 62 }
+        ensures step { IfOk result (λ step. step ≡ step_of memory.old self.old (frame_task self.old)) }
+        ensures after { OnOk result (self.new ≡ left_by memory.old self.old (frame_task self.old)) }
+        ensures memory { OnOk result (memory.new ≡ table_left memory.old self.old (frame_task self.old)) }
+        ensures err { OnErr result ((self.new ≡ self.old) × (memory.new ≡ memory.old)) }
+        ensures want { OnErr result (IsTry (frame_task self.old)) }
+        ensures reach { self.new.arrived.floor ≤ self.old.arrived.floor + 2 ^ 18 }
+        ensures within { IfOk result IsWithinBuffer }
+    {
+        if self.front.is_some() {
+            return Ok(self.turn_apart(memory));
+        }
+        self.work_among(memory)
     }
 
     // Reads the peer's start-up frame off the octets that came, once it is whole or at fault.
@@ -90,7 +150,7 @@ impl<A: Allocator> Stream<A> {
         }
     }
 
-    // Hands out the oldest message, which is not finished, or behind them all the oldest receive buffer.
+    // Hands out the oldest message, which is not finished, or after them all the oldest receive buffer.
     #[inline(always)]
     fn hand_back(&mut self) -> Step<Octets<A>>
         requires ended { ended self.old ≡ true }

@@ -1,10 +1,11 @@
-ghost use Rattle.std.specs.Prelude.{◌≡◌, ◌+◌, ◌≤◌, ◌^◌, true, false, IsSome};
+ghost use Rattle.std.specs.Prelude.{◌≡◌, ◌+◌, ◌≤◌, ◌^◌, true, false, IsSome, IsTrue, Some, None};
 ghost use Rattle.std.specs.Option.{option_map_or};
+ghost use Rattle.iw_memory.specs.Table.{Table};
 ghost use Rattle.iw_stream.specs.Starting.{is_open};
 
 use super::Stream;
 use crate::answer::Step;
-use crate::judging::Turning;
+use crate::judging::{PlacedFrame, Turning};
 use crate::terminating::{over, terminate_turned};
 use crate::turning::{is_response, turn_frame, turn_reads};
 use iw_memory::Memory;
@@ -15,57 +16,41 @@ use std::alloc::Allocator;
 
 impl<A: Allocator> Stream<A> {
     ghost use Rattle.iw_stream.specs.Stream.{ended};
-    ghost use Rattle.iw_stream.specs.Work.{Turn, Rest, step_of, left_by, table_left};
+    ghost use Rattle.iw_stream.specs.Work.{Turn, Rest, waiting, step_of, left_by, table_left};
     ghost use Rattle.iw_stream.specs.Kept.{IsWithinBuffer};
 
-    // Gives the frame at the in-order point, which was placed, its turn. That of a Write has no check.
+    // Gives the frame of a Write at the in-order point, which was placed, its turn, which has no check, and tells whether it
+    // did. Of any other frame it changes nothing.
     #[inline(always)]
-    pub(crate) fn turn(&mut self, memory: &mut Memory<A>) -> Step<Octets<A>>
+    pub(crate) fn turn(&mut self) -> bool
         requires open { is_open self.old.start ≡ true }
         requires runs { ended self.old ≡ false }
-        requires placed { IsSome self.old.front }
         requires place { self.old.arrived.floor + 2 ^ 18 ≤ 2 ^ 63 }
-        ensures step { result ≡ step_of memory.old self.old (option_map_or Turn self.old.front Rest) }
-        ensures after { self.new ≡ left_by memory.old self.old (option_map_or Turn self.old.front Rest) }
-        ensures memory { memory.new ≡ table_left memory.old self.old (option_map_or Turn self.old.front Rest) }
+        ensures step { (table : Table) → IsTrue result → step_of table self.old (option_map_or Turn self.old.front Rest) ≡ Step.Passed }
+        ensures after { (table : Table) → IsTrue result → self.new ≡ left_by table self.old (option_map_or Turn self.old.front Rest) }
+        ensures memory { (table : Table) → IsTrue result → table_left table self.old (option_map_or Turn self.old.front Rest) ≡ table }
+        ensures kept { result ≡ false → self.new ≡ self.old }
         ensures reach { self.new.arrived.floor ≤ self.old.arrived.floor + 2 ^ 18 }
-        ensures within { IsWithinBuffer result }
     {
         let Some(frame) = &self.front else {
-            return Step::Idle;
+            return false;
         };
         let Some(head) = tagged_head(frame.header.as_slice()) else {
-            return self.turn_any(memory);
+            return false;
         };
         if is_response(&head) {
-            return self.turn_any(memory);
+            return false;
         }
         let end = self.start.expecting().end_of(frame.start, frame.len);
         let place = self.start.first_place_in() + end;
         self.front = None;
         self.arrived.advance(place);
-        Step::Passed
+        true
     }
 
-    // Gives the frame at the in-order point, which was placed, its turn, whatever it is.
-    #[inline(always)]
-    fn turn_any(&mut self, memory: &mut Memory<A>) -> Step<Octets<A>>
-        requires open { is_open self.old.start ≡ true }
-        requires runs { ended self.old ≡ false }
-        requires placed { IsSome self.old.front }
-        requires place { self.old.arrived.floor + 2 ^ 18 ≤ 2 ^ 63 }
-        ensures step { result ≡ step_of memory.old self.old (option_map_or Turn self.old.front Rest) }
-        ensures after { self.new ≡ left_by memory.old self.old (option_map_or Turn self.old.front Rest) }
-        ensures memory { memory.new ≡ table_left memory.old self.old (option_map_or Turn self.old.front Rest) }
-        ensures reach { self.new.arrived.floor ≤ self.old.arrived.floor + 2 ^ 18 }
-        ensures within { IsWithinBuffer result }
-    {
-        self.turn_apart(memory)
-    }
-
-    // The same, in a call of its own. Most are Read Responses.
+    // Gives the frame at the in-order point, which was placed, its turn, whatever it is. Most are Read Responses.
     #[inline(never)]
-    fn turn_apart(&mut self, memory: &mut Memory<A>) -> Step<Octets<A>>
+    pub(crate) fn turn_apart(&mut self, memory: &mut Memory<A>) -> Step<Octets<A>>
         requires open { is_open self.old.start ≡ true }
         requires runs { ended self.old ≡ false }
         requires placed { IsSome self.old.front }
@@ -80,13 +65,13 @@ impl<A: Allocator> Stream<A> {
             return Step::Idle;
         };
         let Some(head) = tagged_head(frame.header.as_slice()) else {
-            return self.turn_checked(memory);
+            return self.turn_front(memory);
         };
         let end = self.start.expecting().end_of(frame.start, frame.len);
         let place = self.start.first_place_in() + end;
         match turn_reads(head, frame.payload_len(), &mut self.reads) {
             // Nothing has changed.
-            Err(_) => self.turn_checked(memory),
+            Err(_) => self.turn_front(memory),
             Ok(None) => {
                 self.front = None;
                 self.arrived.advance(place);
@@ -101,9 +86,9 @@ impl<A: Allocator> Stream<A> {
         }
     }
 
-    // Gives the frame at the in-order point, which was placed, its turn by the checks of its kind.
+    // Gives the frame that was placed at the in-order point its turn by the checks of its kind.
     #[inline(never)]
-    fn turn_checked(&mut self, memory: &mut Memory<A>) -> Step<Octets<A>>
+    fn turn_front(&mut self, memory: &mut Memory<A>) -> Step<Octets<A>>
         requires open { is_open self.old.start ≡ true }
         requires runs { ended self.old ≡ false }
         requires placed { IsSome self.old.front }
@@ -117,10 +102,45 @@ impl<A: Allocator> Stream<A> {
         let Some(frame) = &self.front else {
             return Step::Idle;
         };
+        let frame = frame.copied();
+        self.turn_checked(frame, memory)
+    }
+
+    // What is kept of the frame at the in-order point, where it was placed, there or before its turn.
+    pub(crate) fn waiting(&self) -> Option<PlacedFrame>
+        requires none { self.now.front ≡ None }
+        requires place { self.now.arrived.floor ≤ 2 ^ 62 }
+        ensures { result ≡ waiting self.now }
+    {
+        let layout = self.start.expecting();
+        let place = self.arrived.floor() - self.start.first_place_in();
+        self.arrived.placed_at(layout.start_of(place))
+    }
+
+    // Gives the frame at the in-order point, which was placed, there or before its turn, its turn by the checks of its kind.
+    #[inline(never)]
+    pub(crate) fn turn_checked(
+        &mut self,
+        frame: PlacedFrame,
+        memory: &mut Memory<A>,
+    ) -> Step<Octets<A>>
+        requires open { is_open self.old.start ≡ true }
+        requires runs { ended self.old ≡ false }
+        requires waiting { waiting self.old ≡ Some frame }
+        requires place { self.old.arrived.floor + 2 ^ 18 ≤ 2 ^ 63 }
+        ensures step { result ≡ step_of memory.old self.old (Turn frame) }
+        ensures after { self.new ≡ left_by memory.old self.old (Turn frame) }
+        ensures memory { memory.new ≡ table_left memory.old self.old (Turn frame) }
+        ensures reach { self.new.arrived.floor ≤ self.old.arrived.floor + 2 ^ 18 }
+        ensures within { IsWithinBuffer result }
+    {
+        // Its contract has what is so of the records.
+        let _ = self.arrived.records();
+        let _ = self.arrived.floor();
         let end = self.start.expecting().end_of(frame.start, frame.len);
         let place = self.start.first_place_in() + end;
         let turning = match turn_frame(
-            frame,
+            &frame,
             self.domain,
             &mut self.reads,
             memory,
@@ -128,7 +148,7 @@ impl<A: Allocator> Stream<A> {
         ) {
             Ok(turning) => turning,
             Err(fault) => {
-                self.ending = over(terminate_turned(frame, fault), &self.start, &self.arrived);
+                self.ending = over(terminate_turned(&frame, fault), &self.start, &self.arrived);
                 return Step::Fault(fault);
             }
         };

@@ -9,8 +9,8 @@ use Rattle.iw_stream.proofs.Opening.{fresh_octets, told_of}
 use Rattle.iw_stream.proofs.Started.{used_part, part_short}
 use Rattle.iw_stream.proofs.starting.Start.hear.Goals as goal
 
-pub advance-requires-clause-come : goal.advance-requires-clause-come
-advance-requires-clause-come g c =
+pub begin-requires-clause-come : goal.begin-requires-clause-come
+begin-requires-clause-come g c =
     let u = c.in-Some.startup in
     let a = c.args.arrived.now.arrived in
     let s = c.self.inside in
@@ -18,8 +18,8 @@ advance-requires-clause-come g c =
     let is : c.push-used.result.0 ≡ length (frame_part u.side (in_order a)) = c.push-used.ensures.used ∙ ap (used u) c.octets_in_order.ensures.octets ∙ used_part u (in_order a) fresh in
     all_come a c.push-used.result.0 (omega (arith, is, part_short u (in_order a)))
 
-pub advance-requires-clause-place : goal.advance-requires-clause-place
-advance-requires-clause-place g c =
+pub begin-requires-clause-near : goal.begin-requires-clause-near
+begin-requires-clause-near g c =
     let u = c.in-Some.startup in
     let a = c.args.arrived.now.arrived in
     let s = c.self.inside in
@@ -35,7 +35,7 @@ returns-in-Some-agreed-clause-arrived g c =
     let fresh : c.in-Some.startup.octets ≡ [] = fresh_octets s.frames s.heard s.sending u c.in-Some.is (ap awaits_frame c.self.view_is ∙ c.requires.awaits) c.self.invariant.fresh in
     let is : c.push-used.result.0 ≡ length (frame_part u.side (in_order a)) = c.push-used.ensures.used ∙ ap (used u) c.octets_in_order.ensures.octets ∙ used_part u (in_order a) fresh in
     let now : c.push-used.new.self ≡ pushed u (in_order a) = c.push-used.ensures.after ∙ ap (pushed u) c.octets_in_order.ensures.octets in
-    c.advance.ensures.arrived ∙ ap (advanced a) (is ∙ sym (ap length (ap (λ v. v.octets) now ∙ octets-pushed u (in_order a) fresh)))
+    c.begin.ensures.arrived ∙ ap (advanced a) (is ∙ sym (ap length (ap (λ v. v.octets) now ∙ octets-pushed u (in_order a) fresh)))
 
 pub returns-in_default-agreed-clause-arrived : goal.returns-in_default-agreed-clause-arrived
 returns-in_default-agreed-clause-arrived g c =
@@ -45,7 +45,7 @@ returns-in_default-agreed-clause-arrived g c =
     let fresh : c.in-Some.startup.octets ≡ [] = fresh_octets s.frames s.heard s.sending u c.in-Some.is (ap awaits_frame c.self.view_is ∙ c.requires.awaits) c.self.invariant.fresh in
     let is : c.push-used.result.0 ≡ length (frame_part u.side (in_order a)) = c.push-used.ensures.used ∙ ap (used u) c.octets_in_order.ensures.octets ∙ used_part u (in_order a) fresh in
     let now : c.push-used.new.self ≡ pushed u (in_order a) = c.push-used.ensures.after ∙ ap (pushed u) c.octets_in_order.ensures.octets in
-    c.advance.ensures.arrived ∙ ap (advanced a) (is ∙ sym (ap length (ap (λ v. v.octets) now ∙ octets-pushed u (in_order a) fresh)))
+    c.begin.ensures.arrived ∙ ap (advanced a) (is ∙ sym (ap length (ap (λ v. v.octets) now ∙ octets-pushed u (in_order a) fresh)))
 
 pub returns-in-Some-agreed-clause-agreed : goal.returns-in-Some-agreed-clause-agreed
 returns-in-Some-agreed-clause-agreed g c = λ e.
@@ -74,3 +74,23 @@ returns-in_default-agreed-clause-few g c =
     let fresh : c.in-Some.startup.octets ≡ [] = fresh_octets s.frames s.heard s.sending u c.in-Some.is (ap awaits_frame c.self.view_is ∙ c.requires.awaits) c.self.invariant.fresh in
     let now : c.push-used.new.self ≡ pushed u (in_order a) = c.push-used.ensures.after ∙ ap (pushed u) c.octets_in_order.ensures.octets in
     omega (arith, ap length (ap (λ v. v.octets) now ∙ octets-pushed u (in_order a) fresh), part_short u (in_order a), c.octets_in_order.ensures.few, ap length c.octets_in_order.ensures.octets)
+
+pub returns-in-Some-agreed-clause-base : goal.returns-in-Some-agreed-clause-base
+returns-in-Some-agreed-clause-base g c =
+    let u = c.in-Some.startup in
+    let a = c.args.arrived.now.arrived in
+    let s = c.self.inside in
+    let fresh : c.in-Some.startup.octets ≡ [] = fresh_octets s.frames s.heard s.sending u c.in-Some.is (ap awaits_frame c.self.view_is ∙ c.requires.awaits) c.self.invariant.fresh in
+    let is : c.push-used.result.0 ≡ length (frame_part u.side (in_order a)) = c.push-used.ensures.used ∙ ap (used u) c.octets_in_order.ensures.octets ∙ used_part u (in_order a) fresh in
+    let now : c.push-used.new.self ≡ pushed u (in_order a) = c.push-used.ensures.after ∙ ap (pushed u) c.octets_in_order.ensures.octets in
+    c.begin.ensures.base ∙ is ∙ sym (ap length (ap (λ v. v.octets) now ∙ octets-pushed u (in_order a) fresh))
+
+pub returns-in_default-agreed-clause-base : goal.returns-in_default-agreed-clause-base
+returns-in_default-agreed-clause-base g c =
+    let u = c.in-Some.startup in
+    let a = c.args.arrived.now.arrived in
+    let s = c.self.inside in
+    let fresh : c.in-Some.startup.octets ≡ [] = fresh_octets s.frames s.heard s.sending u c.in-Some.is (ap awaits_frame c.self.view_is ∙ c.requires.awaits) c.self.invariant.fresh in
+    let is : c.push-used.result.0 ≡ length (frame_part u.side (in_order a)) = c.push-used.ensures.used ∙ ap (used u) c.octets_in_order.ensures.octets ∙ used_part u (in_order a) fresh in
+    let now : c.push-used.new.self ≡ pushed u (in_order a) = c.push-used.ensures.after ∙ ap (pushed u) c.octets_in_order.ensures.octets in
+    c.begin.ensures.base ∙ is ∙ sym (ap length (ap (λ v. v.octets) now ∙ octets-pushed u (in_order a) fresh))

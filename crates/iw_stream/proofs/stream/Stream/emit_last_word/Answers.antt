@@ -13,17 +13,21 @@ use Rattle.iw_stream.proofs.Keeping.{aligned_behind, keeps_over, keeps_sent, ope
 use Rattle.iw_stream.proofs.stream.Stream.emit_last_word.Goals as goal
 
 pub invariant_of-self : goal.invariant_of-self
-invariant_of-self g c =
-    let s = state_of c.self.inside in
-    let first = c.first_place_out.result in
-    let u = segment_octets (Untagged terminate_head c.as_slice.result.now) in
-    let frame = frame_octets c.sending.result (s.sent - first) u in
-    let running : is_open (state_of c.self.inside).start ≡ true = opened_last (state_of c.self.inside) (subst (λ (t : StreamState). IsSome (last_word t.ending)) (sym c.self.view_is) c.requires.due) c.self.invariant in
-    let low : first_place_out (state_of c.self.inside).start ≤ (state_of c.self.inside).sent = subst (λ (t : StreamState). first_place_out t.start ≤ t.sent) (sym c.self.view_is) c.requires.owed in
-    let at : c.first_place_out.result ≡ first_place_out (state_of c.self.inside).start = c.first_place_out.ensures.place in
-    let long : length c.write_terminate.new.out.items ≡ length c.args.out.now.items + length frame = ap length c.in_ok-write_terminate.ensures.ok ∙ length-append c.args.out.now.items frame in
-    let all : s.sent - first_place_out (state_of c.self.inside).start + (c.len.result - c.len-before.result) ≡ s.sent - first + length frame = omega (arith, long, c.len.ensures, c.len-before.ensures, at) in
-    keeps_over (record s { sent = s.sent + (c.len.result - c.len-before.result) }) (Over None) running refl
-    (keeps_sent s s.queue s.numbers (c.len.result - c.len-before.result) s.reads s.asked running low
-    (ap (λ n. n % 4) all ∙ aligned_behind c.sending.result (s.sent - first) u (ap (λ n. (s.sent - n) % 4) at ∙ c.self.invariant.aligned))
-    c.self.invariant.first c.self.invariant.awaited c.self.invariant)
+invariant_of-self g c = record {
+  keeps =
+      let s = state_of c.self.inside in
+      let first = c.first_place_out.result in
+      let u = segment_octets (Untagged terminate_head c.as_slice.result.now) in
+      let frame = frame_octets c.sending.result (s.sent - first) u in
+      let running : is_open (state_of c.self.inside).start ≡ true = opened_last (state_of c.self.inside) (subst (λ (t : StreamState). IsSome (last_word t.ending)) (sym c.self.view_is) c.requires.due) c.self.invariant.keeps in
+      let low : first_place_out (state_of c.self.inside).start ≤ (state_of c.self.inside).sent = subst (λ (t : StreamState). first_place_out t.start ≤ t.sent) (sym c.self.view_is) c.requires.owed in
+      let at : c.first_place_out.result ≡ first_place_out (state_of c.self.inside).start = c.first_place_out.ensures.place in
+      let long : length c.write_terminate.new.out.items ≡ length c.args.out.now.items + length frame = ap length c.in_ok-write_terminate.ensures.ok ∙ length-append c.args.out.now.items frame in
+      let all : s.sent - first_place_out (state_of c.self.inside).start + (c.len.result - c.len-before.result) ≡ s.sent - first + length frame = omega (arith, long, c.len.ensures, c.len-before.ensures, at) in
+      keeps_over (record s { sent = s.sent + (c.len.result - c.len-before.result) }) (Over None) running refl
+      (keeps_sent s s.queue s.numbers (c.len.result - c.len-before.result) s.reads s.asked running low
+      (ap (λ n. n % 4) all ∙ aligned_behind c.sending.result (s.sent - first) u (ap (λ n. (s.sent - n) % 4) at ∙ c.self.invariant.keeps.aligned))
+      c.self.invariant.keeps.first c.self.invariant.keeps.awaited c.self.invariant.keeps);
+  layout = c.self.invariant.layout;
+  base = c.self.invariant.base;
+}

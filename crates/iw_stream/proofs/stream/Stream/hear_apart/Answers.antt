@@ -1,35 +1,47 @@
 use Rattle.std.proofs.Common.{◌≡◌, true, Some, None, refl, ap, sym, ◌∙◌, subst, arith}
 use Rattle.std.specs.Prelude.{IfSome}
-use Rattle.iw_ranges.specs.Arrived.{in_order}
+use Rattle.iw_ranges.specs.Arrived.{in_order, advanced}
 use Rattle.iw_stream.specs.Fields.{state_of}
 use Rattle.iw_startup.specs.declared.progress.Progress.TheVariants as progress
 use Rattle.iw_stream.specs.declared.answer.Step.TheVariants as steps
 use Rattle.iw_stream.specs.Starting.{awaits_frame, first_place_in, progress_in, agreed_in, agreement_in}
-use Rattle.iw_stream.specs.Work.{heard_step}
+use Rattle.iw_stream.specs.Work.{Hear, heard_step, after_hearing, left_by}
 use Rattle.iw_stream.specs.Stream.{StreamState}
 use Rattle.iw_stream.specs.declared.ending.Ending.TheVariants.{Over}
 use Rattle.iw_stream.proofs.Keeping.{keeps_ended, reaches}
-use Rattle.iw_stream.proofs.Opening.{keeps_heard}
+use Rattle.iw_stream.proofs.Opening.{keeps_heard, awaits_closed}
 use Rattle.iw_stream.proofs.stream.Stream.hear_apart.Goals as goal
 
 pub invariant_of-self : goal.invariant_of-self
-invariant_of-self g c =
-    let s = state_of c.self.inside in
-    let awaits : awaits_frame (state_of c.self.inside).start ≡ true = ap (λ (t : StreamState). awaits_frame t.start) c.self.view_is ∙ c.requires in
-    keeps_heard s (in_order s.arrived) c.hear.new.self c.hear.new.arrived.arrived awaits c.hear.ensures.after c.hear.ensures.arrived c.self.invariant
+invariant_of-self g c = record {
+  keeps =
+      let s = state_of c.self.inside in
+      let awaits : awaits_frame (state_of c.self.inside).start ≡ true = ap (λ (t : StreamState). awaits_frame t.start) c.self.view_is ∙ c.requires in
+      keeps_heard s (in_order s.arrived) c.hear.new.self c.hear.new.arrived.arrived c.hear.new.arrived.early awaits c.hear.ensures.after c.hear.ensures.arrived c.hear.ensures.early c.self.invariant.keeps;
+  layout = c.hear.ensures.layout;
+  base = c.hear.ensures.base;
+}
 
 pub invariant_of-self-in-Agreed : goal.invariant_of-self-in-Agreed
-invariant_of-self-in-Agreed g c =
-    let s = state_of c.self.inside in
-    let awaits : awaits_frame (state_of c.self.inside).start ≡ true = ap (λ (t : StreamState). awaits_frame t.start) c.self.view_is ∙ c.requires in
-    keeps_heard s (in_order s.arrived) c.hear-in-Agreed.new.self c.hear-in-Agreed.new.arrived.arrived awaits c.hear-in-Agreed.ensures.after c.hear-in-Agreed.ensures.arrived c.self.invariant
+invariant_of-self-in-Agreed g c = record {
+  keeps =
+      let s = state_of c.self.inside in
+      let awaits : awaits_frame (state_of c.self.inside).start ≡ true = ap (λ (t : StreamState). awaits_frame t.start) c.self.view_is ∙ c.requires in
+      keeps_heard s (in_order s.arrived) c.hear-in-Agreed.new.self c.hear-in-Agreed.new.arrived.arrived c.hear-in-Agreed.new.arrived.early awaits c.hear-in-Agreed.ensures.after c.hear-in-Agreed.ensures.arrived c.hear-in-Agreed.ensures.early c.self.invariant.keeps;
+  layout = c.hear-in-Agreed.ensures.layout;
+  base = c.hear-in-Agreed.ensures.base;
+}
 
 pub invariant_of-self-in-Faulted : goal.invariant_of-self-in-Faulted
-invariant_of-self-in-Faulted g c =
-    let s = state_of c.self.inside in
-    let awaits : awaits_frame (state_of c.self.inside).start ≡ true = ap (λ (t : StreamState). awaits_frame t.start) c.self.view_is ∙ c.requires in
-    keeps_ended (record s { start = c.hear-in-Faulted.new.self; arrived = c.hear-in-Faulted.new.arrived.arrived }) (Over None) refl (λ e. refl)
-    (keeps_heard s (in_order s.arrived) c.hear-in-Faulted.new.self c.hear-in-Faulted.new.arrived.arrived awaits c.hear-in-Faulted.ensures.after c.hear-in-Faulted.ensures.arrived c.self.invariant)
+invariant_of-self-in-Faulted g c = record {
+  keeps =
+      let s = state_of c.self.inside in
+      let awaits : awaits_frame (state_of c.self.inside).start ≡ true = ap (λ (t : StreamState). awaits_frame t.start) c.self.view_is ∙ c.requires in
+      keeps_ended (record s { start = c.hear-in-Faulted.new.self; arrived = c.hear-in-Faulted.new.arrived.arrived; early = c.hear-in-Faulted.new.arrived.early }) (Over None) refl (λ e. refl)
+      (keeps_heard s (in_order s.arrived) c.hear-in-Faulted.new.self c.hear-in-Faulted.new.arrived.arrived c.hear-in-Faulted.new.arrived.early awaits c.hear-in-Faulted.ensures.after c.hear-in-Faulted.ensures.arrived c.hear-in-Faulted.ensures.early c.self.invariant.keeps);
+  layout = c.hear-in-Faulted.ensures.layout;
+  base = c.hear-in-Faulted.ensures.base;
+}
 
 pub returns-in-Agreed-clause-step : goal.returns-in-Agreed-clause-step
 returns-in-Agreed-clause-step g c = λ table.
@@ -53,3 +65,34 @@ returns-in-Agreed-clause-reach g c =
 pub returns-in-Faulted-clause-reach : goal.returns-in-Faulted-clause-reach
 returns-in-Faulted-clause-reach g c =
     reaches (state_of c.self.inside) c.args.self.now c.hear-in-Faulted.new.arrived.arrived (first_place_in c.hear-in-Faulted.new.self) c.hear-in-Faulted.ensures.arrived (omega (arith, c.hear-in-Faulted.ensures.few)) c.self.view_is
+
+pub returns-in-Asked-clause-after : goal.returns-in-Asked-clause-after
+returns-in-Asked-clause-after g c = λ table.
+    let s = state_of c.self.inside in
+    let awaits : awaits_frame (state_of c.self.inside).start ≡ true = ap (λ (t : StreamState). awaits_frame t.start) c.self.view_is ∙ c.requires in
+    let none = c.self.invariant.keeps.unopened (awaits_closed c.self.inside.start awaits) in
+    let comes : progress_in s.start (in_order s.arrived) ≡ c.progress.result = sym (c.progress.ensures ∙ ap (progress_in s.start) c.octets_in_order.ensures.octets) in
+    (λ i. record s { start = c.hear.ensures.after i; arrived = (c.hear.ensures.arrived ∙ ap (λ x. advanced s.arrived (first_place_in x)) c.hear.ensures.after) i; early = (c.hear.ensures.early ∙ sym none) i })
+    ∙ ap (after_hearing s) (sym (comes ∙ c.in-Asked.is)) ∙ ap (λ (t : StreamState). left_by table t Hear) c.self.view_is
+
+pub returns-in-Agreed-clause-after : goal.returns-in-Agreed-clause-after
+returns-in-Agreed-clause-after g c = λ table.
+    let s = state_of c.self.inside in
+    let awaits : awaits_frame (state_of c.self.inside).start ≡ true = ap (λ (t : StreamState). awaits_frame t.start) c.self.view_is ∙ c.requires in
+    let none = c.self.invariant.keeps.unopened (awaits_closed c.self.inside.start awaits) in
+    let comes : progress_in s.start (in_order s.arrived) ≡ c.progress.result = sym (c.progress.ensures ∙ ap (progress_in s.start) c.octets_in_order.ensures.octets) in
+    (λ i. record s { start = c.hear-in-Agreed.ensures.after i; arrived = (c.hear-in-Agreed.ensures.arrived ∙ ap (λ x. advanced s.arrived (first_place_in x)) c.hear-in-Agreed.ensures.after) i; early = (c.hear-in-Agreed.ensures.early ∙ sym none) i })
+    ∙ ap (after_hearing s) (sym (comes ∙ c.in-Agreed.is)) ∙ ap (λ (t : StreamState). left_by table t Hear) c.self.view_is
+
+pub returns-in-Faulted-clause-after : goal.returns-in-Faulted-clause-after
+returns-in-Faulted-clause-after g c = λ table.
+    let s = state_of c.self.inside in
+    let awaits : awaits_frame (state_of c.self.inside).start ≡ true = ap (λ (t : StreamState). awaits_frame t.start) c.self.view_is ∙ c.requires in
+    let none = c.self.invariant.keeps.unopened (awaits_closed c.self.inside.start awaits) in
+    let comes : progress_in s.start (in_order s.arrived) ≡ c.progress.result = sym (c.progress.ensures ∙ ap (progress_in s.start) c.octets_in_order.ensures.octets) in
+    (λ i. record s { start = c.hear-in-Faulted.ensures.after i; arrived = (c.hear-in-Faulted.ensures.arrived ∙ ap (λ x. advanced s.arrived (first_place_in x)) c.hear-in-Faulted.ensures.after) i; early = (c.hear-in-Faulted.ensures.early ∙ sym none) i; ending = Over None })
+    ∙ ap (after_hearing s) (sym (comes ∙ c.in-Faulted.is)) ∙ ap (λ (t : StreamState). left_by table t Hear) c.self.view_is
+
+pub hear-requires-clause-none : goal.hear-requires-clause-none
+hear-requires-clause-none g c =
+    c.self.invariant.keeps.unopened (awaits_closed c.self.inside.start (ap (λ (t : StreamState). awaits_frame t.start) c.self.view_is ∙ c.requires))

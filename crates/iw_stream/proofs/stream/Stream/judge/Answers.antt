@@ -1,3 +1,4 @@
+use Rattle.std.specs.Prelude.{is_some}
 use Rattle.std.proofs.Common.{◌≡◌, true, Some, Ok, refl, ap, sym, ◌∙◌, subst}
 use Rattle.std.specs.Option.{option_map_or}
 use Rattle.iw_fpdu.specs.Found.{ulpdu}
@@ -5,9 +6,9 @@ use Rattle.iw_octets.specs.Segment.{read_segment}
 use Rattle.iw_rdmap.proofs.Tags.{Passes, passes}
 use Rattle.iw_stream.specs.declared.answer.Step.TheVariants as steps
 use Rattle.iw_stream.specs.Fields.{state_of}
-use Rattle.iw_stream.specs.Frames.{IsNext, frame_by, payload_of}
+use Rattle.iw_stream.specs.Frames.{IsNext, placed, frame_by, payload_of}
 use Rattle.iw_stream.specs.Judging.{landing_of, verdict}
-use Rattle.iw_stream.specs.Kept.{Keeps}
+use Rattle.iw_stream.specs.Kept.{NoneReachesOver, Keeps}
 use Rattle.iw_stream.specs.Starting.{is_open, expecting, first_place_in}
 use Rattle.iw_stream.specs.Stream.{StreamState}
 use Rattle.iw_stream.specs.Work.{Judge, Rest, standing, next_frame, step_of, left_by, table_left, judged_step, after_judging, table_judged}
@@ -15,18 +16,18 @@ use Rattle.iw_stream.proofs.Keeping.{keeps_judged}
 use Rattle.iw_stream.proofs.Tagged.{is_placing, leaves_receiving, next_is, none_next, step_placed, stream_placed, table_placed, tagged_first, tagged_front, tagged_long, tagged_there}
 use Rattle.iw_stream.proofs.stream.Stream.judge.Goals as goal
 
-pub returns-then-missing-floor-clause-step : goal.returns-then-missing-floor-clause-step
-returns-then-missing-floor-clause-step g c =
+pub returns-then-missing-floor-clause-whole : goal.returns-then-missing-floor-clause-whole
+returns-then-missing-floor-clause-whole g c =
     let s = state_of c.self.inside in
     let table = c.args.memory.now in
-    let none = none_next s c.missing.result c.floor.result c.self.invariant c.missing.ensures.missing c.floor.ensures.floor c.if-missing-floor.true in
-    ap (λ o. step_of table s (option_map_or Judge o Rest)) (sym none) ∙ ap (λ t. step_of table t (option_map_or Judge (next_frame t) Rest)) c.self.view_is
+    let none = none_next s c.missing.result c.floor.result c.self.invariant.keeps c.missing.ensures.missing c.floor.ensures.floor c.if-missing-floor.true in
+    sym (ap (λ t. is_some (next_frame t)) (sym c.self.view_is) ∙ ap is_some none)
 
 pub returns-then-missing-floor-clause-after : goal.returns-then-missing-floor-clause-after
 returns-then-missing-floor-clause-after g c =
     let s = state_of c.self.inside in
     let table = c.args.memory.now in
-    let none = none_next s c.missing.result c.floor.result c.self.invariant c.missing.ensures.missing c.floor.ensures.floor c.if-missing-floor.true in
+    let none = none_next s c.missing.result c.floor.result c.self.invariant.keeps c.missing.ensures.missing c.floor.ensures.floor c.if-missing-floor.true in
     sym c.self.view_is
     ∙ ap (λ o. left_by table s (option_map_or Judge o Rest)) (sym none) ∙ ap (λ t. left_by table t (option_map_or Judge (next_frame t) Rest)) c.self.view_is
 
@@ -34,7 +35,7 @@ pub returns-then-missing-floor-clause-memory : goal.returns-then-missing-floor-c
 returns-then-missing-floor-clause-memory g c =
     let s = state_of c.self.inside in
     let table = c.args.memory.now in
-    let none = none_next s c.missing.result c.floor.result c.self.invariant c.missing.ensures.missing c.floor.ensures.floor c.if-missing-floor.true in
+    let none = none_next s c.missing.result c.floor.result c.self.invariant.keeps c.missing.ensures.missing c.floor.ensures.floor c.if-missing-floor.true in
     ap (λ o. table_left table s (option_map_or Judge o Rest)) (sym none) ∙ ap (λ t. table_left table t (option_map_or Judge (next_frame t) Rest)) c.self.view_is
 
 pub land_tagged-requires-clause-tagged : goal.land_tagged-requires-clause-tagged
@@ -58,29 +59,22 @@ keep_tagged-requires-clause-long g c =
     tagged_long front head (passes front head c.in-Some-tagged_head.ensures)
 
 pub invariant_of-self : goal.invariant_of-self
-invariant_of-self g c =
-    let s = state_of c.self.inside in
-    let running : is_open (state_of c.self.inside).start ≡ true = ap (λ (t : StreamState). is_open t.start) c.self.view_is ∙ c.requires.open in
-    let next : IsNext (expecting c.self.inside.start) c.self.inside.arrived.arrived (first_place_in c.self.inside.start) c.in-Some.fpdu =
-    subst (λ l. IsNext l c.self.inside.arrived.arrived (first_place_in c.self.inside.start) c.in-Some.fpdu) c.expecting-layout.ensures
-    (subst (λ b. IsNext c.expecting-layout.result c.self.inside.arrived.arrived b c.in-Some.fpdu) c.first_place_in-base.ensures.place c.in-Some.ensures.next) in
-    let response = c.is_response-response.result in
-    let at = c.in-Ok.placed in
-    let ok : verdict (standing c.args.memory.now s) (frame_by c.in-Some.fpdu) ≡ Ok (landing_of c.is_response-response.result c.in-Ok.placed) = sym (c.in-Ok.ensures.landed (standing c.args.memory.now s) refl refl refl) in
-    subst (λ f. Keeps (record s { front = f })) (sym c.keep_tagged.ensures)
-    (keeps_judged s c.args.memory.now c.in-Some.fpdu c.self.inside.receiving (landing_of response at) running next ok (is_placing response at) (leaves_receiving response at c.self.inside.receiving (payload_of (read_segment (ulpdu c.in-Some.fpdu)))) c.self.invariant)
-
-pub returns-in-Err-clause-step : goal.returns-in-Err-clause-step
-returns-in-Err-clause-step g c =
-    c.judge_any-in-Err.ensures.step ∙ ap (λ table. step_of table c.args.self.now (option_map_or Judge (next_frame c.args.self.now) Rest)) c.in-Err.ensures.err
-
-pub returns-in-Err-clause-after : goal.returns-in-Err-clause-after
-returns-in-Err-clause-after g c =
-    c.judge_any-in-Err.ensures.after ∙ ap (λ table. left_by table c.args.self.now (option_map_or Judge (next_frame c.args.self.now) Rest)) c.in-Err.ensures.err
-
-pub returns-in-Err-clause-memory : goal.returns-in-Err-clause-memory
-returns-in-Err-clause-memory g c =
-    c.judge_any-in-Err.ensures.memory ∙ ap (λ table. table_left table c.args.self.now (option_map_or Judge (next_frame c.args.self.now) Rest)) c.in-Err.ensures.err
+invariant_of-self g c = record {
+  keeps =
+      let s = state_of c.self.inside in
+      let running : is_open (state_of c.self.inside).start ≡ true = ap (λ (t : StreamState). is_open t.start) c.self.view_is ∙ c.requires.open in
+      let next : IsNext (expecting c.self.inside.start) c.self.inside.arrived.arrived (first_place_in c.self.inside.start) c.in-Some.fpdu =
+      subst (λ l. IsNext l c.self.inside.arrived.arrived (first_place_in c.self.inside.start) c.in-Some.fpdu) c.expecting-layout.ensures
+      (subst (λ b. IsNext c.expecting-layout.result c.self.inside.arrived.arrived b c.in-Some.fpdu) c.first_place_in-base.ensures.place c.in-Some.ensures.next) in
+      let response = c.is_response-response.result in
+      let at = c.in-Ok.placed in
+      let ok : verdict (standing c.args.memory.now s) (frame_by c.in-Some.fpdu) ≡ Ok (landing_of c.is_response-response.result c.in-Ok.placed) = sym (c.in-Ok.ensures.landed (standing c.args.memory.now s) refl refl refl) in
+      subst (λ f. Keeps (record s { front = f })) (sym c.keep_tagged.ensures)
+      (keeps_judged s c.args.memory.now c.in-Some.fpdu c.self.inside.receiving (landing_of response at) running next ok (is_placing response at) (leaves_receiving response at c.self.inside.receiving (payload_of (read_segment (ulpdu c.in-Some.fpdu))))
+      (subst (λ t. NoneReachesOver t (placed (frame_by c.in-Some.fpdu))) (sym c.self.view_is) (c.requires.over (frame_by c.in-Some.fpdu) (ap next_frame (sym c.self.view_is) ∙ next_is s c.expecting-layout.result c.first_place_in-base.result c.start_of-start.result c.floor-2.result (Some (frame_by c.in-Some.fpdu)) c.expecting-layout.ensures c.first_place_in-base.ensures.place c.floor-2.ensures.floor c.start_of-start.ensures c.in-Some.ensures.frame))) c.self.invariant.keeps);
+  layout = c.self.invariant.layout;
+  base = c.self.invariant.base;
+}
 
 pub returns-in-Ok-clause-step : goal.returns-in-Ok-clause-step
 returns-in-Ok-clause-step g c =
@@ -91,7 +85,7 @@ returns-in-Ok-clause-step g c =
     let at = c.in-Ok.placed in
     let next = next_is s c.expecting-layout.result c.first_place_in-base.result c.start_of-start.result c.floor-2.result (Some (frame_by c.in-Some.fpdu)) c.expecting-layout.ensures c.first_place_in-base.ensures.place c.floor-2.ensures.floor c.start_of-start.ensures c.in-Some.ensures.frame in
     let ok : verdict (standing table s) frame ≡ Ok (landing_of response at) = sym (c.in-Ok.ensures.landed (standing table s) refl refl refl) in
-    c.placed_step.ensures ∙ ap (λ r. steps.Placed r at.stag at.to at.n) c.right_of.ensures ∙ step_placed response at ∙ ap judged_step (sym ok)
+    ap (λ landing. judged_step (Ok landing)) c.landing_of.ensures ∙ ap judged_step (sym ok)
     ∙ ap (λ o. step_of table s (option_map_or Judge o Rest)) (sym next) ∙ ap (λ t. step_of table t (option_map_or Judge (next_frame t) Rest)) c.self.view_is
 
 pub returns-in-Ok-clause-after : goal.returns-in-Ok-clause-after

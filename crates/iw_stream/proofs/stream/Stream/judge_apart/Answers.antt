@@ -4,8 +4,8 @@ use Rattle.iw_fpdu.specs.Places.{frame_start}
 use Rattle.iw_stream.specs.Fields.{state_of}
 use Rattle.iw_stream.specs.declared.judging.Landing.TheVariants.{Request, Terminate}
 use Rattle.iw_stream.specs.declared.judging.PlacedFrame.{PlacedFrame}
-use Rattle.iw_stream.specs.Frames.{IsNext, frame_at, frame_by}
-use Rattle.iw_stream.specs.Kept.{Keeps, Stands}
+use Rattle.iw_stream.specs.Frames.{IsNext, placed, frame_at, frame_by}
+use Rattle.iw_stream.specs.Kept.{Keeps, Stands, NoneReachesOver}
 use Rattle.iw_stream.specs.Starting.{is_open, expecting, first_place_in}
 use Rattle.iw_stream.specs.Stream.{StreamState}
 use Rattle.iw_stream.specs.Work.{Judge, Rest, left_by, next_frame, standing}
@@ -14,34 +14,67 @@ use Rattle.iw_stream.proofs.Origins.{caused, judged_over}
 use Rattle.iw_stream.proofs.stream.Stream.judge_apart.Goals as goal
 
 pub invariant_of-self-in-Ok-Write : goal.invariant_of-self-in-Ok-Write
-invariant_of-self-in-Ok-Write g c =
-    let s = state_of c.self.inside in
-    let running : is_open (state_of c.self.inside).start ≡ true = ap (λ (t : StreamState). is_open t.start) c.self.view_is ∙ c.requires.open in
-    let next : IsNext (expecting c.self.inside.start) c.self.inside.arrived.arrived (first_place_in c.self.inside.start) c.in-Some.fpdu =
-    subst (λ l. IsNext l c.self.inside.arrived.arrived (first_place_in c.self.inside.start) c.in-Some.fpdu) c.expecting-layout.ensures
-    (subst (λ b. IsNext c.expecting-layout.result c.self.inside.arrived.arrived b c.in-Some.fpdu) c.first_place_in-base.ensures.place c.in-Some.ensures.next) in
-    subst (λ f. Keeps (record s { front = f; receiving = c.land_frame.new.receiving })) (sym c.keep_frame.ensures)
-    (keeps_judged s c.args.memory.now c.in-Some.fpdu c.land_frame.new.receiving c.in-Ok-Write.field-0 running next (sym c.land_frame.ensures.landed ∙ c.in-Ok-Write.is) (subst IsPlacing (sym c.in-Ok-Write.field-0-is) tt) c.in-Ok-Write.ensures.receiving c.self.invariant)
+invariant_of-self-in-Ok-Write g c = record {
+  keeps =
+      let s = state_of c.self.inside in
+      let layout = c.expecting-layout.ensures in
+      let base = c.first_place_in-base.ensures.place in
+      let start : c.start_of-start.result ≡ frame_start (expecting s.start).markers (s.arrived.floor - first_place_in s.start) =
+      c.start_of-start.ensures ∙ (λ i. frame_start (layout i).markers (c.floor.ensures.floor i - base i)) in
+      let next_ : next_frame s ≡ Some (frame_by c.in-Some.fpdu) =
+      (λ i. frame_at (sym layout i) s.arrived (sym base i) (sym start i)) ∙ sym c.frame_at.ensures.frame ∙ ap (option_map frame_by) c.in-Some.is in
+      let over = subst (λ t. NoneReachesOver t (placed (frame_by c.in-Some.fpdu))) (sym c.self.view_is) (c.requires.over (frame_by c.in-Some.fpdu) (ap next_frame (sym c.self.view_is) ∙ next_)) in
+      let running : is_open (state_of c.self.inside).start ≡ true = ap (λ (t : StreamState). is_open t.start) c.self.view_is ∙ c.requires.open in
+      let next : IsNext (expecting c.self.inside.start) c.self.inside.arrived.arrived (first_place_in c.self.inside.start) c.in-Some.fpdu =
+      subst (λ l. IsNext l c.self.inside.arrived.arrived (first_place_in c.self.inside.start) c.in-Some.fpdu) c.expecting-layout.ensures
+      (subst (λ b. IsNext c.expecting-layout.result c.self.inside.arrived.arrived b c.in-Some.fpdu) c.first_place_in-base.ensures.place c.in-Some.ensures.next) in
+      subst (λ f. Keeps (record s { front = f; receiving = c.land_frame.new.receiving })) (sym c.keep_frame.ensures)
+      (keeps_judged s c.args.memory.now c.in-Some.fpdu c.land_frame.new.receiving c.in-Ok-Write.field-0 running next (sym c.land_frame.ensures.landed ∙ c.in-Ok-Write.is) (subst IsPlacing (sym c.in-Ok-Write.field-0-is) tt) c.in-Ok-Write.ensures.receiving over c.self.invariant.keeps);
+  layout = c.self.invariant.layout;
+  base = c.self.invariant.base;
+}
 
 pub invariant_of-self-in-Ok-Response : goal.invariant_of-self-in-Ok-Response
-invariant_of-self-in-Ok-Response g c =
-    let s = state_of c.self.inside in
-    let running : is_open (state_of c.self.inside).start ≡ true = ap (λ (t : StreamState). is_open t.start) c.self.view_is ∙ c.requires.open in
-    let next : IsNext (expecting c.self.inside.start) c.self.inside.arrived.arrived (first_place_in c.self.inside.start) c.in-Some.fpdu =
-    subst (λ l. IsNext l c.self.inside.arrived.arrived (first_place_in c.self.inside.start) c.in-Some.fpdu) c.expecting-layout.ensures
-    (subst (λ b. IsNext c.expecting-layout.result c.self.inside.arrived.arrived b c.in-Some.fpdu) c.first_place_in-base.ensures.place c.in-Some.ensures.next) in
-    subst (λ f. Keeps (record s { front = f; receiving = c.land_frame.new.receiving })) (sym c.keep_frame-in-Ok-Response.ensures)
-    (keeps_judged s c.args.memory.now c.in-Some.fpdu c.land_frame.new.receiving c.in-Ok-Response.field-0 running next (sym c.land_frame.ensures.landed ∙ c.in-Ok-Response.is) (subst IsPlacing (sym c.in-Ok-Response.field-0-is) tt) c.in-Ok-Response.ensures.receiving c.self.invariant)
+invariant_of-self-in-Ok-Response g c = record {
+  keeps =
+      let s = state_of c.self.inside in
+      let layout = c.expecting-layout.ensures in
+      let base = c.first_place_in-base.ensures.place in
+      let start : c.start_of-start.result ≡ frame_start (expecting s.start).markers (s.arrived.floor - first_place_in s.start) =
+      c.start_of-start.ensures ∙ (λ i. frame_start (layout i).markers (c.floor.ensures.floor i - base i)) in
+      let next_ : next_frame s ≡ Some (frame_by c.in-Some.fpdu) =
+      (λ i. frame_at (sym layout i) s.arrived (sym base i) (sym start i)) ∙ sym c.frame_at.ensures.frame ∙ ap (option_map frame_by) c.in-Some.is in
+      let over = subst (λ t. NoneReachesOver t (placed (frame_by c.in-Some.fpdu))) (sym c.self.view_is) (c.requires.over (frame_by c.in-Some.fpdu) (ap next_frame (sym c.self.view_is) ∙ next_)) in
+      let running : is_open (state_of c.self.inside).start ≡ true = ap (λ (t : StreamState). is_open t.start) c.self.view_is ∙ c.requires.open in
+      let next : IsNext (expecting c.self.inside.start) c.self.inside.arrived.arrived (first_place_in c.self.inside.start) c.in-Some.fpdu =
+      subst (λ l. IsNext l c.self.inside.arrived.arrived (first_place_in c.self.inside.start) c.in-Some.fpdu) c.expecting-layout.ensures
+      (subst (λ b. IsNext c.expecting-layout.result c.self.inside.arrived.arrived b c.in-Some.fpdu) c.first_place_in-base.ensures.place c.in-Some.ensures.next) in
+      subst (λ f. Keeps (record s { front = f; receiving = c.land_frame.new.receiving })) (sym c.keep_frame-in-Ok-Response.ensures)
+      (keeps_judged s c.args.memory.now c.in-Some.fpdu c.land_frame.new.receiving c.in-Ok-Response.field-0 running next (sym c.land_frame.ensures.landed ∙ c.in-Ok-Response.is) (subst IsPlacing (sym c.in-Ok-Response.field-0-is) tt) c.in-Ok-Response.ensures.receiving over c.self.invariant.keeps);
+  layout = c.self.invariant.layout;
+  base = c.self.invariant.base;
+}
 
 pub invariant_of-self-in-Ok-Send : goal.invariant_of-self-in-Ok-Send
-invariant_of-self-in-Ok-Send g c =
-    let s = state_of c.self.inside in
-    let running : is_open (state_of c.self.inside).start ≡ true = ap (λ (t : StreamState). is_open t.start) c.self.view_is ∙ c.requires.open in
-    let next : IsNext (expecting c.self.inside.start) c.self.inside.arrived.arrived (first_place_in c.self.inside.start) c.in-Some.fpdu =
-    subst (λ l. IsNext l c.self.inside.arrived.arrived (first_place_in c.self.inside.start) c.in-Some.fpdu) c.expecting-layout.ensures
-    (subst (λ b. IsNext c.expecting-layout.result c.self.inside.arrived.arrived b c.in-Some.fpdu) c.first_place_in-base.ensures.place c.in-Some.ensures.next) in
-    subst (λ f. Keeps (record s { front = f; receiving = c.land_frame.new.receiving })) (sym c.keep_frame-in-Ok-Send.ensures)
-    (keeps_judged s c.args.memory.now c.in-Some.fpdu c.land_frame.new.receiving c.in-Ok-Send.field-0 running next (sym c.land_frame.ensures.landed ∙ c.in-Ok-Send.is) (subst IsPlacing (sym c.in-Ok-Send.field-0-is) tt) c.in-Ok-Send.ensures.receiving c.self.invariant)
+invariant_of-self-in-Ok-Send g c = record {
+  keeps =
+      let s = state_of c.self.inside in
+      let layout = c.expecting-layout.ensures in
+      let base = c.first_place_in-base.ensures.place in
+      let start : c.start_of-start.result ≡ frame_start (expecting s.start).markers (s.arrived.floor - first_place_in s.start) =
+      c.start_of-start.ensures ∙ (λ i. frame_start (layout i).markers (c.floor.ensures.floor i - base i)) in
+      let next_ : next_frame s ≡ Some (frame_by c.in-Some.fpdu) =
+      (λ i. frame_at (sym layout i) s.arrived (sym base i) (sym start i)) ∙ sym c.frame_at.ensures.frame ∙ ap (option_map frame_by) c.in-Some.is in
+      let over = subst (λ t. NoneReachesOver t (placed (frame_by c.in-Some.fpdu))) (sym c.self.view_is) (c.requires.over (frame_by c.in-Some.fpdu) (ap next_frame (sym c.self.view_is) ∙ next_)) in
+      let running : is_open (state_of c.self.inside).start ≡ true = ap (λ (t : StreamState). is_open t.start) c.self.view_is ∙ c.requires.open in
+      let next : IsNext (expecting c.self.inside.start) c.self.inside.arrived.arrived (first_place_in c.self.inside.start) c.in-Some.fpdu =
+      subst (λ l. IsNext l c.self.inside.arrived.arrived (first_place_in c.self.inside.start) c.in-Some.fpdu) c.expecting-layout.ensures
+      (subst (λ b. IsNext c.expecting-layout.result c.self.inside.arrived.arrived b c.in-Some.fpdu) c.first_place_in-base.ensures.place c.in-Some.ensures.next) in
+      subst (λ f. Keeps (record s { front = f; receiving = c.land_frame.new.receiving })) (sym c.keep_frame-in-Ok-Send.ensures)
+      (keeps_judged s c.args.memory.now c.in-Some.fpdu c.land_frame.new.receiving c.in-Ok-Send.field-0 running next (sym c.land_frame.ensures.landed ∙ c.in-Ok-Send.is) (subst IsPlacing (sym c.in-Ok-Send.field-0-is) tt) c.in-Ok-Send.ensures.receiving over c.self.invariant.keeps);
+  layout = c.self.invariant.layout;
+  base = c.self.invariant.base;
+}
 
 pub take_up-requires-clause-stands : goal.take_up-requires-clause-stands
 take_up-requires-clause-stands g c =
@@ -95,3 +128,27 @@ returns-in-Err-clause-after g c =
     (λ i. record s { ending = c.end_judged-self-inside.ensures i; receiving = c.in-Err.ensures.err.1 i })
     ∙ judged_over table s (frame_by found) c.in-Err.fault next (sym c.land_frame.ensures.landed ∙ c.in-Err.is)
     ∙ ap (λ (t : StreamState). left_by table t (option_map_or Judge (next_frame t) Rest)) c.self.view_is
+
+pub take_up-requires-clause-over : goal.take_up-requires-clause-over
+take_up-requires-clause-over g c =
+    let s = state_of c.self.inside in
+    let layout = c.expecting-layout.ensures in
+    let base = c.first_place_in-base.ensures.place in
+    let start : c.start_of-start.result ≡ frame_start (expecting s.start).markers (s.arrived.floor - first_place_in s.start) =
+    c.start_of-start.ensures ∙ (λ i. frame_start (layout i).markers (c.floor.ensures.floor i - base i)) in
+    let next_ : next_frame s ≡ Some (frame_by c.in-Some.fpdu) =
+    (λ i. frame_at (sym layout i) s.arrived (sym base i) (sym start i)) ∙ sym c.frame_at.ensures.frame ∙ ap (option_map frame_by) c.in-Some.is in
+    let over = subst (λ t. NoneReachesOver t (placed (frame_by c.in-Some.fpdu))) (sym c.self.view_is) (c.requires.over (frame_by c.in-Some.fpdu) (ap next_frame (sym c.self.view_is) ∙ next_)) in
+    subst (NoneReachesOver (record s { receiving = c.land_frame.new.receiving })) (sym c.placed_frame-frame.ensures) over
+
+pub hear_out-requires-clause-over : goal.hear_out-requires-clause-over
+hear_out-requires-clause-over g c =
+    let s = state_of c.self.inside in
+    let layout = c.expecting-layout.ensures in
+    let base = c.first_place_in-base.ensures.place in
+    let start : c.start_of-start.result ≡ frame_start (expecting s.start).markers (s.arrived.floor - first_place_in s.start) =
+    c.start_of-start.ensures ∙ (λ i. frame_start (layout i).markers (c.floor.ensures.floor i - base i)) in
+    let next_ : next_frame s ≡ Some (frame_by c.in-Some.fpdu) =
+    (λ i. frame_at (sym layout i) s.arrived (sym base i) (sym start i)) ∙ sym c.frame_at.ensures.frame ∙ ap (option_map frame_by) c.in-Some.is in
+    let over = subst (λ t. NoneReachesOver t (placed (frame_by c.in-Some.fpdu))) (sym c.self.view_is) (c.requires.over (frame_by c.in-Some.fpdu) (ap next_frame (sym c.self.view_is) ∙ next_)) in
+    subst (NoneReachesOver (record s { receiving = c.land_frame.new.receiving })) (sym c.placed_frame-frame-in-Ok-Terminate.ensures) over

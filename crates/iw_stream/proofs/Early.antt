@@ -1,0 +1,248 @@
+-- A frame that is judged before its turn; and which task the frames of an open stream come to, where some were.
+use Rattle.std.proofs.Common.{◌≡◌, ℕ, ◌+◌, ◌-◌, Bool, true, false, cond, if◌then◌else◌, List, [], ◌∷◌, length, Option, Some, None, Ok, Err, refl, sym, ap, ◌∙◌, subst, arith, inl, inr}
+use Rattle.std.specs.Prelude.{Result, IfOk, IfSome, OnOk, is_some}
+use Rattle.std.specs.Option.{option_map, option_map_or, option_or}
+use Rattle.std.proofs.lemmas.Bool.{true≢false, false≢true}
+use Rattle.std.proofs.lemmas.Option.{none-some, same_Some}
+use Rattle.arrayvec.specs.ArrayVec.{ArrayVec}
+use Rattle.iw_octets.specs.declared.fault.Fault.{Fault}
+use Rattle.iw_octets.specs.declared.head.TaggedHead.{TaggedHead}
+use Rattle.iw_octets.specs.declared.segment.Segment.TheVariants.{Tagged}
+use Rattle.iw_octets.specs.Segment.{read_segment}
+use Rattle.iw_memory.specs.Table.{Table}
+use Rattle.iw_ranges.specs.Arrived.{IsWithinLimits}
+use Rattle.iw_fpdu.specs.declared.layout.Layout.{Layout}
+use Rattle.iw_fpdu.specs.Frame.{frame_end}
+use Rattle.iw_fpdu.specs.Places.{frame_start}
+use Rattle.iw_fpdu.specs.Reading.{end_at}
+use Rattle.iw_fpdu.specs.Found.{Found, octet_in}
+use Rattle.iw_fpdu.specs.Laws.{found_at}
+use Rattle.iw_rdmap.specs.declared.head.Head.{Head}
+use Rattle.iw_rdmap.specs.declared.head.Head.TheVariants as heads
+use Rattle.iw_rdmap.specs.Head.{is_early}
+use Rattle.iw_locate.specs.declared.frame.Frame as located
+use Rattle.iw_locate.specs.declared.judged.State.{State}
+use Rattle.iw_locate.specs.declared.judged.State.TheVariants.{Tried, Placed}
+use Rattle.iw_locate.specs.Records as records
+use Rattle.iw_locate.specs.Records.{AreApart, added}
+use Rattle.iw_locate.specs.Free.{scene_of, front_of}
+use Rattle.iw_locate.specs.Next.{IsFrontWhole}
+use Rattle.iw_locate.specs.Lowest.{overlaps_placed, early_place}
+use Rattle.iw_locate.specs.Keeping as keeping
+use Rattle.iw_locate.specs.Keeping.{IsFrontUnplaced}
+use Rattle.iw_locate.proofs.Holds.{adds_one}
+use Rattle.iw_untagged.specs.Receiving.{Receiving}
+use Rattle.iw_stream.specs.declared.judging.Landing.{Landing}
+use Rattle.iw_stream.specs.Frames.{Frame, EarlyRecord, IsNext, frame_at, frame_by, header_in, kept_by, placed, placed_at, record_tried, state_tried}
+use Rattle.iw_stream.specs.Incoming.{Coming, IsSameScene, frame_in, scene_in}
+use Rattle.iw_stream.specs.Judging.{Standing, early_verdict, judged_head, landing_in, may_be_early, receiving_tried, table_tried, verdict}
+use Rattle.iw_stream.specs.Kept.{HasHeader, IsPlaced, IsTagged, Keeps, KeepsHeader, NoneReachesOver}
+use Rattle.iw_stream.specs.Starting.{is_open, expecting, first_place_in}
+use Rattle.iw_stream.specs.Stream.{StreamState}
+use Rattle.iw_stream.specs.Work.{Task, Turn, Clash, Judge, Try, Rest, after_trying, clashes, early_frame, frame_task, front_task, left_by, next_frame, scene, standing, step_of, table_left, tried_step, waiting}
+use Rattle.iw_stream.proofs.Arriving.{placed_there}
+use Rattle.iw_stream.proofs.Fronts.{frame_whole}
+use Rattle.iw_stream.proofs.Headers.{header_read, header_short}
+use Rattle.iw_stream.proofs.Landings.{Judges, judges, length_ulpdu}
+use Rattle.iw_stream.proofs.Tagged.{next_is}
+use Rattle.iw_stream.proofs.Tasks.{task_tries}
+use Rattle.iw_stream.proofs.Waiting.{clear_over}
+
+-- ---- no frame waits at the in-order point, and none is whole there
+is_none : {A : Type 0} (o : Option A) → is_some o ≡ false → o ≡ None
+is_none None e = refl
+is_none (Some x) e = absurd (true≢false e)
+
+no_record : (rs : List EarlyRecord) (start : ℕ) → length rs ≡ 0 → placed_at rs start ≡ None
+no_record [] start e = refl
+no_record (r ∷ rs) start e = absurd (omega (arith, e))
+
+-- the frame there was asked for, and nothing has changed
+pub record IsUnjudged (table m : Table) (s t : StreamState) : Type 0 where
+  pub same : t ≡ s
+  pub tables : m ≡ table
+  pub none : waiting s ≡ None
+  pub lacks : next_frame s ≡ None
+
+pub unjudged : {A : Type 0} (table m : Table) (s t : StreamState) (o : Option A) → o ≡ None → is_some o ≡ is_some (next_frame s)
+    → t ≡ left_by table s (option_map_or Judge (next_frame s) Rest) → m ≡ table_left table s (option_map_or Judge (next_frame s) Rest)
+    → is_some s.front ≡ false → length s.early ≡ 0 → IsUnjudged table m s t
+unjudged table m s t o is whole after left front early =
+    let lacks = is_none (next_frame s) (sym whole ∙ ap is_some is) in record {
+      same = after ∙ ap (λ o. left_by table s (option_map_or Judge o Rest)) lacks;
+      tables = left ∙ ap (λ o. table_left table s (option_map_or Judge o Rest)) lacks;
+      none = (λ i. option_or (is_none s.front front i) (no_record s.early (front_of (scene s)) early i));
+      lacks = lacks;
+    }
+
+-- what comes of trying is what comes of the task
+pub tries : {X : Type 0} (f : Table → StreamState → Task → X) (table m : Table) (s t : StreamState) → IsUnjudged table m s t → f m t (option_map_or Try (early_frame t) Rest) ≡ f table s (frame_task s)
+tries f table m s t w = (λ i. f (w.tables i) (w.same i) (option_map_or Try (early_frame (w.same i)) Rest)) ∙ ap (f table s) (sym (task_tries s w.none w.lacks))
+
+-- ---- one is whole there, and it was looked up whether it lies over one that was placed
+pub record IsSeen (s : StreamState) (found : Found) (over : Bool) : Type 0 where
+  pub next : next_frame s ≡ Some (frame_by found)
+  pub begins : found.start ≡ front_of (scene s)
+  pub clash : clashes s (frame_by found) ≡ over
+
+pub seen : (s : StreamState) (layout : Layout) (base floor start end : ℕ) (found : Found) (over : Bool) → layout ≡ expecting s.start → base ≡ first_place_in s.start → floor ≡ s.arrived.floor
+    → start ≡ frame_start layout.markers (floor - base) → Some (frame_by found) ≡ frame_at layout s.arrived base start → IsNext layout s.arrived base found
+    → end ≡ end_at (octet_in found.arrived found.base) found.layout.markers found.start → over ≡ overlaps_placed s.early start end → IsSeen s found over
+seen s layout base floor start end found over l b f at is n to looked =
+    let from : start ≡ found.start = at ∙ ap (λ p. frame_start layout.markers (p - base)) f ∙ sym (ap (λ (x : Found). x.start) n.is) in
+    let m = ap (λ (x : Found). x.layout.markers) n.is ∙ ap (λ (x : Layout). x.markers) l in record {
+      next = next_is s layout base start floor (Some (frame_by found)) l b f at is;
+      begins = ap (λ (x : Found). x.start) n.is ∙ (λ i. frame_start (l i).markers (s.arrived.floor - b i));
+      clash = sym (looked ∙ (λ i. overlaps_placed s.early (from i) (to i)) ∙ (λ i. overlaps_placed s.early found.start (frame_end (m i) found.start (sym (length_ulpdu found) i))));
+    }
+
+front_is : (s : StreamState) (found : Found) (over : Bool) → waiting s ≡ None → IsSeen s found over → frame_task s ≡ cond over (Clash (frame_by found)) (Judge (frame_by found))
+front_is s found over none w =
+    (λ i. option_map_or Turn (none i) (option_map_or (front_task s) (w.next i) (option_map_or Try (early_frame s) Rest))) ∙ ap (λ b. cond b (Clash (frame_by found)) (Judge (frame_by found))) w.clash
+
+pub task_clashes : (s : StreamState) (found : Found) (over : Bool) → waiting s ≡ None → IsSeen s found over → over ≡ true → Clash (frame_by found) ≡ frame_task s
+task_clashes s found over none w is = sym (front_is s found over none w ∙ ap (λ b. cond b (Clash (frame_by found)) (Judge (frame_by found))) is)
+
+pub task_judges : (s : StreamState) (found : Found) (over : Bool) → waiting s ≡ None → IsSeen s found over → over ≡ false → option_map_or Judge (next_frame s) Rest ≡ frame_task s
+task_judges s found over none w is = ap (λ o. option_map_or Judge o Rest) w.next ∙ sym (front_is s found over none w ∙ ap (λ b. cond b (Clash (frame_by found)) (Judge (frame_by found))) is)
+
+-- then no placed frame reaches over its end
+pub none_over : (s : StreamState) (found : Found) (over : Bool) → Keeps s → keeping.Keeps (scene s) → AreApart s.early → IsWithinLimits s.arrived → IsSeen s found over → over ≡ false → (frame : Frame) → next_frame s ≡ Some frame → NoneReachesOver s (placed frame)
+none_over s found over k kept apart limits w clear frame is =
+    subst (λ f. NoneReachesOver s (placed f)) (same_Some _ _ (sym w.next ∙ is)) (clear_over s k kept apart limits (placed (frame_by found)) w.begins (w.clash ∙ clear))
+
+-- ---- a frame is looked for past it
+pub scene_is : (s : StreamState) (old : Coming) → old.layout ≡ expecting s.start → old.base ≡ first_place_in s.start → old.arrived ≡ s.arrived → old.early ≡ s.early → scene_in old ≡ scene s
+scene_is s old layout base arrived early = (λ i. scene_of (layout i) (base i) (arrived i) (early i))
+
+none_of : {A : Type 0} (o p : Option A) → option_or o p ≡ None → (o ≡ None) × (p ≡ None)
+none_of None p e = (refl, e)
+none_of (Some x) p e = absurd (none-some _ (sym e))
+
+kept_none : (r : EarlyRecord) (state : State (ArrayVec ℕ)) → records.IsPlaced state → kept_by r state ≡ None → ⊥
+kept_none r Tried p e = p
+kept_none r (Placed header) p e = none-some _ (sym e)
+
+pub front_unplaced : (s : StreamState) (old : Coming) → scene_in old ≡ scene s → AreApart s.early → waiting s ≡ None → IsFrontUnplaced (scene_in old)
+front_unplaced s old same apart none =
+    subst IsFrontUnplaced (sym same) (λ r within placed at. kept_none r r.state placed (sym (placed_there s.early (front_of (scene s)) r apart within at) ∙ (none_of s.front _ none).1))
+
+pub front_lacks : (s : StreamState) (old : Coming) → scene_in old ≡ scene s → next_frame s ≡ None → IsFrontWhole (scene_in old) → ⊥
+front_lacks s old same lacks =
+    subst (λ v. IsFrontWhole v → ⊥) (sym same) (λ whole. none-some _ (sym lacks ∙ frame_whole (expecting s.start) s.arrived (first_place_in s.start) (front_of (scene s)) whole))
+
+-- ---- and found; the search went on, and there is room for its record
+pub record IsFound (s : StreamState) (now : Coming) (start : ℕ) : Type 0 where
+  pub found : early_frame s ≡ Some (frame_in now start)
+  pub arrived : now.arrived ≡ s.arrived
+  pub early : now.early ≡ s.early
+  pub layout : now.layout ≡ expecting s.start
+  pub base : now.base ≡ first_place_in s.start
+
+pub found_early : (s : StreamState) (old mid now : Coming) (o : Option located.Frame) (f : located.Frame) → old.layout ≡ expecting s.start → old.base ≡ first_place_in s.start → old.arrived ≡ s.arrived → old.early ≡ s.early
+    → IsSameScene old mid → IsSameScene mid now → o ≡ Some f → option_map (λ (x : located.Frame). x.start) o ≡ early_place (scene_in old) → IsFound s now f.start
+found_early s old mid now o f l b a e first second is at =
+    let layout : now.layout ≡ expecting s.start = second.layout ∙ first.layout ∙ l in
+    let base : now.base ≡ first_place_in s.start = second.base ∙ first.base ∙ b in
+    let arrived : now.arrived ≡ s.arrived = second.arrived ∙ first.arrived ∙ a in record {
+      found = ap (option_map (λ start. frame_by (found_at s.arrived (expecting s.start) (first_place_in s.start) start)))
+          (sym (ap early_place (scene_is s old l b a e)) ∙ sym at ∙ ap (option_map (λ (x : located.Frame). x.start)) is)
+          ∙ (λ i. Some (frame_by (found_at (sym arrived i) (sym layout i) (sym base i) f.start)));
+      arrived = arrived;
+      early = second.early ∙ first.early ∙ e;
+      layout = layout;
+      base = base;
+    }
+
+pub none_found : (s : StreamState) (old : Coming) (o : Option located.Frame) → scene_in old ≡ scene s → o ≡ None → option_map (λ (x : located.Frame). x.start) o ≡ early_place (scene_in old) → early_frame s ≡ None
+none_found s old o same is at =
+    ap (option_map (λ start. frame_by (found_at s.arrived (expecting s.start) (first_place_in s.start) start))) (sym (ap early_place same) ∙ sym at ∙ ap (option_map (λ (x : located.Frame). x.start)) is)
+
+-- ---- what it comes to
+pub ok_is : {T E : Type 0} (r : Result T E) (x y : T) → r ≡ Ok x → x ≡ y → IfOk r (λ z. z ≡ y)
+ok_is r x y is same = subst (λ q. IfOk q (λ z. z ≡ y)) (sym is) same
+
+pub on_ok : {T E : Type 0} (P : Type 0) (r : Result T E) (x : T) → r ≡ Ok x → P → OnOk r P
+on_ok P r x is h = subst (λ q. OnOk q P) (sym is) h
+
+pub step_tried : (table : Table) (s : StreamState) (frame : Frame) (place : ℕ) (o : Option Landing) → early_frame s ≡ Some frame → o ≡ early_verdict (standing table s) frame → place ≡ first_place_in s.start
+    → tried_step (place + frame.start) o ≡ step_of table s (option_map_or Try (early_frame s) Rest)
+step_tried table s frame place o found landed base =
+    (λ i. tried_step (base i + frame.start) (landed i)) ∙ ap (λ o. step_of table s (option_map_or Try o Rest)) (sym found)
+
+pub stream_tried : (table : Table) (s : StreamState) (now after : Coming) (r : Receiving) (start : ℕ) (o : Option Landing) → IsFound s now start → o ≡ early_verdict (standing table s) (frame_in now start)
+    → after.arrived ≡ now.arrived → after.early ≡ added now.early (record_tried (frame_in now start) o) → r ≡ receiving_tried s.receiving (frame_in now start) o
+    → record s { arrived = after.arrived; early = after.early; receiving = r } ≡ left_by table s (option_map_or Try (early_frame s) Rest)
+stream_tried table s now after r start o w landed arrived early receiving =
+    let come : after.arrived ≡ s.arrived = arrived ∙ w.arrived in
+    let kept : after.early ≡ added s.early (record_tried (frame_in now start) o) = early ∙ ap (λ rs. added rs (record_tried (frame_in now start) o)) w.early in
+    (λ i. record s { arrived = come i; early = kept i; receiving = receiving i }) ∙ ap (after_trying s (frame_in now start)) landed ∙ ap (λ o. left_by table s (option_map_or Try o Rest)) (sym w.found)
+
+pub memory_tried : (table m : Table) (s : StreamState) (frame : Frame) (o : Option Landing) → early_frame s ≡ Some frame → o ≡ early_verdict (standing table s) frame → m ≡ table_tried table frame o
+    → m ≡ table_left table s (option_map_or Try (early_frame s) Rest)
+memory_tried table m s frame o found landed left = left ∙ ap (table_tried table frame) landed ∙ ap (λ o. table_left table s (option_map_or Try o Rest)) (sym found)
+
+-- ---- of one that was placed early the whole header of a tagged segment is kept
+has_header : (u : List ℕ) (head : TaggedHead) (payload : List ℕ) → read_segment u ≡ Some (Tagged head payload) → HasHeader (length u) (header_in u)
+has_header u head payload is =
+    let h = header_read u (Tagged head payload) is in
+    record { whole = omega (arith, h.len, h.whole); within = header_short u; tagged = subst IsTagged (sym h.read) tt }
+
+tagged_header : (u : List ℕ) (unanswered : ℕ) (head : Head) → Judges u unanswered head → is_early head ≡ true → HasHeader (length u) (header_in u)
+tagged_header u unanswered (heads.Write head) j e = has_header u head j.payload j.is
+tagged_header u unanswered (heads.Response head) j e = has_header u head j.payload j.is
+tagged_header u unanswered (heads.Send head) j e = absurd (false≢true e)
+tagged_header u unanswered (heads.Request head request) j e = absurd (false≢true e)
+tagged_header u unanswered (heads.Terminate head word) j e = absurd (false≢true e)
+
+early_header : (at : Standing) (frame : Frame) (x : Landing) → early_verdict at frame ≡ Some x → HasHeader (length frame.ulpdu) (header_in frame.ulpdu)
+early_header at frame x e = go (judged_head at frame.ulpdu) refl e
+  where
+    on : (head : Head) → judged_head at frame.ulpdu ≡ Ok head → (b : Bool) → is_early head ≡ b → (if b then landing_in (verdict at frame) else None) ≡ Some x → HasHeader (length frame.ulpdu) (header_in frame.ulpdu)
+    on head is true may h = tagged_header frame.ulpdu (length at.asked.unanswered) head (judges frame.ulpdu at.asked.next (length at.asked.unanswered) head is) may
+    on head is false may h = absurd (none-some _ h)
+
+    go : (r : Result Head Fault) → judged_head at frame.ulpdu ≡ r → (if may_be_early r then landing_in (verdict at frame) else None) ≡ Some x → HasHeader (length frame.ulpdu) (header_in frame.ulpdu)
+    go (Err fault) is h = absurd (none-some _ h)
+    go (Ok head) is h = on head is (is_early head) refl h
+
+tried_header : (at : Standing) (frame : Frame) (o : Option Landing) → o ≡ early_verdict at frame → KeepsHeader (record_tried frame o) (state_tried frame o)
+tried_header at frame None is = tt
+tried_header at frame (Some x) is = early_header at frame x (sym is)
+
+-- the record of the frame is added
+keeps_record : (s : StreamState) (table : Table) (frame : Frame) (o : Option Landing) (r : Receiving) → is_open s.start ≡ true → waiting s ≡ None → o ≡ early_verdict (standing table s) frame → Keeps s
+    → Keeps (record s { early = added s.early (record_tried frame o); receiving = r })
+keeps_record s table frame o r running none landed k =
+    let front : s.front ≡ None = (none_of s.front _ none).0 in
+    record {
+      started = record {
+        unopened = λ e. absurd (true≢false (sym running ∙ e));
+        unsent = k.started.unsent;
+        alone = k.started.alone;
+        behind = k.started.behind;
+      };
+      between = k.between;
+      held = k.held;
+      aligned = k.aligned;
+      enough = k.enough;
+      few = k.few;
+      is_placed = λ e. subst (λ x. IfSome x (IsPlaced (record s { early = added s.early (record_tried frame o); receiving = r }))) (sym front) tt;
+      clear = λ e. subst (λ x. IfSome x (NoneReachesOver (record s { early = added s.early (record_tried frame o); receiving = r }))) (sym front) tt;
+      headed = λ x within. elim ((adds_one s.early (record_tried frame o) x).0 within) [
+        | inl old ↦ k.headed x old
+        | inr new ↦ subst (λ (y : EarlyRecord). KeepsHeader y y.state) new (tried_header (standing table s) frame o landed)
+      ];
+      unopened = λ e. absurd (true≢false (sym running ∙ e));
+      first = k.first;
+      awaited = k.awaited;
+    }
+
+pub keeps_tried : (s : StreamState) (table : Table) (now after : Coming) (r : Receiving) (start : ℕ) (o : Option Landing) → is_open s.start ≡ true → waiting s ≡ None → IsFound s now start
+    → o ≡ early_verdict (standing table s) (frame_in now start) → after.arrived ≡ now.arrived → after.early ≡ added now.early (record_tried (frame_in now start) o) → Keeps s
+    → Keeps (record s { arrived = after.arrived; early = after.early; receiving = r })
+keeps_tried s table now after r start o running none w landed arrived early k =
+    let come : after.arrived ≡ s.arrived = arrived ∙ w.arrived in
+    let kept : after.early ≡ added s.early (record_tried (frame_in now start) o) = early ∙ ap (λ rs. added rs (record_tried (frame_in now start) o)) w.early in
+    subst (λ a. Keeps (record s { arrived = a; early = after.early; receiving = r })) (sym come)
+    (subst (λ rs. Keeps (record s { early = rs; receiving = r })) (sym kept) (keeps_record s table (frame_in now start) o r running none landed k))

@@ -1,0 +1,101 @@
+ghost use Rattle.std.specs.Prelude.{◌≡◌, ◌+◌, ◌≤◌, ◌^◌, ℕ, List, length, Some};
+ghost use Rattle.std.specs.Option.{option_map_or};
+ghost use Rattle.iw_octets.specs.declared.segment.Segment.{Segment};
+ghost use Rattle.iw_octets.specs.Segment.{segment_octets};
+ghost use Rattle.iw_memory.specs.Table.{Table};
+ghost use Rattle.iw_fpdu.specs.Frame.{max_sent};
+ghost use Rattle.iw_queues.specs.Request.{payload, header_len};
+ghost use Rattle.iw_queues.specs.Segments.{Numbers, segment_of};
+ghost use Rattle.iw_queues.specs.Shown.{shown_part};
+
+use super::Stream;
+use super::emission::must_wait;
+use crate::ending::Ending;
+use bytes::Bytes;
+use iw_memory::Memory;
+use iw_octets::{Message, TAGGED_HEADER, UNTAGGED_HEADER};
+use iw_queues::{Part, Request};
+use iw_reads::{ResponsePart, fetch};
+use std::alloc::Allocator;
+
+// How many octets a Read Request has past its header.
+const READ_REQUEST: usize = 28;
+
+// The length of the ULPDU that carries a part.
+fn ulpdu_len<A: Allocator>(part: &Part<&Request<Bytes<A>>>) -> usize
+    requires within { part.now.offset + part.now.n ≤ length (payload part.now.message.now) }
+    requires short { header_len part.now.message.now + part.now.n ≤ max_sent }
+    ensures len { (numbers : Numbers) → result ≡ length (segment_octets (segment_of numbers (shown_part part.now))) }
+    ensures short { result ≤ max_sent }
+{
+    match part.message {
+        Request::Message(Message::Write { .. }) => TAGGED_HEADER + part.n,
+        Request::Message(Message::Send { .. }) => UNTAGGED_HEADER + part.n,
+        Request::Read(_) => UNTAGGED_HEADER + READ_REQUEST,
+    }
+}
+
+impl<A: Allocator> Stream<A> {
+    ghost use Rattle.iw_stream.specs.Stream.{part_due, response_due, frame_of, octets_due, emitted};
+    ghost use Rattle.iw_stream.specs.Stream.{NextPart, Response, NoneDue};
+
+    /// How many octets the next call of [`Stream::emit`] appends, where memory is not wanting: none where nothing is due,
+    /// and where the peer may not read what is to be fetched.
+    pub fn due_len(&self, memory: &Memory<A>) -> usize
+        requires { self.now.sent ≤ 2 ^ 62 }
+        ensures { result ≡ length (emitted memory.now self.now) }
+    {
+        if self.owes_frame() {
+            return self.start.first_place_out() as usize;
+        }
+        if let Ending::Over(Some(terminate)) = &self.ending {
+            return self.frame_len(UNTAGGED_HEADER + terminate.len());
+        }
+        if self.is_mute() {
+            return 0;
+        }
+        match self.response_due() {
+            Some(part) => self.response_len(&part, memory),
+            None => self.part_len(),
+        }
+    }
+
+    // The length of the frame that is sent next with a ULPDU of so many octets.
+    fn frame_len(&self, ulpdu: usize) -> usize
+        requires place { self.now.sent ≤ 2 ^ 62 }
+        requires short { ulpdu ≤ max_sent }
+        ensures { (segment : Segment (List ℕ)) → length (segment_octets segment) ≡ ulpdu → result ≡ length (frame_of self.now segment) }
+    {
+        let at = self.sent.saturating_sub(self.start.first_place_out());
+        let end = self.start.sending().end_of(at, ulpdu as u16);
+        end.saturating_sub(at) as usize
+    }
+
+    // The length of the frame of a part of a response.
+    fn response_len(&self, part: &ResponsePart, memory: &Memory<A>) -> usize
+        requires place { self.now.sent ≤ 2 ^ 62 }
+        requires due { response_due self.now ≡ Some part.now }
+        ensures { result ≡ length (octets_due memory.now self.now (Response part.now)) }
+    {
+        match fetch(part, memory, self.domain) {
+            Ok(octets) => self.frame_len(TAGGED_HEADER + octets.len()),
+            Err(_) => 0,
+        }
+    }
+
+    // The length of the frame of the part of what was posted that is due.
+    fn part_len(&self) -> usize
+        requires { self.now.sent ≤ 2 ^ 62 }
+        ensures { (table : Table) → result ≡ length (octets_due table self.now (option_map_or NextPart (part_due self.now) NoneDue)) }
+    {
+        // Its contract has the queue's limits.
+        let _ = self.queue.len();
+        let Some(part) = self.queue.next_part(self.mulpdu) else {
+            return 0;
+        };
+        if must_wait(&self.reads, part.message) {
+            return 0;
+        }
+        self.frame_len(ulpdu_len(&part))
+    }
+}
