@@ -16,7 +16,7 @@ use Rattle.iw_stream.specs.Stream as stream
 use Rattle.iw_stream.specs.Stream.{StreamState, emission_of, emitted, delivery_of}
 use Rattle.iw_stream.specs.Work.{work_step, worked, table_worked}
 use Rattle.iw_endpoint.specs.Endpoint.{EndpointState, stream_of, unopened, with_stream, with_table, answer_at, refusal_at, unasked, open_refusal, stream_numbers}
-use Rattle.iw_endpoint.specs.Isolation.{StreamCall, Accept, Reject, Post, PostRecv, Deliver, Work, Emit, BreakLink, SetMulpdu, Private, Sent, InOrderPoint, Limits, AddDomain, Register, Deregister, Invalidate, Store, Facts, Local, LocalMut, Open, AtStream}
+use Rattle.iw_endpoint.specs.Isolation.{StreamCall, Accept, Reject, Post, PostRecv, Deliver, Work, Emit, BreakLink, SetMulpdu, Private, Sent, DueLen, InOrderPoint, Limits, AddDomain, Register, Deregister, Invalidate, Store, Facts, Local, LocalMut, Open, AtStream}
 use Rattle.iw_endpoint.specs.Isolation.{Accepted, Rejected, Posted, Buffered, Delivered, Worked, Emitted, Broke, Sized, Shown, Counted, Limited, Added, Registered, Octets, Invalidated, Found, Stored, Opened, OfStream}
 use Rattle.iw_endpoint.specs.Isolation.{IsOwn, OwnStep, CallsConcernOneDomain, part_of, alone, stream_answer, after_stream, answer_or, unless}
 use Rattle.iw_endpoint.proofs.Tables.{AreAlike, KeepsOthers, step-alike, worked-alike, table_worked-alike, keeps-worked, emission-alike, emitted-alike, after_emit-alike, worked_domain, emit_domain}
@@ -51,6 +51,9 @@ stream_answers d e f n BreakLink own same h = ap (λ o. Broke (answer_at o (λ s
 stream_answers d e f n (SetMulpdu size) own same h = ap (λ o. Sized (refusal_at o (λ s. stream.size_refusal size))) same
 stream_answers d e f n Private own same h = ap (λ o. Shown (answer_at o (λ s. private_in (unwrap_or o unopened).start))) same
 stream_answers d e f n Sent own same h = ap (λ o. Counted (answer_at o (λ s. (unwrap_or o unopened).sent))) same
+stream_answers d e f n DueLen own same h =
+    (λ i. Counted (told_at d e f (stream_of e n) (λ s. length (emitted e.table s)) (λ s. length (emitted f.table s)) own (λ s own. ap length (emitted-alike s e.table f.table (at_own d e f s own h))) i))
+    ∙ ap (λ o. Counted (answer_at o (λ s. length (emitted f.table (unwrap_or o unopened))))) same
 stream_answers d e f n InOrderPoint own same h = ap (λ o. Counted (answer_at o (λ s. (unwrap_or o unopened).arrived.floor))) same
 stream_answers d e f n Limits own same h = ap (λ o. Limited (answer_at o (λ s. tt))) same
 
@@ -80,6 +83,7 @@ stream_alikes d e f n BreakLink own same h = changing_alike (λ s e. with_stream
 stream_alikes d e f n (SetMulpdu size) own same h = refusing_alike (λ s. stream.size_refusal size) (λ s. stream.with_mulpdu s size) d e f n same h
 stream_alikes d e f n Private own same h = h
 stream_alikes d e f n Sent own same h = h
+stream_alikes d e f n DueLen own same h = h
 stream_alikes d e f n InOrderPoint own same h = h
 stream_alikes d e f n Limits own same h = h
 
@@ -110,6 +114,7 @@ stream_leaves d e n BreakLink IsNew own =
 stream_leaves d e n (SetMulpdu size) IsNew own = refusing_leaves (λ s. stream.size_refusal size) (λ s. stream.with_mulpdu s size) d e n IsNew own (λ s. refl)
 stream_leaves d e n Private IsNew own = leaves-all d e IsNew
 stream_leaves d e n Sent IsNew own = leaves-all d e IsNew
+stream_leaves d e n DueLen IsNew own = leaves-all d e IsNew
 stream_leaves d e n InOrderPoint IsNew own = leaves-all d e IsNew
 stream_leaves d e n Limits IsNew own = leaves-all d e IsNew
 

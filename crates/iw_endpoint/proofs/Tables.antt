@@ -1,5 +1,5 @@
 -- What the rules of a stream read and change of the regions is its own domain's.
-use Rattle.std.proofs.Common.{◌≡◌, ◌≢◌, ℕ, Bool, true, false, List, [], ◌∷◌, length, Option, Some, None, Result, Ok, Err, refl, sym, ap, subst, ◌∙◌, arith, inl, inr}
+use Rattle.std.proofs.Common.{◌≡◌, ◌≢◌, ℕ, ◌+◌, Bool, true, false, List, [], ◌∷◌, length, Option, Some, None, Result, Ok, Err, refl, sym, ap, subst, ◌∙◌, arith, inl, inr}
 use Rattle.std.specs.Prelude.{not, if◌then◌else◌}
 use Rattle.std.specs.Option.{option_map, option_map_or}
 use Rattle.std.proofs.lemmas.List.{get_or_past}
@@ -39,11 +39,11 @@ use Rattle.iw_stream.specs.declared.judging.Turning.TheVariants.{Passed, Complet
 use Rattle.iw_startup.specs.declared.progress.Progress.{Progress}
 use Rattle.iw_startup.specs.declared.progress.Progress.TheVariants as progress
 use Rattle.iw_stream.specs.Frames.{Frame, payload_of, segment_in, head_in, payload_len}
-use Rattle.iw_stream.specs.Judging.{or_else, fault_or, fault_told, place_in, place_verdict, head_verdict, judged_head, mismatch_fault, verdict, table_landed, send_turning, invalidate_fault, invalidation_fault, answering_by, is_response, segment_turn, turn_of, table_turned}
-use Rattle.iw_stream.specs.Starting.{progress_in}
+use Rattle.iw_stream.specs.Judging.{or_else, fault_or, fault_told, place_in, place_verdict, head_verdict, judged_head, mismatch_fault, verdict, table_landed, send_turning, invalidate_fault, invalidation_fault, answering_by, is_response, segment_turn, turn_of, table_turned, early_verdict, landing_in, may_be_early, table_tried}
+use Rattle.iw_stream.specs.Starting.{first_place_in, progress_in}
 use Rattle.iw_stream.specs.Stream.{StreamState, Due, frame_fetched, frame_of, octets_fetched, emission_fetched, left_fetched, octets_due, emission_due, left_due, due, emission_of, emitted, after_emit}
 use Rattle.iw_stream.specs.Stream.{StartUp, LastWord, NextPart, NoneDue, Response as ResponseDue}
-use Rattle.iw_stream.specs.Work.{Task, HandOut, GiveUp, GiveBack, Hear, Turn, Judge, Rest, task, standing, step_of, left_by, table_left, table_judged, table_passed, judged_step, turned_step, after_judging, after_turn, after_hearing, inbox, work_step, worked, table_worked}
+use Rattle.iw_stream.specs.Work.{Task, HandOut, GiveUp, GiveBack, Hear, Turn, Clash, Judge, Try, Rest, task, standing, step_of, left_by, table_left, table_judged, table_passed, judged_step, tried_step, turned_step, after_judging, after_trying, after_turn, after_hearing, inbox, work_step, worked, table_worked}
 
 -- ---- two tables that are alike in one domain's part
 
@@ -97,6 +97,9 @@ head-alike s t u (Err fault) n h = refl
 pub verdict-alike : (s : StreamState) (t u : Table) (frame : Frame) → AreAlike s.domain t u → verdict (standing t s) frame ≡ verdict (standing u s) frame
 verdict-alike s t u frame h = ap (λ r. option_map_or (λ m. Err (mismatch_fault m)) frame.mismatch r) (head-alike s t u (judged_head (standing t s) frame.ulpdu) (length (payload_of (read_segment frame.ulpdu))) h)
 
+pub early-alike : (s : StreamState) (t u : Table) (frame : Frame) → AreAlike s.domain t u → early_verdict (standing t s) frame ≡ early_verdict (standing u s) frame
+early-alike s t u frame h = ap (λ r. if may_be_early (judged_head (standing t s) frame.ulpdu) then landing_in r else None) (verdict-alike s t u frame h)
+
 invalidation-alike : (d : ℕ) (t u : Table) (turning : Turning) → AreAlike d t u → invalidation_fault t d turning ≡ invalidation_fault u d turning
 invalidation-alike d t u Passed h = refl
 invalidation-alike d t u (Completed solicited None) h = refl
@@ -123,7 +126,9 @@ step-alike s t u h = go (task s)
     go (GiveBack buffer) = refl
     go Hear = refl
     go (Turn frame) = ap (turned_step s.receiving frame) (turn-alike s t u frame h)
+    go (Clash frame) = refl
     go (Judge frame) = ap judged_step (verdict-alike s t u frame h)
+    go (Try frame) = ap (tried_step (first_place_in s.start + frame.start)) (early-alike s t u frame h)
     go Rest = refl
 
 pub worked-alike : (s : StreamState) (t u : Table) → AreAlike s.domain t u → worked t s ≡ worked u s
@@ -135,7 +140,9 @@ worked-alike s t u h = go (task s)
     go (GiveBack buffer) = refl
     go Hear = refl
     go (Turn frame) = ap (after_turn s frame) (turn-alike s t u frame h)
+    go (Clash frame) = refl
     go (Judge frame) = ap (after_judging s frame) (verdict-alike s t u frame h)
+    go (Try frame) = ap (after_trying s frame) (early-alike s t u frame h)
     go Rest = refl
 
 landed-alike : (d : ℕ) (t u : Table) (payload : List ℕ) (at : Landing) → AreAlike d t u → AreAlike d (table_landed t payload at) (table_landed u payload at)
@@ -148,6 +155,10 @@ landed-alike d t u payload (Terminate fault) h = h
 pub judged-alike : (d : ℕ) (t u : Table) (frame : Frame) (r : Result Landing Fault) → AreAlike d t u → AreAlike d (table_judged t frame r) (table_judged u frame r)
 judged-alike d t u frame (Ok at) h = landed-alike d t u (payload_of (segment_in frame)) at h
 judged-alike d t u frame (Err fault) h = h
+
+tried-alike : (d : ℕ) (t u : Table) (frame : Frame) (o : Option Landing) → AreAlike d t u → AreAlike d (table_tried t frame o) (table_tried u frame o)
+tried-alike d t u frame None h = h
+tried-alike d t u frame (Some at) h = landed-alike d t u (payload_of (segment_in frame)) at h
 
 turned-alike : (d : ℕ) (t u : Table) (turning : Turning) → AreAlike d t u → AreAlike d (table_turned t turning) (table_turned u turning)
 turned-alike d t u Passed h = h
@@ -170,9 +181,13 @@ table_worked-alike s t u h = go (task s)
     go (Turn frame) =
         subst (λ r. AreAlike s.domain (table_passed t (turn_of (standing t s) frame)) (table_passed u r)) (turn-alike s t u frame h)
         (passed-alike s.domain t u (turn_of (standing t s) frame) h)
+    go (Clash frame) = h
     go (Judge frame) =
         subst (λ r. AreAlike s.domain (table_judged t frame (verdict (standing t s) frame)) (table_judged u frame r)) (verdict-alike s t u frame h)
         (judged-alike s.domain t u frame (verdict (standing t s) frame) h)
+    go (Try frame) =
+        subst (λ o. AreAlike s.domain (table_tried t frame (early_verdict (standing t s) frame)) (table_tried u frame o)) (early-alike s t u frame h)
+        (tried-alike s.domain t u frame (early_verdict (standing t s) frame) h)
     go Rest = h
 
 -- ---- what is placed or invalidated lies in the stream's own domain
@@ -250,6 +265,17 @@ keeps-judged s t frame = by_mismatch frame.mismatch
     by_mismatch (Some m) = keeps-all s.domain t
     by_mismatch None = by_head (judged_head (standing t s) frame.ulpdu)
 
+keeps-tried : (s : StreamState) (t : Table) (frame : Frame) → KeepsOthers s.domain t (table_tried t frame (early_verdict (standing t s) frame))
+keeps-tried s t frame = by_test (may_be_early (judged_head (standing t s) frame.ulpdu))
+  where
+    placed : (r : Result Landing Fault) → KeepsOthers s.domain t (table_judged t frame r) → KeepsOthers s.domain t (table_tried t frame (landing_in r))
+    placed (Ok at) k = k
+    placed (Err fault) k = k
+
+    by_test : (b : Bool) → KeepsOthers s.domain t (table_tried t frame (if b then landing_in (verdict (standing t s) frame) else None))
+    by_test true = placed (verdict (standing t s) frame) (keeps-judged s t frame)
+    by_test false = keeps-all s.domain t
+
 -- a region that may be invalidated is of the domain
 own_stag : (t : Table) (d : ℕ) (stag : Stag) → invalidate_denial t d stag ≡ None → stag.domain ≡ d
 own_stag t d stag none = elim (eqb_tells stag.domain d) [
@@ -289,7 +315,9 @@ keeps-worked s t = go (task s)
     go (GiveBack buffer) = keeps-all s.domain t
     go Hear = keeps-all s.domain t
     go (Turn frame) = keeps-passed s.domain t s.receiving s.reads (payload_len frame) (head_in frame)
+    go (Clash frame) = keeps-all s.domain t
     go (Judge frame) = keeps-judged s t frame
+    go (Try frame) = keeps-tried s t frame
     go Rest = keeps-all s.domain t
 
 -- ---- emission
@@ -385,7 +413,9 @@ worked_domain t s = go (task s)
     go (GiveBack buffer) = refl
     go Hear = heard_domain s (progress_in s.start (inbox s))
     go (Turn frame) = turned_domain s frame (turn_of (standing t s) frame)
+    go (Clash frame) = refl
     go (Judge frame) = judged_domain s frame (verdict (standing t s) frame)
+    go (Try frame) = refl
     go Rest = refl
 
 fetched_domain : (s : StreamState) (part : ResponsePart) (r : Result (List ℕ) Fault) → (left_fetched s part r).domain ≡ s.domain

@@ -43,6 +43,7 @@ pub data StreamCall : Type 0 where
   SetMulpdu : ℕ → StreamCall
   Private : StreamCall
   Sent : StreamCall
+  DueLen : StreamCall
   InOrderPoint : StreamCall
   Limits : StreamCall
 
@@ -110,6 +111,7 @@ stream_answer e n BreakLink = Broke (answer_at (stream_of e n) (λ s. tt))
 stream_answer e n (SetMulpdu size) = Sized (size_refusal e n size)
 stream_answer e n Private = Shown (answer_at (stream_of e n) (λ s. private_at e n))
 stream_answer e n Sent = Counted (answer_at (stream_of e n) (λ s. sent_at e n))
+stream_answer e n DueLen = Counted (answer_at (stream_of e n) (λ s. length (emitted_at e n)))
 stream_answer e n InOrderPoint = Counted (answer_at (stream_of e n) (λ s. point_at e n))
 stream_answer e n Limits = Limited (answer_at (stream_of e n) (λ s. tt))
 
@@ -139,6 +141,7 @@ after_stream e n BreakLink = if_there (stream_of e n) e (broken e n)
 after_stream e n (SetMulpdu size) = unless (size_refusal e n size) e (with_mulpdu e n size)
 after_stream e n Private = e
 after_stream e n Sent = e
+after_stream e n DueLen = e
 after_stream e n InOrderPoint = e
 after_stream e n Limits = e
 

@@ -1,4 +1,6 @@
-ghost use Rattle.std.specs.Prelude.{◌≡◌, ◌↔◌, ◌+◌, ◌≤◌, ◌^◌, ◌++◌, true, false, length, is_ok, is_some, IsSome, IsErr, IfSome, IfNone, IfOk, IfErr, OnOk, OnErr, Some, None, option_copied};
+ghost use Rattle.std.specs.Prelude.{◌≡◌, ◌↔◌, ◌+◌, ◌≤◌, ◌^◌, ◌++◌, true, false, length};
+ghost use Rattle.std.specs.Prelude.{Some, None, option_copied, is_some, IsSome, IfSome, IfNone};
+ghost use Rattle.std.specs.Prelude.{Ok, is_ok, IsErr, IfOk, IfErr, OnOk, OnErr};
 ghost use Rattle.std.specs.Result.{result_err, result_ok};
 ghost use Rattle.std.specs.Option.{option_map};
 ghost use Rattle.std.specs.Borrow.{sem};
@@ -8,6 +10,7 @@ ghost use Rattle.iw_ranges.specs.Arrived.{BringsOctets};
 ghost use Rattle.iw_octets.specs.declared.fault.Fault.{Fault};
 ghost use Rattle.iw_stream.specs.Kept.{IsWithin, IsWithinBuffer};
 ghost use Rattle.iw_stream.specs.Stream.{ended};
+ghost use Rattle.iw_stream.specs.Work.{IsTry, task};
 
 use crate::refusal::{CallRefusal, NoSuchStream};
 use crate::streams::{STREAM_NUMBERS, Streams};
@@ -39,7 +42,14 @@ impl<A: Allocator> Model for Endpoint<A> {
 }
 
 impl<A: Allocator> Endpoint<A> {
-    ghost use Rattle.iw_endpoint.specs.Endpoint.{fresh, HasNumbers, domain_refusal, added, registered, octets_of, deregistered, invalidated, facts_at, store_refusal, stored, has_stream, stream_at, open_refusal, opened, answer_refusal, agreement, accepted, rejected, post_refusal, with_request, recv_refusal, with_buffer, delivery_at, after_deliver, emission_at, emitted_at, after_emit, step_at, after_work, broken, size_refusal, with_mulpdu, private_at, sent_at, point_at};
+    ghost use Rattle.iw_endpoint.specs.Endpoint.{fresh, HasNumbers, has_stream, stream_at};
+    ghost use Rattle.iw_endpoint.specs.Endpoint.{domain_refusal, added, registered, octets_of, deregistered};
+    ghost use Rattle.iw_endpoint.specs.Endpoint.{invalidated, facts_at, store_refusal, stored};
+    ghost use Rattle.iw_endpoint.specs.Endpoint.{open_refusal, opened, answer_refusal, agreement, accepted};
+    ghost use Rattle.iw_endpoint.specs.Endpoint.{rejected, private_at, broken, size_refusal, with_mulpdu};
+    ghost use Rattle.iw_endpoint.specs.Endpoint.{post_refusal, with_request, recv_refusal, with_buffer};
+    ghost use Rattle.iw_endpoint.specs.Endpoint.{delivery_at, after_deliver, step_at, after_work, point_at};
+    ghost use Rattle.iw_endpoint.specs.Endpoint.{emission_at, emitted_at, after_emit, sent_at};
     ghost use Rattle.iw_endpoint.specs.Lending.{LendsLocal};
 
     /// An endpoint with no domain and no stream. An `Err` is want of memory.
@@ -215,7 +225,7 @@ impl<A: Allocator> Endpoint<A> {
         }
     }
 
-    /// Posts a message or a Read behind the others; `work` tells in posting order which are done. Its octets are shared, not
+    /// Posts a message or a Read after the others; `work` tells in posting order which are done. Its octets are shared, not
     /// copied. An `Err` changes nothing, and has what was to be posted; `NoMemory` comes only where no other refusal applies.
     pub fn post(
         &mut self,
@@ -238,7 +248,7 @@ impl<A: Allocator> Endpoint<A> {
         }
     }
 
-    /// Posts a receive buffer behind the others, also before the stream is open; [`Step::Received`] gives it back. An `Err`
+    /// Posts a receive buffer after the others, also before the stream is open; [`Step::Received`] gives it back. An `Err`
     /// changes nothing, and has the vector; `NoMemory` comes only where no other refusal applies.
     pub fn post_recv(
         &mut self,
@@ -287,25 +297,28 @@ impl<A: Allocator> Endpoint<A> {
     }
 
     /// Does one step at a stream, and tells what it did; to be called until it answers [`Step::Idle`], after octets came,
-    /// after frames were emitted and after [`Endpoint::break_link`]. It takes no memory.
+    /// after frames were emitted and after [`Endpoint::break_link`].
     ///
     /// Where the stream has ended, each posted message is handed out in posting order, as finished or as given up, and then
     /// each receive buffer.
     ///
-    /// It asks that the in-order point ([`Endpoint::in_order_point`]) is at most 2^63 - 2^18: it never is more than the
-    /// number of octets that came.
-    pub fn work(&mut self, number: u8) -> Result<Step<Octets<A>>, NoSuchStream>
-        requires { point_at self.old number + 2 ^ 18 ≤ 2 ^ 63 }
-        ensures step { result ≡ step_at self.old number }
+    /// It asks that the in-order point ([`Endpoint::in_order_point`]) is at most 2^62: it never is more than the number of
+    /// octets that came. `Refused` is want of memory, and comes only where a frame is judged before its turn; an `Err`
+    /// changes nothing.
+    pub fn work(&mut self, number: u8) -> Result<Step<Octets<A>>, CallRefusal<AllocError>>
+        requires { point_at self.old number ≤ 2 ^ 62 }
+        ensures stream { (result ≡ Err CallRefusal.NoSuchStream) ↔ (has_stream self.old number ≡ false) }
+        ensures step { IfOk result (λ step. Ok step ≡ step_at self.old number) }
         ensures after { OnOk result (self.new ≡ after_work self.old number) }
         ensures err { OnErr result (self.new ≡ self.old) }
+        ensures want { has_stream self.old number ≡ true → OnErr result (IsTry (task (stream_at self.old number))) }
         // The in-order point moves on by no more than may have come, and a message lies in its buffer.
         ensures reach { point_at self.new number ≤ point_at self.old number + 2 ^ 18 }
-        ensures within { IfOk result (λ step. IsWithinBuffer step) }
+        ensures within { IfOk result IsWithinBuffer }
     {
         match self.streams.get_mut(number) {
-            Some(stream) => Ok(stream.work(&mut self.memory)),
-            None => Err(NoSuchStream),
+            Some(stream) => stream.work(&mut self.memory).map_err(CallRefusal::Refused),
+            None => Err(CallRefusal::NoSuchStream),
         }
     }
 
@@ -333,6 +346,19 @@ impl<A: Allocator> Endpoint<A> {
         match self.streams.get_mut(number) {
             Some(stream) => stream.emit(&self.memory, out).map_err(CallRefusal::Refused),
             None => Err(CallRefusal::NoSuchStream),
+        }
+    }
+
+    /// How many octets the next call of [`Endpoint::emit`] appends, where memory is not wanting: none where nothing is due, and
+    /// where the peer may not read what is to be fetched. It asks what `emit` asks.
+    pub fn due_len(&self, number: u8) -> Result<usize, NoSuchStream>
+        requires { sent_at self.now number ≤ 2 ^ 62 }
+        ensures stream { is_ok result ≡ has_stream self.now number }
+        ensures len { IfOk result (λ len. len ≡ length (emitted_at self.now number)) }
+    {
+        match self.streams.get(number) {
+            Some(stream) => Ok(stream.due_len(&self.memory)),
+            None => Err(NoSuchStream),
         }
     }
 
