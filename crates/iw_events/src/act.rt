@@ -67,6 +67,8 @@ pub enum Seen<O> {
         stag: Stag,
         to: u64,
     },
+    /// The frame whose first octet has this stream place was judged before its turn and is left for it.
+    Tried(u64),
     /// A frame had its turn, and there is nothing more to say of it.
     Passed,
     /// A Send is complete: its octets, whether it was solicited, and the STag that it invalidated.

@@ -193,6 +193,10 @@ requested_words size stag to = codes "requested" ∷ decimal size ∷ stag_text 
 abbrev pub received_words : List ℕ → Bool → Option Stag → Words
 received_words octets solicited invalidate = codes "received" ∷ octets_text octets ∷ send_text (kind_of solicited invalidate) ∷ optional_stag_text invalidate ∷ []
 
+-- a frame that was judged before its turn, and left for it: the stream place of its first octet
+abbrev pub tried_words : ℕ → Words
+tried_words place = codes "tried" ∷ decimal place ∷ []
+
 abbrev pub asked_words : List ℕ → Words
 asked_words private = codes "asked" ∷ octets_text private ∷ []
 
@@ -209,6 +213,7 @@ seen_words (seen.Closed fault) = numbered (codes "closed") (startup_fault fault)
 seen_words (seen.Placed right stag to octets) = placed_words right stag to octets
 seen_words (seen.Buffered msn mo len) = buffered_words msn mo len
 seen_words (seen.Requested size stag to) = requested_words size stag to
+seen_words (seen.Tried place) = tried_words place
 seen_words seen.Passed = codes "passed" ∷ []
 seen_words (seen.Received octets solicited invalidate) = received_words octets solicited invalidate
 seen_words (seen.Terminated fault) = terminated_words fault

@@ -3,7 +3,8 @@
 ghost use Rattle.std.specs.Prelude.{◌≡◌, [], ◌∷◌, OnOk, string_bytes};
 ghost use Rattle.std.specs.Option.{option_map};
 ghost use Rattle.std.specs.Fmt.{decimal};
-ghost use Rattle.iw_schedules.specs.Answers.{octets_text, stag_text, optional_stag_text, numbered, refused, ok_or_refused};
+ghost use Rattle.iw_schedules.specs.Answers.{octets_text, stag_text, optional_stag_text};
+ghost use Rattle.iw_schedules.specs.Answers.{numbered, refused, ok_or_refused};
 ghost use Rattle.iw_schedules.specs.Appended.{with_words};
 ghost use Rattle.iw_schedules.specs.Shown.{shown_refusal};
 
@@ -65,7 +66,8 @@ pub(crate) fn numbered<A: Allocator>(
     first: &str,
     reason: Refusal,
 ) -> Result<(), AllocError>
-    ensures { OnOk result (string_bytes text.new ≡ with_words (string_bytes text.old) (numbered first.now (shown_refusal reason))) }
+    ensures { OnOk result (string_bytes text.new
+        ≡ with_words (string_bytes text.old) (numbered first.now (shown_refusal reason))) }
 {
     word(text, first)?;
     number(text, u64::from(reason.number))?;
@@ -76,7 +78,8 @@ pub(crate) fn refusal<A: Allocator>(
     text: &mut String<A>,
     refusal: Refusal,
 ) -> Result<(), AllocError>
-    ensures { OnOk result (string_bytes text.new ≡ with_words (string_bytes text.old) (refused (shown_refusal refusal))) }
+    ensures { OnOk result (string_bytes text.new
+        ≡ with_words (string_bytes text.old) (refused (shown_refusal refusal))) }
 {
     numbered(text, "refused", refusal)
 }
@@ -86,7 +89,8 @@ pub(crate) fn outcome<A: Allocator>(
     text: &mut String<A>,
     refused: Option<Refusal>,
 ) -> Result<(), AllocError>
-    ensures { OnOk result (string_bytes text.new ≡ with_words (string_bytes text.old) (ok_or_refused (option_map shown_refusal refused))) }
+    ensures { OnOk result (string_bytes text.new
+        ≡ with_words (string_bytes text.old) (ok_or_refused (option_map shown_refusal refused))) }
 {
     match refused {
         None => word(text, "ok"),

@@ -7,7 +7,11 @@ ghost use Rattle.iw_schedules.specs.SendKind.{kind_word, invalidated_word};
 ghost use Rattle.iw_schedules.specs.Rights.{rights_word};
 ghost use Rattle.iw_schedules.specs.Options.{options_word};
 ghost use Rattle.iw_schedules.specs.Words.{role_word, call_word};
-ghost use Rattle.iw_schedules.specs.Calls.{step_call, calls_of, next_word, field, octet_number, long_number, size_number, times_at, domain_at, register_at, deregister_at, invalidate_at, store_at, open_at, accept_at, reject_at, recv_at, send_at, write_at, read_at, steps_at, deliver_at, raw_at, mulpdu_at, break_at, behind, calls_at};
+ghost use Rattle.iw_schedules.specs.Calls.{calls_of, calls_at, step_call, steps_at};
+ghost use Rattle.iw_schedules.specs.Calls.{next_word, field, behind, octet_number, long_number, size_number, times_at};
+ghost use Rattle.iw_schedules.specs.Calls.{domain_at, register_at, deregister_at, invalidate_at, store_at};
+ghost use Rattle.iw_schedules.specs.Calls.{open_at, accept_at, reject_at, mulpdu_at, break_at, deliver_at, raw_at};
+ghost use Rattle.iw_schedules.specs.Calls.{recv_at, send_at, write_at, read_at};
 
 use crate::fault::{FaultName, ReadError};
 use crate::options::read_options;

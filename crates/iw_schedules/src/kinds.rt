@@ -5,7 +5,8 @@ ghost use Rattle.std.specs.Char.{is_ascii_digit, digit_value};
 ghost use Rattle.std.specs.List.{repeat};
 ghost use Rattle.std.specs.Option.{option_copied};
 ghost use Rattle.iw_schedules.specs.Reading.{Gives};
-ghost use Rattle.iw_schedules.specs.Kinds.{decimal_of, number_word, times_word, stag_word, hex_word, count_word, octets_word, private_word};
+ghost use Rattle.iw_schedules.specs.Kinds.{decimal_of, number_word, times_word, count_word};
+ghost use Rattle.iw_schedules.specs.Kinds.{stag_word, hex_word, octets_word, private_word};
 
 use crate::fault::{FaultName, ReadError};
 use crate::pieces::split_at;
@@ -43,7 +44,8 @@ fn decimal(word: &[u8]) -> Option<u64>
 // The number with one more digit after it.
 fn with_digit(number: u64, digit: u8) -> Option<u64>
     requires { is_ascii_digit digit ≡ true }
-    ensures value { MatchOption result (2 ^ 64 ≤ number * 10 + digit_value digit) (λ longer. longer ≡ number * 10 + digit_value digit) }
+    ensures value { MatchOption result (2 ^ 64 ≤ number * 10 + digit_value digit)
+        (λ longer. longer ≡ number * 10 + digit_value digit) }
     ensures fits { IfSome result (λ longer. longer < 2 ^ 64) }
 {
     number.checked_mul(10)?.checked_add(u64::from(digit - b'0'))

@@ -1,7 +1,9 @@
 //! The refusals of each call, with their numbers, and why a start-up closed a stream.
 
 ghost use Rattle.std.specs.Prelude.{◌≡◌};
-ghost use Rattle.iw_schedules.specs.Answers.{domain_refusal, register_refusal, open_refusal, recv_refusal, post_refusal, size_refusal, not_asked, startup_fault, no_region, store_refusal};
+ghost use Rattle.iw_schedules.specs.Answers.{domain_refusal, register_refusal, store_refusal, no_region};
+ghost use Rattle.iw_schedules.specs.Answers.{open_refusal, not_asked, startup_fault};
+ghost use Rattle.iw_schedules.specs.Answers.{size_refusal, recv_refusal, post_refusal};
 ghost use Rattle.iw_schedules.specs.Shown.{shown_refusal};
 
 use iw_memory::{DomainRefusal, NoRegion, RegisterRefusal, StoreRefusal};

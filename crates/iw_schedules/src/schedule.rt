@@ -2,7 +2,8 @@ ghost use Rattle.std.specs.Prelude.{◌≡◌, ◌<◌, ◌++◌, map, length, O
 ghost use Rattle.iw_schedules.specs.Reading.{Gives};
 ghost use Rattle.iw_schedules.specs.Pieces.{words};
 ghost use Rattle.iw_schedules.specs.Calls.{calls_of};
-ghost use Rattle.iw_schedules.specs.Schedule.{is_skipped, ended, event_at, events_of, with_events, with_line, schedule_of, Events, Reads};
+ghost use Rattle.iw_schedules.specs.Schedule.{is_skipped, ended, event_at, with_line, with_events};
+ghost use Rattle.iw_schedules.specs.Schedule.{schedule_of, events_of, Events, Reads};
 ghost use Rattle.iw_schedules.specs.Grammar.{IsSchedule, FirstFault};
 
 use crate::calls::{Calls, read_calls};
@@ -86,7 +87,8 @@ fn add_events<A: Allocator>(
     end: End,
     calls: Calls<Bytes<A>>,
 ) -> Result<(), ReadError>
-    ensures { Gives (λ _. events.new.items) result (with_events events.old.items (map (event_at end) (calls_of calls))) }
+    ensures { Gives (λ _. events.new.items) result
+        (with_events events.old.items (map (event_at end) (calls_of calls))) }
 {
     match (events.len() as u64).checked_add(calls.len()) {
         Some(all) if all <= MAX_EVENTS => Ok(push(events, end, calls)?),

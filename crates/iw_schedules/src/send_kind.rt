@@ -2,7 +2,8 @@
 
 ghost use Rattle.std.specs.Prelude.{◌≡◌};
 ghost use Rattle.iw_schedules.specs.Words.{one_of};
-ghost use Rattle.iw_schedules.specs.SendKind.{send_text, kind_word, kind_of, is_solicited, no_stag_word, invalidated_word};
+ghost use Rattle.iw_schedules.specs.SendKind.{send_text, kind_word, kind_of, is_solicited};
+ghost use Rattle.iw_schedules.specs.SendKind.{no_stag_word, invalidated_word};
 
 use crate::fault::FaultName;
 use crate::kinds;

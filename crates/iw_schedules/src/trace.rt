@@ -3,8 +3,15 @@ ghost use Rattle.std.specs.Option.{option_map};
 ghost use Rattle.std.specs.Fmt.{decimal};
 ghost use Rattle.iw_schedules.specs.Shown.{shown_refusal};
 ghost use Rattle.iw_schedules.specs.Words.{call_text};
-ghost use Rattle.iw_schedules.specs.Answers.{stag_text, ok_or_refused, kind_text, right_text, delivery_text, agreed_text, accepted_words, asked_words, opened_words, with_fault, fault_words, terminated_words, fetched_words, shown_words, done_words, flushed_words, flushed_recv_words, placed_words, buffered_words, requested_words, received_words, seen_words};
-ghost use Rattle.iw_schedules.specs.Trace.{registered, deregistered, post_word, call_on, call_of_stag, stream_word, stream_answer, stream_words, act_words, entry_text, trace_text};
+ghost use Rattle.iw_schedules.specs.Answers.{stag_text, kind_text, right_text, delivery_text, ok_or_refused};
+ghost use Rattle.iw_schedules.specs.Answers.{agreed_text, asked_words, accepted_words, opened_words};
+ghost use Rattle.iw_schedules.specs.Answers.{with_fault, fault_words, terminated_words};
+ghost use Rattle.iw_schedules.specs.Answers.{placed_words, tried_words};
+ghost use Rattle.iw_schedules.specs.Answers.{buffered_words, requested_words, received_words};
+ghost use Rattle.iw_schedules.specs.Answers.{seen_words, shown_words, fetched_words};
+ghost use Rattle.iw_schedules.specs.Answers.{done_words, flushed_words, flushed_recv_words};
+ghost use Rattle.iw_schedules.specs.Trace.{registered, deregistered, post_word, call_on, call_of_stag};
+ghost use Rattle.iw_schedules.specs.Trace.{stream_word, stream_answer, stream_words, act_words, entry_text, trace_text};
 ghost use Rattle.iw_schedules.specs.Appended.{with_words};
 
 use crate::refusals::Refusal;
@@ -90,7 +97,8 @@ fn add_frame<A: Allocator + Copy>(
     from: u64,
     octets: &[u8],
 ) -> Result<(), AllocError>
-    ensures { OnOk result (string_bytes text.new ≡ with_words (string_bytes text.old) (shown_words (Shown.Frame from octets.now))) }
+    ensures { OnOk result (string_bytes text.new
+        ≡ with_words (string_bytes text.old) (shown_words (Shown.Frame from octets.now))) }
 {
     appending::word(text, "frame")?;
     appending::number(text, from)?;
@@ -105,7 +113,8 @@ fn add_fetched<A: Allocator + Copy>(
     to: u64,
     octets: &[u8],
 ) -> Result<(), AllocError>
-    ensures { OnOk result (string_bytes text.new ≡ with_words (string_bytes text.old) (fetched_words from frame.now stag to octets.now)) }
+    ensures { OnOk result (string_bytes text.new
+        ≡ with_words (string_bytes text.old) (fetched_words from frame.now stag to octets.now)) }
 {
     appending::word(text, "fetched")?;
     appending::number(text, from)?;
@@ -142,7 +151,8 @@ fn add_placed<A: Allocator + Copy>(
     to: u64,
     octets: &[u8],
 ) -> Result<(), AllocError>
-    ensures { OnOk result (string_bytes text.new ≡ with_words (string_bytes text.old) (placed_words right stag to octets.now)) }
+    ensures { OnOk result (string_bytes text.new
+        ≡ with_words (string_bytes text.old) (placed_words right stag to octets.now)) }
 {
     appending::word(text, "placed")?;
     appending::word(text, right_name(right))?;
@@ -185,7 +195,8 @@ fn add_received<A: Allocator + Copy>(
     solicited: bool,
     invalidate: Option<Stag>,
 ) -> Result<(), AllocError>
-    ensures { OnOk result (string_bytes text.new ≡ with_words (string_bytes text.old) (received_words octets.now solicited invalidate)) }
+    ensures { OnOk result (string_bytes text.new
+        ≡ with_words (string_bytes text.old) (received_words octets.now solicited invalidate)) }
 {
     appending::word(text, "received")?;
     appending::octets(text, octets)?;
@@ -219,6 +230,13 @@ fn add_flushed_recv<A: Allocator + Copy>(
     appending::octets(text, octets)
 }
 
+fn add_tried<A: Allocator>(text: &mut String<A>, place: u64) -> Result<(), AllocError>
+    ensures { OnOk result (string_bytes text.new ≡ with_words (string_bytes text.old) (tried_words place)) }
+{
+    appending::word(text, "tried")?;
+    appending::number(text, place)
+}
+
 fn add_asked<A: Allocator + Copy>(text: &mut String<A>, private: &[u8]) -> Result<(), AllocError>
     ensures { OnOk result (string_bytes text.new ≡ with_words (string_bytes text.old) (asked_words private.now)) }
 {
@@ -231,7 +249,8 @@ fn add_opened<A: Allocator + Copy>(
     agreed: Agreed,
     private: &[u8],
 ) -> Result<(), AllocError>
-    ensures { OnOk result (string_bytes text.new ≡ with_words (string_bytes text.old) (opened_words agreed private.now)) }
+    ensures { OnOk result (string_bytes text.new
+        ≡ with_words (string_bytes text.old) (opened_words agreed private.now)) }
 {
     appending::word(text, "opened")?;
     appending::word(text, agreed_name(agreed))?;
@@ -274,6 +293,7 @@ fn add_seen<A: Allocator + Copy>(
         } => add_placed(text, *right, *stag, *to, octets.as_slice()),
         Seen::Buffered { msn, mo, len } => add_buffered(text, *msn, *mo, *len),
         Seen::Requested { size, stag, to } => add_requested(text, *size, *stag, *to),
+        Seen::Tried(place) => add_tried(text, *place),
         Seen::Passed => appending::word(text, "passed"),
         Seen::Received {
             octets,
@@ -374,7 +394,8 @@ fn add_call_outcome<A: Allocator>(
     n: u8,
     refused: Option<Refusal>,
 ) -> Result<(), AllocError>
-    ensures { OnOk result (string_bytes text.new ≡ with_words (string_bytes text.old) (call_text call ∷ decimal n ∷ ok_or_refused (option_map shown_refusal refused))) }
+    ensures { OnOk result (string_bytes text.new ≡ with_words (string_bytes text.old)
+        (call_text call ∷ decimal n ∷ ok_or_refused (option_map shown_refusal refused))) }
 {
     add_call(text, call, n)?;
     appending::outcome(text, refused)
@@ -387,7 +408,8 @@ fn add_named_outcome<A: Allocator + Copy>(
     stag: Stag,
     refused: Option<Refusal>,
 ) -> Result<(), AllocError>
-    ensures { OnOk result (string_bytes text.new ≡ with_words (string_bytes text.old) (call_text call ∷ stag_text stag ∷ ok_or_refused (option_map shown_refusal refused))) }
+    ensures { OnOk result (string_bytes text.new ≡ with_words (string_bytes text.old)
+        (call_text call ∷ stag_text stag ∷ ok_or_refused (option_map shown_refusal refused))) }
 {
     add_named(text, call, stag)?;
     appending::outcome(text, refused)
@@ -397,7 +419,8 @@ fn add_registered<A: Allocator + Copy>(
     text: &mut String<A>,
     answer: Result<Stag, RegisterRefusal>,
 ) -> Result<(), AllocError>
-    ensures { OnOk result (string_bytes text.new ≡ with_words (string_bytes text.old) (call_text CallWord.Register ∷ registered answer)) }
+    ensures { OnOk result (string_bytes text.new
+        ≡ with_words (string_bytes text.old) (call_text CallWord.Register ∷ registered answer)) }
 {
     appending::word(text, CallWord::Register.text())?;
     match answer {
@@ -411,7 +434,8 @@ fn add_deregistered<A: Allocator + Copy>(
     stag: Stag,
     answer: &Result<Bytes<A>, NoRegion>,
 ) -> Result<(), AllocError>
-    ensures { OnOk result (string_bytes text.new ≡ with_words (string_bytes text.old) (call_text CallWord.Deregister ∷ stag_text stag ∷ deregistered answer.now)) }
+    ensures { OnOk result (string_bytes text.new ≡ with_words (string_bytes text.old)
+        (call_text CallWord.Deregister ∷ stag_text stag ∷ deregistered answer.now)) }
 {
     add_named(text, CallWord::Deregister, stag)?;
     match answer {
@@ -468,7 +492,8 @@ fn add_entry<A: Allocator + Copy>(
 
 /// Prints a trace: one line for each entry.
 ///
-/// Octets and STags print in lower case, no octets as `-`, and all other numbers in decimal; every line ends with a line feed.
+/// Octets and STags print in lower case, no octets as `-`, and all other numbers in decimal; every line ends with a
+/// line feed.
 #[tactic(auto, unfolding(crate::specs::Trace::trace_text))]
 pub fn print_trace<A: Allocator + Copy>(
     alloc: A,
