@@ -6,7 +6,7 @@ use Rattle.iw_queues.specs.Queue.{done_in}
 use Rattle.iw_ranges.specs.Arrived.{in_order}
 use Rattle.iw_startup.specs.declared.progress.Progress.{Progress}
 use Rattle.iw_startup.specs.declared.progress.Progress.TheVariants as progress
-use Rattle.iw_stream.specs.Starting.{is_open, awaits_frame, progress_in, heard, agreement_in, private_in}
+use Rattle.iw_stream.specs.Starting.{is_open, expecting, first_place_in, awaits_frame, progress_in, heard, agreement_in, private_in}
 use Rattle.iw_stream.specs.Stream.{StreamState, ended}
 use Rattle.iw_stream.specs.Work.{inbox, work_step, worked, table_worked}
 use Rattle.iw_stream.specs.Work as work
@@ -15,13 +15,15 @@ use Rattle.iw_stream.proofs.Tasks.{IsResting, Ended, Unanswered, Without}
 use Rattle.iw_events.specs.declared.act.Seen.{Seen}
 use Rattle.iw_events.specs.declared.act.Seen.TheVariants as seen
 use Rattle.iw_laws.specs.Words.{Octets}
-use Rattle.iw_laws.specs.Turns.{ReadsFrames, IsJudged, HasTurn, TurnsSeen, HearsFrame, hears}
+use Rattle.iw_stream.specs.Frames.{Frame}
+use Rattle.iw_stream.specs.Judging.{early_verdict}
+use Rattle.iw_laws.specs.Turns.{seen_judged, seen_tried, front_verdict, ReadsFrames, IsJudged, IsEarly, HasTurn, TurnsSeen, HearsFrame, hears}
 use Rattle.iw_laws.specs.Rest.{HasRest, Over, AwaitsFrame, AwaitsAnswer, NoFrame}
 use Rattle.iw_laws.specs.Rules.{seen_of}
 use Rattle.iw_laws.proofs.Tales.{Tale}
 use Rattle.iw_laws.proofs.Nexts.{standing, first_is_here, none_first_here}
-use Rattle.iw_laws.proofs.Told.{Judged, Turned, Hears, Sees, sees}
-use Rattle.iw_laws.proofs.Tracks.{Track, unread, sound, next_whole, next_none}
+use Rattle.iw_laws.proofs.Told.{Judged, JudgedEarly, Turned, Hears, Sees, sees}
+use Rattle.iw_laws.proofs.Tracks.{Track, unread, sound, next_whole, next_none, was_placed_is, early_frame_is}
 
 -- the stream is open in the state where it is in the acts
 pub open_same : (s : StreamState) (t : Tale) → Track s t → is_open t.story.start ≡ is_open s.start
@@ -30,13 +32,24 @@ open_same s t k = ap is_open k.begins.start
 reads : (s : StreamState) (t : Tale) → Track s t → ended s ≡ t.ended → ended s ≡ false → is_open s.start ≡ true → ReadsFrames t.ended t.story
 reads s t k over running started = record { running = sym over ∙ running; open_now = open_same s t k ∙ started }
 
+by_front : (table : Table) (s : StreamState) (t : Tale) (frame : Frame) → Track s t → front_verdict s.early (expecting s.start) (work.standing table s) frame ≡ front_verdict t.story.early (expecting t.story.start) (work.standing table s) frame
+by_front table s t frame k = λ i. front_verdict (sym k.early.records_are i) (expecting (sym k.begins.start i)) (work.standing table s) frame
+
 judged : (table : Table) (s : StreamState) (t : Tale) (step : Seen Octets) → Track s t → Judged table s step → IsJudged t.story (work.standing table s) step
 judged table s t step k o =
     let h = first_is_here s o.frame (sound s t k) o.is_next in
-    record { frame = o.frame; is_next = next_whole s t (carried_by o.frame) h.rest k h.whole ∙ ap Some (sym h.is); unplaced = k.placed ∙ ap is_some o.unplaced; answer = o.answer }
+    record { frame = o.frame; is_next = next_whole s t (carried_by o.frame) h.rest k h.whole ∙ ap Some (sym h.is); unplaced = was_placed_is s t k ∙ ap is_some o.unplaced; answer = o.answer ∙ ap (seen_judged o.frame) (by_front table s t o.frame k) }
 
 turned : (table : Table) (s : StreamState) (t : Tale) (step : Seen Octets) → Track s t → Turned table s step → HasTurn t.story (work.standing table s) step
-turned table s t step k o = record { frame = standing s o.frame; is_next = next_whole s t o.frame o.rest k o.whole; was_placed = k.placed ∙ ap is_some o.kept; answer = o.answer }
+turned table s t step k o = record { frame = standing s o.frame; is_next = next_whole s t o.frame o.rest k o.whole; waited = was_placed_is s t k ∙ ap is_some o.kept; answer = o.answer }
+
+early : (table : Table) (s : StreamState) (t : Tale) (step : Seen Octets) → Track s t → JudgedEarly table s step → IsEarly t.story (work.standing table s) step
+early table s t step k o = record {
+  frame = o.frame;
+  no_next = next_none s t k o.none;
+  is_early = early_frame_is s t k ∙ o.is_early;
+  answer = o.answer ∙ (λ i. seen_tried (first_place_in (sym k.begins.start i)) o.frame (early_verdict (work.standing table s) o.frame));
+}
 
 -- what is heard is what came
 bare_came : (s : StreamState) (t : Tale) (k : Track s t) (p : Progress) → Hears s p → in_order t.story.came ≡ inbox s
@@ -69,7 +82,9 @@ answers table s t step rule k over = told step (sees table s (sound s t k) step 
       h.2 ∙ ap private_in (heard_start s t k progress.Agreed h.0),
     )
     told (seen.Closed fault) h = heard_frame s t k over (progress.Faulted fault) h
-    told (seen.Placed right stag to octets) h = (reads s t k over h.0.runs.running h.0.runs.started, judged table s t (seen.Placed right stag to octets) k h.0)
+    told (seen.Placed right stag to octets) (inl h) = (reads s t k over h.0.runs.running h.0.runs.started, inl (judged table s t (seen.Placed right stag to octets) k h.0))
+    told (seen.Placed right stag to octets) (inr h) = (reads s t k over h.0.runs.running h.0.runs.started, inr (early table s t (seen.Placed right stag to octets) k h.0))
+    told (seen.Tried place) h = (reads s t k over h.runs.running h.runs.started, early table s t (seen.Tried place) k h)
     told (seen.Buffered msn mo len) h = (reads s t k over h.0.runs.running h.0.runs.started, judged table s t (seen.Buffered msn mo len) k h.0)
     told (seen.Requested size stag to) h = (reads s t k over h.0.runs.running h.0.runs.started, judged table s t (seen.Requested size stag to) k h.0)
     told seen.Passed h = (reads s t k over h.0.runs.running h.0.runs.started, turned table s t seen.Passed k h.0)
@@ -88,7 +103,7 @@ idles table s t rule k over = go (sees table s (sound s t k) seen.Idle rule).0.1
     go (inl h) = AwaitsFrame (heard_frame s t k over progress.More h)
     go (inr (Ended e old none)) = Over (sym over ∙ e)
     go (inr (Unanswered running a o)) = AwaitsAnswer (open_same s t k ∙ o) (ap awaits_frame k.begins.start ∙ a)
-    go (inr (Without runs unplaced none)) = NoFrame (open_same s t k ∙ runs.started) (next_none s t k (none_first_here s (sound s t k) none))
+    go (inr (Without runs unplaced none early)) = NoFrame (open_same s t k ∙ runs.started) (next_none s t k (none_first_here s (sound s t k) none)) (early_frame_is s t k ∙ early)
 
 -- and no message is finished
 pub idle_unfinished : (table : Table) (s : StreamState) (t : Tale) → seen.Idle ≡ seen_of (table_worked table s) (private_in (worked table s).start) (work_step table s) → Track s t → done_in s.queue ≡ None

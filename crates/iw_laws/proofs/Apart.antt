@@ -1,17 +1,16 @@
 -- What follows the rules is answered, domain by domain, as where no other domain is.
-use Rattle.std.proofs.Common.{◌≡◌, ◌⊎◌, ℕ, List, [], ◌∷◌, ◌++◌, length, cond, Option, Some, None, Ok, Err, Bool, true, false, refl, sym, ap, subst, ◌∙◌, inl, inr}
+use Rattle.std.proofs.Common.{◌≡◌, ◌⊎◌, ℕ, ◌+◌, List, [], ◌∷◌, ◌++◌, length, cond, Option, Some, None, Ok, Err, true, refl, sym, ap, subst, ◌∙◌, inl, inr}
 use Rattle.std.specs.Prelude.{is_some, unwrap_or, Result}
-use Rattle.std.specs.Option.{option_map, option_map_or}
+use Rattle.std.specs.Option.{option_map_or}
 use Rattle.std.proofs.lemmas.Bool.{false≢true}
 use Rattle.std.proofs.lemmas.Bool.Decides.{eqb_tells}
 use Rattle.iw_octets.specs.declared.fault.Fault.{Fault}
 use Rattle.iw_octets.specs.declared.segment.Segment.TheVariants.{Tagged}
 use Rattle.iw_octets.specs.declared.stag.Stag.{Stag}
-use Rattle.iw_memory.specs.declared.rights.Right.{Right}
 use Rattle.iw_memory.specs.declared.rights.Right.TheVariants as rights
 use Rattle.iw_memory.specs.Part.{own_domain_refusal, own_register_refusal, own_next_stag, own_region, own_store_refusal}
 use Rattle.iw_memory.specs.Region.{octets_from}
-use Rattle.iw_memory.specs.Table.{Table, region_at, octets_at, put}
+use Rattle.iw_memory.specs.Table.{Table, region_at, octets_at}
 use Rattle.iw_memory.proofs.Callers.{allows}
 use Rattle.iw_reads.specs.declared.response.ResponsePart.{ResponsePart}
 use Rattle.iw_reads.specs.Response.{fetch_fault, fetched_octets}
@@ -23,15 +22,15 @@ use Rattle.iw_stream.specs.declared.judging.Landing.TheVariants as landing
 use Rattle.iw_stream.specs.declared.judging.Turning.{Turning}
 use Rattle.iw_stream.specs.declared.judging.Turning.TheVariants as turning
 use Rattle.iw_stream.specs.declared.judging.PlacedFrame.{PlacedFrame}
-use Rattle.iw_stream.specs.Frames.{Frame, payload_of, segment_in}
-use Rattle.iw_stream.specs.Judging.{verdict, turn_of, fault_or}
-use Rattle.iw_stream.specs.Starting.{private_in, progress_in}
+use Rattle.iw_stream.specs.Frames.{Frame}
+use Rattle.iw_stream.specs.Judging.{verdict, early_verdict, table_tried, turn_of, fault_or}
+use Rattle.iw_stream.specs.Starting.{first_place_in, private_in, progress_in}
 use Rattle.iw_stream.specs.Stream.{StreamState, Due, StartUp, LastWord, NextPart, NoneDue, Response as ResponseDue, due, frame_of, frame_fetched, emission_of, emitted, emission_due, octets_due, emission_fetched, octets_fetched}
-use Rattle.iw_stream.specs.Work.{Task, HandOut, GiveUp, GiveBack, Hear, Turn, Judge, Rest, task, inbox, standing, step_of, table_left, table_judged, table_passed, judged_step, turned_step, heard_step, work_step, worked, table_worked}
-use Rattle.iw_endpoint.specs.Endpoint.{EndpointState, fresh, stream_of, stream_at, unopened}
-use Rattle.iw_endpoint.specs.Isolation.{Call, HasDomains, IsOwn, Concerns, Opens, OwnStep, OpensOwn, part_of, alone, answer_or, after, concerned, own_after}
-use Rattle.iw_endpoint.proofs.Tables.{AreAlike, worked-alike, verdict-alike, turn-alike, judged-alike, fetched-alike, octets-alike, region-alike, none_taken, undenied}
-use Rattle.iw_endpoint.proofs.Parts.{AreSeenAlike, empty_size, seen_alone, stream_alike, alone_own}
+use Rattle.iw_stream.specs.Work.{Task, HandOut, GiveUp, GiveBack, Hear, Turn, Clash, Judge, Try, Rest, task, inbox, standing, step_of, table_left, table_judged, table_passed, judged_step, tried_step, turned_step, heard_step, work_step, worked, table_worked}
+use Rattle.iw_endpoint.specs.Endpoint.{EndpointState, fresh, stream_of, unopened}
+use Rattle.iw_endpoint.specs.Isolation.{HasDomains, IsOwn, Concerns, OwnStep, OpensOwn, part_of, alone, answer_or, after, concerned}
+use Rattle.iw_endpoint.proofs.Tables.{AreAlike, worked-alike, verdict-alike, early-alike, turn-alike, judged-alike, fetched-alike, octets-alike, region-alike, none_taken, undenied}
+use Rattle.iw_endpoint.proofs.Parts.{empty_size, seen_alone, stream_alike, alone_own}
 use Rattle.iw_endpoint.proofs.Steps.{at_own, open_alike, concerns_one}
 use Rattle.iw_endpoint.proofs.Alone.{AreOwned, concerns, stay_owned, nothing_owned, alone_all}
 use Rattle.iw_events.specs.declared.call.End.{End}
@@ -44,9 +43,9 @@ use Rattle.iw_events.specs.declared.act.Shown.TheVariants.{Fetched}
 use Rattle.iw_events.specs.declared.act.Seen.TheVariants as seen
 use Rattle.iw_events.specs.declared.act.Entry.{Entry}
 use Rattle.iw_laws.specs.Words.{Octets, acts, acts_if}
-use Rattle.iw_laws.specs.Rules.{EndState, State, start, end_of, with_end, shown_of, seen_of, StreamRule, EndRule, Rule, call_made, end_after, after_entry, Follows}
-use Rattle.iw_laws.specs.Isolated.{calls_made, only_acts, AreOwn, IsApart, Isolated}
-use Rattle.iw_laws.proofs.Seeing.{LandsAs, LandsTagged, lands_as}
+use Rattle.iw_laws.specs.Rules.{State, start, end_of, with_end, shown_of, seen_of, StreamRule, EndRule, call_made, end_after, after_entry, Follows}
+use Rattle.iw_laws.specs.Isolated.{calls_made, only_acts, AreOwn, Isolated}
+use Rattle.iw_laws.proofs.Seeing.{LandsAs, LandsTagged, lands_as, early_lands}
 
 -- ---- what is shown is the domain's own
 
@@ -107,6 +106,10 @@ module _ (s : StreamState) (t u : Table) (h : AreAlike s.domain t u) where
   placed_there frame private (Ok (landing.Terminate fault)) lands = refl
   placed_there frame private (Err fault) lands = refl
 
+  tried_there : (frame : Frame) (private : Octets) (place : ℕ) (o : Option Landing) → early_verdict (standing t s) frame ≡ o → seen_of (table_tried t frame o) private (tried_step place o) ≡ seen_of (table_tried u frame o) private (tried_step place o)
+  tried_there frame private place None e = refl
+  tried_there frame private place (Some at) e = placed_there frame private (Ok at) (subst (LandsAs (standing t s) frame) (early_lands (standing t s) frame at e).0 (lands_as (standing t s) frame))
+
   turned_seen : (frame : PlacedFrame) (private : Octets) (r : Result Turning Fault) → seen_of (table_passed t r) private (turned_step s.receiving frame r) ≡ seen_of (table_passed u r) private (turned_step s.receiving frame r)
   turned_seen frame private (Ok turning.Passed) = refl
   turned_seen frame private (Ok (turning.Completed solicited invalidate)) = refl
@@ -133,9 +136,14 @@ module _ (s : StreamState) (t u : Table) (h : AreAlike s.domain t u) where
       go (Turn frame) =
           let r = turn_of (standing t s) frame in
           subst (λ z. seen_of (table_passed t r) private (turned_step s.receiving frame r) ≡ seen_of (table_passed u z) private (turned_step s.receiving frame z)) (turn-alike s t u frame h) (turned_seen frame private r)
+      go (Clash frame) = refl
       go (Judge frame) =
           let r = verdict (standing t s) frame in
           subst (λ z. seen_of (table_judged t frame r) private (judged_step r) ≡ seen_of (table_judged u frame z) private (judged_step z)) (verdict-alike s t u frame h) (placed_there frame private r (lands_as (standing t s) frame))
+      go (Try frame) =
+          let o = early_verdict (standing t s) frame in
+          let place : ℕ = first_place_in s.start + frame.start in
+          subst (λ z. seen_of (table_tried t frame o) private (tried_step place o) ≡ seen_of (table_tried u frame z) private (tried_step place z)) (early-alike s t u frame h) (tried_there frame private place o refl)
       go Rest = refl
 
   stream_rule : (act : StreamAct Octets) → StreamRule t s act → StreamRule u s act

@@ -19,21 +19,32 @@ use Rattle.iw_fpdu.specs.declared.layout.Layout.{Layout}
 use Rattle.iw_fpdu.specs.Frame.{max_sent}
 use Rattle.iw_fpdu.specs.Sequence.{Carried, intact, sequence, frames_of, first_frame}
 use Rattle.iw_fpdu.proofs.Follows.{frames_follow}
-use Rattle.iw_fpdu.proofs.Sequences.{first_stays, frames_first, frames_written}
+use Rattle.iw_fpdu.proofs.Sequences.{first_stays, frames_written}
 use Rattle.iw_queues.specs.Joined.{IsPrefixOf, Cell, completed, joined, sends, count_in, count_writes, count_segments}
 use Rattle.iw_queues.specs.Segments.{Numbers, first_numbers, numbers_after, write_segment, send_segment, IsCut, AreSegments, AreSpelled}
 use Rattle.iw_queues.specs.Laws.{IsCovered}
 use Rattle.iw_queues.proofs.Cuts.{in_order as spelled_in_order, covered as spelled_covered}
-use Rattle.iw_stream.specs.Starting.{expecting}
+use Rattle.iw_stream.specs.Starting.{expecting, first_place_in}
 use Rattle.iw_stream.specs.Stream.{StreamState}
-use Rattle.iw_stream.specs.Work.{inbox}
+use Rattle.iw_stream.specs.Work.{inbox, scene}
 use Rattle.iw_laws.specs.Words.{Octets, Sent, written}
 use Rattle.iw_laws.specs.Words as words
 use Rattle.iw_laws.proofs.States.{Connected}
 use Rattle.iw_laws.specs.Safe.{CoversWrites}
 use Rattle.iw_laws.proofs.Tales.{Tale}
-use Rattle.iw_laws.proofs.Nexts.{Front, fore, segment_in, segment_at}
-use Rattle.iw_laws.proofs.Tracks.{Track, front_is, split_is}
+use Rattle.std.specs.List.{Contains}
+use Rattle.iw_fpdu.specs.Frame.{frame_end}
+use Rattle.iw_locate.specs.Records.{from_of, IsPlaced}
+use Rattle.iw_stream.specs.declared.judging.PlacedFrame.{PlacedFrame}
+use Rattle.iw_stream.specs.Frames.{EarlyRecord, placed}
+use Rattle.iw_stream.proofs.Fronts.{carried_by}
+use Rattle.iw_laws.specs.Turns.{Located, located, located_of, behind_last}
+use Rattle.iw_laws.proofs.Located.{frames_at, located_first, behind_last-push}
+use Rattle.iw_laws.proofs.FirstSent.{read_intact}
+use Rattle.iw_laws.proofs.EarlySent.{scene_sent, early_fits}
+use Rattle.iw_laws.proofs.Judged.{Adds, segments_early}
+use Rattle.iw_laws.proofs.Nexts.{Front, fore, place_behind, standing, segment_in, segment_at}
+use Rattle.iw_laws.proofs.Tracks.{Track, first_is, front_is, split_is, ends_there}
 use Rattle.iw_laws.proofs.Joins.{told, count_waiting, count-append}
 use Rattle.iw_laws.specs.Sends.{farewells}
 use Rattle.iw_laws.specs.Rules.{FitsPosted, FitsOptional}
@@ -130,7 +141,7 @@ first_segments layout sent segments firsts frames later good framed are carried 
 
 -- the segments that had their turn are the first of those that were sent
 pub delivered : (c : Connected) (t : Tale) (d : Connected) (u : Tale) (e : Emits c.stream t) (k : Track d.stream u) → IsHeard c t d u (out_of c.stream t e) k → IsOf u.story.came t.sent → (later : List (Segment Octets)) × (map reread (out_of c.stream t e) ≡ k.segments ++ later)
-delivered c t d u e k (Bare bare) of = (map reread (out_of c.stream t e), ap (λ z. z ++ map reread (out_of c.stream t e)) (sym (no_segments k.segments (sym k.carried ∙ ap (map segment_in) bare.frames))))
+delivered c t d u e k (Bare bare none) of = (map reread (out_of c.stream t e), ap (λ z. z ++ map reread (out_of c.stream t e)) (sym (no_segments k.segments (sym k.carried ∙ ap (map segment_in) bare.frames))))
 delivered c t d u e k (Clear is) of =
     let layout : Layout = expecting d.stream.start in
     let r = reaches d.stream u k t.sent of in
@@ -138,22 +149,69 @@ delivered c t d u e k (Clear is) of =
     first_segments layout (k.before ++ all) (out_of c.stream t e) k.segments k.frames (frames_of layout (length k.before) all) e.good (append_cancel_left k.intro (k.before ++ all) (sequence layout 0 (map segment_octets (out_of c.stream t e))) (sym r.is ∙ is))
     (split_is d.stream u k all) k.carried
 
--- the segment that waits for its turn is the next
-pub waiting : (c : Connected) (t : Tale) (d : Connected) (u : Tale) (e : Emits c.stream t) (k : Track d.stream u) → IsHeard c t d u (out_of c.stream t e) k → IsOf u.story.came t.sent → is_some d.stream.front ≡ true
-    → (frame : Carried) (left : Octets) (segment : Segment Octets) → fore d.stream ≡ Some (frame, left) → segment_in frame ≡ Some segment
-    → (later : List (Segment Octets)) × (map reread (out_of c.stream t e) ≡ (k.segments ++ segment ∷ []) ++ later)
-waiting c t d u e k (Bare bare) of placed frame left segment whole carries = absurd (true≢false (sym placed ∙ bare.placed))
-waiting c t d u e k (Clear is) of placed frame left segment whole carries =
+-- of all that was sent those that had their turn, with the one that waits for it, and those that were placed before count at most as much as all
+abbrev pub FitsIn : (List (Segment Octets) → ℕ) → List (Segment Octets) → StreamState → List (Segment Octets) → Type 0
+FitsIn count firsts s all = count firsts + count (segments_early (scene s) s.early) ≤ count all
+
+fits_by : (c : Connected) (t : Tale) (d : Connected) (u : Tale) (e : Emits c.stream t) (k : Track d.stream u) → t.sent ≡ k.intro ++ sequence (expecting d.stream.start) 0 (map segment_octets (out_of c.stream t e)) → IsOf u.story.came t.sent
+    → (fs others : List Located) → located_of (expecting d.stream.start) 0 (sequence (expecting d.stream.start) 0 (map segment_octets (out_of c.stream t e))) ≡ fs ++ others → length k.before ≤ behind_last 0 fs
+    → ((r : EarlyRecord) → Contains d.stream.early r → IsPlaced r.state → behind_last 0 fs ≤ from_of r) → (firsts : List (Segment Octets)) → map segment_in (frames_at fs) ≡ map Some firsts
+    → (count : List (Segment Octets) → ℕ) → Adds count → FitsIn count firsts d.stream (map reread (out_of c.stream t e))
+fits_by c t d u e k is of fs others parts on past firsts carried count adds =
+    let layout : Layout = expecting d.stream.start in
+    let us : List Octets = map segment_octets (out_of c.stream t e) in
+    let short = all_short (out_of c.stream t e) e.good in
+    let came : IsOf u.story.came (k.intro ++ sequence layout 0 us) = subst (IsOf u.story.came) is of in
+    let intro : length k.intro ≡ first_place_in d.stream.start = first_is d.stream u k.intro k.begins in
+    early_fits (scene d.stream) us short
+    (scene_sent (scene d.stream) u.story.came k.intro (sequence layout 0 us) (length k.intro + length k.before) intro k.arrived k.held came)
+    k.early.judged (k.sent_ones us short came) fs others parts (omega (arith, on, k.point, intro)) past (map reread (out_of c.stream t e)) firsts (sym (read_intact us) ∙ read_again (out_of c.stream t e) e.good) carried count adds
+
+-- where none waits
+pub fits : (c : Connected) (t : Tale) (d : Connected) (u : Tale) (e : Emits c.stream t) (k : Track d.stream u) → IsHeard c t d u (out_of c.stream t e) k → IsOf u.story.came t.sent → (count : List (Segment Octets) → ℕ) → Adds count
+    → FitsIn count k.segments d.stream (map reread (out_of c.stream t e))
+fits c t d u e k (Bare bare none) of count adds =
+    let all : List (Segment Octets) = map reread (out_of c.stream t e) in
+    let first : count k.segments ≡ count [] = ap count (no_segments k.segments (sym k.carried ∙ ap (map segment_in) bare.frames)) in
+    let early : count (segments_early (scene d.stream) d.stream.early) ≡ count [] = ap (λ rs. count (segments_early (scene d.stream) rs)) none in
+    omega (arith, first, early, adds.both [] [])
+fits c t d u e k (Clear is) of count adds =
+    let layout : Layout = expecting d.stream.start in
+    let r = reaches d.stream u k t.sent of in
+    let all : Octets = inbox d.stream ++ r.rest in
+    let same : k.before ++ all ≡ sequence layout 0 (map segment_octets (out_of c.stream t e)) = append_cancel_left k.intro (k.before ++ all) (sequence layout 0 (map segment_octets (out_of c.stream t e))) (sym r.is ∙ is) in
+    let intro : length k.intro ≡ first_place_in d.stream.start = first_is d.stream u k.intro k.begins in
+    fits_by c t d u e k is of k.located (located_of layout (length k.before) all) (ap (located_of layout 0) (sym same) ∙ k.split all) (omega (arith, k.ends))
+    (λ x within placed. omega (arith, k.ends, (k.early.judged.stand x within).past, k.point, intro)) k.segments (ap (map segment_in) k.named ∙ k.carried) count adds
+
+-- where a frame waits that was placed at the in-order point
+pub fits_waiting : (c : Connected) (t : Tale) (d : Connected) (u : Tale) (e : Emits c.stream t) (k : Track d.stream u) → IsHeard c t d u (out_of c.stream t e) k → IsOf u.story.came t.sent → (count : List (Segment Octets) → ℕ) → Adds count
+    → (f : PlacedFrame) → d.stream.front ≡ Some f → (frame : Carried) (left : Octets) (segment : Segment Octets) → fore d.stream ≡ Some (frame, left) → segment_in frame ≡ Some segment
+    → FitsIn count (k.segments ++ segment ∷ []) d.stream (map reread (out_of c.stream t e))
+fits_waiting c t d u e k (Bare bare none) of count adds f front frame left segment whole carries = absurd (true≢false (sym (ap is_some front) ∙ bare.placed))
+fits_waiting c t d u e k (Clear is) of count adds f front frame left segment whole carries =
     let layout : Layout = expecting d.stream.start in
     let r = reaches d.stream u k t.sent of in
     let at : ℕ = length k.before in
     let all : Octets = inbox d.stream ++ r.rest in
+    let same : k.before ++ all ≡ sequence layout 0 (map segment_octets (out_of c.stream t e)) = append_cancel_left k.intro (k.before ++ all) (sequence layout 0 (map segment_octets (out_of c.stream t e))) (sym r.is ∙ is) in
+    let intro : length k.intro ≡ first_place_in d.stream.start = first_is d.stream u k.intro k.begins in
     let first : first_frame layout at all ≡ Some (frame, left ++ r.rest) = first_stays layout at (inbox d.stream) r.rest frame left k.between (sym (front_is d.stream u k) ∙ whole) in
-    let others : List Carried = frames_of layout (at + (length all - length (left ++ r.rest))) (left ++ r.rest) in
-    let here : frames_of layout at all ≡ frame ∷ others = frames_first layout at all frame (left ++ r.rest) k.between first in
-    first_segments layout (k.before ++ all) (out_of c.stream t e) (k.segments ++ segment ∷ []) (k.frames ++ frame ∷ []) others e.good (append_cancel_left k.intro (k.before ++ all) (sequence layout 0 (map segment_octets (out_of c.stream t e))) (sym r.is ∙ is))
-    (split_is d.stream u k all ∙ ap (λ z. k.frames ++ z) here ∙ sym (append_assoc k.frames (frame ∷ []) others))
-    (map-append segment_in k.frames (frame ∷ []) ∙ (λ i. k.carried i ++ carries i ∷ []) ∙ sym (map-append Some k.segments (segment ∷ [])))
+    let here : Located = located layout at all frame (left ++ r.rest) in
+    let others : List Located = located_of layout (at + (length all - length (left ++ r.rest))) (left ++ r.rest) in
+    let parts : located_of layout 0 (sequence layout 0 (map segment_octets (out_of c.stream t e))) ≡ (k.located ++ here ∷ []) ++ others =
+    ap (located_of layout 0) (sym same) ∙ k.split all ∙ ap (λ z. k.located ++ z) (located_first layout at all frame (left ++ r.rest) k.between first) ∙ sym (append_assoc k.located (here ∷ []) others) in
+    let behind : behind_last 0 (k.located ++ here ∷ []) ≡ at + (length all - length (left ++ r.rest)) = behind_last-push 0 k.located here in
+    let place : place_behind d.stream (fore d.stream) ≡ d.stream.arrived.floor + (length (inbox d.stream) - length left) = ap (place_behind d.stream) whole in
+    let end = ends_there d.stream u k frame left whole in
+    let w = k.fore_is f front in
+    let stands : f ≡ placed (standing d.stream frame) = w.is ∙ ap (λ (x : Carried × Octets). placed (standing d.stream x.0)) (same_Some _ _ (sym w.whole ∙ whole)) in
+    let to : frame_end layout.markers f.start f.len ≡ behind_last 0 (k.located ++ here ∷ []) =
+    ap (λ (z : PlacedFrame). frame_end layout.markers z.start z.len) stands ∙ sym end ∙ omega (arith, behind, place, k.point, intro, length-append (inbox d.stream) r.rest, length-append left r.rest) in
+    fits_by c t d u e k is of (k.located ++ here ∷ []) others parts (omega (arith, behind)) (λ x within here_placed. omega (arith, to, k.early.clear f front x within here_placed)) (k.segments ++ segment ∷ [])
+    (ap (map segment_in) (map-append (λ (z : Located). carried_by z.frame) k.located (here ∷ []))
+    ∙ map-append segment_in (frames_at k.located) (frame ∷ []) ∙ (λ i. map segment_in (k.named i) ++ segment_in frame ∷ []) ∙ (λ i. k.carried i ++ carries i ∷ []) ∙ sym (map-append Some k.segments (segment ∷ [])))
+    count adds
 
 -- ---- Sends
 
@@ -345,27 +403,33 @@ received_prefix c t d u e k heard of =
 covers_plain : (cell : Cell) (ss : List (Segment Octets)) {n : ℕ} → count_segments cell (plain ss) ≤ n → count_segments cell ss ≤ n
 covers_plain cell ss h = omega (arith, h, count-plain cell ss)
 
+-- what was sent is not more than what was posted
+all_few : (s : StreamState) (t : Tale) (e : Emits s t) (cell : Cell) → count_segments cell (map reread (out_of s t e)) ≤ count_writes cell t.posted
+all_few s t e cell =
+    let all : List (Segment Octets) = map reread (out_of s t e) in
+    let g = goes_on s t e all [] (sym (append-nil all)) in
+    covers_plain cell all ((spelled_covered first_numbers t.posted (plain all) g.later g.spelled cell).most)
+
 -- what was placed is not more than what was posted
 most : (c : Connected) (t : Tale) (d : Connected) (u : Tale) (e : Emits c.stream t) (k : Track d.stream u) → IsHeard c t d u (out_of c.stream t e) k → IsOf u.story.came t.sent → (cell : Cell) → count_writes cell (written u.placings) ≤ count_writes cell t.posted
 most c t d u e k heard of cell =
-    let bare : count_segments cell k.segments ≤ count_writes cell t.posted =
-    (let x = delivered c t d u e k heard of in let g = goes_on c.stream t e k.segments x.0 x.1 in covers_plain cell k.segments ((spelled_covered first_numbers t.posted (plain k.segments) g.later g.spelled cell).most)) in
-    omega (arith, k.joins.counted cell, go (is_some d.stream.front) refl (fore d.stream) refl bare)
+    omega (arith, k.early.written_are cell, k.joins.counted cell, all_few c.stream t e cell, go d.stream.front refl (fore d.stream) refl)
   where
-    shown : (placed : Bool) → is_some d.stream.front ≡ placed → (p : Option (Segment Octets)) (frame : Carried) (left : Octets) → fore d.stream ≡ Some (frame, left) → segment_in frame ≡ p → count_segments cell k.segments ≤ count_writes cell t.posted
-        → count_segments cell k.segments + count_waiting cell placed p ≤ count_writes cell t.posted
-    shown false is p frame left whole carries bare = omega (arith, bare)
-    shown true is None frame left whole carries bare = omega (arith, bare)
-    shown true is (Some segment) frame left whole carries bare =
-        let x = waiting c t d u e k heard of is frame left segment whole carries in
-        let g = goes_on c.stream t e (k.segments ++ segment ∷ []) x.0 x.1 in
-        omega (arith, covers_plain cell (k.segments ++ segment ∷ []) ((spelled_covered first_numbers t.posted (plain (k.segments ++ segment ∷ [])) g.later g.spelled cell).most), count-append cell k.segments (segment ∷ []))
+    counts : Adds (count_segments cell)
+    counts = record { both = count-append cell }
 
-    go : (placed : Bool) → is_some d.stream.front ≡ placed → (f : Front) → fore d.stream ≡ f → count_segments cell k.segments ≤ count_writes cell t.posted
-        → count_segments cell k.segments + count_waiting cell placed (segment_at f) ≤ count_writes cell t.posted
-    go false is f whole bare = omega (arith, bare)
-    go true is None whole bare = omega (arith, bare)
-    go true is (Some (frame, left)) whole bare = shown true is (segment_in frame) frame left whole refl bare
+    shown : (o : Option PlacedFrame) → d.stream.front ≡ o → (p : Option (Segment Octets)) (frame : Carried) (left : Octets) → fore d.stream ≡ Some (frame, left) → segment_in frame ≡ p
+        → count_segments cell k.segments + count_waiting cell (is_some o) p + count_segments cell (segments_early (scene d.stream) d.stream.early) ≤ count_segments cell (map reread (out_of c.stream t e))
+    shown None is p frame left whole carries = omega (arith, fits c t d u e k heard of (count_segments cell) counts)
+    shown (Some f) is None frame left whole carries = omega (arith, fits c t d u e k heard of (count_segments cell) counts)
+    shown (Some f) is (Some segment) frame left whole carries =
+        omega (arith, fits_waiting c t d u e k heard of (count_segments cell) counts f is frame left segment whole carries, count-append cell k.segments (segment ∷ []))
+
+    go : (o : Option PlacedFrame) → d.stream.front ≡ o → (f : Front) → fore d.stream ≡ f
+        → count_segments cell k.segments + count_waiting cell (is_some o) (segment_at f) + count_segments cell (segments_early (scene d.stream) d.stream.early) ≤ count_segments cell (map reread (out_of c.stream t e))
+    go None is f whole = omega (arith, fits c t d u e k heard of (count_segments cell) counts)
+    go (Some p) is None whole = omega (arith, fits c t d u e k heard of (count_segments cell) counts)
+    go (Some p) is (Some (frame, left)) whole = shown (Some p) is (segment_in frame) frame left whole refl
 
 pub writes_covered : (c : Connected) (t : Tale) (d : Connected) (u : Tale) (e : Emits c.stream t) (k : Track d.stream u) → IsHeard c t d u (out_of c.stream t e) k → IsOf u.story.came t.sent → (cell : Cell) → CoversWrites t.posted (written u.placings) (length u.received) cell
 writes_covered c t d u e k heard of cell =
@@ -374,6 +438,6 @@ writes_covered c t d u e k heard of cell =
     let covered : IsCovered cell t.posted (plain k.segments) = spelled_covered first_numbers t.posted (plain k.segments) g.later g.spelled cell in
     let few : length u.received ≡ length (joined [] (plain k.segments)) = ap length k.joins.received_are ∙ length-map (joined [] k.segments) told ∙ ap length (sym (joined-plain [] k.segments)) in
     record {
-      before = λ n lt. omega (arith, covered.before n (omega (arith, lt, few)), k.joins.counted cell, count-plain cell k.segments);
+      before = λ n lt. omega (arith, covered.before n (omega (arith, lt, few)), k.early.written_are cell, k.joins.counted cell, count-plain cell k.segments);
       most = most c t d u e k heard of cell;
     }

@@ -116,7 +116,7 @@ not_read u more h e = omega (arith, ap length e, length-append u.octets more, h.
 
 -- where a stream is not open, no frame was read; where it is, the frames that the other end has sent stand behind the start-up frame that was read
 pub data IsHeard (c : Connected) (t : Tale) (d : Connected) (u : Tale) (segments : List (Segment Octets)) (k : Track d.stream u) : Type 0 where
-  Bare : IsBare k.frames k.before (is_some d.stream.front) → IsHeard c t d u segments k
+  Bare : IsBare k.frames k.before (is_some d.stream.front) → d.stream.early ≡ [] → IsHeard c t d u segments k
   Clear : t.sent ≡ k.intro ++ sequence (expecting d.stream.start) 0 (map segment_octets segments) → IsHeard c t d u segments k
 
 nothing_sent : (l : Layout) (us : List (Segment Octets)) → us ≡ [] → sequence l 0 (map segment_octets us) ≡ []
@@ -310,7 +310,7 @@ pub hears_all : (a : Opening) (c : Connected) (t : Tale) (own : Own a c t) (b : 
 hears_all a c t own b d u other fits there back = go (is_open d.stream.start) refl fits
   where
     go : (started : Bool) → is_open d.stream.start ≡ started → Fits a b → IsHeard c t d u (out_of c.stream t own.emits) other.track
-    go false shut f = Bare (other.track.shut shut)
+    go false shut f = Bare (other.track.shut shut) (other.track.early.unopened shut)
     go true started (inl f) = Clear (preset_hears a c t own b d u other f.0 f.1 f.2 f.3)
     go true started (inr (inl f)) =
         let w = starts a c t own (initiator_not a f.0) in

@@ -144,12 +144,12 @@ last_tells segments head payload queue k = record {
 }
 
 -- one more placement
-written-push : (c : Cell) (ps : List Placing) (p : Placing) → count_writes c (written (ps ++ p ∷ [])) ≡ count_writes c (written ps) + count_writes c (written_by p.right (as_write p))
+pub written-push : (c : Cell) (ps : List Placing) (p : Placing) → count_writes c (written (ps ++ p ∷ [])) ≡ count_writes c (written ps) + count_writes c (written_by p.right (as_write p))
 written-push c ps p =
     ap (count_writes c) (flat_map-append (λ (q : Placing). written_by q.right (as_write q)) ps (p ∷ []) ∙ ap (λ z. written ps ++ z) (append-nil (written_by p.right (as_write p))))
     ∙ count_writes-append c (written ps) (written_by p.right (as_write p))
 
-sunk-push : (c : Cell) (ps : List Placing) (p : Placing) → count_writes c (sunk (ps ++ p ∷ [])) ≡ count_writes c (sunk ps) + count_writes c (sunk_by p.right (as_write p))
+pub sunk-push : (c : Cell) (ps : List Placing) (p : Placing) → count_writes c (sunk (ps ++ p ∷ [])) ≡ count_writes c (sunk ps) + count_writes c (sunk_by p.right (as_write p))
 sunk-push c ps p =
     ap (count_writes c) (flat_map-append (λ (q : Placing). sunk_by q.right (as_write q)) ps (p ∷ []) ∙ ap (λ z. sunk ps ++ z) (append-nil (sunk_by p.right (as_write p))))
     ∙ count_writes-append c (sunk ps) (sunk_by p.right (as_write p))

@@ -107,6 +107,11 @@ use Rattle.iw_laws.proofs.Heard.{IsHeard, hears_all}
 use Rattle.iw_laws.proofs.Delivered.{whole_of, received_prefix, writes_covered}
 use Rattle.iw_laws.proofs.Placed.{reads_answered}
 use Rattle.iw_laws.proofs.Ends.{there, EndSeen as EndKept, unopened}
+use Rattle.iw_laws.specs.Early.{JudgesEarly, ChecksOnce}
+use Rattle.iw_laws.specs.Once.{AreOnce, PlacesOnce, spans_placed}
+use Rattle.iw_laws.proofs.EarlyLaws.{judges_early, checks_once}
+use Rattle.iw_laws.proofs.Onces.{are_once}
+use Rattle.iw_laws.proofs.Placements.{placements}
 use Rattle.iw_laws.proofs.Whole.{tale, Seen as BothSeen, seen_at, follows_split}
 
 -- ---- honest streams
@@ -611,6 +616,7 @@ finished_stream done n s (Work (seen.Asked private)) rule own = tt
 finished_stream done n s (Work (seen.Opened agreed private)) rule own = tt
 finished_stream done n s (Work (seen.Closed fault)) rule own = tt
 finished_stream done n s (Work (seen.Placed right stag to octets)) rule own = tt
+finished_stream done n s (Work (seen.Tried place)) rule own = tt
 finished_stream done n s (Work (seen.Buffered msn mo len)) rule own = tt
 finished_stream done n s (Work (seen.Requested size stag to)) rule own = tt
 finished_stream done n s (Work seen.Passed) rule own = tt
@@ -646,6 +652,7 @@ idle_stream s c done n (Accept private answer) rule o = tt
 idle_stream s c done n (Reject private refused) rule o = tt
 idle_stream s c done n (Work (seen.Done kind)) rule own = tt
 idle_stream s c done n (Work (seen.Placed right stag to octets)) rule o = tt
+idle_stream s c done n (Work (seen.Tried place)) rule o = tt
 idle_stream s c done n (Work (seen.Buffered msn mo len)) rule o = tt
 idle_stream s c done n (Work (seen.Requested size stag to)) rule o = tt
 idle_stream s c done n (Work seen.Passed) rule o = tt
@@ -664,6 +671,22 @@ idle_stream s c done n (Mulpdu size refused) rule o = tt
 
 pub idle_at_rest : (trace : List (Entry Octets)) → Follows start trace → IdleOnlyAtRest trace
 idle_at_rest trace follows = each_stream IdleStream trace follows (λ done s n act k opened rule own. idle_stream s (connected_at s n) done n act rule own)
+
+-- ---- before their turn
+
+pub early_all : (trace : List (Entry Octets)) → Follows start trace → JudgesEarly trace
+early_all trace follows = judges_early trace (idle_at_rest trace follows) (turns_all trace follows)
+
+pub second_all : (trace : List (Entry Octets)) → Follows start trace → ChecksOnce trace
+second_all trace follows = checks_once trace (turns_all trace follows)
+
+spans_once : (trace : List (Entry Octets)) → Follows start trace → (past future : List (Entry Octets)) → trace ≡ past ++ future → (x : End) (n : ℕ) → AreOnce (spans_placed (opening_of n (acts x past)) (stream_acts n (acts x past)))
+spans_once trace follows past future is x n =
+    let own = ((seen_at past future trace follows is).pairs x n).own in
+    are_once (connected_at (end_of x (state_after start past)) n).stream (spans_placed (opening_of n (acts x past)) (stream_acts n (acts x past))) own.once
+
+pub once_all : (trace : List (Entry Octets)) → Follows start trace → PlacesOnce trace
+once_all trace follows = record { placements = placements trace (turns_all trace follows); once = spans_once trace follows }
 
 -- ---- the end
 
@@ -701,7 +724,7 @@ end_seen o c done table step rule own = told step (sees table c.stream (sound c.
     rests (inl h) over = absurd (false≢true (sym (runs h.running) ∙ over))
     rests (inr (HasEnded e old none)) over = record { messages = none_held old; buffers = ap (λ (r : Receiving). r.buffers) own.track.receiving ∙ no_buffers c.stream.receiving.buffers none }
     rests (inr (Unanswered running a b)) over = absurd (false≢true (sym (runs running) ∙ over))
-    rests (inr (Without r a b)) over = absurd (false≢true (sym (runs r.running) ∙ over))
+    rests (inr (Without r a b e)) over = absurd (false≢true (sym (runs r.running) ∙ over))
 
     told : (step : Seen Octets) → Sees table c.stream step → EndSeen (has_ended_by done) (story o done) done step
     told (seen.Done kind) h = tt
@@ -719,7 +742,9 @@ end_seen o c done table step rule own = told step (sees table c.stream (sound c.
     told (seen.Asked private) h = runs h.0.running
     told (seen.Opened agreed private) h = runs h.0.running
     told (seen.Closed fault) h = runs h.running
-    told (seen.Placed right stag to octets) h = runs h.0.runs.running
+    told (seen.Placed right stag to octets) (inl h) = runs h.0.runs.running
+    told (seen.Placed right stag to octets) (inr h) = runs h.0.runs.running
+    told (seen.Tried place) h = runs h.runs.running
     told (seen.Buffered msn mo len) h = runs h.0.runs.running
     told (seen.Requested size stag to) h = runs h.0.runs.running
     told seen.Passed h = runs h.0.runs.running

@@ -21,7 +21,7 @@ use Rattle.iw_stream.specs.Judging as judging
 use Rattle.iw_stream.specs.Frames.{Frame, payload_of, frame_by, standing_at, placed}
 use Rattle.iw_stream.specs.Starting.{expecting, first_place_in}
 use Rattle.iw_stream.specs.Stream.{StreamState}
-use Rattle.iw_stream.specs.Work.{inbox, next_frame}
+use Rattle.iw_stream.specs.Work.{inbox, next_frame, waiting}
 use Rattle.iw_stream.specs.Work as work
 use Rattle.iw_stream.proofs.Fronts.{carried_by, first_here, none_here}
 
@@ -77,7 +77,7 @@ pub record Sound (s : StreamState) : Type 0 where
   pub low : first_place_in s.start ≤ s.arrived.floor
   pub between : IsBetween (expecting s.start).markers (place_in s)
   pub held : IsHeld s.arrived
-  pub placed_is : (f : PlacedFrame) → s.front ≡ Some f → IsFore s f
+  pub placed_is : (f : PlacedFrame) → waiting s ≡ Some f → IsFore s f
 
 -- where there is none, there is no first frame
 pub none_first_here : (s : StreamState) → Sound s → next_frame s ≡ None → fore s ≡ None

@@ -43,7 +43,7 @@ use Rattle.std.specs.Option.{option_map, option_map_or}
 use Rattle.std.specs.Prelude.{IsSomeAnd, nat_le, min, not}
 use Rattle.std.proofs.lemmas.Option.{same_Some}
 use Rattle.std.proofs.lemmas.List.{length-set}
-use Rattle.iw_laws.specs.Turns.{Answer, Story, story_after, segment_out, read_out, is_last, is_silent, sends_segment, says_farewell, fetches_for, asked_in, next_reads, next_asked, terminate_next}
+use Rattle.iw_laws.specs.Turns.{Answer, Story, story_after, segment_out, read_out, is_last, is_silent, sends_segment, says_farewell, fetches_for, asked_in, next_reads, next_asked, terminate_next, was_placed}
 use Rattle.iw_laws.specs.Merged.{Item, Response, posts_in, response_segment}
 use Rattle.iw_laws.specs.Rules.{FitsPosted}
 use Rattle.iw_laws.proofs.Merges.{Merges, BeginsResponse, asked_or, merges_post, merges_part, merges_last, merges_front}
@@ -96,7 +96,7 @@ use Rattle.iw_stream.specs.Terminating.{is_request_of, terminate_judged, termina
 use Rattle.iw_laws.specs.Sends.{farewells, terminate_segment, count_reads}
 use Rattle.iw_laws.specs.Faithful.{count_done}
 use Rattle.iw_octets.specs.declared.fault.Fault.{Fault}
-use Rattle.iw_stream.specs.Work.{inbox}
+use Rattle.iw_stream.specs.Work.{inbox, waiting}
 use Rattle.iw_events.specs.declared.act.StreamAct.{StreamAct}
 use Rattle.iw_events.specs.declared.act.StreamAct.TheVariants.{Recv, Post, Emit, Deliver, Raw, Mulpdu, Accept, Reject, Work, Break}
 use Rattle.iw_events.specs.declared.act.Shown.{Shown}
@@ -110,7 +110,9 @@ use Rattle.iw_laws.specs.Words.{OnSome}
 use Rattle.iw_laws.proofs.Nexts.{Front, fore, segment_at, turned_by, standing}
 use Rattle.iw_laws.proofs.Told.{Told, SeesSend, Hears, GivesUp, fault_front, left_frame, after_shown, after_act, told, left_told, asked_front, reads_front, finishes_read, with_finished}
 use Rattle.iw_laws.proofs.Tales.{Tale, tale_after}
-use Rattle.iw_laws.proofs.Tracks.{Track, by_ended, shown_stays, sound, silent_is, next_whole, next_none, next_reads_are, tracking, MayAnswer, may, accepting, refusing, unanswered}
+use Rattle.iw_laws.proofs.Paid.{IsPaid, paying}
+use Rattle.iw_laws.proofs.Onces.{Onces, once_after}
+use Rattle.iw_laws.proofs.Tracks.{Track, by_ended, shown_stays, sound, silent_is, next_whole, next_none, next_reads_are, was_placed_is, tracking, MayAnswer, may, accepting, refusing, unanswered}
 use Rattle.iw_laws.proofs.Lists.{Each, each-push, each-first, each-last}
 use Rattle.iw_laws.proofs.Counts.{marks, length-marks, count_reads-kinds, map-take, take-all, count_done-append, read_mark, message_at, Hands, Counts, Handing, handing_of, same_handing, one_handed, same_counts, posted_counts, part_counts, handed_counts, answered_counts, part_ticket, hands, one_for, count_last, count_last-append, last_of, plain_part, whole_of}
 use Rattle.iw_laws.proofs.Sending.{FitsNumbers, IsSendable, accepted, EmitsStart, EmitsLast, EmitsPart, EmitsResponse, emits_as, shown_good, response_good, shows, behind_small, is_answer, terminate_few, terminate_good}
@@ -214,6 +216,8 @@ pub record Own (o : Opening) (c : Connected) (t : Tale) : Type 0 where
   pub track : Track c.stream t
   pub doing : Doing t
   pub ended : ended c.stream ≡ t.ended
+  pub paid : IsPaid c.stream t.acts
+  pub once : Onces c.stream t.spans
 
 -- the fields that an emission leaves
 pub record LeavesHeard (s s' : StreamState) : Type 0 where
@@ -340,6 +344,7 @@ lengths_are table s (Work (seen.Opened agreed private)) rule = refl
 lengths_are table s (Work (seen.Closed fault)) rule = refl
 lengths_are table s (Work (seen.Done kind)) rule = refl
 lengths_are table s (Work (seen.Placed right stag to octets)) rule = refl
+lengths_are table s (Work (seen.Tried place)) rule = refl
 lengths_are table s (Work (seen.Buffered msn mo len)) rule = kept_lengths s.receiving msn mo len s refl rule.1
 lengths_are table s (Work (seen.Requested size stag to)) rule = refl
 lengths_are table s (Work seen.Passed) rule = ap (map length) (turned_lengths s.receiving (segment_at (fore s)))
@@ -360,6 +365,7 @@ due_is s (Work seen.Passed) done e = turned_due s.receiving (segment_at (fore s)
 due_is s (Work (seen.Requested size stag to)) done e = same_due s.receiving.due done e
 due_is s (Work (seen.Done kind)) done e = same_due s.receiving.due done e
 due_is s (Work (seen.Placed right stag to octets)) done e = same_due s.receiving.due done e
+due_is s (Work (seen.Tried place)) done e = same_due s.receiving.due done e
 due_is s (Work (seen.Buffered msn mo len)) done e = same_due s.receiving.due done e
 due_is s (Work (seen.Flushed kind)) done e = same_due s.receiving.due done e
 due_is s (Work (seen.FlushedRecv octets)) done e = same_due s.receiving.due done e
@@ -403,6 +409,7 @@ sent_is table s (Work (seen.Requested size stag to)) sent rule e = same_sent s.s
 sent_is table s (Work seen.Passed) sent rule e = same_sent s.sent sent e
 sent_is table s (Work (seen.Done kind)) sent rule e = same_sent s.sent sent e
 sent_is table s (Work (seen.Placed right stag to octets)) sent rule e = same_sent s.sent sent e
+sent_is table s (Work (seen.Tried place)) sent rule e = same_sent s.sent sent e
 sent_is table s (Work (seen.Buffered msn mo len)) sent rule e = same_sent s.sent sent e
 sent_is table s (Work (seen.Flushed kind)) sent rule e = same_sent s.sent sent e
 sent_is table s (Work (seen.FlushedRecv octets)) sent rule e = same_sent s.sent sent e
@@ -1337,11 +1344,11 @@ terminate_is : (s : StreamState) (t : Tale) (fault : Fault) → Track s t → t.
 terminate_is s t fault k asked = go (fore s) refl
   where
     go : (o : Front) → fore s ≡ o
-        → terminate_next t.story fault ≡ option_map_or (λ (x : Carried × Octets). cond (is_some s.front) (terminate_turned (placed_of (standing s x.0)) fault) (terminate_judged s.asked (standing s x.0) fault)) o []
-    go None is = ap (λ z. option_map_or (λ f. cond t.story.placed (terminate_turned (placed_of f) fault) (terminate_judged t.story.asked f fault)) z []) (next_none s t k is)
+        → terminate_next t.story fault ≡ option_map_or (λ (x : Carried × Octets). cond (is_some (waiting s)) (terminate_turned (placed_of (standing s x.0)) fault) (terminate_judged s.asked (standing s x.0) fault)) o []
+    go None is = ap (λ z. option_map_or (λ f. cond (was_placed t.story) (terminate_turned (placed_of f) fault) (terminate_judged t.story.asked f fault)) z []) (next_none s t k is)
     go (Some (frame, rest)) is =
-        ap (λ z. option_map_or (λ f. cond t.story.placed (terminate_turned (placed_of f) fault) (terminate_judged t.story.asked f fault)) z []) (next_whole s t frame rest k is)
-        ∙ (λ i. cond (k.placed i) (terminate_turned (placed_of (standing s frame)) fault) (terminate_judged (asked i) (standing s frame) fault))
+        ap (λ z. option_map_or (λ f. cond (was_placed t.story) (terminate_turned (placed_of f) fault) (terminate_judged t.story.asked f fault)) z []) (next_whole s t frame rest k is)
+        ∙ (λ i. cond (was_placed_is s t k i) (terminate_turned (placed_of (standing s frame)) fault) (terminate_judged (asked i) (standing s frame) fault))
 
 front_few : (s : StreamState) (fault : Fault) → length (fault_front s fault) ≤ 52
 front_few s fault = go (fore s)
@@ -1350,10 +1357,10 @@ front_few s fault = go (fore s)
     by true x y h k = h
     by false x y h k = k
 
-    go : (o : Front) → length (option_map_or (λ (x : Carried × Octets). cond (is_some s.front) (terminate_turned (placed_of (standing s x.0)) fault) (terminate_judged s.asked (standing s x.0) fault)) o []) ≤ 52
+    go : (o : Front) → length (option_map_or (λ (x : Carried × Octets). cond (is_some (waiting s)) (terminate_turned (placed_of (standing s x.0)) fault) (terminate_judged s.asked (standing s x.0) fault)) o []) ≤ 52
     go None = omega arith
     go (Some (frame, rest)) =
-        by (is_some s.front) (terminate_turned (placed_of (standing s frame)) fault) (terminate_judged s.asked (standing s frame) fault)
+        by (is_some (waiting s)) (terminate_turned (placed_of (standing s frame)) fault) (terminate_judged s.asked (standing s frame) fault)
         (terminate_few fault (placed_of (standing s frame)).header.items (placed_of (standing s frame)).len false)
         (terminate_few fault (take 46 (standing s frame).ulpdu) (length (standing s frame).ulpdu) (is_request_of s.asked (standing s frame).ulpdu))
 
@@ -1560,6 +1567,7 @@ emitting table s t (Reject private (Some refusal)) rule sent k e = quiet s s t (
 emitting table s t (Work seen.Idle) rule sent k e = quiet s s t (Work seen.Idle) refl (record { queue = refl; numbers = refl; mulpdu = refl; reads = refl; asked = refl; posted = refl; handed = refl; size = refl; sent = refl; said = record { whole = refl; reads = refl; answered = refl; asked = refl; answers = refl; begun = refl }; running = λ h. h; farewell = refl }) (record { ending = refl; told = refl; farewell = refl }) (λ h. h) e
 emitting table s t (Recv len None) rule sent k e = quiet s (after_act s (Recv len None)) t (Recv len None) refl (record { queue = refl; numbers = refl; mulpdu = refl; reads = refl; asked = refl; posted = refl; handed = refl; size = refl; sent = refl; said = record { whole = refl; reads = refl; answered = refl; asked = refl; answers = refl; begun = refl }; running = λ h. h; farewell = refl }) (record { ending = refl; told = refl; farewell = refl }) (λ h. h) e
 emitting table s t (Work (seen.Placed right stag to octets)) rule sent k e = quiet s (after_act s (Work (seen.Placed right stag to octets))) t (Work (seen.Placed right stag to octets)) refl (record { queue = refl; numbers = refl; mulpdu = refl; reads = refl; asked = refl; posted = refl; handed = refl; size = refl; sent = refl; said = record { whole = refl; reads = refl; answered = refl; asked = refl; answers = refl; begun = refl }; running = λ h. h; farewell = refl }) (record { ending = refl; told = refl; farewell = refl }) (λ h. h) e
+emitting table s t (Work (seen.Tried place)) rule sent k e = quiet s (after_act s (Work (seen.Tried place))) t (Work (seen.Tried place)) refl (record { queue = refl; numbers = refl; mulpdu = refl; reads = refl; asked = refl; posted = refl; handed = refl; size = refl; sent = refl; said = record { whole = refl; reads = refl; answered = refl; asked = refl; answers = refl; begun = refl }; running = λ h. h; farewell = refl }) (record { ending = refl; told = refl; farewell = refl }) (λ h. h) e
 emitting table s t (Work (seen.Buffered msn mo len)) rule sent k e = quiet s (after_act s (Work (seen.Buffered msn mo len))) t (Work (seen.Buffered msn mo len)) refl (record { queue = refl; numbers = refl; mulpdu = refl; reads = refl; asked = refl; posted = refl; handed = refl; size = refl; sent = refl; said = record { whole = refl; reads = refl; answered = refl; asked = refl; answers = refl; begun = refl }; running = λ h. h; farewell = refl }) (record { ending = refl; told = refl; farewell = refl }) (λ h. h) e
 emitting table s t (Work (seen.FlushedRecv octets)) rule sent k e = quiet s (after_act s (Work (seen.FlushedRecv octets))) t (Work (seen.FlushedRecv octets)) refl (record { queue = refl; numbers = refl; mulpdu = refl; reads = refl; asked = refl; posted = refl; handed = refl; size = refl; sent = refl; said = record { whole = refl; reads = refl; answered = refl; asked = refl; answers = refl; begun = refl }; running = λ h. h; farewell = refl }) (record { ending = refl; told = refl; farewell = refl }) (λ h. h) e
 emitting table s t (Deliver from octets Kept) rule sent k e = quiet s (after_act s (Deliver from octets Kept)) t (Deliver from octets Kept) refl (record { queue = refl; numbers = refl; mulpdu = refl; reads = refl; asked = refl; posted = refl; handed = refl; size = refl; sent = refl; said = record { whole = refl; reads = refl; answered = refl; asked = refl; answers = refl; begun = refl }; running = λ h. h; farewell = refl }) (record { ending = refl; told = refl; farewell = refl }) (waits s from octets) e
@@ -1576,6 +1584,7 @@ ended_is table s (Work (seen.FlushedRecv octets)) rule = refl
 ended_is table s Break rule = refl
 ended_is table s (Work (seen.Done kind)) rule = refl
 ended_is table s (Work (seen.Placed right stag to octets)) rule = refl
+ended_is table s (Work (seen.Tried place)) rule = refl
 ended_is table s (Work (seen.Buffered msn mo len)) rule = refl
 ended_is table s (Work (seen.Requested size stag to)) rule = refl
 ended_is table s (Work seen.Passed) rule = refl
@@ -1639,6 +1648,7 @@ starting o table s (Accept private (Err refusal)) rule h = h
 starting o table s (Reject private (Some refusal)) rule h = h
 starting o table s (Work (seen.Done kind)) rule h = h
 starting o table s (Work (seen.Placed right stag to octets)) rule h = h
+starting o table s (Work (seen.Tried place)) rule h = h
 starting o table s (Work (seen.Buffered msn mo len)) rule h = h
 starting o table s (Work (seen.Requested size stag to)) rule h = h
 starting o table s (Work seen.Passed) rule h = h
@@ -1744,6 +1754,7 @@ doing table s t (Work (seen.Asked private)) rule e k = quiet_doing t (Work (seen
 doing table s t (Work (seen.Opened agreed private)) rule e k = quiet_doing t (Work (seen.Opened agreed private)) refl refl (omega arith) k
 doing table s t (Work (seen.Closed fault)) rule e k = quiet_doing t (Work (seen.Closed fault)) refl refl (omega arith) k
 doing table s t (Work (seen.Placed right stag to octets)) rule e k = quiet_doing t (Work (seen.Placed right stag to octets)) refl refl (omega arith) k
+doing table s t (Work (seen.Tried place)) rule e k = quiet_doing t (Work (seen.Tried place)) refl refl (omega arith) k
 doing table s t (Work (seen.Buffered msn mo len)) rule e k = quiet_doing t (Work (seen.Buffered msn mo len)) refl refl (omega arith) k
 doing table s t (Work (seen.Requested size stag to)) rule e k = quiet_doing t (Work (seen.Requested size stag to)) refl refl (omega arith) k
 doing table s t (Work seen.Passed) rule e k = quiet_doing t (Work seen.Passed) refl refl (omega arith) k
@@ -1767,6 +1778,8 @@ owning o table c t act given own =
       doing = doing table c.stream t act rule own.emits own.doing;
       track = tracking table c.stream t act rule own.emits.asks.reads own.track;
       ended = ended_is table c.stream act rule ∙ ap (λ b. ended_after b act) own.ended;
+      paid = paying table c.stream t act rule own.track t.acts (ended_is table c.stream act rule) own.paid;
+      once = once_after table c.stream t act t.spans rule own.track own.once;
     } in
     subst (λ z. Own o (record { stream = z; wire = c.wire ++ sent_by act }) (tale_after t act)) (sym (left_told table c.stream act k given)) next
 
@@ -1777,7 +1790,9 @@ WithinTale table domain t act =
     × OnSome (λ b. InBuffer t.buffers ((1 + length t.received) % 2 ^ 32) b.msn b.mo b.len) (deed act).buffering
 
 pub within : (opening : Opening) (table : Table) (c : Connected) (t : Tale) (act : StreamAct Octets) → Told table c.stream act → Own opening c t → WithinTale table c.stream.domain t act
-within opening table c t (Work (seen.Placed right stag to octets)) rule o = (allows table c.stream.domain stag to (length octets) right rule.1.admitted, tt)
+within opening table c t (Work (seen.Placed right stag to octets)) (inl rule) o = (allows table c.stream.domain stag to (length octets) right rule.1.admitted, tt)
+within opening table c t (Work (seen.Placed right stag to octets)) (inr rule) o = (allows table c.stream.domain stag to (length octets) right rule.1.admitted, tt)
+within opening table c t (Work (seen.Tried place)) rule o = (tt, tt)
 within opening table c t (Work (seen.Buffered msn mo len)) rule o =
     let p = rule.1 in
     let r : Receiving = c.stream.receiving in

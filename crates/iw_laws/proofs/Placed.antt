@@ -31,7 +31,10 @@ use Rattle.iw_laws.proofs.Tracks.{Track}
 use Rattle.iw_laws.proofs.Owns.{Emits, out_of}
 use Rattle.iw_laws.proofs.Heard.{IsHeard}
 use Rattle.iw_laws.proofs.Responses.{AnswerFits, SinkFits, sent_responses, sent_ended, sent_before, sent_requests, sent_fits}
-use Rattle.iw_laws.proofs.Delivered.{reread, again, delivered, waiting}
+use Rattle.iw_stream.specs.declared.judging.PlacedFrame.{PlacedFrame}
+use Rattle.iw_stream.specs.Work.{scene}
+use Rattle.iw_laws.proofs.Judged.{Adds, segments_early}
+use Rattle.iw_laws.proofs.Delivered.{reread, again, delivered, fits, fits_waiting}
 
 -- ---- requests
 
@@ -104,23 +107,23 @@ fewer_laid c (suc m) (suc n) (a ∷ answers) h = let rest = fewer_laid c m n ans
 most : (c : Connected) (t : Tale) (d : Connected) (u : Tale) (e : Emits c.stream t) (k : Track d.stream u) → IsHeard c t d u (out_of c.stream t e) k → IsOf u.story.came t.sent → map reread (out_of c.stream t e) ≡ out_of c.stream t e → (cell : Cell)
     → count_writes cell (sunk u.placings) ≤ count_writes cell (responses t.story)
 most c t d u e k heard of same cell =
-    let x = delivered c t d u e k heard of in
-    let bare : count_responses cell k.segments ≤ count_responses cell (out_of c.stream t e) = omega (arith, ap (count_responses cell) (sym same ∙ x.1), responses-append cell k.segments x.0) in
-    omega (arith, k.joins.sunk_are cell, sent_responses cell c.stream t e, responses-append cell e.segments (farewells t.story.farewell), no_responses cell t.story.farewell, go (is_some d.stream.front) refl (fore d.stream) refl bare)
+    omega (arith, k.early.sunk_are cell, k.joins.sunk_are cell, sent_responses cell c.stream t e, responses-append cell e.segments (farewells t.story.farewell), no_responses cell t.story.farewell, ap (count_responses cell) same, go d.stream.front refl (fore d.stream) refl)
   where
-    shown : (placed : Bool) → is_some d.stream.front ≡ placed → (p : Option (Segment Octets)) (frame : Carried) (left : Octets) → fore d.stream ≡ Some (frame, left) → segment_in frame ≡ p
-        → count_responses cell k.segments ≤ count_responses cell (out_of c.stream t e) → count_responses cell k.segments + sunk_waiting cell placed p ≤ count_responses cell (out_of c.stream t e)
-    shown false is p frame left whole carries bare = omega (arith, bare)
-    shown true is None frame left whole carries bare = omega (arith, bare)
-    shown true is (Some segment) frame left whole carries bare =
-        let x = waiting c t d u e k heard of is frame left segment whole carries in
-        omega (arith, ap (count_responses cell) (sym same ∙ x.1), responses-append cell (k.segments ++ segment ∷ []) x.0, responses-append cell k.segments (segment ∷ []))
+    counts : Adds (count_responses cell)
+    counts = record { both = responses-append cell }
 
-    go : (placed : Bool) → is_some d.stream.front ≡ placed → (f : Front) → fore d.stream ≡ f → count_responses cell k.segments ≤ count_responses cell (out_of c.stream t e)
-        → count_responses cell k.segments + sunk_waiting cell placed (segment_at f) ≤ count_responses cell (out_of c.stream t e)
-    go false is f whole bare = omega (arith, bare)
-    go true is None whole bare = omega (arith, bare)
-    go true is (Some (frame, left)) whole bare = shown true is (segment_in frame) frame left whole refl bare
+    shown : (o : Option PlacedFrame) → d.stream.front ≡ o → (p : Option (Segment Octets)) (frame : Carried) (left : Octets) → fore d.stream ≡ Some (frame, left) → segment_in frame ≡ p
+        → count_responses cell k.segments + sunk_waiting cell (is_some o) p + count_responses cell (segments_early (scene d.stream) d.stream.early) ≤ count_responses cell (map reread (out_of c.stream t e))
+    shown None is p frame left whole carries = omega (arith, fits c t d u e k heard of (count_responses cell) counts)
+    shown (Some f) is None frame left whole carries = omega (arith, fits c t d u e k heard of (count_responses cell) counts)
+    shown (Some f) is (Some segment) frame left whole carries =
+        omega (arith, fits_waiting c t d u e k heard of (count_responses cell) counts f is frame left segment whole carries, responses-append cell k.segments (segment ∷ []))
+
+    go : (o : Option PlacedFrame) → d.stream.front ≡ o → (f : Front) → fore d.stream ≡ f
+        → count_responses cell k.segments + sunk_waiting cell (is_some o) (segment_at f) + count_responses cell (segments_early (scene d.stream) d.stream.early) ≤ count_responses cell (map reread (out_of c.stream t e))
+    go None is f whole = omega (arith, fits c t d u e k heard of (count_responses cell) counts)
+    go (Some p) is None whole = omega (arith, fits c t d u e k heard of (count_responses cell) counts)
+    go (Some p) is (Some (frame, left)) whole = shown (Some p) is (segment_in frame) frame left whole refl
 
 reads_covered : (c : Connected) (t : Tale) (d : Connected) (u : Tale) (e : Emits c.stream t) (k : Track d.stream u) → count_done u.finished ≤ u.story.answered → IsHeard c t d u (out_of c.stream t e) k → IsOf u.story.came t.sent
     → map reread (out_of c.stream t e) ≡ out_of c.stream t e → (cell : Cell) → CoversReads t.story (sunk u.placings) (count_done u.finished) cell
@@ -131,7 +134,7 @@ reads_covered c t d u e k few heard of same cell =
     let done : count_done u.finished ≤ count_ended k.segments = omega (arith, few, k.tells.answered_are) in
     record {
       answered = omega (arith, done, sent_ended c.stream t e, ended-append e.segments parted, no_ended t.story.farewell, ap count_ended is, ended-append k.segments x.0);
-      before = omega (arith, fewer_laid cell (count_done u.finished) (count_ended k.segments) t.story.answers done, sent_before cell c.stream t e k.segments x.0 is, k.joins.sunk_are cell);
+      before = omega (arith, fewer_laid cell (count_done u.finished) (count_ended k.segments) t.story.answers done, sent_before cell c.stream t e k.segments x.0 is, k.early.sunk_are cell, k.joins.sunk_are cell);
       most = most c t d u e k heard of same cell;
     }
 

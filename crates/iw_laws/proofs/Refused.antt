@@ -60,7 +60,7 @@ refuses_rest_with_reply h = elim (h (take 3 rests_with_reply) (a (works seen.Idl
   | Over e ↦ false≢true e
   | AwaitsFrame f ↦ let none : progress.Agreed ≡ progress.More = f.comes in cc
   | AwaitsAnswer o e ↦ true≢false e
-  | NoFrame e o ↦ false≢true e
+  | NoFrame e o i ↦ false≢true e
 ]
 
 -- the frame of the Send of one octet

@@ -1,17 +1,17 @@
 -- Each wrong run of two domains breaks the law that keeps them apart.
-use Rattle.std.proofs.Common.{◌≡◌, ℕ, zero, suc, List, [], ◌∷◌, ◌++◌, replicate, Some, None, Ok, Err, refl, sym, ap, arith}
+use Rattle.std.proofs.Common.{◌≡◌, ℕ, zero, suc, [], ◌∷◌, ◌++◌, replicate, Some, None, Ok, Err, sym, ap, arith}
 use Rattle.std.proofs.lemmas.Option.{none-some}
 use Rattle.iw_octets.specs.declared.stag.Stag.{Stag}
 use Rattle.iw_memory.specs.Table.{empty}
 use Rattle.iw_memory.specs.declared.refusal.RegisterRefusal.{RegisterRefusal}
 use Rattle.std.specs.Prelude.{Result}
 use Rattle.iw_endpoint.specs.Endpoint.{no_streams}
-use Rattle.iw_endpoint.specs.Isolation.{Opens, OpensOwn}
+use Rattle.iw_endpoint.specs.Isolation.{OpensOwn}
 use Rattle.iw_stream.specs.declared.answer.RecvRefusal.TheVariants.{Full}
 use Rattle.iw_events.specs.declared.call.End.TheVariants.{B}
 use Rattle.iw_events.specs.declared.act.Act.TheVariants.{Stream}
 use Rattle.iw_events.specs.declared.act.StreamAct.TheVariants.{Recv}
-use Rattle.iw_laws.specs.Words.{Octets, acts}
+use Rattle.iw_laws.specs.Words.{acts}
 use Rattle.iw_laws.specs.Isolated.{calls_made}
 use Rattle.iw_laws.specs.WrongRuns.{b, on, numbers_over_all, full_for_all, RefusesNumberedOverAll, RefusesFullForAll}
 

@@ -1,5 +1,5 @@
 -- Each wrong run of a stream that ends breaks its law.
-use Rattle.std.proofs.Common.{◌≡◌, ℕ, List, [], ◌∷◌, length, take, None, false, refl, sym, ap, ◌∙◌, arith, inl, inr, get_or, Result, Ok, Err}
+use Rattle.std.proofs.Common.{◌≡◌, ℕ, List, [], ◌∷◌, length, take, None, Some, Option, Bool, true, false, cond, refl, sym, ap, ◌∙◌, arith, inl, inr, get_or, Result, Ok, Err}
 use Rattle.std.proofs.lemmas.Option.{none-some}
 use Rattle.iw_octets.specs.declared.fault.Fault.{Fault}
 use Rattle.iw_octets.specs.declared.stag.Stag.{Stag}
@@ -11,16 +11,20 @@ use Rattle.iw_tagged.specs.declared.placing.Placed.{Placed}
 use Rattle.iw_stream.specs.declared.judging.Landing.{Landing}
 use Rattle.iw_stream.specs.declared.judging.Landing.TheVariants as landing
 use Rattle.iw_stream.specs.Frames.{Frame, segment_in, payload_of}
-use Rattle.iw_stream.specs.Judging.{Standing, verdict}
+use Rattle.iw_fpdu.specs.Frame.{frame_end}
+use Rattle.iw_locate.specs.Lowest.{overlaps_placed}
+use Rattle.iw_stream.specs.Starting.{expecting, first_place_in}
+use Rattle.iw_stream.specs.Work.{clash_fault}
+use Rattle.iw_stream.specs.Judging.{Standing, verdict, early_verdict}
 use Rattle.iw_events.specs.declared.call.End.{End}
 use Rattle.iw_events.specs.declared.call.End.TheVariants.{A, B}
 use Rattle.iw_events.specs.declared.act.Seen.TheVariants as seen
 use Rattle.iw_events.specs.declared.act.Shown.TheVariants as shows
 use Rattle.iw_laws.specs.Words.{Octets, Sent, acts, stream_acts, openings, has_raw, ended, sent, posted, handed_kinds, received, table_after}
-use Rattle.iw_laws.specs.Turns.{story, story_of, standing, seen_judged}
+use Rattle.iw_laws.specs.Turns.{Story, story, story_of, standing, seen_judged, seen_tried}
 use Rattle.iw_laws.specs.WrongRuns.{a, b, works, places, stag, send_frame, terminates_again, skips_faulted, terminates_twice, forgets_posted, gives_up_sent, returns_buffer_first, places_invalidated}
 use Rattle.iw_laws.specs.WrongRuns.{RefusesSkippedSend, RefusesSecondTerminate, RefusesForgottenMessage, RefusesFinishedFlushed, RefusesBufferFirst, RefusesPlacedInvalidated}
-use Rattle.iw_laws.proofs.Seeing.{LandsTagged, LandsAs, lands_as}
+use Rattle.iw_laws.proofs.Seeing.{LandsTagged, LandsAs, lands_as, early_lands}
 use Rattle.iw_laws.proofs.Refused.{sent_whole}
 use Rattle.iw_laws.proofs.RefusedReads.{opened_at_once, honest}
 use Rattle.iw_laws.proofs.Tracks.{shown_stays}
@@ -70,6 +74,15 @@ refuses_buffer_first h =
     let few = (h (take 5 returns_buffer_first) (a (works (seen.FlushedRecv (0 ∷ [])))) [] refl).0.messages in
     omega (arith, few)
 
+-- a frame that is placed passed all its checks
+by_verdict : (s : Standing) (frame : Frame) (right : Right) (stag : Stag) (to : ℕ) (octets : Octets) (over : Bool) → seen.Placed right stag to octets ≡ seen_judged frame (cond over (Err clash_fault) (verdict s frame)) → seen.Placed right stag to octets ≡ seen_judged frame (verdict s frame)
+by_verdict s frame right stag to octets false e = e
+by_verdict s frame right stag to octets true e = cc
+
+by_early : (s : Standing) (base : ℕ) (frame : Frame) (right : Right) (stag : Stag) (to : ℕ) (octets : Octets) (o : Option Landing) → early_verdict s frame ≡ o → seen.Placed right stag to octets ≡ seen_tried base frame o → seen.Placed right stag to octets ≡ seen_judged frame (verdict s frame)
+by_early s base frame right stag to octets None is e = cc
+by_early s base frame right stag to octets (Some at) is e = e ∙ ap (seen_judged frame) (sym (early_lands s frame at is).0)
+
 -- what is placed was allowed
 placed_admitted : (s : Standing) (frame : Frame) (right : Right) (stag : Stag) (to : ℕ) (octets : Octets) → seen.Placed right stag to octets ≡ seen_judged frame (verdict s frame) → denial s.table s.domain stag to (length octets) right ≡ None
 placed_admitted s frame right stag to octets = go (verdict s frame) (lands_as s frame)
@@ -99,5 +112,11 @@ placed_admitted s frame right stag to octets = go (verdict s frame) (lands_as s 
 pub refuses_placed_invalidated : RefusesPlacedInvalidated
 unfolding acts stream_acts openings table_after empty
 refuses_placed_invalidated h =
-    let r = (h (take 7 places_invalidated) (b (works places)) [] refl).1 in
-    none-some _ (sym (placed_admitted (standing 0 (acts B (take 7 places_invalidated))) r.frame rights.Write stag 0 (0xaa ∷ []) r.answer))
+    let t : Story = story_of 0 (acts B (take 7 places_invalidated)) in
+    let s : Standing = standing 0 (acts B (take 7 places_invalidated)) in
+    elim (h (take 7 places_invalidated) (b (works places)) [] refl).1 [
+      | inl r ↦
+          none-some _ (sym (placed_admitted s r.frame rights.Write stag 0 (0xaa ∷ [])
+          (by_verdict s r.frame rights.Write stag 0 (0xaa ∷ []) (overlaps_placed t.early r.frame.start (frame_end (expecting t.start).markers r.frame.start (length r.frame.ulpdu))) r.answer)))
+      | inr r ↦ none-some _ (sym (placed_admitted s r.frame rights.Write stag 0 (0xaa ∷ []) (by_early s (first_place_in t.start) r.frame rights.Write stag 0 (0xaa ∷ []) (early_verdict s r.frame) refl r.answer)))
+    ]

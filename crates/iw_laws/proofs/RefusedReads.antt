@@ -1,10 +1,10 @@
 -- Each wrong run with Reads breaks its law.
-use Rattle.std.proofs.Common.{◌≡◌, ℕ, zero, suc, ◌+◌, ◌*◌, ◌%◌, ◌-◌, ◌^◌, ◌<◌, ◌≤◌, List, [], ◌∷◌, ◌++◌, length, take, drop, map, replicate, Some, None, Err, Bool, true, false, cond, refl, sym, ap, ◌∙◌, subst, arith, inl}
+use Rattle.std.proofs.Common.{◌≡◌, ℕ, zero, suc, ◌+◌, ◌*◌, ◌%◌, ◌-◌, ◌^◌, ◌<◌, ◌≤◌, List, [], ◌∷◌, ◌++◌, length, take, drop, map, replicate, Some, None, Err, Bool, true, false, cond, refl, sym, ap, ◌∙◌, subst, arith, inl, inr}
 use Rattle.std.specs.Prelude.{fold, nat_eq, nat_lt, slice_get}
 use Rattle.std.specs.Option.{option_map, option_map_or}
 use Rattle.std.proofs.lemmas.Bool.Decides.{nat_tests}
 use Rattle.std.proofs.lemmas.List.{append-nil, length_push}
-use Rattle.std.proofs.lemmas.Option.{same_Some}
+use Rattle.std.proofs.lemmas.Option.{none-some, same_Some}
 use Rattle.iw_octets.specs.declared.fault.TheConstants.Fault as faults
 use Rattle.iw_octets.specs.declared.payload.ReadRequest.{ReadRequest}
 use Rattle.iw_octets.specs.declared.segment.Segment.{Segment}
@@ -44,7 +44,7 @@ use Rattle.iw_events.specs.declared.call.End.TheVariants.{A, B}
 use Rattle.iw_events.specs.declared.act.Seen.TheVariants as seen
 use Rattle.iw_events.specs.declared.act.Shown.TheVariants as shows
 use Rattle.iw_laws.specs.Words.{Octets, Opening, acts, stream_acts, openings, opening_of, has_raw, posted, finished_kinds, handed_kinds, placings}
-use Rattle.iw_laws.specs.Turns.{Answer, fetches_for, Located, Story, located_of, frames_in, next_frame, next_reads, asked_in, next_asked, segment_out, read_out, sends_segment, says_farewell, story_shown, story_after, untold, story, story_of, standing, seen_judged, seen_turned}
+use Rattle.iw_laws.specs.Turns.{Answer, fetches_for, Located, Story, located_of, frames_in, next_frame, next_reads, asked_in, next_asked, segment_out, read_out, sends_segment, says_farewell, story_shown, story_after, untold, story, story_of, standing, seen_judged, seen_turned, front_verdict}
 use Rattle.iw_laws.specs.Merged.{response_segment}
 use Rattle.iw_laws.specs.Sends.{IsAnswered}
 use Rattle.iw_stream.specs.Ending.{last_word}
@@ -218,21 +218,26 @@ not_asked table domain ticket = refl
 pub refuses_places_past : RefusesPlacesPast
 unfolding acts stream_acts openings story
 refuses_places_past h =
-    let r = (h (take 6 places_past) (a (works (seen.Placed rights.Sink stag 0 five))) [] refl).1 in
     let asks : Story = story_of 0 (acts A (take 4 places_past)) in
     let t : Story = story_of 0 (acts A (take 6 places_past)) in
     let s : Standing = standing 0 (acts A (take 6 places_past)) in
     let kept = shown_stays asks (shows.Frame 0 request_frame) in
     let frame : Frame = standing_at (frame_start false 0) (intact long_ulpdu) in
     let next : next_frame t ≡ Some frame = comes_next t long_ulpdu kept.start kept.turns (ap (λ z. in_order (taken_in z 0 long_response)) kept.came ∙ long_came ∙ sym long_framed) (omega (arith, long_size)) in
-    let same : r.frame ≡ frame = same_Some _ _ (sym r.is_next ∙ next) in
     let reads : s.reads ≡ outstanding (asks.whole % 2 ^ 64) = ap (λ (z : Story). z.reads) (asked_story asks refl refl) ∙ asked_reads asks 1 in
     let judged : verdict s frame ≡ Err faults.OPERATION_UNEXPECTED =
     ap (λ o. head_verdict s (judged_segment o (length long_ulpdu) s.asked.next (length s.asked.unanswered)) (length (payload_of o))) long_carries
     ∙ ap (λ z. response_verdict s.table s.domain z (response_head read_one 0 true) 5) reads
     ∙ not_asked s.table s.domain (asks.whole % 2 ^ 64) in
-    let wrong : seen.Placed rights.Sink stag 0 five ≡ seen.Fault faults.OPERATION_UNEXPECTED = r.answer ∙ ap (λ f. seen_judged f (verdict s f)) same ∙ ap (seen_judged frame) judged in
-    cc
+    let early : t.early ≡ [] = kept.early in
+    elim (h (take 6 places_past) (a (works (seen.Placed rights.Sink stag 0 five))) [] refl).1 [
+      | inl r ↦
+          let same : r.frame ≡ frame = same_Some _ _ (sym r.is_next ∙ next) in
+          let wrong : seen.Placed rights.Sink stag 0 five ≡ seen.Fault faults.OPERATION_UNEXPECTED =
+          r.answer ∙ (λ i. seen_judged (same i) (front_verdict (early i) (expecting t.start) s (same i))) ∙ ap (seen_judged frame) judged in
+          cc
+      | inr r ↦ none-some _ (sym r.no_next ∙ next)
+    ]
 
 short_ulpdu : Octets
 short_ulpdu = (0xc1 ∷ 0x42 ∷ 1 ∷ 0 ∷ 0 ∷ 0 ∷ []) ++ replicate 8 0 ++ three

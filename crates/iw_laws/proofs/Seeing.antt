@@ -1,8 +1,8 @@
 -- What is seen of a step tells what the step did.
-use Rattle.std.proofs.Common.{◌≡◌, ℕ, ◌-◌, not, Bool, true, false, cond, length, Option, Some, None, refl, sym, ap, ◌∙◌, subst, arith, Result, Ok, Err}
+use Rattle.std.proofs.Common.{◌≡◌, ℕ, ◌+◌, ◌-◌, not, Bool, true, false, cond, length, Option, Some, None, refl, sym, ap, ◌∙◌, subst, arith, Result, Ok, Err}
 use Rattle.std.specs.Prelude.{nat_eq, nat_lt}
 use Rattle.std.specs.Option.{option_map, option_map_or}
-use Rattle.std.proofs.lemmas.Option.{none-some}
+use Rattle.std.proofs.lemmas.Option.{none-some, same_Some}
 use Rattle.std.proofs.lemmas.Bool.{true≢false}
 use Rattle.std.proofs.lemmas.Bool.Decides.{nat_tests}
 use Rattle.iw_octets.specs.declared.fault.Fault.{Fault}
@@ -34,17 +34,17 @@ use Rattle.iw_tagged.specs.Placing.{denial_fault, placing_fault}
 use Rattle.iw_stream.specs.declared.judging.Landing.{Landing}
 use Rattle.iw_stream.specs.declared.judging.Landing.TheVariants as landing
 use Rattle.iw_stream.specs.Frames.{Frame, segment_in, payload_of}
-use Rattle.iw_stream.specs.Judging.{Standing, or_else, fault_or, place_in, head_verdict, mismatch_fault, segment_verdict, verdict, turn_of}
+use Rattle.iw_stream.specs.Judging.{Standing, or_else, fault_or, place_in, head_verdict, judged_head, landing_in, may_be_early, early_verdict, mismatch_fault, segment_verdict, table_tried, verdict, turn_of}
 use Rattle.iw_stream.specs.declared.judging.PlacedFrame.{PlacedFrame}
 use Rattle.iw_stream.specs.declared.judging.Turning.{Turning}
 use Rattle.iw_stream.specs.declared.judging.Turning.TheVariants as turning
 use Rattle.iw_startup.specs.declared.progress.Progress.{Progress}
 use Rattle.iw_startup.specs.declared.progress.Progress.TheVariants as progress
 use Rattle.iw_untagged.specs.Receiving.{Receiving, buffer_fault}
-use Rattle.iw_stream.specs.Starting.{StartState, progress_in}
+use Rattle.iw_stream.specs.Starting.{StartState, first_place_in, progress_in}
 use Rattle.iw_stream.specs.Stream.{StreamState, Due, StartUp, LastWord, Response, NextPart, NoneDue, due, emission_of, emitted, emission_due, octets_due, emission_fetched, octets_fetched, frame_fetched}
 use Rattle.iw_reads.specs.declared.response.ResponsePart.{ResponsePart}
-use Rattle.iw_stream.specs.Work.{Task, HandOut, GiveUp, GiveBack, Hear, Turn, Judge, Rest, task, standing, judged_step, turned_step, heard_step, step_of, table_judged, table_passed, table_left, inbox, work_step, table_worked}
+use Rattle.iw_stream.specs.Work.{Task, HandOut, GiveUp, GiveBack, Hear, Turn, Clash, Judge, Try, Rest, task, standing, judged_step, tried_step, turned_step, heard_step, step_of, table_judged, table_passed, table_left, inbox, work_step, table_worked}
 use Rattle.iw_events.specs.declared.act.StreamAct.{StreamAct}
 use Rattle.iw_events.specs.declared.act.StreamAct.TheVariants.{Recv, Post, Emit, Deliver, Raw, Mulpdu, Accept, Reject, Work, Break}
 use Rattle.iw_events.specs.Events.{stream_call_of}
@@ -230,6 +230,41 @@ lands_as at frame = whole frame.mismatch
     whole (Some wrong) = tt
     whole None = of_segment (segment_in frame) refl
 
+-- a place in a region
+abbrev pub InRegion : Landing → Type 0
+InRegion (landing.Write p) = Unit {0}
+InRegion (landing.Response p) = Unit {0}
+InRegion (landing.Send msn mo len) = ⊥
+InRegion (landing.Request request) = ⊥
+InRegion (landing.Terminate fault) = ⊥
+
+-- a frame that is placed before its turn passed all its checks, and goes into a region
+pub early_lands : (at : Standing) (frame : Frame) (x : Landing) → early_verdict at frame ≡ Some x → (verdict at frame ≡ Ok x) × InRegion x
+early_lands at frame x e = go (judged_head at frame.ulpdu) refl e
+  where
+    n : ℕ
+    n = length (payload_of (segment_in frame))
+
+    by : (m : Option Mismatch) (f : Option Fault) (y : Landing) → InRegion y → (r : Result Landing Fault) → r ≡ option_map_or (λ w. Err (mismatch_fault w)) m (fault_or f y) → landing_in r ≡ Some x → (r ≡ Ok x) × InRegion x
+    by (Some wrong) f y in_region r is h = absurd (none-some _ (sym (ap landing_in is) ∙ h))
+    by None (Some fault) y in_region r is h = absurd (none-some _ (sym (ap landing_in is) ∙ h))
+    by None None y in_region r is h =
+        let same : y ≡ x = same_Some _ _ (sym (ap landing_in is) ∙ h) in
+        (is ∙ ap Ok same, subst InRegion same in_region)
+
+    whole : (head : Head) → judged_head at frame.ulpdu ≡ Ok head → verdict at frame ≡ option_map_or (λ w. Err (mismatch_fault w)) frame.mismatch (head_verdict at (Ok head) n)
+    whole head is = ap (λ r. option_map_or (λ w. Err (mismatch_fault w)) frame.mismatch (head_verdict at r n)) is
+
+    go : (h : Result Head Fault) → judged_head at frame.ulpdu ≡ h → cond (may_be_early h) (landing_in (verdict at frame)) None ≡ Some x → (verdict at frame ≡ Ok x) × InRegion x
+    go (Err fault) is h = absurd (none-some _ h)
+    go (Ok (heads.Write head)) is h =
+        by frame.mismatch (placing_fault at.table at.domain head n rights.Write) (landing.Write (place_in head n)) tt (verdict at frame) (whole (heads.Write head) is) h
+    go (Ok (heads.Response head)) is h =
+        by frame.mismatch (or_else (sink_fault at.reads head n) (placing_fault at.table at.domain head n rights.Sink)) (landing.Response (place_in head n)) tt (verdict at frame) (whole (heads.Response head) is) h
+    go (Ok (heads.Send head)) is h = absurd (none-some _ h)
+    go (Ok (heads.Request head request)) is h = absurd (none-some _ h)
+    go (Ok (heads.Terminate head word)) is h = absurd (none-some _ h)
+
 -- where its octets stand they are its payload
 pub stands : (at : Standing) (frame : Frame) (opcode : ℕ) (right : Right) (p : Placed) → (w : LandsTagged at frame opcode right p) → octets_at (put at.table p.stag p.to (payload_of (segment_in frame))) p.stag p.to p.n ≡ w.payload
 stands at frame opcode right p w =
@@ -237,20 +272,31 @@ stands at frame opcode right p w =
     ∙ octets_at-put at.table at.domain w.head.stag w.head.to w.payload right w.admitted
 
 -- what is shown of a frame that is judged leaves the regions as the frame does
-shown_table : (at : Standing) (private : Octets) (frame : Frame) → table_judged at.table frame (verdict at frame) ≡ table_seen at.table (seen_of (table_judged at.table frame (verdict at frame)) private (judged_step (verdict at frame)))
-shown_table at private frame = go (verdict at frame) (lands_as at frame)
+abbrev ShowsTable : Standing → Octets → Frame → Result Landing Fault → Type 0
+ShowsTable at private frame r = table_judged at.table frame r ≡ table_seen at.table (seen_of (table_judged at.table frame r) private (judged_step r))
+
+shown_table : (at : Standing) (private : Octets) (frame : Frame) (r : Result Landing Fault) → LandsAs at frame r → ShowsTable at private frame r
+shown_table at private frame = go
   where
     placed : (opcode : ℕ) (right : Right) (p : Placed) → (w : LandsTagged at frame opcode right p)
         → put at.table p.stag p.to (payload_of (segment_in frame)) ≡ put at.table p.stag p.to (octets_at (put at.table p.stag p.to (payload_of (segment_in frame))) p.stag p.to p.n)
     placed opcode right p w = ap (put at.table p.stag p.to) (ap payload_of w.carries ∙ sym (stands at frame opcode right p w))
 
-    go : (r : Result Landing Fault) → LandsAs at frame r → table_judged at.table frame r ≡ table_seen at.table (seen_of (table_judged at.table frame r) private (judged_step r))
+    go : (r : Result Landing Fault) → LandsAs at frame r → ShowsTable at private frame r
     go (Err fault) w = refl
     go (Ok (landing.Write p)) w = placed 0 rights.Write p w
     go (Ok (landing.Response p)) w = placed 2 rights.Sink p w
     go (Ok (landing.Send msn mo len)) w = refl
     go (Ok (landing.Request request)) w = refl
     go (Ok (landing.Terminate fault)) w = refl
+
+-- and so does what is shown of one that is judged before its turn
+shown_tried : (at : Standing) (private : Octets) (frame : Frame) (place : ℕ) → table_tried at.table frame (early_verdict at frame) ≡ table_seen at.table (seen_of (table_tried at.table frame (early_verdict at frame)) private (tried_step place (early_verdict at frame)))
+shown_tried at private frame place = go (early_verdict at frame) refl
+  where
+    go : (o : Option Landing) → early_verdict at frame ≡ o → table_tried at.table frame o ≡ table_seen at.table (seen_of (table_tried at.table frame o) private (tried_step place o))
+    go None e = refl
+    go (Some x) e = shown_table at private frame (Ok x) (subst (LandsAs at frame) (early_lands at frame x e).0 (lands_as at frame))
 
 -- the table that a step leaves is the one that what is seen of it leaves
 pub table_of_seen : (table : Table) (s : StreamState) (private : Octets) → table_worked table s ≡ table_seen table (seen_of (table_worked table s) private (work_step table s))
@@ -275,7 +321,9 @@ table_of_seen table s private = go (task s)
     go (GiveBack buffer) = refl
     go Hear = hears s.start (inbox s) (progress_in s.start (inbox s))
     go (Turn frame) = turns s.receiving frame (turn_of (standing table s) frame)
-    go (Judge frame) = shown_table (standing table s) private frame
+    go (Clash frame) = refl
+    go (Judge frame) = shown_table (standing table s) private frame (verdict (standing table s) frame) (lands_as (standing table s) frame)
+    go (Try frame) = shown_tried (standing table s) private frame (first_place_in s.start + frame.start)
     go Rest = refl
 
 -- what is shown of an emission has the octets that were appended

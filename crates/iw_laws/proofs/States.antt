@@ -1,15 +1,14 @@
 -- What an act leaves of an end, by its answer.
-use Rattle.std.proofs.Common.{◌≡◌, ℕ, zero, suc, ◌<◌, List, [], ◌∷◌, ◌++◌, length, replicate, Option, Some, None, Ok, Err, Bool, true, false, cond, eqb, refl, sym, ap, ◌∙◌, subst, eqb-true}
+use Rattle.std.proofs.Common.{◌≡◌, ℕ, ◌<◌, List, [], ◌∷◌, ◌++◌, length, replicate, Option, Some, None, Ok, Err, Bool, true, false, cond, eqb, refl, sym, ap, ◌∙◌, subst}
 use Rattle.std.specs.Prelude.{slice_set, slice_index_or, unwrap_or, is_some, Result}
 use Rattle.std.specs.Option.{option_map, option_map_or}
 use Rattle.std.proofs.lemmas.Bool.{false≢true}
 use Rattle.std.proofs.lemmas.List.{append-nil, get_or-set_same, get_or-set_other, length-set, set-get_or}
 use Rattle.std.proofs.lemmas.Bool.{eq-eqb}
 use Rattle.std.proofs.lemmas.Option.{none-some}
-use Rattle.iw_octets.specs.declared.stag.Stag.{Stag}
 use Rattle.iw_memory.specs.declared.refusal.NoRegion.{NoRegion}
 use Rattle.iw_memory.specs.Region.{Region, new_region}
-use Rattle.iw_memory.specs.Table.{Table, region_at, register_refusal, next_stag, deregistered, invalidated}
+use Rattle.iw_memory.specs.Table.{Table, region_at, register_refusal, next_stag}
 use Rattle.iw_memory.proofs.TableLemmas.{deregistered-none, with_region-none}
 use Rattle.iw_stream.specs.declared.answer.Role.{Role}
 use Rattle.iw_stream.specs.Starting.{private_in, agreement_in}
@@ -26,8 +25,7 @@ use Rattle.iw_events.specs.declared.act.StreamAct.{StreamAct}
 use Rattle.iw_events.specs.declared.act.StreamAct.TheVariants.{Recv, Post, Emit, Deliver, Raw, Mulpdu, Accept, Reject, Work, Break}
 use Rattle.iw_events.specs.declared.act.Shown.{Shown}
 use Rattle.iw_laws.specs.Words.{Octets, Opening, no_opening, config_for, private_data, deed, octets_shown, sent_by, stream_acts_by, registered_under, table_by, table_by_stream}
-use Rattle.iw_laws.specs.Calls.{deregister_answer, invalidate_refusal}
-use Rattle.iw_laws.specs.Rules.{EndState, StreamRule, EndRule, wire_at, wires_after, call_made, stream_call_made, end_after}
+use Rattle.iw_laws.specs.Rules.{EndState, StreamRule, EndRule, wire_at, wires_after, call_made, end_after}
 use Rattle.iw_laws.proofs.Seeing.{table_of_seen}
 
 -- ---- a stream, and the octets that it emitted

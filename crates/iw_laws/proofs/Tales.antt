@@ -1,8 +1,8 @@
 -- What one more act adds to what the acts of an end say of one of its streams.
-use Rattle.std.proofs.Common.{◌≡◌, ℕ, List, [], ◌∷◌, ◌++◌, Bool, false, refl, ap, ◌∙◌}
+use Rattle.std.proofs.Common.{◌≡◌, ℕ, ◌+◌, length, List, [], ◌∷◌, ◌++◌, Bool, false, refl, ap, ◌∙◌, Option}
 use Rattle.std.specs.Prelude.{fold}
 use Rattle.std.specs.List.{flat_map}
-use Rattle.std.proofs.lemmas.List.{append-nil}
+use Rattle.std.proofs.lemmas.List.{append-nil, length_push}
 use Rattle.std.proofs.lemmas.List.Concat.{flat_map-append}
 use Rattle.iw_queues.specs.declared.request.Request.{Request}
 use Rattle.iw_queues.specs.declared.request.Kind.{Kind}
@@ -11,11 +11,13 @@ use Rattle.iw_events.specs.declared.call.End.TheVariants.{A, B}
 use Rattle.iw_events.specs.declared.act.Act.{Act}
 use Rattle.iw_events.specs.declared.act.StreamAct.{StreamAct}
 use Rattle.iw_events.specs.declared.act.Entry.{Entry}
+use Rattle.iw_laws.specs.Once.{Span, Placed, placed_after, spans_by, spans_placed}
 use Rattle.iw_laws.specs.Turns.{Story, story, story_after, untold}
 use Rattle.iw_laws.specs.Words.{Opening, Octets, other, acts, acts_if, stream_acts, stream_acts_by, openings, openings_by, posted, posted_by, finished_kinds, finished_by, handed_kinds, handed_by, size_set, size_after, Sent, received, received_by, has_raw, raw_after, ended, ended_after, sent, sent_by, Placing, placings, placed_by, table_after, table_by, buffers, buffers_after}
 
 -- what the acts of one end say of one of its streams
 pub record Tale : Type 0 where
+  pub acts : ℕ  -- how many
   pub posted : List (Request Octets)
   pub finished : List Kind
   pub handed : List Kind
@@ -27,12 +29,14 @@ pub record Tale : Type 0 where
   pub story : Story
   pub ended : Bool
   pub raw : Bool
+  pub spans : List (Option Span)
 
 abbrev pub tale_of : Opening → List (StreamAct Octets) → Tale
-tale_of o done = record { posted = posted done; finished = finished_kinds done; handed = handed_kinds done; size = size_set done; received = received done; sent = sent done; buffers = buffers done; placings = placings done; story = story o done; ended = ended done; raw = has_raw done }
+tale_of o done = record { acts = length done; posted = posted done; finished = finished_kinds done; handed = handed_kinds done; size = size_set done; received = received done; sent = sent done; buffers = buffers done; placings = placings done; story = story o done; ended = ended done; raw = has_raw done; spans = spans_placed o done }
 
 abbrev pub tale_after : Tale → StreamAct Octets → Tale
 tale_after t act = record {
+  acts = t.acts + 1;
   posted = t.posted ++ posted_by act;
   finished = t.finished ++ finished_by act;
   handed = t.handed ++ handed_by act;
@@ -44,6 +48,7 @@ tale_after t act = record {
   story = story_after t.story act;
   ended = ended_after t.ended act;
   raw = raw_after t.raw act;
+  spans = t.spans ++ spans_by t.story act;
 }
 
 flat_map-push : {X Y : Type 0} (f : X → List Y) (xs : List X) (x : X) → flat_map f (xs ++ x ∷ []) ≡ flat_map f xs ++ f x
@@ -53,9 +58,20 @@ pub fold-push : {X Y : Type 0} (f : Y → X → Y) (a : Y) (xs : List X) (x : X)
 fold-push f a [] x = refl
 fold-push f a (y ∷ ys) x = fold-push f (f a y) ys x
 
+same_story : (p : Placed) (done : List (StreamAct Octets)) → (fold placed_after p done).story ≡ fold story_after p.story done
+same_story p [] = refl
+same_story p (act ∷ done) = same_story (placed_after p act) done
+
+spans-push : (o : Opening) (done : List (StreamAct Octets)) (act : StreamAct Octets) → spans_placed o (done ++ act ∷ []) ≡ spans_placed o done ++ spans_by (story o done) act
+unfolding spans_placed story
+spans-push o done act =
+    let first : Placed = record { story = untold o; spans = [] } in
+    ap (λ (p : Placed). p.spans) (fold-push placed_after first done act) ∙ ap (λ t. (fold placed_after first done).spans ++ spans_by t act) (same_story first done)
+
 pub tale-push : (o : Opening) (done : List (StreamAct Octets)) (act : StreamAct Octets) → tale_of o (done ++ act ∷ []) ≡ tale_after (tale_of o done) act
 unfolding posted finished_kinds handed_kinds size_set received sent buffers placings story ended has_raw
 tale-push o done act = λ i. record {
+  acts = length_push done act i;
   posted = flat_map-push posted_by done act i;
   finished = flat_map-push finished_by done act i;
   handed = flat_map-push handed_by done act i;
@@ -67,6 +83,7 @@ tale-push o done act = λ i. record {
   story = fold-push story_after (untold o) done act i;
   ended = fold-push ended_after false done act i;
   raw = fold-push raw_after false done act i;
+  spans = spans-push o done act i;
 }
 
 -- ---- one more act of an end

@@ -1,8 +1,9 @@
 -- The right answer at a stream, with steps of work told apart by what is seen of them, and what each leaves of the stream.
-use Rattle.std.proofs.Common.{◌≡◌, ◌⊎◌, ℕ, ◌+◌, List, [], length, take, Option, Some, None, Result, Ok, Err, Bool, true, false, cond, refl, sym, ap, ◌∙◌, subst, inl, inr}
-use Rattle.std.specs.Option.{option_map, option_map_or}
+use Rattle.std.proofs.Common.{◌≡◌, ◌⊎◌, ℕ, ◌+◌, ◌-◌, List, [], length, take, Option, Some, None, Result, Ok, Err, Bool, true, false, cond, refl, sym, ap, ◌∙◌, subst, inl, inr, arith}
+use Rattle.std.specs.Option.{option_map, option_map_or, option_or}
+use Rattle.iw_locate.specs.Free.{front_of}
 use Rattle.std.specs.Prelude.{is_some, replicate, slice_get}
-use Rattle.std.proofs.lemmas.Bool.{false≢true}
+use Rattle.std.proofs.lemmas.Bool.{false≢true, true≢false}
 use Rattle.iw_octets.specs.declared.fault.Fault.{Fault}
 use Rattle.iw_octets.specs.declared.head.TaggedHead.{TaggedHead}
 use Rattle.iw_octets.specs.declared.head.UntaggedHead.{UntaggedHead}
@@ -25,6 +26,9 @@ use Rattle.iw_queues.specs.Queue.{Queue, part_sent, sent_with, done_in, oldest_i
 use Rattle.iw_queues.specs.Segments.{numbers_behind}
 use Rattle.iw_reads.specs.declared.reads.Outstanding.{Outstanding}
 use Rattle.iw_reads.specs.declared.response.ResponsePart.{ResponsePart}
+use Rattle.iw_rdmap.specs.Judging.{request_fault}
+use Rattle.std.proofs.lemmas.Bool.Decides.{nat_tests}
+use Rattle.std.specs.Prelude.{◌≤◌}
 use Rattle.iw_reads.specs.Outstanding.{response_turn_fault, finished_read}
 use Rattle.iw_reads.specs.Requests.{Requested, taken_up, part_fetched}
 use Rattle.iw_tagged.specs.declared.placing.Placed.{Placed}
@@ -39,15 +43,20 @@ use Rattle.iw_stream.specs.declared.judging.Landing.TheVariants as landing
 use Rattle.iw_stream.specs.declared.judging.PlacedFrame.{PlacedFrame}
 use Rattle.iw_stream.specs.declared.judging.Turning.{Turning}
 use Rattle.iw_stream.specs.declared.judging.Turning.TheVariants as turning
-use Rattle.iw_stream.specs.Frames.{Frame, payload_of, placed, payload_len}
+use Rattle.iw_fpdu.specs.Frame.{frame_end}
+use Rattle.iw_locate.specs.Records.{added, kept_from}
+use Rattle.iw_stream.specs.Frames.{Frame, EarlyRecord, payload_of, placed, payload_len, placed_at, record_of, record_tried}
+use Rattle.arrayvec.specs.ArrayVec.{ArrayVec}
+use Rattle.iw_locate.specs.declared.judged.State.{State}
+use Rattle.iw_locate.specs.declared.judged.State.TheVariants as states
 use Rattle.iw_stream.specs.Frames as frames
 use Rattle.iw_stream.specs.declared.ending.Ending.TheVariants.{Over}
 use Rattle.iw_stream.specs.Ending.{last_word}
 use Rattle.iw_stream.specs.Terminating.{terminate_judged, terminate_turned, terminate_fetched}
-use Rattle.iw_stream.specs.Judging.{or_else, fault_or, is_solicited, stag_to_invalidate, invalidation_fault, send_turning, verdict, answering_by, is_response, tagged_turn, segment_turn, turn_of, receiving_turned, left_by_turn, reads_left}
-use Rattle.iw_stream.specs.Starting.{StartState, AtOnce, Unheard, Heard, is_open, own_frame, awaits_frame, progress_in, heard, agreement_in, private_in}
+use Rattle.iw_stream.specs.Judging.{or_else, fault_or, is_solicited, stag_to_invalidate, invalidation_fault, send_turning, early_verdict, table_tried, verdict, answering_by, is_response, tagged_turn, segment_turn, turn_of, receiving_turned, left_by_turn, reads_left}
+use Rattle.iw_stream.specs.Starting.{StartState, AtOnce, Unheard, Heard, is_open, own_frame, awaits_frame, expecting, first_place_in, progress_in, heard, agreement_in, private_in}
 use Rattle.iw_stream.specs.Stream.{StreamState, Due, StartUp, LastWord, Response, NextPart, NoneDue, ended, ends, ends_by, due, owes_frame, is_mute, part_due, response_due, frame_of_part, frame_of_terminate, frame_fetched, reads_with, octets_due, octets_fetched, emission_due, emission_fetched, emission_of, emitted, left_due, left_fetched, with_buffer, with_request, with_mulpdu, after_emit, after_deliver, accepted, rejected, breaks}
-use Rattle.iw_stream.specs.Work.{Turn, Judge, inbox, next_frame, hears, heard_step, turned_step, judged_step, step_of, after_hearing, after_turn, after_judging, left_by, table_judged, table_passed, table_left, work_step, worked, table_worked}
+use Rattle.iw_stream.specs.Work.{Turn, Clash, Judge, Try, inbox, scene, next_frame, early_frame, waiting, clashes, clash_fault, hears, heard_step, turned_step, judged_step, tried_step, step_of, after_hearing, after_turn, after_judging, after_trying, left_by, table_judged, table_passed, table_left, work_step, worked, table_worked}
 use Rattle.iw_stream.specs.Work as work
 use Rattle.iw_stream.proofs.Headers.{payload_kept, turn_kept, turned_kept, left_kept}
 use Rattle.iw_stream.proofs.Tasks.{IsRunning, IsResting, by_task}
@@ -58,11 +67,11 @@ use Rattle.iw_events.specs.declared.act.Shown.TheVariants as shows
 use Rattle.iw_events.specs.declared.act.Seen.{Seen}
 use Rattle.iw_events.specs.declared.act.Seen.TheVariants as seen
 use Rattle.iw_laws.specs.Words.{Octets, private_data}
-use Rattle.iw_laws.specs.Turns.{asked_in, seen_judged, seen_turned}
+use Rattle.iw_laws.specs.Turns.{asked_in, seen_judged, seen_tried, seen_turned, front_verdict}
 use Rattle.iw_laws.specs.Rules.{StreamRule, seen_of, shown_of}
 use Rattle.iw_laws.proofs.States.{stream_after}
-use Rattle.iw_laws.proofs.Nexts.{fore, segment_in, segment_at, turned_by, behind_front, standing, Sound, first_is_here, behind_is}
-use Rattle.iw_laws.proofs.Seeing.{LandsTagged, LandsRequest, LandsAs, lands_as, stands}
+use Rattle.iw_laws.proofs.Nexts.{fore, place_behind, segment_in, segment_at, turned_by, behind_front, standing, Sound, none_first_here, first_is_here, behind_is}
+use Rattle.iw_laws.proofs.Seeing.{LandsTagged, LandsRequest, LandsAs, InRegion, lands_as, early_lands, stands}
 
 -- ---- what an act leaves of a stream, by what is seen of it
 
@@ -73,6 +82,18 @@ kept_of s = option_map (λ x. placed (standing s x.0)) (fore s)
 -- the peer's requests, with the one at the in-order point
 abbrev pub asked_front : StreamState → Requested
 asked_front s = option_map_or (λ x. taken_up s.asked (asked_in (standing s x.0))) (fore s) s.asked
+
+-- the records that stay when the frame at the in-order point had its turn
+abbrev pub early_left : StreamState → List EarlyRecord
+early_left s = kept_from (place_behind s (fore s) - first_place_in s.start) s.early
+
+-- the records, with that of the frame that can be judged early
+abbrev pub early_with : StreamState → (Frame → State (ArrayVec ℕ)) → List EarlyRecord
+early_with s state = option_map_or (λ f. added s.early (record_of f (state f))) (early_frame s) s.early
+
+-- the frame at the in-order point is placed, or that one
+abbrev pub places : StreamState → StreamState
+places s = record s { front = kept_of s; early = cond (is_some (fore s)) s.early (early_with s (λ f. states.Placed (placed f).header)) }
 
 -- the Reads that are outstanding, behind the frame at the in-order point
 abbrev pub reads_front : StreamState → List Outstanding
@@ -87,7 +108,7 @@ finishes_read reads (Some (Untagged head payload)) = None
 -- the Terminate for a fault of the frame at the in-order point
 abbrev pub fault_front : StreamState → Fault → Octets
 fault_front s fault =
-    option_map_or (λ x. cond (is_some s.front) (terminate_turned (placed (standing s x.0)) fault) (terminate_judged s.asked (standing s x.0) fault)) (fore s) []
+    option_map_or (λ x. cond (is_some (waiting s)) (terminate_turned (placed (standing s x.0)) fault) (terminate_judged s.asked (standing s x.0) fault)) (fore s) []
 
 abbrev pub with_finished : Queue → Option ℕ → Queue
 with_finished q None = q
@@ -119,18 +140,20 @@ after_seen s (seen.FlushedRecv octets) = record s { receiving = flushed s.receiv
 after_seen s (seen.Asked private) = hears s
 after_seen s (seen.Opened agreed private) = hears s
 after_seen s (seen.Closed fault) = ends (hears s)
-after_seen s (seen.Placed right stag to octets) = record s { front = kept_of s }
-after_seen s (seen.Requested size stag to) = record s { front = None; arrived = behind_front s; asked = asked_front s }
+after_seen s (seen.Placed right stag to octets) = places s
+after_seen s (seen.Tried place) = record s { early = early_with s (λ f. states.Tried) }
+after_seen s (seen.Requested size stag to) = record s { front = None; arrived = behind_front s; early = early_left s; asked = asked_front s }
 after_seen s (seen.Buffered msn mo len) = record s { front = kept_of s; receiving = written s.receiving msn mo (payload_of (segment_at (fore s))) }
 after_seen s seen.Passed = record s {
   front = None;
   receiving = turned_by s.receiving (segment_at (fore s));
   arrived = behind_front s;
+  early = early_left s;
   reads = reads_front s;
   queue = with_finished s.queue (finishes_read s.reads (segment_at (fore s)));
 }
-after_seen s (seen.Received octets solicited invalidate) = record s { front = None; receiving = finished s.receiving; arrived = behind_front s }
-after_seen s (seen.Terminated fault) = ends (record s { front = None; arrived = behind_front s })
+after_seen s (seen.Received octets solicited invalidate) = record s { front = None; receiving = finished s.receiving; arrived = behind_front s; early = early_left s }
+after_seen s (seen.Terminated fault) = ends (record s { front = None; arrived = behind_front s; early = early_left s })
 after_seen s (seen.Fault fault) = ends_by s (fault_front s fault)
 after_seen s seen.Idle = s
 
@@ -151,6 +174,14 @@ after_act s (Reject private (Some refusal)) = s
 after_act s (Work step) = after_seen s step
 after_act s Break = breaks s
 
+-- no frame waits, and none was placed at the in-order point
+pub nothing_waits : (s : StreamState) → is_some (waiting s) ≡ false → s.front ≡ None
+nothing_waits s e = go s.front refl e
+  where
+    go : (o : Option PlacedFrame) → s.front ≡ o → is_some (option_or o (placed_at s.early (front_of (scene s)))) ≡ false → s.front ≡ None
+    go None is h = is
+    go (Some f) is h = absurd (true≢false h)
+
 -- ---- what is seen
 
 -- the frame at the in-order point was not placed, and is judged
@@ -158,8 +189,18 @@ pub record Judged (table : Table) (s : StreamState) (step : Seen Octets) : Type 
   pub runs : IsRunning s
   pub frame : Frame
   pub is_next : next_frame s ≡ Some frame
-  pub unplaced : s.front ≡ None
-  pub answer : step ≡ seen_judged frame (verdict (work.standing table s) frame)
+  pub unplaced : waiting s ≡ None
+  pub answer : step ≡ seen_judged frame (front_verdict s.early (expecting s.start) (work.standing table s) frame)
+
+-- none is whole there, and one is judged before its turn
+pub record JudgedEarly (table : Table) (s : StreamState) (step : Seen Octets) : Type 0 where
+  pub runs : IsRunning s
+  pub frame : Frame
+  pub unplaced : waiting s ≡ None
+  pub no_next : next_frame s ≡ None
+  pub none : fore s ≡ None
+  pub is_early : early_frame s ≡ Some frame
+  pub answer : step ≡ seen_tried (first_place_in s.start) frame (early_verdict (work.standing table s) frame)
 
 -- it was placed, and has its turn
 pub record Turned (table : Table) (s : StreamState) (step : Seen Octets) : Type 0 where
@@ -167,24 +208,40 @@ pub record Turned (table : Table) (s : StreamState) (step : Seen Octets) : Type 
   pub frame : Carried
   pub rest : Octets
   pub whole : fore s ≡ Some (frame, rest)
-  pub kept : s.front ≡ Some (placed (standing s frame))
+  pub kept : waiting s ≡ Some (placed (standing s frame))
   pub answer : step ≡ seen_turned s.receiving (placed (standing s frame)) (turn_of (work.standing table s) (placed (standing s frame)))
 
 -- the frame at the in-order point carries this segment
 pub record Fronts (s : StreamState) (was_placed : Bool) (segment : Segment Octets) : Type 0 where
   pub running : ended s ≡ false
   pub started : is_open s.start ≡ true
-  pub placed : is_some s.front ≡ was_placed
+  pub placed : is_some (waiting s) ≡ was_placed
   pub frame : Carried
   pub rest : Octets
   pub whole : fore s ≡ Some (frame, rest)
   pub carries : segment_in frame ≡ Some segment
+  pub clear : was_placed ≡ false → clashes s (standing s frame) ≡ false
+
+-- by which right a segment is placed
+abbrev pub IsPlacedBy : TaggedHead → Right → Type 0
+IsPlacedBy head right = ((right ≡ rights.Write) × (opcode_of head.control ≡ 0)) ⊎ ((right ≡ rights.Sink) × (opcode_of head.control ≡ 2))
+
+-- a tagged segment that was placed before its turn
+pub record SeesEarly (table : Table) (s : StreamState) (right : Right) (stag : Stag) (to : ℕ) (octets : Octets) : Type 0 where
+  pub frame : Frame
+  pub is_early : early_frame s ≡ Some frame
+  pub head : TaggedHead
+  pub carries : frames.segment_in frame ≡ Some (Tagged head octets)
+  pub kind : IsPlacedBy head right
+  pub admitted : denial table s.domain stag to (length octets) right ≡ None
+  pub stag_is : stag ≡ head.stag
+  pub to_is : to ≡ head.to
 
 -- a tagged segment that was placed: a Write's, or part of the response to a Read
 pub record SeesPlaced (table : Table) (s : StreamState) (right : Right) (stag : Stag) (to : ℕ) (octets : Octets) : Type 0 where
   pub head : TaggedHead
   pub fronts : Fronts s false (Tagged head octets)
-  pub kind : ((right ≡ rights.Write) × (opcode_of head.control ≡ 0)) ⊎ ((right ≡ rights.Sink) × (opcode_of head.control ≡ 2))
+  pub kind : IsPlacedBy head right
   pub admitted : denial table s.domain stag to (length octets) right ≡ None
   pub stag_is : stag ≡ head.stag
   pub to_is : to ≡ head.to
@@ -194,6 +251,7 @@ pub record SeesRequest (s : StreamState) (size : ℕ) (stag : Stag) (to : ℕ) :
   pub head : UntaggedHead
   pub payload : Octets
   pub fronts : Fronts s false (Untagged head payload)
+  pub short : length fronts.frame.ulpdu ≤ 46
   pub queue : head.queue ≡ 1
   pub size_is : size ≡ (request_fields payload).size
   pub stag_is : stag ≡ (request_fields payload).source
@@ -268,7 +326,10 @@ Sees table s seen.Idle = (done_in s.queue ≡ None) × (Hears s progress.More �
 Sees table s (seen.Asked private) = Hears s progress.Asked × (private ≡ private_in (hears s).start)
 Sees table s (seen.Opened agreed private) = Hears s progress.Agreed × (agreed ≡ agreement_in (heard s.start (inbox s))) × (private ≡ private_in (hears s).start)
 Sees table s (seen.Closed fault) = Hears s (progress.Faulted fault)
-Sees table s (seen.Placed right stag to octets) = Judged table s (seen.Placed right stag to octets) × SeesPlaced table s right stag to octets
+Sees table s (seen.Placed right stag to octets) =
+    (Judged table s (seen.Placed right stag to octets) × SeesPlaced table s right stag to octets)
+    ⊎ (JudgedEarly table s (seen.Placed right stag to octets) × SeesEarly table s right stag to octets)
+Sees table s (seen.Tried place) = JudgedEarly table s (seen.Tried place)
 Sees table s (seen.Requested size stag to) = Judged table s (seen.Requested size stag to) × SeesRequest s size stag to
 Sees table s (seen.Buffered msn mo len) = Judged table s (seen.Buffered msn mo len) × SeesSend s msn mo len
 Sees table s seen.Passed = Turned table s seen.Passed × Passes s
@@ -279,20 +340,27 @@ Sees table s (seen.Fault fault) = Judged table s (seen.Fault fault) ⊎ Turned t
 abbrev Given : Table → StreamState → Seen Octets → StreamState → Type 0
 Given table s step left = Sees table s step × (left ≡ after_seen s step)
 
+-- a Read Request that passed its checks has 28 octets of payload
+request_short : (frame : Frame) (head : UntaggedHead) (next unanswered : ℕ) → request_fault head (length frame.ulpdu - 18) next unanswered ≡ None → length frame.ulpdu ≤ 46
+request_short frame head next unanswered e = grind (arith, nat_tests, e)
+
 module _ (table : Table) (s : StreamState) (k : Sound s) (runs : IsRunning s) where
   -- a frame that was not placed is judged
-  module _ (frame : Frame) (is_next : next_frame s ≡ Some frame) (unplaced : s.front ≡ None) (private : Octets) where
+  module _ (frame : Frame) (is_next : next_frame s ≡ Some frame) (unplaced : waiting s ≡ None) (private : Octets) where
     abbrev Lands_in : Result Landing Fault → Type 0
     Lands_in r = verdict (work.standing table s) frame ≡ r → LandsAs (work.standing table s) frame r → Given table s (seen_of (table_judged table frame r) private (judged_step r)) (after_judging s frame r)
 
-    judged : (step : Seen Octets) → step ≡ seen_judged frame (verdict (work.standing table s) frame) → Judged table s step
+    abbrev by_front : Result Landing Fault
+    by_front = front_verdict s.early (expecting s.start) (work.standing table s) frame
+
+    judged : (step : Seen Octets) → step ≡ seen_judged frame by_front → Judged table s step
     judged step e = record { runs = runs; frame = frame; is_next = is_next; unplaced = unplaced; answer = e }
 
     keeps : Some (placed frame) ≡ kept_of s
     keeps = ap (λ z. Some (placed z)) (first_is_here s frame k is_next).is ∙ ap (option_map (λ x. placed (standing s x.0))) (sym (first_is_here s frame k is_next).whole)
 
-    fronts : (segment : Segment Octets) → frames.segment_in frame ≡ Some segment → Fronts s false segment
-    fronts segment carries = record {
+    fronts : clashes s frame ≡ false → (segment : Segment Octets) → frames.segment_in frame ≡ Some segment → Fronts s false segment
+    fronts clear segment carries = record {
       running = runs.running;
       started = runs.started;
       placed = ap is_some unplaced;
@@ -300,6 +368,7 @@ module _ (table : Table) (s : StreamState) (k : Sound s) (runs : IsRunning s) wh
       rest = (first_is_here s frame k is_next).rest;
       whole = (first_is_here s frame k is_next).whole;
       carries = carries;
+      clear = λ h. ap (clashes s) (sym (first_is_here s frame k is_next).is) ∙ clear;
     }
 
     terminates : (fault : Fault) → terminate_judged s.asked frame fault ≡ fault_front s fault
@@ -308,32 +377,38 @@ module _ (table : Table) (s : StreamState) (k : Sound s) (runs : IsRunning s) wh
         ap (λ z. terminate_judged s.asked z fault) first.is
         ∙ (λ i. option_map_or (λ (x : Carried × Octets). cond (is_some (sym unplaced i)) (terminate_turned (placed (standing s x.0)) fault) (terminate_judged s.asked (standing s x.0) fault)) (sym first.whole i) [])
 
-    faulted : (fault : Fault) → verdict (work.standing table s) frame ≡ Err fault → Given table s (seen.Fault fault) (ends_by s (terminate_judged s.asked frame fault))
+    faulted : (fault : Fault) → by_front ≡ Err fault → Given table s (seen.Fault fault) (ends_by s (terminate_judged s.asked frame fault))
     faulted fault e = (inl (judged (seen.Fault fault) (ap (seen_judged frame) (sym e))), ap (ends_by s) (terminates fault))
 
     -- its segment, its place and the place behind it
-    behind_here : advanced s.arrived (work.place_behind s (placed frame)) ≡ behind_front s
-    behind_here =
+    place_here : work.place_behind s (placed frame) ≡ place_behind s (fore s)
+    place_here =
         let first = first_is_here s frame k is_next in
-        ap (λ z. advanced s.arrived (work.place_behind s (placed z))) first.is ∙ ap (advanced s.arrived) (behind_is s (record { mismatch = frame.mismatch; ulpdu = frame.ulpdu }) first.rest k first.whole)
+        ap (λ z. work.place_behind s (placed z)) first.is ∙ behind_is s (record { mismatch = frame.mismatch; ulpdu = frame.ulpdu }) first.rest k first.whole
+
+    behind_here : advanced s.arrived (work.place_behind s (placed frame)) ≡ behind_front s
+    behind_here = ap (advanced s.arrived) place_here
+
+    early_here : kept_from (frame_end (expecting s.start).markers frame.start (length frame.ulpdu)) s.early ≡ early_left s
+    early_here = ap (λ n. kept_from n s.early) (omega (arith, place_here))
 
     takes : taken_up s.asked (asked_in frame) ≡ asked_front s
     takes =
         let first = first_is_here s frame k is_next in
         ap (λ z. taken_up s.asked (asked_in z)) first.is ∙ ap (λ o. option_map_or (λ (x : Carried × Octets). taken_up s.asked (asked_in (standing s x.0))) o s.asked) (sym first.whole)
 
-    tagged : (opcode : ℕ) (right : Right) (p : Placed) → (w : LandsTagged (work.standing table s) frame opcode right p)
-        → ((right ≡ rights.Write) × (opcode ≡ 0)) ⊎ ((right ≡ rights.Sink) × (opcode ≡ 2)) → seen.Placed right p.stag p.to (payload_of (frames.segment_in frame)) ≡ seen_judged frame (verdict (work.standing table s) frame)
+    tagged : clashes s frame ≡ false → (opcode : ℕ) (right : Right) (p : Placed) → (w : LandsTagged (work.standing table s) frame opcode right p)
+        → ((right ≡ rights.Write) × (opcode ≡ 0)) ⊎ ((right ≡ rights.Sink) × (opcode ≡ 2)) → seen.Placed right p.stag p.to (payload_of (frames.segment_in frame)) ≡ seen_judged frame by_front
         → Sees table s (seen.Placed right p.stag p.to (octets_at (put table p.stag p.to (payload_of (frames.segment_in frame))) p.stag p.to p.n))
-    tagged opcode right p w kind e =
+    tagged clear opcode right p w kind e =
         let whole : octets_at (put table p.stag p.to (payload_of (frames.segment_in frame))) p.stag p.to p.n ≡ w.payload = stands (work.standing table s) frame opcode right p w in
         let stag : p.stag ≡ w.head.stag = ap (λ (q : Placed). q.stag) w.place in
         let to : p.to ≡ w.head.to = ap (λ (q : Placed). q.to) w.place in
-        let sees : Sees table s (seen.Placed right p.stag p.to w.payload) = (
+        let sees : Sees table s (seen.Placed right p.stag p.to w.payload) = inl (
           judged (seen.Placed right p.stag p.to w.payload) (ap (seen.Placed right p.stag p.to) (sym (ap payload_of w.carries)) ∙ e),
           record {
             head = w.head;
-            fronts = fronts (Tagged w.head w.payload) w.carries;
+            fronts = fronts clear (Tagged w.head w.payload) w.carries;
             kind = elim kind [ inl z ↦ inl (z.0, w.is ∙ z.1) | inr z ↦ inr (z.0, w.is ∙ z.1) ];
             admitted = (λ i. denial table s.domain (stag i) (to i) (length w.payload) right) ∙ w.admitted;
             stag_is = stag;
@@ -342,48 +417,121 @@ module _ (table : Table) (s : StreamState) (k : Sound s) (runs : IsRunning s) wh
         ) in
         subst (λ z. Sees table s (seen.Placed right p.stag p.to z)) (sym whole) sees
 
-    lands_by : (r : Result Landing Fault) → Lands_in r
-    lands_by (Err fault) e w = faulted fault e
-    lands_by (Ok (landing.Write p)) e w = (tagged 0 rights.Write p w (inl (refl, refl)) (ap (seen_judged frame) (sym e)), (λ i. record s { front = keeps i }))
-    lands_by (Ok (landing.Response p)) e w = (tagged 2 rights.Sink p w (inr (refl, refl)) (ap (seen_judged frame) (sym e)), (λ i. record s { front = keeps i }))
-    lands_by (Ok (landing.Send msn mo len)) e w = (
-      (
-        judged (seen.Buffered msn mo len) (ap (seen_judged frame) (sym e)),
-        record { head = w.head; payload = w.payload; fronts = fronts (Untagged w.head w.payload) w.carries; queue = w.queue; checked = w.checked; msn_is = w.msn_is; mo_is = w.mo_is; len_is = w.len_is },
-      ),
-      (λ i. record s { front = keeps i; receiving = written s.receiving msn mo (payload_of (segment_at (sym (first_is_here s frame k is_next).whole i))) }),
-    )
-    lands_by (Ok (landing.Request request)) e w = (
-      (
-        judged (seen.Requested request.size request.source request.source_to) (ap (seen_judged frame) (sym e)),
-        record {
-          head = w.head;
-          payload = w.payload;
-          fronts = fronts (Untagged w.head w.payload) w.carries;
-          queue = w.queue;
-          size_is = ap (λ (z : ReadRequest). z.size) w.is;
-          stag_is = ap (λ (z : ReadRequest). z.source) w.is;
-          to_is = ap (λ (z : ReadRequest). z.source_to) w.is;
-        },
-      ),
-      (λ i. record s { front = None; arrived = behind_here i; asked = (same_request request w ∙ takes) i }),
-    )
-      where
-        same_request : (request : ReadRequest) → LandsRequest (work.standing table s) frame request → taken_up s.asked (record { header = (placed frame).header; request = request }) ≡ taken_up s.asked (asked_in frame)
-        same_request request w = ap (λ z. taken_up s.asked (record { header = (placed frame).header; request = z })) (w.is ∙ ap (λ g. request_fields (payload_of g)) (sym w.carries))
-    lands_by (Ok (landing.Terminate fault)) e w = (
-      (
-        judged (seen.Terminated fault) (ap (seen_judged frame) (sym e)),
-        record { head = w.head; payload = w.payload; fronts = fronts (Untagged w.head w.payload) w.carries; queue = w.queue },
-      ),
-      (λ i. ends (record s { front = None; arrived = behind_here i })),
-    )
+    -- it lies over one that was placed before its turn
+    clashing : clashes s frame ≡ true → Given table s (seen.Fault clash_fault) (ends_by s (terminate_judged s.asked frame clash_fault))
+    clashing over = faulted clash_fault (ap (λ b. cond b (Err clash_fault) (verdict (work.standing table s) frame)) over)
 
-    lands : Given table s (seen_of (table_judged table frame (verdict (work.standing table s) frame)) private (judged_step (verdict (work.standing table s) frame))) (after_judging s frame (verdict (work.standing table s) frame))
-    lands = lands_by (verdict (work.standing table s) frame) refl (lands_as (work.standing table s) frame)
+    placed_so : record s { front = Some (placed frame) } ≡ places s
+    placed_so = λ i. record s { front = keeps i; early = cond (is_some (sym (first_is_here s frame k is_next).whole i)) s.early (early_with s (λ f. states.Placed (placed f).header)) }
+
+    -- it does not
+    module _ (clear : clashes s frame ≡ false) where
+      answer : {r : Result Landing Fault} → verdict (work.standing table s) frame ≡ r → r ≡ by_front
+      answer e = sym e ∙ ap (λ b. cond b (Err clash_fault) (verdict (work.standing table s) frame)) (sym clear)
+
+      lands_by : (r : Result Landing Fault) → Lands_in r
+      unfolding fronts
+      lands_by (Err fault) e w = faulted fault (sym (answer e))
+      lands_by (Ok (landing.Write p)) e w = (tagged clear 0 rights.Write p w (inl (refl, refl)) (ap (seen_judged frame) (answer e)), placed_so)
+      lands_by (Ok (landing.Response p)) e w = (tagged clear 2 rights.Sink p w (inr (refl, refl)) (ap (seen_judged frame) (answer e)), placed_so)
+      lands_by (Ok (landing.Send msn mo len)) e w = (
+        (
+          judged (seen.Buffered msn mo len) (ap (seen_judged frame) (answer e)),
+          record { head = w.head; payload = w.payload; fronts = fronts clear (Untagged w.head w.payload) w.carries; queue = w.queue; checked = w.checked; msn_is = w.msn_is; mo_is = w.mo_is; len_is = w.len_is },
+        ),
+        (λ i. record s { front = keeps i; receiving = written s.receiving msn mo (payload_of (segment_at (sym (first_is_here s frame k is_next).whole i))) }),
+      )
+      lands_by (Ok (landing.Request request)) e w = (
+        (
+          judged (seen.Requested request.size request.source request.source_to) (ap (seen_judged frame) (answer e)),
+          record {
+            head = w.head;
+            payload = w.payload;
+            fronts = fronts clear (Untagged w.head w.payload) w.carries;
+            queue = w.queue;
+            short = request_short frame w.head (work.standing table s).asked.next (length (work.standing table s).asked.unanswered) w.checked;
+            size_is = ap (λ (z : ReadRequest). z.size) w.is;
+            stag_is = ap (λ (z : ReadRequest). z.source) w.is;
+            to_is = ap (λ (z : ReadRequest). z.source_to) w.is;
+          },
+        ),
+        (λ i. record s { front = None; arrived = behind_here i; early = early_here i; asked = (same_request request w ∙ takes) i }),
+      )
+        where
+          same_request : (request : ReadRequest) → LandsRequest (work.standing table s) frame request → taken_up s.asked (record { header = (placed frame).header; request = request }) ≡ taken_up s.asked (asked_in frame)
+          same_request request w = ap (λ z. taken_up s.asked (record { header = (placed frame).header; request = z })) (w.is ∙ ap (λ g. request_fields (payload_of g)) (sym w.carries))
+      lands_by (Ok (landing.Terminate fault)) e w = (
+        (
+          judged (seen.Terminated fault) (ap (seen_judged frame) (answer e)),
+          record { head = w.head; payload = w.payload; fronts = fronts clear (Untagged w.head w.payload) w.carries; queue = w.queue },
+        ),
+        (λ i. ends (record s { front = None; arrived = behind_here i; early = early_here i })),
+      )
+
+      lands : Given table s (seen_of (table_judged table frame (verdict (work.standing table s) frame)) private (judged_step (verdict (work.standing table s) frame))) (after_judging s frame (verdict (work.standing table s) frame))
+      lands = lands_by (verdict (work.standing table s) frame) refl (lands_as (work.standing table s) frame)
+
+  -- none is whole at the in-order point, and one is judged before its turn
+  module _ (frame : Frame) (unplaced : waiting s ≡ None) (no_next : next_frame s ≡ None) (is_early : early_frame s ≡ Some frame) (private : Octets) where
+    abbrev at_place : ℕ
+    at_place = first_place_in s.start + frame.start
+
+    judged_early : (step : Seen Octets) → step ≡ seen_tried (first_place_in s.start) frame (early_verdict (work.standing table s) frame) → JudgedEarly table s step
+    judged_early step e = record { runs = runs; frame = frame; unplaced = unplaced; no_next = no_next; none = none_first_here s k no_next; is_early = is_early; answer = e }
+
+    with_this : (state : Frame → State (ArrayVec ℕ)) → added s.early (record_of frame (state frame)) ≡ early_with s state
+    with_this state = ap (λ o. option_map_or (λ f. added s.early (record_of f (state f))) o s.early) (sym is_early)
+
+    left_placed : record s { early = added s.early (record_of frame (states.Placed (placed frame).header)) } ≡ places s
+    left_placed =
+        let none : fore s ≡ None = none_first_here s k no_next in
+        let front : s.front ≡ kept_of s = nothing_waits s (ap is_some unplaced) ∙ ap (option_map (λ x. placed (standing s x.0))) (sym none) in
+        let early : added s.early (record_of frame (states.Placed (placed frame).header)) ≡ cond (is_some (fore s)) s.early (early_with s (λ f. states.Placed (placed f).header)) =
+        with_this (λ f. states.Placed (placed f).header) ∙ ap (λ o. cond (is_some o) s.early (early_with s (λ f. states.Placed (placed f).header))) (sym none) in
+        λ i. record s { front = front i; early = early i }
+
+    tagged_early : (opcode : ℕ) (right : Right) (p : Placed) → (w : LandsTagged (work.standing table s) frame opcode right p)
+        → ((right ≡ rights.Write) × (opcode ≡ 0)) ⊎ ((right ≡ rights.Sink) × (opcode ≡ 2))
+        → seen.Placed right p.stag p.to (payload_of (frames.segment_in frame)) ≡ seen_tried (first_place_in s.start) frame (early_verdict (work.standing table s) frame)
+        → Sees table s (seen.Placed right p.stag p.to (octets_at (put table p.stag p.to (payload_of (frames.segment_in frame))) p.stag p.to p.n))
+    tagged_early opcode right p w kind e =
+        let whole : octets_at (put table p.stag p.to (payload_of (frames.segment_in frame))) p.stag p.to p.n ≡ w.payload = stands (work.standing table s) frame opcode right p w in
+        let stag : p.stag ≡ w.head.stag = ap (λ (q : Placed). q.stag) w.place in
+        let to : p.to ≡ w.head.to = ap (λ (q : Placed). q.to) w.place in
+        let sees : Sees table s (seen.Placed right p.stag p.to w.payload) = inr (
+          judged_early (seen.Placed right p.stag p.to w.payload) (ap (seen.Placed right p.stag p.to) (sym (ap payload_of w.carries)) ∙ e),
+          record {
+            frame = frame;
+            is_early = is_early;
+            head = w.head;
+            carries = w.carries;
+            kind = elim kind [ inl z ↦ inl (z.0, w.is ∙ z.1) | inr z ↦ inr (z.0, w.is ∙ z.1) ];
+            admitted = (λ i. denial table s.domain (stag i) (to i) (length w.payload) right) ∙ w.admitted;
+            stag_is = stag;
+            to_is = to;
+          },
+        ) in
+        subst (λ z. Sees table s (seen.Placed right p.stag p.to z)) (sym whole) sees
+
+    abbrev TriesIn : Option Landing → Type 0
+    TriesIn o = Given table s (seen_of (table_tried table frame o) private (tried_step at_place o)) (after_trying s frame o)
+
+    in_region : (x : Landing) → InRegion x → early_verdict (work.standing table s) frame ≡ Some x → LandsAs (work.standing table s) frame (Ok x) → TriesIn (Some x)
+    in_region (landing.Write p) t e w = (tagged_early 0 rights.Write p w (inl (refl, refl)) (ap (seen_tried (first_place_in s.start) frame) (sym e)), left_placed)
+    in_region (landing.Response p) t e w = (tagged_early 2 rights.Sink p w (inr (refl, refl)) (ap (seen_tried (first_place_in s.start) frame) (sym e)), left_placed)
+    in_region (landing.Send msn mo len) t e w = absurd t
+    in_region (landing.Request request) t e w = absurd t
+    in_region (landing.Terminate fault) t e w = absurd t
+
+    tried : TriesIn (early_verdict (work.standing table s) frame)
+    tried = go (early_verdict (work.standing table s) frame) refl
+      where
+        go : (o : Option Landing) → early_verdict (work.standing table s) frame ≡ o → TriesIn o
+        go None e = (judged_early (seen.Tried at_place) (ap (seen_tried (first_place_in s.start) frame) (sym e)), (λ i. record s { early = with_this (λ f. states.Tried) i }))
+        go (Some x) e = let l = early_lands (work.standing table s) frame x e in in_region x l.1 e (subst (LandsAs (work.standing table s) frame) l.0 (lands_as (work.standing table s) frame))
 
   -- a frame that was placed has its turn
-  module _ (frame : Carried) (rest : Octets) (whole : fore s ≡ Some (frame, rest)) (segment : Segment Octets) (carries : segment_in frame ≡ Some segment) (kept : s.front ≡ Some (placed (standing s frame))) (private : Octets) where
+  module _ (frame : Carried) (rest : Octets) (whole : fore s ≡ Some (frame, rest)) (segment : Segment Octets) (carries : segment_in frame ≡ Some segment) (kept : waiting s ≡ Some (placed (standing s frame))) (private : Octets) where
     abbrev Turns_to : Result Turning Fault → Type 0
     Turns_to r = turn_of (work.standing table s) (placed (standing s frame)) ≡ r
         → Given table s (seen_of (table_passed table r) private (turned_step s.receiving (placed (standing s frame)) r)) (after_turn s (placed (standing s frame)) r)
@@ -392,7 +540,7 @@ module _ (table : Table) (s : StreamState) (k : Sound s) (runs : IsRunning s) wh
     turned step e = record { runs = runs; frame = frame; rest = rest; whole = whole; kept = kept; answer = e }
 
     fronted : Fronts s true segment
-    fronted = record { running = runs.running; started = runs.started; placed = ap is_some kept; frame = frame; rest = rest; whole = whole; carries = carries }
+    fronted = record { running = runs.running; started = runs.started; placed = ap is_some kept; frame = frame; rest = rest; whole = whole; carries = carries; clear = λ h. absurd (true≢false h) }
 
     size : payload_len (placed (standing s frame)) ≡ length (payload_of (Some segment))
     size = payload_kept (standing s frame) segment carries
@@ -408,6 +556,9 @@ module _ (table : Table) (s : StreamState) (k : Sound s) (runs : IsRunning s) wh
 
     arrived_is : advanced s.arrived (work.place_behind s (placed (standing s frame))) ≡ behind_front s
     arrived_is = ap (advanced s.arrived) (behind_is s frame rest k whole)
+
+    early_is : kept_from (frame_end (expecting s.start).markers (standing s frame).start (length frame.ulpdu)) s.early ≡ early_left s
+    early_is = ap (λ n. kept_from n s.early) (omega (arith, behind_is s frame rest k whole))
 
     -- the turn, by the segment
     abbrev Turned_as : Result Turning Fault → Type 0
@@ -470,13 +621,13 @@ module _ (table : Table) (s : StreamState) (k : Sound s) (runs : IsRunning s) wh
         let c = subst Turned_as e as_turn in
         let none : finishes_read s.reads (segment_at (fore s)) ≡ None = ap (finishes_read s.reads) at ∙ c.1 in (
           passing (ap (seen_turned s.receiving (placed (standing s frame))) (sym e)) c.0,
-          (λ i. record s { front = None; receiving = receiving_is i; arrived = arrived_is i; reads = reads_are i; queue = with_finished s.queue (sym none i) }),
+          (λ i. record s { front = None; receiving = receiving_is i; arrived = arrived_is i; early = early_is i; reads = reads_are i; queue = with_finished s.queue (sym none i) }),
         )
     turns_by (Ok (turning.Answered ticket)) e =
         let c = subst Turned_as e as_turn in
         let one : finishes_read s.reads (segment_at (fore s)) ≡ Some ticket = ap (finishes_read s.reads) at ∙ c.1 in (
           passing (ap (seen_turned s.receiving (placed (standing s frame))) (sym e)) c.0,
-          (λ i. record s { front = None; receiving = (c.2 ∙ ap (turned_by s.receiving) (sym at)) i; arrived = arrived_is i; reads = reads_are i; queue = with_finished s.queue (sym one i) }),
+          (λ i. record s { front = None; receiving = (c.2 ∙ ap (turned_by s.receiving) (sym at)) i; arrived = arrived_is i; early = early_is i; reads = reads_are i; queue = with_finished s.queue (sym one i) }),
         )
     turns_by (Ok (turning.Completed solicited invalidate)) e =
         let c = subst Turned_as e as_turn in
@@ -494,7 +645,7 @@ module _ (table : Table) (s : StreamState) (k : Sound s) (runs : IsRunning s) wh
               invalidate_is = c.6;
             },
           ),
-          (λ i. record s { front = None; receiving = finished s.receiving; arrived = arrived_is i }),
+          (λ i. record s { front = None; receiving = finished s.receiving; arrived = arrived_is i; early = early_is i }),
         )
 
     turns : Given table s (seen_of (table_passed table (turn_of (work.standing table s) (placed (standing s frame)))) private (turned_step s.receiving (placed (standing s frame)) (turn_of (work.standing table s) (placed (standing s frame))))) (after_turn s (placed (standing s frame)) (turn_of (work.standing table s) (placed (standing s frame))))
@@ -552,7 +703,9 @@ module _ (table : Table) (s : StreamState) (k : Sound s) where
       let w = k.placed_is f e in
       subst (λ z. Shows (step_of table s (Turn z)) (left_by table s (Turn z)) (table_left table s (Turn z))) (sym w.is)
       (turns table s k runs w.frame w.rest w.whole w.segment w.carries (e ∙ ap Some w.is) (private_in (left_by table s (Turn (placed (standing s w.frame)))).start)))
-      (λ frame runs unplaced e. lands table s k runs frame e unplaced (private_in (left_by table s (Judge frame)).start))
+      (λ frame runs unplaced e over. clashing table s k runs frame e unplaced (private_in (left_by table s (Clash frame)).start) over)
+      (λ frame runs unplaced e clear. lands table s k runs frame e unplaced (private_in (left_by table s (Judge frame)).start) clear)
+      (λ frame runs unplaced no_next e. tried table s k runs frame unplaced no_next e (private_in (left_by table s (Try frame)).start))
       (λ none resting. ((none, inr resting), refl))
 
   pub sees : (step : Seen Octets) → step ≡ seen_of (table_worked table s) (private_in (worked table s).start) (work_step table s) → Given table s step (worked table s)

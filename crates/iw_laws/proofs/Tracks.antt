@@ -1,8 +1,9 @@
 -- The frames that came, one behind the other, and the one at the in-order point of a stream's state.
-use Rattle.std.proofs.Common.{subst, ◌≡◌, ℕ, suc, ◌+◌, ◌-◌, ◌*◌, ◌≤◌, List, [], ◌∷◌, ◌++◌, length, take, drop, map, replicate, Option, Some, None, Bool, true, false, cond, refl, sym, ap, ◌∙◌, arith, append_assoc, length-append, length-take, Ok, Err, inl, inr}
-use Rattle.std.specs.Prelude.{slice_get, max, nat_eq, nat_lt, is_some, not, ◌&&◌, Result}
-use Rattle.std.specs.Option.{option_map, option_map_or}
-use Rattle.std.proofs.lemmas.Bool.{true≢false, false≢true}
+use Rattle.std.proofs.Common.{subst, ◌≡◌, ℕ, suc, ◌+◌, ◌-◌, ◌*◌, ◌<◌, ◌≤◌, List, [], ◌∷◌, ◌++◌, length, take, drop, map, replicate, Option, Some, None, Bool, true, false, cond, refl, sym, ap, ◌∙◌, arith, append_assoc, length-append, length-take, Ok, Err, inl, inr}
+use Rattle.std.specs.Prelude.{All, slice_get, max, nat_eq, nat_lt, is_some, not, ◌&&◌, ◌||◌}
+use Rattle.std.specs.List.{Contains}
+use Rattle.std.specs.Option.{option_map, option_map_or, option_or}
+use Rattle.std.proofs.lemmas.Bool.{true≢false, false≢true, cases_lt}
 use Rattle.std.proofs.lemmas.Bool.Decides.{nat_tests}
 use Rattle.std.proofs.lemmas.List.{append-nil, map-append, length-map, take-append-drop, drop_at, drop-drop}
 use Rattle.std.proofs.Math.Seq.{take-append_seam}
@@ -18,11 +19,21 @@ use Rattle.iw_memory.specs.declared.rights.Right.{Right}
 use Rattle.iw_memory.specs.Table.{Table}
 use Rattle.iw_ranges.specs.declared.Delivery.TheVariants.{Kept, Dropped}
 use Rattle.iw_ranges.specs.Arrived.{Arrived, in_order, delivery, taken_in, advanced}
-use Rattle.iw_ranges.specs.InOrder.{IsHeld, IsInWindow}
+use Rattle.iw_ranges.specs.InOrder.{IsHeld, IsInWindow, IsOf}
 use Rattle.iw_ranges.proofs.InOrder.{takes, moves, moves_takes, floor_takes, floor_moves, held_takes, held_moves, window_takes, window_moves, short}
 use Rattle.iw_fpdu.specs.declared.layout.Layout.{Layout}
-use Rattle.iw_fpdu.specs.Sequence.{Carried, first_frame, frames_of}
+use Rattle.iw_fpdu.specs.Sequence.{Carried, sequence, first_frame, frames_of}
 use Rattle.iw_fpdu.specs.Laws.{IsBetween}
+use Rattle.iw_fpdu.specs.Places.{span_start}
+use Rattle.iw_fpdu.specs.Frame.{max_sent, frame_end as end_of_frame}
+use Rattle.iw_fpdu.proofs.Octets.{span_low}
+use Rattle.arrayvec.specs.ArrayVec.{ArrayVec}
+use Rattle.iw_locate.specs.declared.judged.State.{State}
+use Rattle.iw_locate.specs.declared.judged.State.TheVariants as states
+use Rattle.iw_locate.specs.Records.{from_of, IsPlaced, added, kept_from}
+use Rattle.iw_locate.specs.Free.{scene_of, front_of}
+use Rattle.iw_locate.specs.Lowest.{early_place}
+use Rattle.iw_locate.proofs.Telling.{overlaps_are_told}
 use Rattle.iw_fpdu.proofs.Follows.{frames_follow}
 use Rattle.iw_startup.specs.declared.side.Side.{Side}
 use Rattle.iw_startup.specs.declared.side.Side.TheVariants.{Initiator, Responder}
@@ -43,7 +54,8 @@ use Rattle.std.proofs.lemmas.Option.{none-some, same_Some}
 use Rattle.iw_fpdu.proofs.Sequences.{Alone, first_alone, first_stays, first_takes}
 use Rattle.iw_untagged.specs.Receiving.{Receiving, with_buffer, written, finished, flushed}
 use Rattle.iw_stream.specs.declared.judging.PlacedFrame.{PlacedFrame}
-use Rattle.iw_stream.specs.Frames.{payload_of, standing_at, placed as placed_of}
+use Rattle.iw_stream.specs.Frames.{Frame, EarlyRecord, payload_of, standing_at, placed as placed_of, placed_at, record_of, record_tried, state_tried}
+use Rattle.iw_stream.specs.declared.judging.Landing.{Landing}
 use Rattle.iw_stream.specs.Frames as frames
 use Rattle.iw_stream.specs.Judging.{receiving_turned, is_read_response, is_response, tagged_left, left_by_turn, reads_left}
 use Rattle.iw_stream.specs.Terminating.{terminate_fetched}
@@ -52,32 +64,41 @@ use Rattle.iw_stream.specs.Starting as starting
 use Rattle.iw_stream.specs.Stream.{StreamState, Due, StartUp, LastWord, Response, NextPart, NoneDue, ended, due, may_answer, keeps_silent, delivery_of, ends_by}
 use Rattle.iw_stream.specs.declared.ending.Ending.TheVariants.{Over}
 use Rattle.iw_stream.specs.Ending.{has_ended, last_word, with_last_word}
-use Rattle.iw_stream.specs.Work.{inbox}
-use Rattle.iw_stream.proofs.Fronts.{carried_by}
+use Rattle.iw_stream.specs.Work.{inbox, scene, waiting, clashes}
+use Rattle.iw_stream.specs.Work as work
+use Rattle.iw_stream.proofs.Fronts.{carried_by, frame_whole}
 use Rattle.iw_stream.proofs.Headers.{turned_kept, left_kept}
 use Rattle.iw_events.specs.declared.act.StreamAct.{StreamAct}
 use Rattle.iw_events.specs.declared.act.StreamAct.TheVariants.{Recv, Post, Emit, Deliver, Raw, Mulpdu, Accept, Reject, Work, Break}
 use Rattle.iw_events.specs.declared.act.Shown.{Shown}
+use Rattle.iw_events.specs.declared.act.Seen.{Seen}
 use Rattle.iw_events.specs.declared.act.Seen.TheVariants as seen
-use Rattle.iw_laws.specs.Words.{Octets, Sent, Placing, placed_by, private_data}
+use Rattle.iw_laws.specs.Words.{Octets, Sent, Placing, placed_by, private_data, listed, written as written_of, written_by, sunk, sunk_by, as_write}
+use Rattle.iw_queues.specs.Joined.{Cell, count_in, count_writes, count_segments}
 use Rattle.iw_fpdu.specs.Places.{frame_start}
 use Rattle.iw_laws.specs.Turns.{Located, located_of, behind_last}
 use Rattle.iw_laws.specs.Sends.{asked_of}
 use Rattle.iw_reads.specs.declared.reads.Outstanding.{Outstanding}
 use Rattle.iw_reads.specs.Outstanding.{response_turn_fault, reads_turned}
 use Rattle.iw_reads.specs.Requests.{Requested, taken_up}
-use Rattle.iw_laws.specs.Turns.{Answer, Story, is_silent, hears, next_frame, next_payload, next_turned, next_reads, asked_in, next_asked, in_order_point, segment_out, sends_segment, says_farewell, fetches_for, story_shown}
+use Rattle.iw_laws.specs.Turns as turns
+use Rattle.iw_laws.specs.Turns.{Answer, Story, is_silent, hears, frames_in, next_frame, early_frame, was_placed, judged_payload, next_turned, next_reads, asked_in, next_asked, in_order_point, moves_on, segment_out, sends_segment, says_farewell, fetches_for, story_shown, story_after}
 use Rattle.iw_reads.specs.declared.requests.Asked.{Asked}
 use Rattle.iw_memory.specs.declared.rights.Right.TheVariants as rights
 use Rattle.iw_events.specs.declared.act.Shown.TheVariants as shows
 use Rattle.iw_laws.proofs.Located.{frames_at, located_are, located_first, located_none, behind_last-push}
 use Rattle.iw_endpoint.specs.Endpoint.{unasked}
 use Rattle.iw_endpoint.specs.Isolation.{answer_or}
-use Rattle.iw_laws.proofs.Nexts.{Front, fore, place_in, standing, segment_in, segment_at, place_behind, behind_front, turned_by, IsFore, Sound}
-use Rattle.iw_laws.proofs.Told.{Fronts, SeesPlaced, SeesRequest, SeesTerminate, SeesSend, IsPassing, SeesReceive, Hears, Told, kept_of, fault_front, left_frame, after_act, reads_front}
+use Rattle.iw_laws.proofs.Nexts.{Front, fore, place_in, standing, segment_in, segment_at, place_behind, behind_front, behind_is, first_is_here, IsFirstHere, turned_by, IsFore, Sound}
+use Rattle.iw_laws.proofs.Judged.{View, AreJudged, IsForRegion, IsFirstRecord, Adds, frame_in, first_record, judges_one, more_come, moves_to, none_goes, none_in, none_judged, same_segments, one_counts, open_at, segments_early}
+use Rattle.iw_laws.proofs.Judged as judged
+use Rattle.iw_locate.proofs.Honest.{of_earlier}
+use Rattle.iw_laws.proofs.EarlySent.{AreSent, scene_sent, none_sent, fewer_sent, one_more_sent}
+use Rattle.iw_laws.proofs.Told as told_of
+use Rattle.iw_laws.proofs.Told.{Fronts, IsPlacedBy, JudgedEarly, SeesEarly, SeesPlaced, SeesRequest, SeesTerminate, SeesSend, IsPassing, SeesReceive, Hears, Told, kept_of, nothing_waits, early_left, fault_front, left_frame, after_act, reads_front}
 use Rattle.iw_laws.proofs.Tales.{Tale, tale_after}
 use Rattle.iw_laws.proofs.Checks.{checked_buffer}
-use Rattle.iw_laws.proofs.Joins.{Tells, plain_tells, last_tells, ended-append, requests_in, requests-append, requests_more, Joins, Waits, reshape, joins_same, joins_buffer, joins_front, joins_end, joins_over, joins_write, joins_response, joins_other, joins_send, joins_tagged, joins_part, joins_last}
+use Rattle.iw_laws.proofs.Joins.{Tells, plain_tells, last_tells, ended-append, requests_in, requests-append, requests_more, count-append, responses-append, count_responses, written-push, sunk-push, Joins, Waits, reshape, joins_buffer, joins_front, joins_end, joins_over, joins_write, joins_response, joins_other, joins_send, joins_tagged, joins_part, joins_last}
 
 -- ---- what a state and the acts of a stream have in common
 
@@ -113,6 +134,31 @@ pub record IsBare (fs : List Carried) (octets : Octets) (was_placed : Bool) : Ty
   pub before : octets ≡ []
   pub placed : was_placed ≡ false
 
+-- no placed record begins before the end of the frame at the in-order point, where that was placed there
+abbrev pub IsClearOf : StreamState → PlacedFrame → Type 0
+IsClearOf s f = (r : EarlyRecord) → Contains s.early r → IsPlaced r.state → end_of_frame (expecting s.start).markers f.start f.len ≤ from_of r
+
+-- the frames that were judged before their turn; `shown` is what was placed of the others
+pub record Early (s : StreamState) (t : Tale) (shown : List Placing) : Type 0 where
+  pub records_are : t.story.early ≡ s.early
+  pub unopened : is_open s.start ≡ false → s.early ≡ []
+  pub judged : AreJudged (scene s)
+  pub clear : (f : PlacedFrame) → s.front ≡ Some f → IsClearOf s f
+  pub written_are : (c : Cell) → count_writes c (written_of t.placings) ≡ count_writes c (written_of shown) + count_segments c (segments_early (scene s) s.early)
+  pub sunk_are : (c : Cell) → count_writes c (sunk t.placings) ≡ count_writes c (sunk shown) + count_responses c (segments_early (scene s) s.early)
+
+-- where what came was sent as frames, the frames that were judged before their turn are some of them
+abbrev pub AreOfSent : StreamState → Story → Octets → Type 0
+AreOfSent s t intro = (us : List Octets) → All (λ u. length u ≤ max_sent) us → IsOf t.came (intro ++ sequence (expecting s.start) 0 us) → AreSent (expecting s.start) us s.early
+
+same_sent : (s s' : StreamState) (t t' : Story) (intro : Octets) → s'.start ≡ s.start → s'.early ≡ s.early → t'.came ≡ t.came → AreOfSent s t intro → AreOfSent s' t' intro
+same_sent s s' t t' intro start early came are us short of =
+    subst (λ rs. AreSent (expecting s'.start) us rs) (sym early)
+    (subst (λ z. AreSent (expecting z) us s.early) (sym start) (are us short (subst (λ a. IsOf a (intro ++ sequence (expecting s.start) 0 us)) came (subst (λ z. IsOf t'.came (intro ++ sequence (expecting z) 0 us)) start of))))
+
+bare_sent : (s : StreamState) (t : Story) (intro : Octets) → s.early ≡ [] → AreOfSent s t intro
+bare_sent s t intro none us short of = subst (AreSent (expecting s.start) us) (sym none) (none_sent (expecting s.start) us)
+
 pub record Track (s : StreamState) (t : Tale) : Type 0 where
   pub intro : Octets  -- the peer's start-up frame, once it was read
   pub begins : Begins s t intro
@@ -136,10 +182,13 @@ pub record Track (s : StreamState) (t : Tale) : Type 0 where
   pub window : IsInWindow s.arrived
   pub near : length before ≤ 262144 * length frames
   pub far : length frames ≤ length before
-  pub early : length intro ≤ 262144
+  pub soon : length intro ≤ 262144
   pub segments : List (Segment Octets)  -- what they carried
   pub carried : map segment_in frames ≡ map Some segments
-  pub joins : Joins segments s.receiving (is_some s.front) (ended s) (segment_at (fore s)) t.received t.placings
+  pub shown : List Placing  -- what was placed at the in-order point, or of a frame that has come there since
+  pub early : Early s t shown
+  pub sent_ones : AreOfSent s t.story intro
+  pub joins : Joins segments s.receiving (is_some s.front) (ended s) (segment_at (fore s)) t.received shown
   pub tells : Tells t.story.answered (asked_of t.story) segments
 
 get_behind : (xs ys : List Located) → slice_get (xs ++ ys) (length xs) ≡ slice_get ys 0
@@ -154,13 +203,58 @@ place_is s t k = omega (arith, k.point, first_is s t k.intro k.begins)
 pub front_is : (s : StreamState) (t : Tale) (k : Track s t) → fore s ≡ first_frame (expecting s.start) (length k.before) (inbox s)
 front_is s t k = ap (λ n. first_frame (expecting s.start) n (inbox s)) (place_is s t k)
 
+-- the same state, with no frame placed
+abbrev bare_state : StreamState → StreamState
+bare_state s = record s { front = None; early = [] }
+
+pub between_is : (s : StreamState) (t : Tale) → Track s t → IsBetween (expecting s.start).markers (place_in s)
+between_is s t k = subst (IsBetween (expecting s.start).markers) (sym (place_is s t k)) k.between
+
+bare_sound : (s : StreamState) (t : Tale) → Track s t → Sound (bare_state s)
+bare_sound s t k = record {
+  low = omega (arith, k.point, first_is s t k.intro k.begins);
+  between = between_is s t k;
+  held = k.held;
+  placed_is = λ f e. absurd (none-some _ e);
+}
+
+-- a frame at the in-order point that was placed before its turn
+pub first_early : (s : StreamState) (t : Tale) → Track s t → (f : PlacedFrame) → s.front ≡ None → waiting s ≡ Some f → IsFirstRecord (scene s) f
+first_early s t k f none e = first_record (scene s) f (between_is s t k) k.early.judged (ap (λ o. option_or o (placed_at s.early (front_of (scene s)))) (sym none) ∙ e)
+
+pub first_whole : (s : StreamState) (t : Tale) → Track s t → (f : PlacedFrame) → IsFirstRecord (scene s) f → work.next_frame s ≡ Some (frame_in (scene s) (front_of (scene s)))
+first_whole s t k f w = frame_whole (expecting s.start) s.arrived (first_place_in s.start) (front_of (scene s)) w.whole
+
+early_here : (s : StreamState) (t : Tale) → Track s t → (f : PlacedFrame) → IsFirstRecord (scene s) f → IsFirstHere (bare_state s) (frame_in (scene s) (front_of (scene s)))
+early_here s t k f w = first_is_here (bare_state s) (frame_in (scene s) (front_of (scene s))) (bare_sound s t k) (first_whole s t k f w)
+
+early_fore : (s : StreamState) (t : Tale) → Track s t → (f : PlacedFrame) → IsFirstRecord (scene s) f → IsFore s f
+early_fore s t k f w = go (frames.segment_in (frame_in (scene s) (front_of (scene s)))) refl w.tagged
+  where
+    go : (o : Option (Segment Octets)) → frames.segment_in (frame_in (scene s) (front_of (scene s))) ≡ o → IsForRegion o → IsFore s f
+    go None is t = absurd t
+    go (Some segment) is tagged =
+        let first = early_here s t k f w in
+        record {
+          frame = carried_by (frame_in (scene s) (front_of (scene s)));
+          rest = first.rest;
+          whole = first.whole;
+          is = w.is ∙ ap placed_of first.is;
+          segment = segment;
+          carries = is;
+        }
+
 pub sound : (s : StreamState) (t : Tale) → Track s t → Sound s
 sound s t k = record {
   low = omega (arith, k.point, first_is s t k.intro k.begins);
-  between = subst (IsBetween (expecting s.start).markers) (sym (place_is s t k)) k.between;
+  between = between_is s t k;
   held = k.held;
-  placed_is = k.fore_is;
+  placed_is = λ f e. go s.front refl f e;
 }
+  where
+    go : (o : Option PlacedFrame) → s.front ≡ o → (f : PlacedFrame) → option_or o (placed_at s.early (front_of (scene s))) ≡ Some f → IsFore s f
+    go None is f e = early_fore s t k f (first_early s t k f is (ap (λ o. option_or o (placed_at s.early (front_of (scene s)))) is ∙ e))
+    go (Some g) is f e = k.fore_is f (is ∙ e)
 
 -- the octets behind the start-up frame
 behind_intro : (s : StreamState) (t : Tale) (k : Track s t) → drop (first_place_in t.story.start) (in_order t.story.came) ≡ k.before ++ inbox s
@@ -207,13 +301,46 @@ point_is s t k =
     ap (behind_last 0) ((λ i. take (turns_located s t k i) (located_is s t k i)) ∙ take_behind k.located (located_of (expecting s.start) (length k.before) (inbox s))) ∙ k.ends in
     (λ i. place i + behind i)
 
--- the octets that are next, and what their turn leaves
-pub next_carries : (s : StreamState) (t : Tale) → Track s t → next_payload t.story ≡ payload_of (segment_at (fore s))
-next_carries s t k = go (fore s) refl
+-- what came, and the frames of it that were judged before their turn, are the same
+pub scene_is : (s : StreamState) (t : Tale) (k : Track s t) → turns.scene t.story ≡ scene s
+scene_is s t k =
+    let arrived : advanced t.story.came (in_order_point t.story) ≡ s.arrived = ap (advanced t.story.came) (point_is s t k) ∙ sym k.arrived in
+    λ i. scene_of (expecting (k.begins.start i)) (first_place_in (k.begins.start i)) (arrived i) (k.early.records_are i)
+
+pub early_frame_is : (s : StreamState) (t : Tale) (k : Track s t) → early_frame t.story ≡ work.early_frame s
+early_frame_is s t k = ap (λ v. option_map (λ place. frame_in v place) (early_place v)) (scene_is s t k)
+
+pub was_placed_is : (s : StreamState) (t : Tale) (k : Track s t) → was_placed t.story ≡ is_some (waiting s)
+was_placed_is s t k = (λ i. k.placed i || is_some (placed_at (k.early.records_are i) (front_of (scene_is s t k i)))) ∙ go s.front
   where
-    go : (o : Front) → fore s ≡ o → next_payload t.story ≡ payload_of (segment_at o)
-    go None e = ap (λ z. option_map_or (λ f. payload_of (frames.segment_in f)) z []) (next_none s t k e)
-    go (Some (frame, rest)) e = ap (λ z. option_map_or (λ f. payload_of (frames.segment_in f)) z []) (next_whole s t frame rest k e)
+    go : (o : Option PlacedFrame) → (is_some o || is_some (placed_at s.early (front_of (scene s)))) ≡ is_some (option_or o (placed_at s.early (front_of (scene s))))
+    go None = refl
+    go (Some f) = refl
+
+-- the octets of the frame that is judged, where that is the next
+pub judged_carries : (s : StreamState) (t : Tale) (frame : Carried) (rest : Octets) → Track s t → fore s ≡ Some (frame, rest) → judged_payload t.story ≡ payload_of (segment_at (fore s))
+judged_carries s t frame rest k e =
+    ap (λ z. option_map_or (λ f. payload_of (frames.segment_in f)) (option_or z (early_frame t.story)) []) (next_whole s t frame rest k e)
+    ∙ ap (λ o. payload_of (segment_at o)) (sym e)
+
+take_past : (xs ys : List Located) (y : Located) → take (length xs + 1) (xs ++ y ∷ ys) ≡ xs ++ y ∷ []
+take_past [] ys y = refl
+take_past (x ∷ xs) ys y = ap (λ n. take n (x ∷ (xs ++ y ∷ ys))) (let more : suc (length xs) + 1 ≡ suc (length xs + 1) = omega arith in more) ∙ ap (λ z. x ∷ z) (take_past xs ys y)
+
+-- the records that stay when the next frame had its turn
+moved_records : (s : StreamState) (t : Tale) (k : Track s t) (frame : Carried) (rest : Octets) → fore s ≡ Some (frame, rest) → (moves_on t.story).early ≡ early_left s
+moved_records s t k frame rest e =
+    let layout : Layout = expecting s.start in
+    let at : ℕ = length k.before in
+    let here : Located = turns.located layout at (inbox s) frame rest in
+    let later : List Located = located_of layout (at + (length (inbox s) - length rest)) rest in
+    let all : frames_in t.story ≡ k.located ++ here ∷ later =
+    located_is s t k ∙ ap (λ z. k.located ++ z) (located_first layout at (inbox s) frame rest k.between (sym (front_is s t k) ∙ e)) in
+    let behind : behind_last 0 (take (t.story.turns + 1) (frames_in t.story)) ≡ at + (length (inbox s) - length rest) =
+    ap (behind_last 0) ((λ i. take (turns_located s t k i + 1) (all i)) ∙ take_past k.located later here) ∙ behind_last-push 0 k.located here in
+    let place : place_behind s (fore s) ≡ s.arrived.floor + (length (inbox s) - length rest) = ap (place_behind s) e in
+    let to : at + (length (inbox s) - length rest) ≡ place_behind s (fore s) - first_place_in s.start = omega (arith, place, k.point, first_is s t k.intro k.begins) in
+    λ i. kept_from ((behind ∙ to) i) (k.early.records_are i)
 
 -- to move on in two steps is to move on at once
 twice : (a : Arrived) (m n : ℕ) → a.floor ≡ 0 → m ≤ n → advanced (advanced a m) n ≡ advanced a n
@@ -245,13 +372,43 @@ same_open s s' t t' same = ap is_open same.start
 same_expecting : (s s' : StreamState) (t t' : Tale) → SameStart s s' t t' → expecting s'.start ≡ expecting s.start
 same_expecting s s' t t' same = ap expecting same.start
 
+-- what was placed, but for the frames that are still judged before their turn
+pub record TurnCounts (s : StreamState) (t : Tale) (shown : List Placing) : Type 0 where
+  pub written_are : (c : Cell) → count_writes c (written_of t.placings) ≡ count_writes c (written_of shown) + count_segments c (segments_early (scene s) (early_left s))
+  pub sunk_are : (c : Cell) → count_writes c (sunk t.placings) ≡ count_writes c (sunk shown) + count_responses c (segments_early (scene s) (early_left s))
+
+-- the frames that are still judged before their turn, where the in-order point lies behind the front
+pub segments_left : (s s' : StreamState) (t : Tale) → s'.start ≡ s.start → s'.arrived ≡ behind_front s → s'.early ≡ early_left s → s.arrived.floor ≤ place_behind s (fore s) → Track s t
+    → segments_early (scene s') s'.early ≡ segments_early (scene s) (early_left s)
+segments_left s s' t start arrived kept on k =
+    let moved = moves_to (scene s) (place_behind s (fore s)) (omega (arith, k.point, first_is s t k.intro k.begins)) on k.early.judged in
+    let scenes : scene s' ≡ scene_of (expecting s.start) (first_place_in s.start) (advanced s.arrived (place_behind s (fore s))) (early_left s) = λ i. scene_of (expecting (start i)) (first_place_in (start i)) (arrived i) (kept i) in
+    (λ i. segments_early (scenes i) (kept i)) ∙ moved.1
+
+-- the records that stay
+early_turned : (s s' : StreamState) (t t' : Tale) (frame : Carried) (rest : Octets) (shown : List Placing) → fore s ≡ Some (frame, rest) → is_open s.start ≡ true → SameStart s s' t t' → s'.arrived ≡ behind_front s → s'.front ≡ None
+    → s'.early ≡ early_left s → t'.story.early ≡ (moves_on t.story).early → s.arrived.floor ≤ place_behind s (fore s) → TurnCounts s t' shown → (k : Track s t) → Early s' t' shown
+early_turned s s' t t' frame rest shown e started same arrived empty kept records on counts k =
+    let to : ℕ = place_behind s (fore s) in
+    let moved = moves_to (scene s) to (omega (arith, k.point, first_is s t k.intro k.begins)) on k.early.judged in
+    let scenes : scene s' ≡ scene_of (expecting s.start) (first_place_in s.start) (advanced s.arrived to) (early_left s) = λ i. scene_of (expecting (same.start i)) (first_place_in (same.start i)) (arrived i) (kept i) in
+    let left = segments_left s s' t same.start arrived kept on k in
+    record {
+      records_are = records ∙ moved_records s t k frame rest e ∙ sym kept;
+      unopened = λ h. absurd (true≢false (sym started ∙ sym (same_open s s' t t' same) ∙ h));
+      judged = subst AreJudged (sym scenes) moved.0;
+      clear = λ f h. absurd (none-some _ (sym empty ∙ h));
+      written_are = λ c. counts.written_are c ∙ ap (λ xs. count_writes c (written_of shown) + count_segments c xs) (sym left);
+      sunk_are = λ c. counts.sunk_are c ∙ ap (λ xs. count_writes c (sunk shown) + count_responses c xs) (sym left);
+    }
+
 -- the frame at the in-order point has its turn
 turned : (s s' : StreamState) (t t' : Tale) (frame : Carried) (rest : Octets) (segment : Segment Octets) → fore s ≡ Some (frame, rest) → segment_in frame ≡ Some segment → is_open s.start ≡ true → SameStart s s' t t'
-    → s'.arrived ≡ behind_front s → s'.front ≡ None
-    → t'.story.came ≡ t.story.came → t'.story.turns ≡ t.story.turns + 1 → t'.story.placed ≡ false → t'.story.receiving ≡ s'.receiving → (k : Track s t)
-    → Joins (k.segments ++ segment ∷ []) s'.receiving (is_some s'.front) (ended s') (segment_at (fore s')) t'.received t'.placings
+    → s'.arrived ≡ behind_front s → s'.front ≡ None → s'.early ≡ early_left s
+    → t'.story.came ≡ t.story.came → t'.story.turns ≡ t.story.turns + 1 → t'.story.placed ≡ false → t'.story.early ≡ (moves_on t.story).early → t'.story.receiving ≡ s'.receiving → (k : Track s t)
+    → (shown : List Placing) → TurnCounts s t' shown → Joins (k.segments ++ segment ∷ []) s'.receiving (is_some s'.front) (ended s') (segment_at (fore s')) t'.received shown
     → Tells t'.story.answered (asked_of t'.story) (k.segments ++ segment ∷ []) → Track s' t'
-turned s s' t t' frame rest segment e carries started same arrived empty came turns told receiving k joins tells =
+turned s s' t t' frame rest segment e carries started same arrived empty kept came turns told records receiving k shown counts joins tells =
     let layout : Layout = expecting s.start in
     let at : ℕ = length k.before in
     let m : ℕ = length k.intro in
@@ -304,18 +461,60 @@ turned s s' t t' frame rest segment e carries started same arrived empty came tu
       window = subst IsInWindow (sym arrived) (window_moves s.arrived (place_behind s (fore s)) k.window);
       near = omega (arith, k.near, few, all, size, length-append k.frames (frame ∷ []));
       far = omega (arith, k.far, all, size, length-append k.frames (frame ∷ []), (first_takes layout at (inbox s) frame rest k.between first).shorter);
-      early = k.early;
+      soon = k.soon;
       segments = k.segments ++ segment ∷ [];
       carried = map-append segment_in k.frames (frame ∷ []) ∙ (λ i. k.carried i ++ carries i ∷ []) ∙ sym (map-append Some k.segments (segment ∷ []));
+      shown = shown;
+      early = early_turned s s' t t' frame rest shown e started same arrived empty kept records (omega (arith, to, k.point, size)) counts k;
+      sent_ones = λ us short of.
+          subst (λ rs. AreSent (expecting s'.start) us rs) (sym kept)
+          (fewer_sent (expecting s'.start) us (place_behind s (fore s) - first_place_in s.start) s.early
+          (same_sent s (record s { start = s'.start }) t.story t'.story k.intro same.start refl came k.sent_ones us short of));
       joins = joins;
       tells = tells;
     }
 
+-- where the frame at the in-order point and the records stay
+still_clear : (s s' : StreamState) → s'.start ≡ s.start → s'.front ≡ s.front → s'.early ≡ s.early → ((f : PlacedFrame) → s.front ≡ Some f → IsClearOf s f) → (f : PlacedFrame) → s'.front ≡ Some f → IsClearOf s' f
+still_clear s s' start front early clear f is r within placed =
+    subst (λ (z : StartState). end_of_frame (expecting z).markers f.start f.len ≤ from_of r) (sym start) (clear f (sym front ∙ is) r (subst (λ rs. Contains rs r) early within) placed)
+
+-- nothing of the frames changes that were judged before their turn
+pub same_early : (s s' : StreamState) (t t' : Tale) (shown : List Placing) → s'.start ≡ s.start → s'.arrived ≡ s.arrived → s'.early ≡ s.early → t'.story.early ≡ t.story.early → t'.placings ≡ t.placings
+    → ((f : PlacedFrame) → s'.front ≡ Some f → IsClearOf s' f) → Early s t shown → Early s' t' shown
+same_early s s' t t' shown start arrived early told placings clear k =
+    let scenes : scene s' ≡ scene s = λ i. scene_of (expecting (start i)) (first_place_in (start i)) (arrived i) (early i) in
+    let segments : segments_early (scene s') s'.early ≡ segments_early (scene s) s.early = λ i. segments_early (scenes i) (early i) in
+    record {
+      records_are = told ∙ k.records_are ∙ sym early;
+      unopened = λ h. early ∙ k.unopened (sym (ap is_open start) ∙ h);
+      judged = subst AreJudged (sym scenes) k.judged;
+      clear = clear;
+      written_are = λ c. (λ i. count_writes c (written_of (placings i))) ∙ k.written_are c ∙ (λ i. count_writes c (written_of shown) + count_segments c (sym segments i));
+      sunk_are = λ c. (λ i. count_writes c (sunk (placings i))) ∙ k.sunk_are c ∙ (λ i. count_writes c (sunk shown) + count_responses c (sym segments i));
+    }
+
+-- of a stream that isn't open there are none
+bare_early : (s s' : StreamState) (t t' : Tale) (shown : List Placing) → is_open s.start ≡ false → s'.early ≡ s.early → t'.story.early ≡ t.story.early → t'.placings ≡ t.placings → Early s t shown → Early s' t' shown
+bare_early s s' t t' shown shut early told placings k =
+    let none : s.early ≡ [] = k.unopened shut in
+    let now : s'.early ≡ [] = early ∙ none in
+    let before : segments_early (scene s) s.early ≡ [] = ap (segments_early (scene s)) none in
+    let after : segments_early (scene s') s'.early ≡ [] = ap (segments_early (scene s')) now in
+    record {
+      records_are = told ∙ k.records_are ∙ sym early;
+      unopened = λ h. now;
+      judged = none_judged (scene s') now;
+      clear = λ f is r within. absurd (none_in s'.early now r within);
+      written_are = λ c. (λ i. count_writes c (written_of (placings i))) ∙ k.written_are c ∙ (λ i. count_writes c (written_of shown) + count_segments c ((before ∙ sym after) i));
+      sunk_are = λ c. (λ i. count_writes c (sunk (placings i))) ∙ k.sunk_are c ∙ (λ i. count_writes c (sunk shown) + count_responses c ((before ∙ sym after) i));
+    }
+
 -- nothing of it changes but the buffers
 pub same_track : (s s' : StreamState) (t t' : Tale) → SameStart s s' t t' → s'.arrived ≡ s.arrived → t'.story.came ≡ t.story.came → t'.story.turns ≡ t.story.turns → t'.story.placed ≡ (is_some s'.front)
-    → t'.story.receiving ≡ s'.receiving → (is_open s.start ≡ false → (is_some s'.front) ≡ (is_some s.front)) → ((f : PlacedFrame) → s'.front ≡ Some f → IsFore s' f) → (k : Track s t) → Joins k.segments s'.receiving (is_some s'.front) (ended s') (segment_at (fore s')) t'.received t'.placings
+    → t'.story.receiving ≡ s'.receiving → (is_open s.start ≡ false → (is_some s'.front) ≡ (is_some s.front)) → ((f : PlacedFrame) → s'.front ≡ Some f → IsFore s' f) → (k : Track s t) → (shown : List Placing) → Early s' t' shown → AreOfSent s' t'.story k.intro → Joins k.segments s'.receiving (is_some s'.front) (ended s') (segment_at (fore s')) t'.received shown
     → Tells t'.story.answered (asked_of t'.story) k.segments → Track s' t'
-same_track s s' t t' same arrived came turns placed receiving still fore_is k joins tells = record {
+same_track s s' t t' same arrived came turns placed receiving still fore_is k shown early sent_ones joins tells = record {
   intro = k.intro;
   begins = same_begins s s' t t' k.intro same k.begins;
   frames = k.frames;
@@ -338,9 +537,12 @@ same_track s s' t t' same arrived came turns placed receiving still fore_is k jo
   window = subst IsInWindow (sym arrived) k.window;
   near = k.near;
   far = k.far;
-  early = k.early;
+  soon = k.soon;
   segments = k.segments;
   carried = k.carried;
+  shown = shown;
+  early = early;
+  sent_ones = sent_ones;
   joins = joins;
   tells = tells;
 }
@@ -363,10 +565,10 @@ stays s s' t more k running next placed = go (fore s) refl (k.joins.waits runnin
 
 -- octets come
 pub comes : (s s' : StreamState) (t t' : Tale) (from : ℕ) (octets : Octets) → Kept ≡ delivery_of s from (length octets)
-    → SameStart s s' t t' → s'.arrived ≡ taken_in s.arrived from octets → s'.front ≡ s.front → ended s' ≡ ended s → s'.receiving ≡ s.receiving
-    → t'.story.came ≡ taken_in t.story.came from octets → t'.story.turns ≡ t.story.turns → t'.story.placed ≡ t.story.placed → t'.story.receiving ≡ t.story.receiving → t'.received ≡ t.received → t'.placings ≡ t.placings
+    → SameStart s s' t t' → s'.arrived ≡ taken_in s.arrived from octets → s'.front ≡ s.front → s'.early ≡ s.early → ended s' ≡ ended s → s'.receiving ≡ s.receiving
+    → t'.story.came ≡ taken_in t.story.came from octets → t'.story.turns ≡ t.story.turns → t'.story.placed ≡ t.story.placed → t'.story.early ≡ t.story.early → t'.story.receiving ≡ t.story.receiving → t'.received ≡ t.received → t'.placings ≡ t.placings
     → (k : Track s t) → Tells t'.story.answered (asked_of t'.story) k.segments → Track s' t'
-comes s s' t t' from octets kept same arrived front over receiving came turns told tale_receiving received placements k tells =
+comes s s' t t' from octets kept same arrived front records over receiving came turns told told_records tale_receiving received placements k tells =
     let m : ℕ = length k.intro in
     let at : ℕ = length k.before in
     let new : Arrived = taken_in t.story.came from octets in
@@ -389,6 +591,9 @@ comes s s' t t' from octets kept same arrived front over receiving came turns to
     let placed : is_some s'.front ≡ is_some s.front = ap is_some front in
     let next : fore s' ≡ first_frame (expecting s.start) at (inbox s ++ more.0) = λ i. first_frame (same_expecting s s' t t' same i) (place i) (left i) in
     let ok = kept_is s from (length octets) kept in
+    let stand = more_come (scene s) from octets k.early.judged in
+    let scenes : scene s' ≡ scene_of (expecting s.start) (first_place_in s.start) (taken_in s.arrived from octets) s.early = λ i. scene_of (expecting (same.start i)) (first_place_in (same.start i)) (arrived i) (records i) in
+    let segments : segments_early (scene s') s'.early ≡ segments_early (scene s) s.early = (λ i. segments_early (scenes i) (records i)) ∙ stand.1 in
     record {
       intro = k.intro;
       begins = begins;
@@ -421,11 +626,23 @@ comes s s' t t' from octets kept same arrived front over receiving came turns to
       window = subst IsInWindow (sym arrived) (window_takes s.arrived from octets ok.1 k.window);
       near = k.near;
       far = k.far;
-      early = k.early;
+      soon = k.soon;
       segments = k.segments;
       carried = k.carried;
-      joins = reshape (sym receiving) (sym placed) (sym over) refl (sym received) (sym placements)
-          (joins_front k.segments s.receiving (is_some s.front) (ended s) (segment_at (fore s)) (segment_at (fore s')) t.received t.placings (stays s s' t more.0 k ok.0 next) k.joins);
+      shown = k.shown;
+      early = record {
+        records_are = told_records ∙ k.early.records_are ∙ sym records;
+        unopened = λ h. records ∙ k.early.unopened (sym (same_open s s' t t' same) ∙ h);
+        judged = subst AreJudged (sym scenes) stand.0;
+        clear = still_clear s s' same.start front records k.early.clear;
+        written_are = λ c. (λ i. count_writes c (written_of (placements i))) ∙ k.early.written_are c ∙ (λ i. count_writes c (written_of k.shown) + count_segments c (sym segments i));
+        sunk_are = λ c. (λ i. count_writes c (sunk (placements i))) ∙ k.early.sunk_are c ∙ (λ i. count_writes c (sunk k.shown) + count_responses c (sym segments i));
+      };
+      sent_ones = λ us short of.
+          same_sent s s' t.story (record t.story { start = t'.story.start }) k.intro same.start records refl k.sent_ones us short
+          (of_earlier t.story.came from octets (k.intro ++ sequence (expecting s'.start) 0 us) (subst (λ a. IsOf a (k.intro ++ sequence (expecting s'.start) 0 us)) came of));
+      joins = reshape (sym receiving) (sym placed) (sym over) refl (sym received) refl
+          (joins_front k.segments s.receiving (is_some s.front) (ended s) (segment_at (fore s)) (segment_at (fore s')) t.received k.shown (stays s s' t more.0 k ok.0 next) k.joins);
       tells = tells;
     }
 
@@ -470,6 +687,7 @@ pub record StaysRead (t t' : Story) : Type 0 where
   pub came : t'.came ≡ t.came
   pub turns : t'.turns ≡ t.turns
   pub placed : t'.placed ≡ t.placed
+  pub early : t'.early ≡ t.early
   pub receiving : t'.receiving ≡ t.receiving
   pub answered : t'.answered ≡ t.answered
   pub asked : asked_of t' ≡ asked_of t
@@ -484,13 +702,14 @@ record Reads (s s' : StreamState) (t t' : Tale) (u : StartupState) : Type 0 wher
   pub start : s'.start ≡ heard s.start (inbox s)
   pub arrived : s'.arrived ≡ advanced s.arrived (first_place_in (heard s.start (inbox s)))
   pub front : s'.front ≡ s.front
+  pub early : s'.early ≡ s.early
   pub receiving : s'.receiving ≡ s.receiving
   pub told : t'.story.start ≡ (hears t.story).start
   pub story : StaysRead t.story t'.story
 
 reads : (s s' : StreamState) (t t' : Tale) (u : StartupState) → Reads s s' t t' u → (k : Track s t)
-    → Joins k.segments s'.receiving (is_some s'.front) (ended s') (segment_at (fore s)) t'.received t'.placings → Track s' t'
-reads s s' t t' u r k joins =
+    → Joins k.segments s'.receiving (is_some s'.front) (ended s') (segment_at (fore s)) t'.received k.shown → t'.placings ≡ t.placings → Track s' t'
+reads s s' t t' u r k joins placings =
     let n = unread s t u k r.is in
     let part : Octets = frame_part u.side (inbox s) in
     let split = part_of u.side (inbox s) r.whole in
@@ -541,20 +760,144 @@ reads s s' t t' u r k joins =
       window = subst IsInWindow (sym r.arrived) (window_moves s.arrived (first_place_in (heard s.start (inbox s))) k.window);
       near = k.near;
       far = k.far;
-      early = omega (arith, few, ap length split.1, length-append part rest);
+      soon = omega (arith, few, ap length split.1, length-append part rest);
       segments = k.segments;
       carried = k.carried;
-      joins = joins_front k.segments s'.receiving (is_some s'.front) (ended s') (segment_at (fore s)) (segment_at (fore s')) t'.received t'.placings (λ p. absurd (false≢true (sym bare.placed ∙ p))) joins;
+      shown = k.shown;
+      early = bare_early s s' t t' k.shown (ap is_open r.is) r.early r.story.early placings k.early;
+      sent_ones = bare_sent s' t'.story part (r.early ∙ k.early.unopened (ap is_open r.is));
+      joins = joins_front k.segments s'.receiving (is_some s'.front) (ended s') (segment_at (fore s)) (segment_at (fore s')) t'.received k.shown (λ p. absurd (false≢true (sym bare.placed ∙ p))) joins;
       tells = same_tells r.story.answered r.story.asked k.tells;
     }
 
 -- nothing is received, and nothing placed: what is joined stays
-quiet : (s : StreamState) (t : Tale) (k : Track s t) → Joins k.segments s.receiving (is_some s.front) (ended s) (segment_at (fore s)) (t.received ++ []) (t.placings ++ [])
-quiet s t k = joins_same k.segments s.receiving (is_some s.front) (ended s) (segment_at (fore s)) t.received t.placings k.joins
+quiet : (s : StreamState) (t : Tale) (k : Track s t) → Joins k.segments s.receiving (is_some s.front) (ended s) (segment_at (fore s)) (t.received ++ []) k.shown
+quiet s t k = reshape refl refl refl refl (sym (append-nil t.received)) refl k.joins
 
--- a frame that stands at the in-order point, with its segment
-fronted : (s : StreamState) (t : Tale) (k : Track s t) (was : Bool) (segment : Segment Octets) → Fronts s was segment → Joins k.segments s.receiving was false (Some segment) t.received t.placings
-fronted s t k was segment f = reshape refl f.placed f.running (ap segment_at f.whole ∙ f.carries) refl refl k.joins
+-- a frame that stands at the in-order point and was not placed, with its segment
+fronted : (s : StreamState) (t : Tale) (k : Track s t) (segment : Segment Octets) → Fronts s false segment → Joins k.segments s.receiving false false (Some segment) t.received k.shown
+fronted s t k segment f = reshape refl (ap is_some (nothing_waits s f.placed)) f.running (ap segment_at f.whole ∙ f.carries) refl refl k.joins
+
+-- no placed record begins before its end
+pub ends_there : (s : StreamState) (t : Tale) (k : Track s t) (frame : Carried) (rest : Octets) → fore s ≡ Some (frame, rest) → place_behind s (fore s) - first_place_in s.start ≡ end_of_frame (expecting s.start).markers (standing s frame).start (length frame.ulpdu)
+ends_there s t k frame rest e = let b : first_place_in s.start + end_of_frame (expecting s.start).markers (standing s frame).start (length frame.ulpdu) ≡ place_behind s (fore s) = behind_is (bare_state s) frame rest (bare_sound s t k) e in omega (arith, b)
+
+pub unclashed : (s : StreamState) (t : Tale) (k : Track s t) (frame : Carried) → clashes s (standing s frame) ≡ false → IsClearOf s (placed_of (standing s frame))
+unclashed s t k frame clear r within placed =
+    let end : ℕ = end_of_frame (expecting s.start).markers (standing s frame).start (length frame.ulpdu) in
+    let stands = k.early.judged.stand r within in
+    let from : span_start true (standing s frame).start ≡ place_in s = (λ i. span_start (sym stands.marked i) (standing s frame).start) ∙ (between_is s t k).span in
+    elim (cases_lt (from_of r) end) [
+      | inl over ↦
+          absurd (true≢false (sym ((overlaps_are_told s.early (standing s frame).start end).1 (r, within, placed, (over, omega (arith, from, stands.past, some r within, span_low true r.start)))) ∙ clear))
+      | inr past ↦ past
+    ]
+  where
+    some : (r : EarlyRecord) → Contains s.early r → r.start < r.end
+    some r (j, lt, is) = omega (arith, k.early.judged.apart.some j r lt, ap (λ (x : EarlyRecord). x.start) is, ap (λ (x : EarlyRecord). x.end) is)
+
+-- so none goes with it
+pub none_left : (s : StreamState) (t : Tale) (k : Track s t) (frame : Carried) (rest : Octets) → fore s ≡ Some (frame, rest) → IsClearOf s (placed_of (standing s frame)) → segments_early (scene s) (early_left s) ≡ segments_early (scene s) s.early
+none_left s t k frame rest e clear =
+    none_goes (scene s) (place_behind s (fore s) - first_place_in s.start) s.early (λ r within placed. subst (λ n. n ≤ from_of r) (sym (ends_there s t k frame rest e)) (clear r within placed))
+
+-- the frame at the in-order point was not placed, and has its turn as it is judged
+same_counts : (s : StreamState) (t t' : Tale) (k : Track s t) (segment : Segment Octets) → Fronts s false segment → t'.placings ≡ t.placings → TurnCounts s t' k.shown
+same_counts s t t' k segment f placings =
+    let left = none_left s t k f.frame f.rest f.whole (unclashed s t k f.frame (f.clear refl)) in
+    record {
+      written_are = λ c. (λ i. count_writes c (written_of (placings i))) ∙ k.early.written_are c ∙ (λ i. count_writes c (written_of k.shown) + count_segments c (sym left i));
+      sunk_are = λ c. (λ i. count_writes c (sunk (placings i))) ∙ k.early.sunk_are c ∙ (λ i. count_writes c (sunk k.shown) + count_responses c (sym left i));
+    }
+
+-- whether a frame was placed at the in-order point
+abbrev pub waiting_count : Option PlacedFrame → ℕ
+waiting_count None = 0
+waiting_count (Some f) = 1
+
+-- the frame that has its turn was placed, there or before: all is as if it had been there
+pub record Turning (s : StreamState) (t : Tale) (k : Track s t) (segment : Segment Octets) : Type 0 where
+  pub shown : List Placing
+  pub joins : Joins k.segments s.receiving true false (Some segment) t.received shown
+  pub counts : TurnCounts s t shown
+  pub fewer : waiting_count s.front + length (segments_early (scene s) s.early) ≡ 1 + length (segments_early (scene s) (early_left s))
+
+pub turning : (s : StreamState) (t : Tale) (k : Track s t) (segment : Segment Octets) → Fronts s true segment → Turning s t k segment
+turning s t k segment f = go s.front refl
+  where
+    at : segment_at (fore s) ≡ Some segment
+    at = ap segment_at f.whole ∙ f.carries
+
+    -- it has the first record
+    early : (p : PlacedFrame) → s.front ≡ None → IsFirstRecord (scene s) p → Turning s t k segment
+    early p none w = by segment (subst IsForRegion carried w.tagged) carried at
+      where
+        v : View
+        v = scene s
+
+        here : IsFirstHere (bare_state s) (frame_in (scene s) (front_of (scene s)))
+        here = early_here s t k p w
+
+        carried : frames.segment_in (frame_in (scene s) (front_of (scene s))) ≡ Some segment
+        carried = sym (ap segment_at here.whole) ∙ at
+
+        end : end_of_frame (expecting s.start).markers p.start p.len ≡ place_behind s (fore s) - first_place_in s.start
+        end =
+            ap (λ (z : PlacedFrame). end_of_frame (expecting s.start).markers z.start z.len) (w.is ∙ ap placed_of here.is)
+            ∙ sym (ends_there s t k (carried_by (frame_in (scene s) (front_of (scene s)))) here.rest here.whole)
+
+        left : w.others ≡ early_left s
+        left = sym w.left ∙ ap (λ n. kept_from n s.early) end
+
+        all : (g : Segment Octets) → frames.segment_in (frame_in (scene s) (front_of (scene s))) ≡ Some g → segments_early (scene s) s.early ≡ g ∷ segments_early (scene s) (early_left s)
+        all g is =
+            ap (segments_early (scene s)) w.records
+            ∙ (λ i. judged.placed_by (frame_in (scene s) (w.at i)) (w.state i) ++ segments_early (scene s) (left i))
+            ∙ ap (λ o. listed o ++ segments_early (scene s) (early_left s)) is
+
+        base : (g : Segment Octets) → segment_at (fore s) ≡ Some g → Joins k.segments s.receiving false false (Some g) t.received k.shown
+        base g is = reshape refl (ap is_some none) f.running is refl refl k.joins
+
+        -- placed now, it would be counted as it was before
+        now : (g : Segment Octets) (q : Placing) → frames.segment_in (frame_in (scene s) (front_of (scene s))) ≡ Some g → segment_at (fore s) ≡ Some g → Joins k.segments s.receiving true false (Some g) t.received (k.shown ++ q ∷ []) → Turning s t k g
+        now g q is at j = record {
+          shown = k.shown ++ q ∷ [];
+          joins = j;
+          counts = record {
+            written_are = λ c. omega (arith, k.early.written_are c, j.counted c, (base g at).counted c, ap (count_segments c) (all g is), count-append c (g ∷ []) (segments_early (scene s) (early_left s)));
+            sunk_are = λ c. omega (arith, k.early.sunk_are c, j.sunk_are c, (base g at).sunk_are c, ap (count_responses c) (all g is), responses-append c (g ∷ []) (segments_early (scene s) (early_left s)));
+          };
+          fewer = omega (arith, ap waiting_count none, ap length (all g is));
+        }
+
+        by : (g : Segment Octets) → IsForRegion (Some g) → frames.segment_in (frame_in (scene s) (front_of (scene s))) ≡ Some g → segment_at (fore s) ≡ Some g → Turning s t k g
+        by (Tagged head payload) (inl op) is at =
+            now (Tagged head payload) (record { right = rights.Write; stag = head.stag; to = head.to; octets = payload }) is at
+            (joins_write k.segments s.receiving head payload t.received k.shown op (base (Tagged head payload) at))
+        by (Tagged head payload) (inr op) is at =
+            now (Tagged head payload) (record { right = rights.Sink; stag = head.stag; to = head.to; octets = payload }) is at
+            (joins_response k.segments s.receiving head payload t.received k.shown op (base (Tagged head payload) at))
+        by (Untagged head payload) t is at = absurd t
+
+    before : (o : Option PlacedFrame) → waiting s ≡ o → is_some o ≡ true → s.front ≡ None → Turning s t k segment
+    before None is e none = absurd (false≢true e)
+    before (Some p) is e none = early p none (first_early s t k p none is)
+
+    go : (o : Option PlacedFrame) → s.front ≡ o → Turning s t k segment
+    go (Some p) is =
+        let w = k.fore_is p is in
+        let same : w.frame ≡ f.frame = ap (λ (x : Carried × Octets). x.0) (same_Some _ _ (sym w.whole ∙ f.whole)) in
+        let left = none_left s t k f.frame f.rest f.whole (subst (IsClearOf s) (w.is ∙ ap (λ z. placed_of (standing s z)) same) (k.early.clear p is)) in
+        record {
+          shown = k.shown;
+          joins = reshape refl (ap is_some is) f.running at refl refl k.joins;
+          counts = record {
+            written_are = λ c. k.early.written_are c ∙ (λ i. count_writes c (written_of k.shown) + count_segments c (sym left i));
+            sunk_are = λ c. k.early.sunk_are c ∙ (λ i. count_writes c (sunk k.shown) + count_responses c (sym left i));
+          };
+          fewer = omega (arith, ap waiting_count is, ap length left);
+        }
+    go None is = before (waiting s) refl f.placed is
 
 -- the stream ends, or had ended
 over_joins : {segments : List (Segment Octets)} {r : Receiving} {placed over over' : Bool} {o : Option (Segment Octets)} {received : List Sent} {placements : List Placing}
@@ -569,61 +912,68 @@ by_ended s payload = go (keeps_silent s)
     go true = refl
     go false = refl
 
+-- the acts said no more of placements
+same_placings : (s : StreamState) (t t' : Tale) (shown : List Placing) → t'.placings ≡ t.placings → TurnCounts s t shown → TurnCounts s t' shown
+same_placings s t t' shown same k = record {
+  written_are = λ c. (λ i. count_writes c (written_of (same i))) ∙ k.written_are c;
+  sunk_are = λ c. (λ i. count_writes c (sunk (same i))) ∙ k.sunk_are c;
+}
+
 -- a tagged segment is placed
 places : (table : Table) (s : StreamState) (t : Tale) (right : Right) (stag : Stag) (to : ℕ) (octets : Octets) → SeesPlaced table s right stag to octets → (k : Track s t)
-    → Joins k.segments s.receiving true (ended s) (segment_at (fore s)) (t.received ++ []) (t.placings ++ placed_by (Work (seen.Placed right stag to octets)))
+    → Joins k.segments s.receiving true (ended s) (segment_at (fore s)) (t.received ++ []) (k.shown ++ placed_by (Work (seen.Placed right stag to octets)))
 places table s t right stag to octets p k =
     let at : segment_at (fore s) ≡ Some (Tagged p.head octets) = ap segment_at p.fronts.whole ∙ p.fronts.carries in
     let shown : (by : Right) → right ≡ by → record { right = by; stag = p.head.stag; to = p.head.to; octets = octets } ∷ [] ≡ placed_by (Work (seen.Placed right stag to octets)) =
     λ by e. λ i. placed_by (Work (seen.Placed (sym e i) (sym p.stag_is i) (sym p.to_is i) octets)) in
     elim p.kind [
       | inl w ↦
-          reshape refl refl (sym p.fronts.running) (sym at) (sym (append-nil t.received)) (ap (λ z. t.placings ++ z) (shown rights.Write w.0))
-          (joins_write k.segments s.receiving p.head octets t.received t.placings w.1 (fronted s t k false (Tagged p.head octets) p.fronts))
+          reshape refl refl (sym p.fronts.running) (sym at) (sym (append-nil t.received)) (ap (λ z. k.shown ++ z) (shown rights.Write w.0))
+          (joins_write k.segments s.receiving p.head octets t.received k.shown w.1 (fronted s t k (Tagged p.head octets) p.fronts))
       | inr w ↦
-          reshape refl refl (sym p.fronts.running) (sym at) (sym (append-nil t.received)) (ap (λ z. t.placings ++ z) (shown rights.Sink w.0))
-          (joins_response k.segments s.receiving p.head octets t.received t.placings w.1 (fronted s t k false (Tagged p.head octets) p.fronts))
+          reshape refl refl (sym p.fronts.running) (sym at) (sym (append-nil t.received)) (ap (λ z. k.shown ++ z) (shown rights.Sink w.0))
+          (joins_response k.segments s.receiving p.head octets t.received k.shown w.1 (fronted s t k (Tagged p.head octets) p.fronts))
     ]
 
 -- a Read Request has its turn
 requests : (s : StreamState) (t : Tale) (size : ℕ) (stag : Stag) (to : ℕ) (o' : Option (Segment Octets)) → (w : SeesRequest s size stag to) → (k : Track s t)
-    → Joins (k.segments ++ Untagged w.head w.payload ∷ []) s.receiving false (ended s) o' (t.received ++ []) (t.placings ++ [])
+    → Joins (k.segments ++ Untagged w.head w.payload ∷ []) s.receiving false (ended s) o' (t.received ++ []) k.shown
 requests s t size stag to o' w k =
-    reshape refl refl (sym w.fronts.running) refl (sym (append-nil t.received)) (sym (append-nil t.placings))
-    (joins_other k.segments s.receiving w.head w.payload o' t.received t.placings (ap (λ n. nat_eq n 0) w.queue) (fronted s t k false (Untagged w.head w.payload) w.fronts))
+    reshape refl refl (sym w.fronts.running) refl (sym (append-nil t.received)) refl
+    (joins_other k.segments s.receiving w.head w.payload o' t.received k.shown (ap (λ n. nat_eq n 0) w.queue) (fronted s t k (Untagged w.head w.payload) w.fronts))
 
 -- and the peer's Terminate, which ends the stream
 terminates : (s : StreamState) (t : Tale) (o' : Option (Segment Octets)) → (w : SeesTerminate s) → (k : Track s t)
-    → Joins (k.segments ++ Untagged w.head w.payload ∷ []) s.receiving false true o' (t.received ++ []) (t.placings ++ [])
+    → Joins (k.segments ++ Untagged w.head w.payload ∷ []) s.receiving false true o' (t.received ++ []) k.shown
 terminates s t o' w k =
     over_joins refl
-    (reshape refl refl (sym w.fronts.running) refl (sym (append-nil t.received)) (sym (append-nil t.placings))
-    (joins_other k.segments s.receiving w.head w.payload o' t.received t.placings (ap (λ n. nat_eq n 0) w.queue) (fronted s t k false (Untagged w.head w.payload) w.fronts)))
+    (reshape refl refl (sym w.fronts.running) refl (sym (append-nil t.received)) refl
+    (joins_other k.segments s.receiving w.head w.payload o' t.received k.shown (ap (λ n. nat_eq n 0) w.queue) (fronted s t k (Untagged w.head w.payload) w.fronts)))
 
 -- a Send's segment is placed
 buffers : (s : StreamState) (t : Tale) (msn mo len : ℕ) → SeesSend s msn mo len → (k : Track s t)
-    → Joins k.segments (written s.receiving msn mo (payload_of (segment_at (fore s)))) true (ended s) (segment_at (fore s)) (t.received ++ []) (t.placings ++ [])
+    → Joins k.segments (written s.receiving msn mo (payload_of (segment_at (fore s)))) true (ended s) (segment_at (fore s)) (t.received ++ []) k.shown
 buffers s t msn mo len p k =
     let at : segment_at (fore s) ≡ Some (Untagged p.head p.payload) = ap segment_at p.fronts.whole ∙ p.fronts.carries in
-    reshape (λ i. written s.receiving (sym p.msn_is i) (sym p.mo_is i) (payload_of (sym at i))) refl (sym p.fronts.running) (sym at) (sym (append-nil t.received)) (sym (append-nil t.placings))
-    (joins_send k.segments s.receiving p.head p.payload t.received t.placings p.queue (checked_buffer s.receiving p.head (length p.payload) p.checked) (fronted s t k false (Untagged p.head p.payload) p.fronts))
+    reshape (λ i. written s.receiving (sym p.msn_is i) (sym p.mo_is i) (payload_of (sym at i))) refl (sym p.fronts.running) (sym at) (sym (append-nil t.received)) refl
+    (joins_send k.segments s.receiving p.head p.payload t.received k.shown p.queue (checked_buffer s.receiving p.head (length p.payload) p.checked) (fronted s t k (Untagged p.head p.payload) p.fronts))
 
 -- a segment has its turn that completes nothing
-passes : (s : StreamState) (t : Tale) (segment : Segment Octets) (o' : Option (Segment Octets)) → Fronts s true segment → IsPassing s segment → (k : Track s t)
-    → Joins (k.segments ++ segment ∷ []) (turned_by s.receiving (segment_at (fore s))) false (ended s) o' (t.received ++ []) (t.placings ++ [])
-passes s t (Tagged head payload) o' f passing k =
-    reshape (ap (turned_by s.receiving) (sym (ap segment_at f.whole ∙ f.carries))) refl (sym f.running) refl (sym (append-nil t.received)) (sym (append-nil t.placings))
-    (joins_tagged k.segments s.receiving head payload o' t.received t.placings (fronted s t k true (Tagged head payload) f))
-passes s t (Untagged head payload) o' f passing k =
-    reshape (ap (turned_by s.receiving) (sym (ap segment_at f.whole ∙ f.carries))) refl (sym f.running) refl (sym (append-nil t.received)) (sym (append-nil t.placings))
-    (joins_part k.segments s.receiving head payload o' t.received t.placings passing.0 passing.1 (fronted s t k true (Untagged head payload) f))
+passes : (s : StreamState) (t : Tale) (segment : Segment Octets) (o' : Option (Segment Octets)) → Fronts s true segment → IsPassing s segment → (k : Track s t) → (w : Turning s t k segment)
+    → Joins (k.segments ++ segment ∷ []) (turned_by s.receiving (segment_at (fore s))) false (ended s) o' (t.received ++ []) w.shown
+passes s t (Tagged head payload) o' f passing k w =
+    reshape (ap (turned_by s.receiving) (sym (ap segment_at f.whole ∙ f.carries))) refl (sym f.running) refl (sym (append-nil t.received)) refl
+    (joins_tagged k.segments s.receiving head payload o' t.received w.shown w.joins)
+passes s t (Untagged head payload) o' f passing k w =
+    reshape (ap (turned_by s.receiving) (sym (ap segment_at f.whole ∙ f.carries))) refl (sym f.running) refl (sym (append-nil t.received)) refl
+    (joins_part k.segments s.receiving head payload o' t.received w.shown passing.0 passing.1 w.joins)
 
 -- a Send is complete
-receives : (s : StreamState) (t : Tale) (octets : Octets) (solicited : Bool) (invalidate : Option Stag) (o' : Option (Segment Octets)) → (c : SeesReceive s octets solicited invalidate) → (k : Track s t)
-    → Joins (k.segments ++ Untagged c.head c.payload ∷ []) (finished s.receiving) false (ended s) o' (t.received ++ record { octets = octets; solicited = solicited; invalidate = invalidate } ∷ []) (t.placings ++ [])
-receives s t octets solicited invalidate o' c k =
-    reshape refl refl (sym c.fronts.running) refl (λ i. t.received ++ record { octets = sym c.is i; solicited = sym c.solicited_is i; invalidate = sym c.invalidate_is i } ∷ []) (sym (append-nil t.placings))
-    (joins_last k.segments s.receiving c.head c.payload o' t.received t.placings c.turn c.last (fronted s t k true (Untagged c.head c.payload) c.fronts))
+receives : (s : StreamState) (t : Tale) (octets : Octets) (solicited : Bool) (invalidate : Option Stag) (o' : Option (Segment Octets)) → (c : SeesReceive s octets solicited invalidate) → (k : Track s t) → (w : Turning s t k (Untagged c.head c.payload))
+    → Joins (k.segments ++ Untagged c.head c.payload ∷ []) (finished s.receiving) false (ended s) o' (t.received ++ record { octets = octets; solicited = solicited; invalidate = invalidate } ∷ []) w.shown
+receives s t octets solicited invalidate o' c k w =
+    reshape refl refl (sym c.fronts.running) refl (λ i. t.received ++ record { octets = sym c.is i; solicited = sym c.solicited_is i; invalidate = sym c.invalidate_is i } ∷ []) refl
+    (joins_last k.segments s.receiving c.head c.payload o' t.received w.shown c.turn c.last w.joins)
 
 kept_start : (s s' : StreamState) (t t' : Tale) → s'.start ≡ s.start → t'.story.start ≡ t.story.start → SameStart s s' t t'
 kept_start s s' t t' a b = record { start = a; tale_start = b }
@@ -638,12 +988,13 @@ same_fore s s' start arrived f w = record {
   carries = w.carries;
 }
 
-same : (s s' : StreamState) (t t' : Tale) → s'.start ≡ s.start → s'.arrived ≡ s.arrived → s'.front ≡ s.front → s'.receiving ≡ s.receiving
-    → t'.story ≡ t.story → (k : Track s t) → Joins k.segments s'.receiving (is_some s'.front) (ended s') (segment_at (fore s')) t'.received t'.placings → Track s' t'
-same s s' t t' start arrived front receiving story k joins =
+same : (s s' : StreamState) (t t' : Tale) → s'.start ≡ s.start → s'.arrived ≡ s.arrived → s'.front ≡ s.front → s'.early ≡ s.early → s'.receiving ≡ s.receiving
+    → t'.story ≡ t.story → t'.placings ≡ t.placings → (k : Track s t) → Joins k.segments s'.receiving (is_some s'.front) (ended s') (segment_at (fore s')) t'.received k.shown → Track s' t'
+same s s' t t' start arrived front early receiving story placings k joins =
     same_track s s' t t' (kept_start s s' t t' start (ap (λ (z : Story). z.start) story)) arrived
     (ap (λ (z : Story). z.came) story) (ap (λ (z : Story). z.turns) story) (ap (λ (z : Story). z.placed) story ∙ k.placed ∙ sym (ap is_some front)) (ap (λ (z : Story). z.receiving) story ∙ k.receiving ∙ sym receiving) (λ h. ap is_some front)
-    (λ f h. same_fore s s' start arrived f (k.fore_is f (sym front ∙ h))) k joins
+    (λ f h. same_fore s s' start arrived f (k.fore_is f (sym front ∙ h))) k k.shown
+    (same_early s s' t t' k.shown start arrived early (ap (λ (z : Story). z.early) story) placings (still_clear s s' start front early k.early.clear) k.early) (same_sent s s' t.story t'.story k.intro start early (ap (λ (z : Story). z.came) story) k.sent_ones) joins
     (subst (λ (z : Story). Tells z.answered (asked_of z) k.segments) (sym story) k.tells)
 
 -- a responder's user answers: no frame was read before
@@ -653,6 +1004,7 @@ record Answers (s s' : StreamState) (t t' : Tale) (u : StartupState) (reply : Re
   pub start : s'.start ≡ Heard (answered u reply)
   pub arrived : s'.arrived ≡ s.arrived
   pub front : s'.front ≡ s.front
+  pub early : s'.early ≡ s.early
   pub receiving : s'.receiving ≡ s.receiving
   pub told : t'.story.start ≡ answered_with t.story.start reply
   pub story : StaysRead t.story t'.story
@@ -666,8 +1018,8 @@ unanswered u h = go u.side refl h
     go (Responder (Some reply)) is e = absurd (false≢true e)
 
 answers : (s s' : StreamState) (t t' : Tale) (u : StartupState) (reply : Reply) → Answers s s' t t' u reply → (k : Track s t)
-    → Joins k.segments s'.receiving (is_some s'.front) (ended s') (segment_at (fore s)) t'.received t'.placings → Track s' t'
-answers s s' t t' u reply r k joins =
+    → Joins k.segments s'.receiving (is_some s'.front) (ended s') (segment_at (fore s)) t'.received k.shown → t'.placings ≡ t.placings → Track s' t'
+answers s s' t t' u reply r k joins placings =
     let none : agreed_of u ≡ None = unanswered_not_agreed u (unanswered u r.asked) in
     let bare : IsBare k.frames k.before (is_some s.front) = k.shut (ap is_open r.is ∙ ap is_some none) in
     let still : IsBare k.frames k.before (is_some s'.front) = record { frames = bare.frames; before = bare.before; placed = ap is_some r.front ∙ bare.placed } in
@@ -701,10 +1053,13 @@ answers s s' t t' u reply r k joins =
       window = subst IsInWindow (sym r.arrived) k.window;
       near = k.near;
       far = k.far;
-      early = k.early;
+      soon = k.soon;
       segments = k.segments;
       carried = k.carried;
-      joins = joins_front k.segments s'.receiving (is_some s'.front) (ended s') (segment_at (fore s)) (segment_at (fore s')) t'.received t'.placings (λ p. absurd (false≢true (sym still.placed ∙ p))) joins;
+      shown = k.shown;
+      early = bare_early s s' t t' k.shown (ap is_open r.is ∙ ap is_some none) r.early r.story.early placings k.early;
+      sent_ones = bare_sent s' t'.story k.intro (r.early ∙ k.early.unopened (ap is_open r.is ∙ ap is_some none));
+      joins = joins_front k.segments s'.receiving (is_some s'.front) (ended s') (segment_at (fore s)) (segment_at (fore s')) t'.received k.shown (λ p. absurd (false≢true (sym still.placed ∙ p))) joins;
       tells = same_tells r.story.answered r.story.asked k.tells;
     }
 
@@ -715,20 +1070,20 @@ comes_to s p h = sym (ap (λ z. progress_in z (inbox s)) h.is) ∙ h.comes
 asks : (s : StreamState) (t : Tale) (private : Octets) → Hears s progresses.Asked → Track s t → Track (after_act s (Work (seen.Asked private))) (tale_after t (Work (seen.Asked private)))
 asks s t private h k =
     reads s (after_act s (Work (seen.Asked private))) t (tale_after t (Work (seen.Asked private))) h.startup
-    (record { is = h.is; whole = told_whole h.startup.side (inbox s) progresses.Asked (comes_to s progresses.Asked h) (λ e. cc); start = refl; arrived = refl; front = refl; receiving = refl; told = refl; story = record { came = refl; turns = refl; placed = refl; receiving = refl; answered = refl; asked = refl } })
-    k (quiet s t k)
+    (record { is = h.is; whole = told_whole h.startup.side (inbox s) progresses.Asked (comes_to s progresses.Asked h) (λ e. cc); start = refl; arrived = refl; front = refl; early = refl; receiving = refl; told = refl; story = record { came = refl; turns = refl; placed = refl; early = refl; receiving = refl; answered = refl; asked = refl } })
+    k (quiet s t k) (append-nil t.placings)
 
 closes : (s : StreamState) (t : Tale) (fault : StartupFault) → Hears s (progresses.Faulted fault) → Track s t → Track (after_act s (Work (seen.Closed fault))) (tale_after t (Work (seen.Closed fault)))
 closes s t fault h k =
     reads s (after_act s (Work (seen.Closed fault))) t (tale_after t (Work (seen.Closed fault))) h.startup
-    (record { is = h.is; whole = told_whole h.startup.side (inbox s) (progresses.Faulted fault) (comes_to s (progresses.Faulted fault) h) (λ e. cc); start = refl; arrived = refl; front = refl; receiving = refl; told = refl; story = record { came = refl; turns = refl; placed = refl; receiving = refl; answered = refl; asked = refl } })
-    k (joins_end k.segments s.receiving (is_some s.front) (ended s) (segment_at (fore s)) (t.received ++ []) (t.placings ++ []) (quiet s t k))
+    (record { is = h.is; whole = told_whole h.startup.side (inbox s) (progresses.Faulted fault) (comes_to s (progresses.Faulted fault) h) (λ e. cc); start = refl; arrived = refl; front = refl; early = refl; receiving = refl; told = refl; story = record { came = refl; turns = refl; placed = refl; early = refl; receiving = refl; answered = refl; asked = refl } })
+    k (joins_end k.segments s.receiving (is_some s.front) (ended s) (segment_at (fore s)) (t.received ++ []) k.shown (quiet s t k)) (append-nil t.placings)
 
 opens : (s : StreamState) (t : Tale) (agreed : Agreed) (private : Octets) → Hears s progresses.Agreed → Track s t → Track (after_act s (Work (seen.Opened agreed private))) (tale_after t (Work (seen.Opened agreed private)))
 opens s t agreed private h k =
     reads s (after_act s (Work (seen.Opened agreed private))) t (tale_after t (Work (seen.Opened agreed private))) h.startup
-    (record { is = h.is; whole = told_whole h.startup.side (inbox s) progresses.Agreed (comes_to s progresses.Agreed h) (λ e. cc); start = refl; arrived = refl; front = refl; receiving = refl; told = refl; story = record { came = refl; turns = refl; placed = refl; receiving = refl; answered = refl; asked = refl } })
-    k (quiet s t k)
+    (record { is = h.is; whole = told_whole h.startup.side (inbox s) progresses.Agreed (comes_to s progresses.Agreed h) (λ e. cc); start = refl; arrived = refl; front = refl; early = refl; receiving = refl; told = refl; story = record { came = refl; turns = refl; placed = refl; early = refl; receiving = refl; answered = refl; asked = refl } })
+    k (quiet s t k) (append-nil t.placings)
 
 -- the user may answer
 pub record MayAnswer (s : StreamState) : Type 0 where
@@ -765,16 +1120,16 @@ accepts s t private agreed e k =
     let m = may s e in
     let reply : Reply = replies.Accept (private_data private) in
     answers s (after_act s (Accept private (Ok agreed))) t (tale_after t (Accept private (Ok agreed))) m.startup reply
-    (record { is = m.is; asked = m.asked; start = ap (λ z. answered_with z reply) m.is; arrived = refl; front = refl; receiving = refl; told = refl; story = record { came = refl; turns = refl; placed = refl; receiving = refl; answered = refl; asked = refl } })
-    k (quiet s t k)
+    (record { is = m.is; asked = m.asked; start = ap (λ z. answered_with z reply) m.is; arrived = refl; front = refl; early = refl; receiving = refl; told = refl; story = record { came = refl; turns = refl; placed = refl; early = refl; receiving = refl; answered = refl; asked = refl } })
+    k (quiet s t k) (append-nil t.placings)
 
 rejects : (s : StreamState) (t : Tale) (private : Octets) → may_answer s ≡ true → Track s t → Track (after_act s (Reject private None)) (tale_after t (Reject private None))
 rejects s t private e k =
     let m = may s e in
     let reply : Reply = replies.Reject (private_data private) in
     answers s (after_act s (Reject private None)) t (tale_after t (Reject private None)) m.startup reply
-    (record { is = m.is; asked = m.asked; start = ap (λ z. answered_with z reply) m.is; arrived = refl; front = refl; receiving = refl; told = refl; story = record { came = refl; turns = refl; placed = refl; receiving = refl; answered = refl; asked = refl } })
-    k (joins_end k.segments s.receiving (is_some s.front) (ended s) (segment_at (fore s)) (t.received ++ []) (t.placings ++ []) (quiet s t k))
+    (record { is = m.is; asked = m.asked; start = ap (λ z. answered_with z reply) m.is; arrived = refl; front = refl; early = refl; receiving = refl; told = refl; story = record { came = refl; turns = refl; placed = refl; early = refl; receiving = refl; answered = refl; asked = refl } })
+    k (joins_end k.segments s.receiving (is_some s.front) (ended s) (segment_at (fore s)) (t.received ++ []) k.shown (quiet s t k)) (append-nil t.placings)
 
 -- what goes out changes nothing of what came
 pub record StaysHeard (t t' : Story) : Type 0 where
@@ -782,6 +1137,7 @@ pub record StaysHeard (t t' : Story) : Type 0 where
   pub start : t'.start ≡ t.start
   pub turns : t'.turns ≡ t.turns
   pub placed : t'.placed ≡ t.placed
+  pub early : t'.early ≡ t.early
   pub receiving : t'.receiving ≡ t.receiving
   pub answered : t'.answered ≡ t.answered
   pub asked : asked_of t' ≡ asked_of t
@@ -790,14 +1146,14 @@ pub shown_stays : (t : Story) (shown : Shown Octets) → StaysHeard t (story_sho
 shown_stays t (shows.Frame from octets) = go (nat_lt from (first_place_out t.start)) (last_word t.ending) (segment_out t from octets)
   where
     go : (first : Bool) (w : Option Octets) (o : Option (Segment Octets)) → StaysHeard t (cond first t (option_map_or (says_farewell t) w (option_map_or (sends_segment t) o t)))
-    go true w o = record { came = refl; start = refl; turns = refl; placed = refl; receiving = refl; answered = refl; asked = refl }
-    go false (Some payload) o = record { came = refl; start = refl; turns = refl; placed = refl; receiving = refl; answered = refl; asked = refl }
-    go false None None = record { came = refl; start = refl; turns = refl; placed = refl; receiving = refl; answered = refl; asked = refl }
-    go false None (Some segment) = record { came = refl; start = refl; turns = refl; placed = refl; receiving = refl; answered = refl; asked = refl }
+    go true w o = record { came = refl; start = refl; turns = refl; placed = refl; early = refl; receiving = refl; answered = refl; asked = refl }
+    go false (Some payload) o = record { came = refl; start = refl; turns = refl; placed = refl; early = refl; receiving = refl; answered = refl; asked = refl }
+    go false None None = record { came = refl; start = refl; turns = refl; placed = refl; early = refl; receiving = refl; answered = refl; asked = refl }
+    go false None (Some segment) = record { came = refl; start = refl; turns = refl; placed = refl; early = refl; receiving = refl; answered = refl; asked = refl }
 shown_stays t (shows.Fetched from frame stag to octets) = go t.asked.unanswered refl
   where
     go : (waiting : List Asked) → t.asked.unanswered ≡ waiting → StaysHeard t (fetches_for t waiting octets)
-    go [] is = record { came = refl; start = refl; turns = refl; placed = refl; receiving = refl; answered = refl; asked = refl }
+    go [] is = record { came = refl; start = refl; turns = refl; placed = refl; early = refl; receiving = refl; answered = refl; asked = refl }
     go (oldest ∷ others) is = by (nat_eq (length t.begun + length octets) oldest.request.size)
       where
         by : (b : Bool) → StaysHeard t (cond b (record t {
@@ -810,43 +1166,45 @@ shown_stays t (shows.Fetched from frame stag to octets) = go t.asked.unanswered 
           start = refl;
           turns = refl;
           placed = refl;
+          early = refl;
           receiving = refl;
           answered = refl;
           asked = ap (λ z. z ++ map (λ (x : Asked). x.request) others) (map-append (λ (x : Answer). x.request) t.answers (record { request = oldest.request; octets = t.begun ++ octets } ∷ []))
               ∙ append_assoc (map (λ (x : Answer). x.request) t.answers) (oldest.request ∷ []) (map (λ (x : Asked). x.request) others)
               ∙ ap (λ z. map (λ (x : Answer). x.request) t.answers ++ map (λ (x : Asked). x.request) z) (sym is);
         }
-        by false = record { came = refl; start = refl; turns = refl; placed = refl; receiving = refl; answered = refl; asked = refl }
-shown_stays t (shows.Fault fault) = record { came = refl; start = refl; turns = refl; placed = refl; receiving = refl; answered = refl; asked = refl }
-shown_stays t shows.Nothing = record { came = refl; start = refl; turns = refl; placed = refl; receiving = refl; answered = refl; asked = refl }
+        by false = record { came = refl; start = refl; turns = refl; placed = refl; early = refl; receiving = refl; answered = refl; asked = refl }
+shown_stays t (shows.Fault fault) = record { came = refl; start = refl; turns = refl; placed = refl; early = refl; receiving = refl; answered = refl; asked = refl }
+shown_stays t shows.Nothing = record { came = refl; start = refl; turns = refl; placed = refl; early = refl; receiving = refl; answered = refl; asked = refl }
 
-goes_out : (s s' : StreamState) (t t' : Tale) → s'.start ≡ s.start → s'.arrived ≡ s.arrived → s'.front ≡ s.front → s'.receiving ≡ s.receiving
-    → StaysHeard t.story t'.story → (k : Track s t) → Joins k.segments s'.receiving (is_some s'.front) (ended s') (segment_at (fore s')) t'.received t'.placings → Track s' t'
-goes_out s s' t t' start arrived front receiving story k joins =
+goes_out : (s s' : StreamState) (t t' : Tale) → s'.start ≡ s.start → s'.arrived ≡ s.arrived → s'.front ≡ s.front → s'.early ≡ s.early → s'.receiving ≡ s.receiving
+    → StaysHeard t.story t'.story → t'.placings ≡ t.placings → (k : Track s t) → Joins k.segments s'.receiving (is_some s'.front) (ended s') (segment_at (fore s')) t'.received k.shown → Track s' t'
+goes_out s s' t t' start arrived front early receiving story placings k joins =
     same_track s s' t t' (kept_start s s' t t' start story.start) arrived
     story.came story.turns (story.placed ∙ k.placed ∙ sym (ap is_some front)) (story.receiving ∙ k.receiving ∙ sym receiving) (λ h. ap is_some front)
-    (λ f h. same_fore s s' start arrived f (k.fore_is f (sym front ∙ h))) k joins
+    (λ f h. same_fore s s' start arrived f (k.fore_is f (sym front ∙ h))) k k.shown
+    (same_early s s' t t' k.shown start arrived early story.early placings (still_clear s s' start front early k.early.clear) k.early) (same_sent s s' t.story t'.story k.intro start early story.came k.sent_ones) joins
     (record { answered_are = story.answered ∙ k.tells.answered_are; asked_are = story.asked ∙ k.tells.asked_are })
 
 emits_any : (s : StreamState) (t : Tale) (shown : Shown Octets) → Track s t → Track (after_act s (Emit shown)) (tale_after t (Emit shown))
 emits_any s t (shows.Frame from octets) k = go (due s)
   where
     go : (d : Due) → Track (left_frame s d) (tale_after t (Emit (shows.Frame from octets)))
-    go StartUp = goes_out s (left_frame s StartUp) t (tale_after t (Emit (shows.Frame from octets))) refl refl refl refl (shown_stays t.story (shows.Frame from octets)) k (quiet s t k)
+    go StartUp = goes_out s (left_frame s StartUp) t (tale_after t (Emit (shows.Frame from octets))) refl refl refl refl refl (shown_stays t.story (shows.Frame from octets)) (append-nil t.placings) k (quiet s t k)
     go (LastWord payload) =
-        goes_out s (left_frame s (LastWord payload)) t (tale_after t (Emit (shows.Frame from octets))) refl refl refl refl (shown_stays t.story (shows.Frame from octets)) k (over_joins refl (quiet s t k))
-    go (NextPart part) = goes_out s (left_frame s (NextPart part)) t (tale_after t (Emit (shows.Frame from octets))) refl refl refl refl (shown_stays t.story (shows.Frame from octets)) k (quiet s t k)
-    go (Response part) = goes_out s s t (tale_after t (Emit (shows.Frame from octets))) refl refl refl refl (shown_stays t.story (shows.Frame from octets)) k (quiet s t k)
-    go NoneDue = goes_out s s t (tale_after t (Emit (shows.Frame from octets))) refl refl refl refl (shown_stays t.story (shows.Frame from octets)) k (quiet s t k)
+        goes_out s (left_frame s (LastWord payload)) t (tale_after t (Emit (shows.Frame from octets))) refl refl refl refl refl (shown_stays t.story (shows.Frame from octets)) (append-nil t.placings) k (over_joins refl (quiet s t k))
+    go (NextPart part) = goes_out s (left_frame s (NextPart part)) t (tale_after t (Emit (shows.Frame from octets))) refl refl refl refl refl (shown_stays t.story (shows.Frame from octets)) (append-nil t.placings) k (quiet s t k)
+    go (Response part) = goes_out s s t (tale_after t (Emit (shows.Frame from octets))) refl refl refl refl refl (shown_stays t.story (shows.Frame from octets)) (append-nil t.placings) k (quiet s t k)
+    go NoneDue = goes_out s s t (tale_after t (Emit (shows.Frame from octets))) refl refl refl refl refl (shown_stays t.story (shows.Frame from octets)) (append-nil t.placings) k (quiet s t k)
 emits_any s t (shows.Fetched from frame stag to octets) k =
-    goes_out s (after_act s (Emit (shows.Fetched from frame stag to octets))) t (tale_after t (Emit (shows.Fetched from frame stag to octets))) refl refl refl refl (shown_stays t.story (shows.Fetched from frame stag to octets)) k (quiet s t k)
+    goes_out s (after_act s (Emit (shows.Fetched from frame stag to octets))) t (tale_after t (Emit (shows.Fetched from frame stag to octets))) refl refl refl refl refl (shown_stays t.story (shows.Fetched from frame stag to octets)) (append-nil t.placings) k (quiet s t k)
 emits_any s t (shows.Fault fault) k =
-    goes_out s (after_act s (Emit (shows.Fault fault))) t (tale_after t (Emit (shows.Fault fault))) refl refl refl refl (shown_stays t.story (shows.Fault fault)) k
+    goes_out s (after_act s (Emit (shows.Fault fault))) t (tale_after t (Emit (shows.Fault fault))) refl refl refl refl refl (shown_stays t.story (shows.Fault fault)) (append-nil t.placings) k
     (over_joins (by_ended s (terminate_fetched s.asked fault)) (quiet s t k))
-emits_any s t shows.Nothing k = goes_out s s t (tale_after t (Emit shows.Nothing)) refl refl refl refl (shown_stays t.story shows.Nothing) k (quiet s t k)
+emits_any s t shows.Nothing k = goes_out s s t (tale_after t (Emit shows.Nothing)) refl refl refl refl refl (shown_stays t.story shows.Nothing) (append-nil t.placings) k (quiet s t k)
 
 -- what is kept of the frame that is placed
-kept_whole : (s : StreamState) (was : Bool) (segment : Segment Octets) (w : Fronts s was segment) → kept_of s ≡ Some (placed_of (standing s w.frame))
+pub kept_whole : (s : StreamState) (was : Bool) (segment : Segment Octets) (w : Fronts s was segment) → kept_of s ≡ Some (placed_of (standing s w.frame))
 kept_whole s was segment w = ap (option_map (λ (x : Carried × Octets). placed_of (standing s x.0))) w.whole
 
 kept_fore : (s s' : StreamState) (was : Bool) (segment : Segment Octets) → Fronts s was segment → s'.start ≡ s.start → s'.arrived ≡ s.arrived → (f : PlacedFrame) → kept_of s ≡ Some f → IsFore s' f
@@ -939,7 +1297,7 @@ passing_tells s t segment f passing same k =
       asked_are = k.tells.asked_are ∙ sym (append-nil (requests_in k.segments)) ∙ sym (requests-append k.segments (Tagged head payload ∷ []));
     }
     go (Untagged head payload) f passing few =
-        let plain = plain_tells k.segments head payload ((fronted s t k true (Untagged head payload) f).waits refl refl).queue k.tells in
+        let plain = plain_tells k.segments head payload ((turning s t k (Untagged head payload) f).joins.waits refl refl).queue k.tells in
         record { answered_are = omega (arith, plain.answered_are, few); asked_are = plain.asked_are }
 
 -- a Read Request that had its turn tells what is asked
@@ -960,22 +1318,171 @@ request_tells s t size stag to w k =
           ∙ sym (requests_more k.segments w.head w.payload w.queue);
     }
 
+-- ---- placements
+
+-- a placement counts as its segment
+shown_written : (c : Cell) (head : TaggedHead) (right : Right) (stag : Stag) (to : ℕ) (octets : Octets) → IsPlacedBy head right → stag ≡ head.stag → to ≡ head.to
+    → count_writes c (written_by right (as_write (record { right = right; stag = stag; to = to; octets = octets }))) ≡ count_segments c (Tagged head octets ∷ [])
+shown_written c head right stag to octets kind stag_is to_is =
+    (λ i. count_writes c (written_by right (as_write (record { right = right; stag = stag_is i; to = to_is i; octets = octets })))) ∙ elim kind [
+      | inl (by, op) ↦
+          ap (λ z. count_writes c (written_by z (as_write (record { right = right; stag = head.stag; to = head.to; octets = octets })))) by
+          ∙ ap (λ n. cond (nat_eq n 0) (count_in c head.stag head.to octets) 0 + 0) (sym op)
+      | inr (by, op) ↦
+          ap (λ z. count_writes c (written_by z (as_write (record { right = right; stag = head.stag; to = head.to; octets = octets })))) by
+          ∙ ap (λ n. cond (nat_eq n 0) (count_in c head.stag head.to octets) 0 + 0) (sym op)
+    ]
+
+shown_sunk : (c : Cell) (head : TaggedHead) (right : Right) (stag : Stag) (to : ℕ) (octets : Octets) → IsPlacedBy head right → stag ≡ head.stag → to ≡ head.to
+    → count_writes c (sunk_by right (as_write (record { right = right; stag = stag; to = to; octets = octets }))) ≡ count_responses c (Tagged head octets ∷ [])
+shown_sunk c head right stag to octets kind stag_is to_is =
+    (λ i. count_writes c (sunk_by right (as_write (record { right = right; stag = stag_is i; to = to_is i; octets = octets })))) ∙ elim kind [
+      | inl (by, op) ↦
+          ap (λ z. count_writes c (sunk_by z (as_write (record { right = right; stag = head.stag; to = head.to; octets = octets })))) by
+          ∙ ap (λ n. cond (nat_eq n 2) (count_in c head.stag head.to octets) 0 + 0) (sym op)
+      | inr (by, op) ↦
+          ap (λ z. count_writes c (sunk_by z (as_write (record { right = right; stag = head.stag; to = head.to; octets = octets })))) by
+          ∙ ap (λ n. cond (nat_eq n 2) (count_in c head.stag head.to octets) 0 + 0) (sym op)
+    ]
+
+-- what the acts say of a frame that was placed at the in-order point
+told_there : (s : StreamState) (t : Tale) (was : Bool) (segment : Segment Octets) → Fronts s was segment → Track s t → turns.places t.story ≡ record t.story { placed = true }
+told_there s t was segment f k = ap (λ (o : Option Frame). record t.story { placed = is_some o; early = cond (is_some o) t.story.early (turns.early_with t.story (λ f. states.Placed (placed_of f).header)) }) (next_whole s t f.frame f.rest k f.whole)
+
+pub left_there : (s : StreamState) (was : Bool) (segment : Segment Octets) → Fronts s was segment → told_of.places s ≡ record s { front = kept_of s }
+left_there s was segment f = ap (λ (o : Front). record s { front = kept_of s; early = cond (is_some o) s.early (told_of.early_with s (λ f. states.Placed (placed_of f).header)) }) f.whole
+
+-- no record begins before the end of the frame that is placed
+clear_there : (s : StreamState) (t : Tale) (k : Track s t) (segment : Segment Octets) → (w : Fronts s false segment) → (f : PlacedFrame) → kept_of s ≡ Some f → IsClearOf s f
+clear_there s t k segment w f e = subst (IsClearOf s) (same_Some _ _ (sym (kept_whole s false segment w) ∙ e)) (unclashed s t k w.frame (w.clear refl))
+
+placed_there : (table : Table) (s : StreamState) (t : Tale) (right : Right) (stag : Stag) (to : ℕ) (octets : Octets) → SeesPlaced table s right stag to octets → Track s t
+    → Track (after_act s (Work (seen.Placed right stag to octets))) (tale_after t (Work (seen.Placed right stag to octets)))
+placed_there table s t right stag to octets w k =
+    let act : StreamAct Octets = Work (seen.Placed right stag to octets) in
+    let s' : StreamState = record s { front = kept_of s } in
+    let t' : Tale = record (tale_after t act) { story = record t.story { placed = true } } in
+    let some : is_some (kept_of s) ≡ true = ap is_some (kept_whole s false (Tagged w.head octets) w.fronts) in
+    let one : Placing = record { right = right; stag = stag; to = to; octets = octets } in
+    let track : Track s' t' =
+    same_track s s' t t' (kept_start s s' t t' refl refl) refl refl refl (sym some) k.receiving (λ h. absurd (false≢true (sym h ∙ w.fronts.started))) (λ f h. kept_fore s s' false (Tagged w.head octets) w.fronts refl refl f h) k
+    (k.shown ++ one ∷ [])
+    (record {
+      records_are = k.early.records_are;
+      unopened = k.early.unopened;
+      judged = k.early.judged;
+      clear = λ f h. clear_there s t k (Tagged w.head octets) w.fronts f h;
+      written_are = λ c. omega (arith, written-push c t.placings one, written-push c k.shown one, k.early.written_are c);
+      sunk_are = λ c. omega (arith, sunk-push c t.placings one, sunk-push c k.shown one, k.early.sunk_are c);
+    }) k.sent_ones
+    (reshape refl (sym some) refl refl refl refl (places table s t right stag to octets w k)) k.tells in
+    subst (λ z. Track z (tale_after t act)) (sym (left_there s false (Tagged w.head octets) w.fronts))
+    (subst (λ y. Track s' (record (tale_after t act) { story = y })) (sym (told_there s t false (Tagged w.head octets) w.fronts k)) track)
+
+buffered : (s : StreamState) (t : Tale) (msn mo len : ℕ) → SeesSend s msn mo len → Track s t → Track (after_act s (Work (seen.Buffered msn mo len))) (tale_after t (Work (seen.Buffered msn mo len)))
+buffered s t msn mo len w k =
+    let act : StreamAct Octets = Work (seen.Buffered msn mo len) in
+    let s' : StreamState = after_act s act in
+    let story : Story = record t.story { placed = true; receiving = written t.story.receiving msn mo (judged_payload t.story) } in
+    let t' : Tale = record (tale_after t act) { story = story } in
+    let told : (tale_after t act).story ≡ story = ap (λ (y : Story). record y { receiving = written t.story.receiving msn mo (judged_payload t.story) }) (told_there s t false (Untagged w.head w.payload) w.fronts k) in
+    let some : is_some (kept_of s) ≡ true = ap is_some (kept_whole s false (Untagged w.head w.payload) w.fronts) in
+    let track : Track s' t' =
+    same_track s s' t t' (kept_start s s' t t' refl refl) refl refl refl (sym some) (λ i. written (k.receiving i) msn mo (judged_carries s t w.fronts.frame w.fronts.rest k w.fronts.whole i)) (λ h. absurd (false≢true (sym h ∙ w.fronts.started)))
+    (λ f h. kept_fore s s' false (Untagged w.head w.payload) w.fronts refl refl f h) k
+    k.shown (same_early s s' t t' k.shown refl refl refl refl (append-nil t.placings) (λ f h. clear_there s t k (Untagged w.head w.payload) w.fronts f h) k.early) k.sent_ones
+    (reshape refl (sym some) refl refl refl refl (buffers s t msn mo len w k)) k.tells in
+    subst (λ y. Track s' (record (tale_after t act) { story = y })) (sym told) track
+
+-- a frame is judged before its turn
+judges_early : {A : Type 0} (table : Table) (s : StreamState) (t t' : Tale) (step : Seen Octets) (frame : Frame) (at : Option A) → JudgedEarly table s step → work.early_frame s ≡ Some frame → (IsPlaced (state_tried frame at) → IsForRegion (frames.segment_in frame))
+    → t'.story ≡ record t.story { early = added t.story.early (record_tried frame at) } → t'.received ≡ t.received
+    → ((c : Cell) → count_writes c (written_of t'.placings) ≡ count_writes c (written_of t.placings) + count_segments c (judged.placed_by frame (state_tried frame at)))
+    → ((c : Cell) → count_writes c (sunk t'.placings) ≡ count_writes c (sunk t.placings) + count_responses c (judged.placed_by frame (state_tried frame at)))
+    → Track s t → Track (record s { early = added s.early (record_tried frame at) }) t'
+judges_early table s t t' step frame at j found tagged story received written sunk_so k =
+    let r : EarlyRecord = record_tried frame at in
+    let s' : StreamState = record s { early = added s.early r } in
+    let low : first_place_in s.start ≤ s.arrived.floor = omega (arith, k.point, first_is s t k.intro k.begins) in
+    let open_here = open_at (scene s) frame low found in
+    let front : s.front ≡ None = nothing_waits s (ap is_some j.unplaced) in
+    same_track s s' t t' (kept_start s s' t t' refl (ap (λ (z : Story). z.start) story)) refl (ap (λ (z : Story). z.came) story) (ap (λ (z : Story). z.turns) story) (ap (λ (z : Story). z.placed) story ∙ k.placed)
+    (ap (λ (z : Story). z.receiving) story ∙ k.receiving) (λ h. refl) (λ f h. same_fore s s' refl refl f (k.fore_is f h)) k k.shown
+    (record {
+      records_are = ap (λ (z : Story). z.early) story ∙ ap (λ rs. added rs r) k.early.records_are;
+      unopened = λ h. absurd (false≢true (sym h ∙ j.runs.started));
+      judged = judges_one (scene s) frame at open_here tagged k.early.judged;
+      clear = λ f h. absurd (none-some _ (sym front ∙ h));
+      written_are = λ c. omega (arith, written c, k.early.written_are c, ap (count_segments c) (same_segments (scene s) (added s.early r) (added s.early r)), one_counts (scene s) frame (state_tried frame at) (count_segments c) (record { both = count-append c }) open_here);
+      sunk_are = λ c. omega (arith, sunk_so c, k.early.sunk_are c, ap (count_responses c) (same_segments (scene s) (added s.early r) (added s.early r)), one_counts (scene s) frame (state_tried frame at) (count_responses c) (record { both = responses-append c }) open_here);
+    })
+    (λ us short of.
+    let came : t'.story.came ≡ t.story.came = ap (λ (z : Story). z.came) story in
+    let was : IsOf t.story.came (k.intro ++ sequence (expecting s.start) 0 us) = subst (λ a. IsOf a (k.intro ++ sequence (expecting s.start) 0 us)) came of in
+    one_more_sent (scene s) us open_here.marked short (scene_sent (scene s) t.story.came k.intro (sequence (expecting s.start) 0 us) (length k.intro + length k.before) (first_is s t k.intro k.begins) k.arrived k.held was)
+    k.early.judged (k.sent_ones us short was) r open_here.free)
+    (reshape refl refl refl refl (sym received) refl k.joins)
+    (subst (λ (z : Story). Tells z.answered (asked_of z) k.segments) (sym story) k.tells)
+
+-- what is left where one was placed, or was not
+pub left_early : (table : Table) (s : StreamState) (step : Seen Octets) (frame : Frame) → JudgedEarly table s step → work.early_frame s ≡ Some frame → told_of.places s ≡ record s { early = added s.early (record_of frame (states.Placed (placed_of frame).header)) }
+left_early table s step frame j found =
+    let state : Frame → State (ArrayVec ℕ) = λ f. states.Placed (placed_of f).header in
+    let front : kept_of s ≡ s.front = ap (option_map (λ (x : Carried × Octets). placed_of (standing s x.0))) j.none ∙ sym (nothing_waits s (ap is_some j.unplaced)) in
+    let records : cond (is_some (fore s)) s.early (told_of.early_with s state) ≡ added s.early (record_of frame (state frame)) =
+    ap (λ (o : Front). cond (is_some o) s.early (told_of.early_with s state)) j.none ∙ ap (λ (o : Option Frame). option_map_or (λ f. added s.early (record_of f (state f))) o s.early) found in
+    λ i. record s { front = front i; early = records i }
+
+pub left_tried : (s : StreamState) (place : ℕ) (frame : Frame) → work.early_frame s ≡ Some frame → after_act s (Work (seen.Tried place)) ≡ record s { early = added s.early (record_of frame states.Tried) }
+left_tried s place frame found = ap (λ (o : Option Frame). record s { early = option_map_or (λ f. added s.early (record_of f states.Tried)) o s.early }) found
+
+placed_early : (table : Table) (s : StreamState) (t : Tale) (right : Right) (stag : Stag) (to : ℕ) (octets : Octets) → JudgedEarly table s (seen.Placed right stag to octets) → SeesEarly table s right stag to octets → Track s t
+    → Track (after_act s (Work (seen.Placed right stag to octets))) (tale_after t (Work (seen.Placed right stag to octets)))
+placed_early table s t right stag to octets j w k =
+    let act : StreamAct Octets = Work (seen.Placed right stag to octets) in
+    let one : Placing = record { right = right; stag = stag; to = to; octets = octets } in
+    let state : Frame → State (ArrayVec ℕ) = λ f. states.Placed (placed_of f).header in
+    let left : told_of.places s ≡ record s { early = added s.early (record_of w.frame (state w.frame)) } = left_early table s (seen.Placed right stag to octets) w.frame j w.is_early in
+    let next : next_frame t.story ≡ None = next_none s t k j.none in
+    let placed : is_some (next_frame t.story) ≡ t.story.placed = ap is_some next ∙ sym (k.placed ∙ ap is_some (nothing_waits s (ap is_some j.unplaced))) in
+    let told_records : cond (is_some (next_frame t.story)) t.story.early (turns.early_with t.story state) ≡ added t.story.early (record_of w.frame (state w.frame)) =
+    ap (λ (o : Option Frame). cond (is_some o) t.story.early (turns.early_with t.story state)) next ∙ ap (λ (o : Option Frame). option_map_or (λ f. added t.story.early (record_of f (state f))) o t.story.early) (early_frame_is s t k ∙ w.is_early) in
+    let told : turns.places t.story ≡ record t.story { early = added t.story.early (record_of w.frame (state w.frame)) } = λ i. record t.story { placed = placed i; early = told_records i } in
+    subst (λ z. Track z (tale_after t act)) (sym left)
+    (judges_early table s t (tale_after t act) (seen.Placed right stag to octets) w.frame (Some s) j w.is_early (λ p. subst IsForRegion (sym w.carries) (elim w.kind [ inl z ↦ inl z.1 | inr z ↦ inr z.1 ]))
+    told (append-nil t.received)
+    (λ c. written-push c t.placings one ∙ ap (λ n. count_writes c (written_of t.placings) + n) (shown_written c w.head right stag to octets w.kind w.stag_is w.to_is ∙ ap (λ o. count_segments c (listed o)) (sym w.carries)))
+    (λ c. sunk-push c t.placings one ∙ ap (λ n. count_writes c (sunk t.placings) + n) (shown_sunk c w.head right stag to octets w.kind w.stag_is w.to_is ∙ ap (λ o. count_responses c (listed o)) (sym w.carries)))
+    k)
+
+tried : (table : Table) (s : StreamState) (t : Tale) (place : ℕ) → JudgedEarly table s (seen.Tried place) → Track s t → Track (after_act s (Work (seen.Tried place))) (tale_after t (Work (seen.Tried place)))
+tried table s t place j k =
+    let act : StreamAct Octets = Work (seen.Tried place) in
+    let left = left_tried s place j.frame j.is_early in
+    let told : story_after t.story act ≡ record t.story { early = added t.story.early (record_of j.frame states.Tried) } =
+    ap (λ (o : Option Frame). record t.story { early = option_map_or (λ f. added t.story.early (record_of f states.Tried)) o t.story.early }) (early_frame_is s t k ∙ j.is_early) in
+    subst (λ z. Track z (tale_after t act)) (sym left)
+    (judges_early {A = Landing} table s t (tale_after t act) (seen.Tried place) j.frame None j j.is_early (λ p. absurd p) told (append-nil t.received)
+    (λ c. let same : count_writes c (written_of (t.placings ++ [])) ≡ count_writes c (written_of t.placings) = ap (λ z. count_writes c (written_of z)) (append-nil t.placings) in omega (arith, same))
+    (λ c. let same : count_writes c (sunk (t.placings ++ [])) ≡ count_writes c (sunk t.placings) = ap (λ z. count_writes c (sunk z)) (append-nil t.placings) in omega (arith, same))
+    k)
+
 pub tracking : (table : Table) (s : StreamState) (t : Tale) (act : StreamAct Octets) → Told table s act → t.story.reads ≡ s.reads → Track s t → Track (after_act s act) (tale_after t act)
 tracking table s t (Deliver from octets Kept) rule r k =
-    comes s (after_act s (Deliver from octets Kept)) t (tale_after t (Deliver from octets Kept)) from octets rule (kept_start s (after_act s (Deliver from octets Kept)) t (tale_after t (Deliver from octets Kept)) refl refl) refl refl refl refl refl refl refl refl (append-nil t.received) (append-nil t.placings) k k.tells
+    comes s (after_act s (Deliver from octets Kept)) t (tale_after t (Deliver from octets Kept)) from octets rule (kept_start s (after_act s (Deliver from octets Kept)) t (tale_after t (Deliver from octets Kept)) refl refl) refl refl refl refl refl refl refl refl refl refl (append-nil t.received) (append-nil t.placings) k k.tells
 tracking table s t (Raw from octets Kept) rule r k =
-    comes s (after_act s (Raw from octets Kept)) t (tale_after t (Raw from octets Kept)) from octets rule (kept_start s (after_act s (Raw from octets Kept)) t (tale_after t (Raw from octets Kept)) refl refl) refl refl refl refl refl refl refl refl (append-nil t.received) (append-nil t.placings) k k.tells
-tracking table s t (Deliver from octets Dropped) rule r k = same s s t (tale_after t (Deliver from octets Dropped)) refl refl refl refl refl k (quiet s t k)
-tracking table s t (Raw from octets Dropped) rule r k = same s s t (tale_after t (Raw from octets Dropped)) refl refl refl refl refl k (quiet s t k)
-tracking table s t (Mulpdu size (Some refusal)) rule r k = same s s t (tale_after t (Mulpdu size (Some refusal))) refl refl refl refl refl k (quiet s t k)
-tracking table s t (Accept private (Err refusal)) rule r k = same s s t (tale_after t (Accept private (Err refusal))) refl refl refl refl refl k (quiet s t k)
-tracking table s t (Reject private (Some refusal)) rule r k = same s s t (tale_after t (Reject private (Some refusal))) refl refl refl refl refl k (quiet s t k)
-tracking table s t (Recv len (Some refusal)) rule r k = same s s t (tale_after t (Recv len (Some refusal))) refl refl refl refl refl k (quiet s t k)
-tracking table s t (Post m (Some refusal)) rule r k = same s s t (tale_after t (Post m (Some refusal))) refl refl refl refl refl k (quiet s t k)
-tracking table s t (Work seen.Idle) rule r k = same s s t (tale_after t (Work seen.Idle)) refl refl refl refl refl k (quiet s t k)
-tracking table s t (Mulpdu size None) rule r k = same s (after_act s (Mulpdu size None)) t (tale_after t (Mulpdu size None)) refl refl refl refl refl k (quiet s t k)
-tracking table s t (Post m None) rule r k = same s (after_act s (Post m None)) t (tale_after t (Post m None)) refl refl refl refl refl k (quiet s t k)
-tracking table s t (Work (seen.Done kind)) rule r k = same s (after_act s (Work (seen.Done kind))) t (tale_after t (Work (seen.Done kind))) refl refl refl refl refl k (quiet s t k)
+    comes s (after_act s (Raw from octets Kept)) t (tale_after t (Raw from octets Kept)) from octets rule (kept_start s (after_act s (Raw from octets Kept)) t (tale_after t (Raw from octets Kept)) refl refl) refl refl refl refl refl refl refl refl refl refl (append-nil t.received) (append-nil t.placings) k k.tells
+tracking table s t (Deliver from octets Dropped) rule r k = same s s t (tale_after t (Deliver from octets Dropped)) refl refl refl refl refl refl (append-nil t.placings) k (quiet s t k)
+tracking table s t (Raw from octets Dropped) rule r k = same s s t (tale_after t (Raw from octets Dropped)) refl refl refl refl refl refl (append-nil t.placings) k (quiet s t k)
+tracking table s t (Mulpdu size (Some refusal)) rule r k = same s s t (tale_after t (Mulpdu size (Some refusal))) refl refl refl refl refl refl (append-nil t.placings) k (quiet s t k)
+tracking table s t (Accept private (Err refusal)) rule r k = same s s t (tale_after t (Accept private (Err refusal))) refl refl refl refl refl refl (append-nil t.placings) k (quiet s t k)
+tracking table s t (Reject private (Some refusal)) rule r k = same s s t (tale_after t (Reject private (Some refusal))) refl refl refl refl refl refl (append-nil t.placings) k (quiet s t k)
+tracking table s t (Recv len (Some refusal)) rule r k = same s s t (tale_after t (Recv len (Some refusal))) refl refl refl refl refl refl (append-nil t.placings) k (quiet s t k)
+tracking table s t (Post m (Some refusal)) rule r k = same s s t (tale_after t (Post m (Some refusal))) refl refl refl refl refl refl (append-nil t.placings) k (quiet s t k)
+tracking table s t (Work seen.Idle) rule r k = same s s t (tale_after t (Work seen.Idle)) refl refl refl refl refl refl (append-nil t.placings) k (quiet s t k)
+tracking table s t (Mulpdu size None) rule r k = same s (after_act s (Mulpdu size None)) t (tale_after t (Mulpdu size None)) refl refl refl refl refl refl (append-nil t.placings) k (quiet s t k)
+tracking table s t (Post m None) rule r k = same s (after_act s (Post m None)) t (tale_after t (Post m None)) refl refl refl refl refl refl (append-nil t.placings) k (quiet s t k)
+tracking table s t (Work (seen.Done kind)) rule r k = same s (after_act s (Work (seen.Done kind))) t (tale_after t (Work (seen.Done kind))) refl refl refl refl refl refl (append-nil t.placings) k (quiet s t k)
 tracking table s t (Emit shown) rule r k = emits_any s t shown k
 tracking table s t (Accept private (Ok agreed)) rule r k = accepts s t private agreed (accepting s agreed rule) k
 tracking table s t (Reject private None) rule r k = rejects s t private (refusing s rule) k
@@ -986,58 +1493,54 @@ tracking table s t (Recv len None) rule r k =
     let s' : StreamState = after_act s (Recv len None) in
     let t' : Tale = tale_after t (Recv len None) in
     same_track s s' t t' (kept_start s s' t t' refl refl) refl refl refl k.placed (ap (λ (r : Receiving). with_buffer r (replicate len 0)) k.receiving) (λ h. refl) (λ f h. same_fore s s' refl refl f (k.fore_is f h)) k
-    (joins_buffer k.segments s.receiving (is_some s.front) (ended s) (segment_at (fore s)) (t.received ++ []) (t.placings ++ []) (replicate len 0) (quiet s t k)) k.tells
-tracking table s t (Work (seen.Placed right stag to octets)) rule r k =
-    let w = rule.1 in
-    let s' : StreamState = after_act s (Work (seen.Placed right stag to octets)) in
-    let t' : Tale = tale_after t (Work (seen.Placed right stag to octets)) in
-    let some : is_some (kept_of s) ≡ true = ap is_some (kept_whole s false (Tagged w.head octets) w.fronts) in
-    same_track s s' t t' (kept_start s s' t t' refl refl) refl refl refl (sym some) k.receiving (λ h. absurd (false≢true (sym h ∙ w.fronts.started))) (λ f h. kept_fore s s' false (Tagged w.head octets) w.fronts refl refl f h) k
-    (reshape refl (sym some) refl refl refl refl (places table s t right stag to octets w k)) k.tells
-tracking table s t (Work (seen.Buffered msn mo len)) rule r k =
-    let w = rule.1 in
-    let s' : StreamState = after_act s (Work (seen.Buffered msn mo len)) in
-    let t' : Tale = tale_after t (Work (seen.Buffered msn mo len)) in
-    let some : is_some (kept_of s) ≡ true = ap is_some (kept_whole s false (Untagged w.head w.payload) w.fronts) in
-    same_track s s' t t' (kept_start s s' t t' refl refl) refl refl refl (sym some) (λ i. written (k.receiving i) msn mo (next_carries s t k i)) (λ h. absurd (false≢true (sym h ∙ w.fronts.started)))
-    (λ f h. kept_fore s s' false (Untagged w.head w.payload) w.fronts refl refl f h) k
-    (reshape refl (sym some) refl refl refl refl (buffers s t msn mo len w k)) k.tells
+    k.shown (same_early s s' t t' k.shown refl refl refl refl (append-nil t.placings) k.early.clear k.early) k.sent_ones
+    (joins_buffer k.segments s.receiving (is_some s.front) (ended s) (segment_at (fore s)) (t.received ++ []) k.shown (replicate len 0) (quiet s t k)) k.tells
+tracking table s t (Work (seen.Placed right stag to octets)) rule r k = elim rule [
+  | inl (judged, w) ↦ placed_there table s t right stag to octets w k
+  | inr (judged, w) ↦ placed_early table s t right stag to octets judged w k
+]
+tracking table s t (Work (seen.Tried place)) rule r k = tried table s t place rule k
+tracking table s t (Work (seen.Buffered msn mo len)) rule r k = buffered s t msn mo len rule.1 k
 tracking table s t (Work (seen.Requested size stag to)) rule r k =
     let w = rule.1 in
     let s' : StreamState = after_act s (Work (seen.Requested size stag to)) in
     let t' : Tale = tale_after t (Work (seen.Requested size stag to)) in
-    turned s s' t t' w.fronts.frame w.fronts.rest (Untagged w.head w.payload) w.fronts.whole w.fronts.carries w.fronts.started (kept_start s s' t t' refl refl) refl refl refl refl (k.placed ∙ w.fronts.placed)
-    k.receiving k (requests s t size stag to (segment_at (fore s')) w k) (request_tells s t size stag to w k)
+    turned s s' t t' w.fronts.frame w.fronts.rest (Untagged w.head w.payload) w.fronts.whole w.fronts.carries w.fronts.started (kept_start s s' t t' refl refl) refl refl refl refl refl refl refl
+    k.receiving k k.shown (same_counts s t t' k (Untagged w.head w.payload) w.fronts (append-nil t.placings)) (requests s t size stag to (segment_at (fore s')) w k) (request_tells s t size stag to w k)
 tracking table s t (Work seen.Passed) rule r k =
     let w = rule.1 in
     let s' : StreamState = after_act s (Work seen.Passed) in
     let t' : Tale = tale_after t (Work seen.Passed) in
-    turned s s' t t' w.fronts.frame w.fronts.rest w.segment w.fronts.whole w.fronts.carries w.fronts.started (kept_start s s' t t' refl refl) refl refl refl refl refl
-    (next_turns s t true w.segment w.fronts k) k (passes s t w.segment (segment_at (fore s')) w.fronts w.passing k) (passing_tells s t w.segment w.fronts w.passing r k)
+    let now = turning s t k w.segment w.fronts in
+    turned s s' t t' w.fronts.frame w.fronts.rest w.segment w.fronts.whole w.fronts.carries w.fronts.started (kept_start s s' t t' refl refl) refl refl refl refl refl refl refl
+    (next_turns s t true w.segment w.fronts k) k now.shown (same_placings s t t' now.shown (append-nil t.placings) now.counts) (passes s t w.segment (segment_at (fore s')) w.fronts w.passing k now)
+    (passing_tells s t w.segment w.fronts w.passing r k)
 tracking table s t (Work (seen.Received octets solicited invalidate)) rule r k =
     let c = rule.1 in
     let s' : StreamState = after_act s (Work (seen.Received octets solicited invalidate)) in
     let t' : Tale = tale_after t (Work (seen.Received octets solicited invalidate)) in
-    turned s s' t t' c.fronts.frame c.fronts.rest (Untagged c.head c.payload) c.fronts.whole c.fronts.carries c.fronts.started (kept_start s s' t t' refl refl) refl refl refl refl refl
-    (ap finished k.receiving) k (receives s t octets solicited invalidate (segment_at (fore s')) c k)
-    (plain_tells k.segments c.head c.payload ((fronted s t k true (Untagged c.head c.payload) c.fronts).waits refl refl).queue k.tells)
+    let now = turning s t k (Untagged c.head c.payload) c.fronts in
+    turned s s' t t' c.fronts.frame c.fronts.rest (Untagged c.head c.payload) c.fronts.whole c.fronts.carries c.fronts.started (kept_start s s' t t' refl refl) refl refl refl refl refl refl refl
+    (ap finished k.receiving) k now.shown (same_placings s t t' now.shown (append-nil t.placings) now.counts) (receives s t octets solicited invalidate (segment_at (fore s')) c k now)
+    (plain_tells k.segments c.head c.payload (now.joins.waits refl refl).queue k.tells)
 tracking table s t (Work (seen.Terminated fault)) rule r k =
     let w = rule.1 in
     let s' : StreamState = after_act s (Work (seen.Terminated fault)) in
     let t' : Tale = tale_after t (Work (seen.Terminated fault)) in
-    turned s s' t t' w.fronts.frame w.fronts.rest (Untagged w.head w.payload) w.fronts.whole w.fronts.carries w.fronts.started (kept_start s s' t t' refl refl) refl refl refl refl (k.placed ∙ w.fronts.placed)
-    k.receiving k (terminates s t (segment_at (fore s')) w k) (last_tells k.segments w.head w.payload w.queue k.tells)
+    turned s s' t t' w.fronts.frame w.fronts.rest (Untagged w.head w.payload) w.fronts.whole w.fronts.carries w.fronts.started (kept_start s s' t t' refl refl) refl refl refl refl refl refl refl
+    k.receiving k k.shown (same_counts s t t' k (Untagged w.head w.payload) w.fronts (append-nil t.placings)) (terminates s t (segment_at (fore s')) w k) (last_tells k.segments w.head w.payload w.queue k.tells)
 tracking table s t (Work (seen.Fault fault)) rule r k =
-    goes_out s (after_act s (Work (seen.Fault fault))) t (tale_after t (Work (seen.Fault fault))) refl refl refl refl stays_heard k (over_joins (by_ended s (fault_front s fault)) (quiet s t k))
+    goes_out s (after_act s (Work (seen.Fault fault))) t (tale_after t (Work (seen.Fault fault))) refl refl refl refl refl stays_heard (append-nil t.placings) k (over_joins (by_ended s (fault_front s fault)) (quiet s t k))
   where
     stays_heard : StaysHeard t.story (tale_after t (Work (seen.Fault fault))).story
-    stays_heard = record { came = refl; start = refl; turns = refl; placed = refl; receiving = refl; answered = refl; asked = refl }
+    stays_heard = record { came = refl; start = refl; turns = refl; placed = refl; early = refl; receiving = refl; answered = refl; asked = refl }
 tracking table s t Break rule r k =
-    goes_out s (after_act s Break) t (tale_after t Break) refl refl refl refl (record { came = refl; start = refl; turns = refl; placed = refl; receiving = refl; answered = refl; asked = refl }) k (over_joins refl (quiet s t k))
-tracking table s t (Work (seen.Flushed kind)) rule r k = same s (after_act s (Work (seen.Flushed kind))) t (tale_after t (Work (seen.Flushed kind))) refl refl refl refl refl k (quiet s t k)
+    goes_out s (after_act s Break) t (tale_after t Break) refl refl refl refl refl (record { came = refl; start = refl; turns = refl; placed = refl; early = refl; receiving = refl; answered = refl; asked = refl }) (append-nil t.placings) k (over_joins refl (quiet s t k))
+tracking table s t (Work (seen.Flushed kind)) rule r k = same s (after_act s (Work (seen.Flushed kind))) t (tale_after t (Work (seen.Flushed kind))) refl refl refl refl refl refl (append-nil t.placings) k (quiet s t k)
 tracking table s t (Work (seen.FlushedRecv octets)) rule r k =
     let s' : StreamState = after_act s (Work (seen.FlushedRecv octets)) in
     let t' : Tale = tale_after t (Work (seen.FlushedRecv octets)) in
     same_track s s' t t' (kept_start s s' t t' refl refl) refl refl refl k.placed (ap flushed k.receiving) (λ h. refl) (λ f h. same_fore s s' refl refl f (k.fore_is f h)) k
+    k.shown (same_early s s' t t' k.shown refl refl refl refl (append-nil t.placings) k.early.clear k.early) k.sent_ones
     (reshape refl refl (sym rule.over) refl refl refl
-    (joins_over k.segments s.receiving (flushed s.receiving) (is_some s.front) (segment_at (fore s)) (t.received ++ []) (t.placings ++ []) (reshape refl refl rule.over refl refl refl (quiet s t k)))) k.tells
+    (joins_over k.segments s.receiving (flushed s.receiving) (is_some s.front) (segment_at (fore s)) (t.received ++ []) k.shown (reshape refl refl rule.over refl refl refl (quiet s t k)))) k.tells

@@ -51,6 +51,11 @@ use Rattle.iw_laws.specs.Words.{Octets, other, acts, stream_acts, stream_acts_by
 use Rattle.iw_endpoint.specs.Endpoint.{stream_of, stream_at, unopened as no_stream, has_stream, no_streams}
 use Rattle.iw_laws.specs.Rules.{EndState, State, end_of, with_end, at_first, start, Rule, WireRule, StreamRule, end_after, after_entry, state_after, Follows, EndRule, wire_at, no_wires}
 use Rattle.iw_laws.proofs.States.{opening_by, Connected, connected, unconnected, connected_at, connected_after, streams_after, stream_after, wire_still, wire_more}
+use Rattle.iw_stream.specs.Work.{scene}
+use Rattle.iw_laws.proofs.Judged.{none_judged}
+use Rattle.iw_laws.proofs.EarlySent.{none_sent}
+use Rattle.iw_laws.specs.Once.{spans_placed}
+use Rattle.iw_laws.proofs.Spent.{none_spent}
 use Rattle.iw_laws.proofs.Tales.{Tale, tale_of, tale_after, tale-push, stream_acts-push, openings-push, acts_mine, acts_other}
 use Rattle.iw_laws.proofs.Sending.{shown_good, EmitsStart, EmitsLast, EmitsPart, emits_as, terminate_small}
 use Rattle.iw_laws.proofs.Tracks.{OnStart, start_octets, Track, shown_stays}
@@ -95,6 +100,7 @@ still_of t u (Recv len None) rule h raw = h raw
 still_of t u (Recv len (Some refusal)) rule h raw = h raw
 still_of t u (Work (seen.Done kind)) rule h raw = h raw
 still_of t u (Work (seen.Placed right stag to octets)) rule h raw = h raw
+still_of t u (Work (seen.Tried place)) rule h raw = h raw
 still_of t u (Work (seen.Buffered msn mo len)) rule h raw = h raw
 still_of t u (Work (seen.Requested size stag to)) rule h raw = h raw
 still_of t u (Work seen.Passed) rule h raw = h raw
@@ -217,8 +223,18 @@ no_track o = record {
   window = window_nothing;
   near = omega arith;
   far = omega arith;
-  early = omega arith;
+  soon = omega arith;
   segments = [];
+  shown = [];
+  early = record {
+    records_are = refl;
+    unopened = λ h. refl;
+    judged = none_judged (scene (connected o).stream) refl;
+    clear = λ f h. absurd (none-some _ h);
+    written_are = λ c. refl;
+    sunk_are = λ c. refl;
+  };
+  sent_ones = λ us short of. none_sent (expecting (start_at_first o.role o.config)) us;
   carried = refl;
   joins = record {
     received_are = refl;
@@ -231,7 +247,7 @@ no_track o = record {
 }
 
 no_own : (o : Opening) → length o.config.private.items ≤ 512 → Own o (connected o) (tale_of o [])
-unfolding sent buffers received ended story finished_kinds handed_kinds
+unfolding sent buffers received ended story finished_kinds handed_kinds spans_placed
 no_own o small = record {
   wire = refl;
   sent = refl;
@@ -243,6 +259,8 @@ no_own o small = record {
   track = no_track o;
   doing = record { answered = omega arith; among = omega arith };
   ended = refl;
+  paid = record { paid = omega arith };
+  once = record { known = []; are = refl; spent = none_spent (scene (connected o).stream) None; bare = λ h. refl };
 }
 
 -- nothing came of it

@@ -10,10 +10,10 @@ use Rattle.iw_laws.specs.Words.{Octets}
 use Rattle.iw_endpoint.specs.Endpoint.{has_stream, stream_at}
 use Rattle.iw_laws.specs.Rules.{EndState, State, end_of, wire_at, needs_peer}
 
--- at most 2^62 octets were emitted, and the in-order point lies at least a window before 2^63
+-- at most 2^62 octets were emitted, and the in-order point lies at 2^62 at most
 pub record IsShort (s : StreamState) : Type 0 where
   pub sent : s.sent ≤ 2 ^ 62
-  pub point : s.arrived.floor + 2 ^ 18 ≤ 2 ^ 63
+  pub point : s.arrived.floor ≤ 2 ^ 62
 
 pub record IsShortEnd (s : EndState) : Type 0 where
   pub streams : (n : ℕ) → IsShort (stream_at s.endpoint n)

@@ -50,6 +50,7 @@ EndSeen over t before (seen.Closed fault) = over ≡ false
 EndSeen over t before (seen.Placed right stag to octets) = over ≡ false
 EndSeen over t before (seen.Buffered msn mo len) = over ≡ false
 EndSeen over t before (seen.Requested size stag to) = over ≡ false
+EndSeen over t before (seen.Tried place) = over ≡ false
 EndSeen over t before seen.Passed = over ≡ false
 EndSeen over t before (seen.Received octets solicited invalidate) = over ≡ false
 EndSeen over t before (seen.Terminated fault) = over ≡ false

@@ -37,7 +37,7 @@ pub record IsOldest (t : Story) (oldest : Asked) : Type 0 where
   pub others : List Asked
   pub is : t.asked.unanswered ≡ oldest ∷ others
 
--- octets are fetched for the oldest request: those of its source behind the ones that were fetched before, as they stand there,
+-- octets are fetched for the oldest request: those of its source past the ones that were fetched before, as they stand there,
 -- and a peer in the stream's domain may read them; the frame carries them to its sink
 pub record IsFetch (t : Story) (s : Standing) (from : ℕ) (frame : Octets) (fetching : Fetching) : Type 0 where
   pub oldest : Asked

@@ -5,6 +5,8 @@ pub mod Merged
 pub mod Safe
 pub mod Sends
 pub mod Rest
+pub mod Early
+pub mod Once
 pub mod Ends
 pub mod Faithful
 pub mod Calls
@@ -12,3 +14,4 @@ pub mod WrongRuns
 pub mod Isolated
 pub mod Stops
 pub mod Bounds
+pub mod EarlyRuns

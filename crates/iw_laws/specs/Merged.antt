@@ -33,7 +33,7 @@ octets_of (answer ∷ answers) = answer.octets ++ octets_of answers
 abbrev pub response_segment : ReadRequest → ℕ → Bool → Octets → Segment Octets
 response_segment request offset last octets = Tagged (response_head request offset last) octets
 
--- the segments of what is left of an item behind its first `offset` octets: a response has as many octets as were asked for
+-- the segments of what is left of an item past its first `offset` octets: a response has as many octets as were asked for
 abbrev pub ItemSegments : Numbers → Item → ℕ → List (Segment Octets) → Type 0
 ItemSegments numbers (Post message) offset ss = AreSegments numbers message offset ss
 ItemSegments numbers (Response answer) offset ss =
@@ -44,7 +44,7 @@ abbrev pub numbers_past : Numbers → Item → Numbers
 numbers_past numbers (Post message) = numbers_after numbers message
 numbers_past numbers (Response answer) = numbers
 
--- the segments of these, one behind the other, `offset` octets of the first having gone before
+-- the segments of these, one after the other, `offset` octets of the first having gone before
 abbrev pub AreMerged : Numbers → ℕ → List Item → List (Segment Octets) → Type 0
 AreMerged numbers offset [] ss = ss ≡ []
 AreMerged numbers offset (item ∷ items) ss =

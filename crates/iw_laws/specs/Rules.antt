@@ -1,12 +1,11 @@
 -- The state of both ends, which answer is right in a state, and what each entry leaves of it.
-use Rattle.std.specs.Prelude.{◌≡◌, ℕ, ◌<◌, ◌^◌, List, [], ◌∷◌, ◌++◌, length, take, replicate, slice_index_or, slice_set, Bool, true, false, not, nat_le, is_some, unwrap_or, if◌then◌else◌, Option, Some, None, Ok, Err, Result}
+use Rattle.std.specs.Prelude.{◌≡◌, ℕ, ◌<◌, ◌^◌, List, [], ◌∷◌, ◌++◌, length, take, replicate, slice_index_or, slice_set, Bool, true, false, Option, Some, None}
 use Rattle.std.specs.Option.{option_map_or}
 use Rattle.iw_octets.specs.declared.stag.Stag.{Stag}
 use Rattle.iw_octets.specs.declared.message.Message.TheVariants.{Write, Send}
 use Rattle.iw_octets.specs.Payload.{FitsRequest}
 use Rattle.iw_octets.specs.Stag.{FitsStag}
 use Rattle.iw_memory.specs.Table.{Table, register_refusal, next_stag, octets_at}
-use Rattle.arrayvec.specs.ArrayVec.{ArrayVec}
 use Rattle.iw_queues.specs.declared.request.Request.{Request}
 use Rattle.iw_queues.specs.declared.request.Request.TheVariants.{Message as Posted, Read}
 use Rattle.iw_stream.specs.declared.answer.Step.{Step}
@@ -102,6 +101,7 @@ seen_of table private (steps.Closed fault) = seen.Closed fault
 seen_of table private (steps.Placed right stag to len) = seen.Placed right stag to (octets_at table stag to len)
 seen_of table private (steps.Buffered msn mo len) = seen.Buffered msn mo len
 seen_of table private (steps.Requested size stag to) = seen.Requested size stag to
+seen_of table private (steps.Tried place) = seen.Tried place
 seen_of table private steps.Passed = seen.Passed
 seen_of table private (steps.Received buffer len solicited invalidate) = seen.Received (take len buffer) solicited invalidate
 seen_of table private (steps.Terminated fault) = seen.Terminated fault
@@ -183,7 +183,7 @@ call_made (Store stag to octets refused) = calls.Store stag to octets
 call_made (Open n pd role options private refused) = calls.Open n pd role (config_for options private)
 call_made (Stream n act) = calls.AtStream n (stream_call_made act)
 
--- what is emitted goes out behind what was
+-- what is emitted goes out after what was
 abbrev pub wires_after : List Octets → Act Octets → List Octets
 wires_after wires act =
     option_map_or

@@ -31,7 +31,7 @@ use Rattle.iw_laws.specs.Words.{OnSome, OnStream, AtEach}
 
 -- ---- all that was sent
 
--- these octets are this end's start-up frame, if it has one, and behind it, one behind the other, the frames of segments that
+-- these octets are this end's start-up frame, if it has one, and past it, one after the other, the frames of segments that
 -- carry these messages in order and whole
 pub record AreFrames (t : Story) (octets : Octets) (items : List Item) : Type 0 where
   pub segments : List (Segment Octets)
@@ -85,7 +85,7 @@ pub record AreAllFrames (t : Story) (octets : Octets) (messages : List (Request 
 
 -- ---- one frame
 
--- the octets that go out behind others are the frame of a segment (the numbers of its header fit their fields), whose ULPDU
+-- the octets that go out after others are the frame of a segment (the numbers of its header fit their fields), whose ULPDU
 -- has at most this size, and exactly this size if it is not the last of its message
 pub record IsFrameOf (t : Story) (size : ℕ) (before octets : Octets) : Type 0 where
   pub segment : Segment Octets
@@ -98,7 +98,7 @@ pub record IsFrameOf (t : Story) (size : ℕ) (before octets : Octets) : Type 0 
 abbrev pub IsStartFrame : Story → Octets → Octets → Type 0
 IsStartFrame t before octets = (before ≡ []) × (octets ≡ own_frame t.start)
 
--- n octets that are fetched fill a ULPDU of this size behind their header, but for those at the end of a response
+-- n octets that are fetched fill a ULPDU of this size past their header, but for those at the end of a response
 pub record IsFetchSized (t : Story) (size n : ℕ) : Type 0 where
   pub fits : n + TAGGED_HEADER ≤ size
   pub full : (oldest : Asked) (others : List Asked) → t.asked.unanswered ≡ oldest ∷ others → length t.begun + n ≢ oldest.request.size
@@ -115,7 +115,7 @@ abbrev pub SizedStream : List (Act Octets) → ℕ → StreamAct Octets → Type
 SizedStream before n act =
     OnSome (FrameSized (story_of n before) (size_set (stream_acts n before)) (sent (stream_acts n before))) (deed act).shown
 
--- each frame stands behind what was sent before, and has the size that was set
+-- each frame stands past what was sent before, and has the size that was set
 abbrev pub Sized : List (Entry Octets) → Type 0
 Sized = AtEach (OnStream SizedStream)
 

@@ -1,6 +1,7 @@
 -- What became of each frame that came, in words of the trace alone.
-use Rattle.std.specs.Prelude.{◌≡◌, ◌⊎◌, ℕ, zero, suc, ◌+◌, ◌-◌, ◌%◌, ◌^◌, ◌==◌, ◌&&◌, nat_lt, if◌then◌else◌, List, [], ◌∷◌, ◌++◌, length, take, drop, replicate, slice_get, fold, Bool, true, false, Option, Some, None, Result, Ok, Err}
-use Rattle.std.specs.Option.{option_map, option_map_or}
+use Rattle.std.specs.Prelude.{◌≡◌, ◌⊎◌, ℕ, zero, suc, ◌+◌, ◌-◌, ◌%◌, ◌^◌, ◌==◌, ◌&&◌, nat_lt, if◌then◌else◌, List, [], ◌∷◌, ◌++◌, length, take, drop, replicate, slice_get, fold, Bool, true, false, ◌||◌, is_some, Option, Some, None, Result, Ok, Err}
+use Rattle.std.specs.Option.{option_map, option_map_or, option_or}
+use Rattle.arrayvec.specs.ArrayVec.{ArrayVec}
 use Rattle.iw_octets.specs.declared.fault.Fault.{Fault}
 use Rattle.iw_octets.specs.declared.operation.UntaggedOperation.TheVariants.{ReadRequest as AsksRead}
 use Rattle.iw_octets.specs.declared.payload.ReadRequest.{ReadRequest}
@@ -14,10 +15,17 @@ use Rattle.iw_reads.specs.declared.reads.Outstanding.{Outstanding}
 use Rattle.iw_reads.specs.declared.requests.Asked.{Asked}
 use Rattle.iw_reads.specs.Outstanding.{asked_for}
 use Rattle.iw_reads.specs.Requests.{Requested, nothing_asked, taken_up}
-use Rattle.iw_ranges.specs.Arrived.{Arrived, nothing, in_order}
+use Rattle.iw_ranges.specs.Arrived.{Arrived, nothing, in_order, advanced}
 use Rattle.iw_fpdu.specs.declared.layout.Layout.{Layout}
+use Rattle.iw_fpdu.specs.Frame.{frame_end}
+use Rattle.iw_fpdu.specs.Laws.{found_at}
 use Rattle.iw_fpdu.specs.Places.{frame_start}
 use Rattle.iw_fpdu.specs.Sequence.{Carried, first_frame}
+use Rattle.iw_locate.specs.declared.judged.State.{State}
+use Rattle.iw_locate.specs.declared.judged.State.TheVariants as states
+use Rattle.iw_locate.specs.Free.{Scene, scene_of, front_of}
+use Rattle.iw_locate.specs.Lowest.{overlaps_placed, early_place}
+use Rattle.iw_locate.specs.Records.{added, kept_from}
 use Rattle.iw_untagged.specs.Receiving.{Receiving, nothing_received, with_buffer, written, finished, flushed, oldest}
 use Rattle.iw_startup.specs.declared.config.Agreed.{Agreed}
 use Rattle.iw_startup.specs.declared.progress.Progress.{Progress}
@@ -27,13 +35,14 @@ use Rattle.iw_stream.specs.declared.judging.Landing.TheVariants as landing
 use Rattle.iw_stream.specs.declared.judging.PlacedFrame.{PlacedFrame}
 use Rattle.iw_stream.specs.declared.judging.Turning.{Turning}
 use Rattle.iw_stream.specs.declared.judging.Turning.TheVariants as turning
-use Rattle.iw_stream.specs.Frames.{Frame, standing_at, segment_in, payload_of, placed, payload_len}
+use Rattle.iw_stream.specs.Frames.{Frame, EarlyRecord, frame_by, standing_at, segment_in, payload_of, placed, payload_len, placed_at, record_of}
 use Rattle.iw_stream.specs.declared.ending.Ending.{Ending}
 use Rattle.iw_stream.specs.declared.ending.Ending.TheVariants.{Runs, Over, Broken}
 use Rattle.iw_stream.specs.Ending.{last_word, with_last_word}
-use Rattle.iw_stream.specs.Judging.{Standing, verdict, turn_of, receiving_turned, reads_left}
+use Rattle.iw_stream.specs.Judging.{Standing, verdict, early_verdict, turn_of, receiving_turned, reads_left}
 use Rattle.iw_stream.specs.Terminating.{terminate_judged, terminate_turned, terminate_fetched}
 use Rattle.iw_stream.specs.Starting.{StartState, start_at_first, is_open, sending, expecting, first_place_in, first_place_out, is_responder, awaits_frame, progress_in, heard, private_in, agreement_in, answered_with}
+use Rattle.iw_stream.specs.Work.{clash_fault}
 use Rattle.iw_events.specs.declared.act.Act.{Act}
 use Rattle.iw_events.specs.declared.act.StreamAct.{StreamAct}
 use Rattle.iw_events.specs.declared.act.Shown.{Shown}
@@ -46,17 +55,17 @@ use Rattle.iw_laws.specs.Words.{OnSome, OnStream, AtEach}
 
 -- ---- frames, each with its places
 
--- a frame at its place, and the place behind it
+-- a frame at its place, and the place past it
 pub record Located : Type 0 where
   pub frame : Frame
   pub behind : ℕ
 
--- the first frame of octets that stand at place `at`, where these are behind it
+-- the first frame of octets that stand at place `at`, where these are past it
 abbrev pub located : Layout → ℕ → List ℕ → Carried → List ℕ → Located
 located layout at octets frame rest =
     record { frame = standing_at (frame_start layout.markers at) frame; behind = at + (length octets - length rest) }
 
--- at most n frames that are whole, one behind another
+-- at most n frames that are whole, one after another
 unfoldable pub located_within : ℕ → Layout → ℕ → List ℕ → List Located
 located_within zero layout at octets = []
 located_within (suc n) layout at octets =
@@ -68,7 +77,7 @@ located_within (suc n) layout at octets =
 abbrev pub located_of : Layout → ℕ → List ℕ → List Located
 located_of layout at octets = located_within (length octets) layout at octets
 
--- the place behind the last of these frames; without one, the place before them
+-- the place past the last of these frames; without one, the place before them
 abbrev pub behind_last : ℕ → List Located → ℕ
 behind_last at [] = at
 behind_last at (frame ∷ frames) = behind_last frame.behind frames
@@ -84,7 +93,8 @@ pub record Story : Type 0 where
   pub came : Arrived  -- the octets that came, each at its place
   pub start : StartState  -- what the start-up has come to: what both ends asked for and answered, as far as it was read
   pub turns : ℕ  -- how many frames had their turn
-  pub placed : Bool  -- the frame whose turn is next has been placed
+  pub placed : Bool  -- the frame whose turn is next was placed, when those before it had had theirs
+  pub early : List EarlyRecord  -- the frames that were judged before their turn, from the in-order point on, lowest first
   pub receiving : Receiving  -- the receive buffers, with what was placed in them
   pub whole : ℕ  -- how many of the messages that were posted went out to their last frame
   pub reads : List Outstanding  -- the Reads whose requests went out, and the last frames of whose responses had no turn
@@ -99,7 +109,7 @@ pub record Story : Type 0 where
 abbrev pub is_silent : Story → Bool
 is_silent t = is_responder t.start && (t.turns == 0)
 
--- the frames that lie whole in the octets that came without a gap behind the start-up frame, one behind the other
+-- the frames that lie whole in the octets that came without a gap past the start-up frame, one after the other
 abbrev pub frames_in : Story → List Located
 frames_in t = located_of (expecting t.start) 0 (drop (first_place_in t.start) (in_order t.came))
 
@@ -107,14 +117,23 @@ frames_in t = located_of (expecting t.start) 0 (drop (first_place_in t.start) (i
 abbrev pub next_frame : Story → Option Frame
 next_frame t = option_map (λ f. f.frame) (slice_get (frames_in t) t.turns)
 
--- the in-order point: the place in the stream behind the start-up frame and the frames that had their turn
+-- the in-order point: the place in the stream past the start-up frame and the frames that had their turn
 abbrev pub in_order_point : Story → ℕ
 in_order_point t = first_place_in t.start + behind_last 0 (take t.turns (frames_in t))
 
--- the octets that it carries, and what its turn leaves of the message that is due
-abbrev pub next_payload : Story → Octets
-next_payload t = option_map_or (λ f. payload_of (segment_in f)) (next_frame t) []
+-- what came past that point, and the frames of it that were judged before their turn
+abbrev pub scene : Story → Scene (ArrayVec ℕ)
+scene t = scene_of (expecting t.start) (first_place_in t.start) (advanced t.came (in_order_point t)) t.early
 
+-- the frame that can be judged before its turn: that at the lowest free place
+abbrev pub early_frame : Story → Option Frame
+early_frame t = option_map (λ place. frame_by (found_at (scene t).arrived (scene t).layout (scene t).base place)) (early_place (scene t))
+
+-- the frame whose turn is next was placed, then or before
+abbrev pub was_placed : Story → Bool
+was_placed t = t.placed || is_some (placed_at t.early (front_of (scene t)))
+
+-- what its turn leaves of the message that is due
 abbrev pub next_turned : Story → Receiving
 next_turned t = option_map_or (λ f. receiving_turned t.receiving (placed f)) (next_frame t) t.receiving
 
@@ -128,6 +147,32 @@ asked_in frame = record { header = (placed frame).header; request = request_fiel
 
 abbrev pub next_asked : Story → Requested
 next_asked t = option_map_or (λ f. taken_up t.asked (asked_in f)) (next_frame t) t.asked
+
+-- the frame that is judged next, the one whose turn is next before all others, and the octets that it carries
+abbrev pub judged_frame : Story → Option Frame
+judged_frame t = option_or (next_frame t) (early_frame t)
+
+abbrev pub judged_payload : Story → Octets
+judged_payload t = option_map_or (λ f. payload_of (segment_in f)) (judged_frame t) []
+
+-- a frame is judged before its turn, and this is what becomes of it
+abbrev pub early_with : Story → (Frame → State (ArrayVec ℕ)) → List EarlyRecord
+early_with t state = option_map_or (λ f. added t.early (record_of f (state f))) (early_frame t) t.early
+
+-- the frame that is judged next is placed
+abbrev pub places : Story → Story
+places t = record t {
+  placed = is_some (next_frame t);
+  early = if is_some (next_frame t) then t.early else early_with t (λ f. states.Placed (placed f).header);
+}
+
+-- the frame whose turn is next has had it
+abbrev pub moves_on : Story → Story
+moves_on t = record t {
+  turns = t.turns + 1;
+  placed = false;
+  early = kept_from (behind_last 0 (take (t.turns + 1) (frames_in t))) t.early;
+}
 
 -- the peer's start-up frame is read off the octets that came
 abbrev pub hears : Story → Story
@@ -146,24 +191,23 @@ ends_by t payload = record t { ending = if is_silent t then Over None else with_
 -- the Terminate for a fault of the frame whose turn is next: of what is kept of it, where it was placed before
 abbrev pub terminate_next : Story → Fault → Octets
 terminate_next t fault =
-    option_map_or (λ f. if t.placed then terminate_turned (placed f) fault else terminate_judged t.asked f fault) (next_frame t) []
+    option_map_or (λ f. if was_placed t then terminate_turned (placed f) fault else terminate_judged t.asked f fault) (next_frame t) []
 
 abbrev pub story_seen : Story → Seen Octets → Story
 story_seen t (seen.Asked private) = hears t
 story_seen t (seen.Opened agreed private) = hears t
 story_seen t (seen.Closed fault) = ends (hears t)
-story_seen t (seen.Placed right stag to octets) = record t { placed = true }
-story_seen t (seen.Buffered msn mo len) = record t { placed = true; receiving = written t.receiving msn mo (next_payload t) }
-story_seen t (seen.Requested size stag to) = record t { turns = t.turns + 1; asked = next_asked t }
-story_seen t seen.Passed = record t {
-  turns = t.turns + 1;
-  placed = false;
+story_seen t (seen.Placed right stag to octets) = places t
+story_seen t (seen.Buffered msn mo len) = record (places t) { receiving = written t.receiving msn mo (judged_payload t) }
+story_seen t (seen.Tried place) = record t { early = early_with t (λ f. states.Tried) }
+story_seen t (seen.Requested size stag to) = record (moves_on t) { asked = next_asked t }
+story_seen t seen.Passed = record (moves_on t) {
   receiving = next_turned t;
   reads = next_reads t;
   answered = t.answered + (length t.reads - length (next_reads t));
 }
-story_seen t (seen.Received octets solicited invalidate) = record t { turns = t.turns + 1; placed = false; receiving = finished t.receiving }
-story_seen t (seen.Terminated fault) = ends (record t { turns = t.turns + 1 })
+story_seen t (seen.Received octets solicited invalidate) = record (moves_on t) { receiving = finished t.receiving }
+story_seen t (seen.Terminated fault) = ends (moves_on t)
 story_seen t (seen.Fault fault) = ends_by t (terminate_next t fault)
 story_seen t (seen.Flushed kind) = t
 story_seen t (seen.FlushedRecv octets) = record t { receiving = flushed t.receiving }
@@ -244,6 +288,7 @@ untold o = record {
   start = start_at_first o.role o.config;
   turns = 0;
   placed = false;
+  early = [];
   receiving = nothing_received;
   whole = 0;
   reads = [];
@@ -277,18 +322,35 @@ seen_turned r frame (Ok (turning.Completed solicited invalidate)) =
 seen_turned r frame (Ok (turning.Answered ticket)) = seen.Passed
 seen_turned r frame (Err fault) = seen.Fault fault
 
+-- and of a frame that is judged before its turn: its placement, or that it is left, with its place in the stream
+abbrev pub seen_tried : ℕ → Frame → Option Landing → Seen Octets
+seen_tried base frame (Some at) = seen_judged frame (Ok at)
+seen_tried base frame None = seen.Tried (base + frame.start)
+
+-- a frame is judged when its turn is next: first whether it lies over one that was placed before its turn
+abbrev pub front_verdict : List EarlyRecord → Layout → Standing → Frame → Result Landing Fault
+front_verdict early layout s frame =
+    if overlaps_placed early frame.start (frame_end layout.markers frame.start (length frame.ulpdu)) then Err clash_fault else verdict s frame
+
 -- the frame whose turn is next is whole and was not placed: it is judged
 pub record IsJudged (t : Story) (s : Standing) (step : Seen Octets) : Type 0 where
   pub frame : Frame
   pub is_next : next_frame t ≡ Some frame
-  pub unplaced : t.placed ≡ false
-  pub answer : step ≡ seen_judged frame (verdict s frame)
+  pub unplaced : was_placed t ≡ false
+  pub answer : step ≡ seen_judged frame (front_verdict t.early (expecting t.start) s frame)
+
+-- it is not whole: the frame at the lowest free place is judged before its turn
+pub record IsEarly (t : Story) (s : Standing) (step : Seen Octets) : Type 0 where
+  pub frame : Frame
+  pub no_next : next_frame t ≡ None
+  pub is_early : early_frame t ≡ Some frame
+  pub answer : step ≡ seen_tried (first_place_in t.start) frame (early_verdict s frame)
 
 -- the frame whose turn is next is whole and was placed: it has its turn
 pub record HasTurn (t : Story) (s : Standing) (step : Seen Octets) : Type 0 where
   pub frame : Frame
   pub is_next : next_frame t ≡ Some frame
-  pub was_placed : t.placed ≡ true
+  pub waited : was_placed t ≡ true
   pub answer : step ≡ seen_turned s.receiving (placed frame) (turn_of s (placed frame))
 
 -- frames are read: the stream has not ended, and is open
@@ -329,10 +391,12 @@ TurnsSeen over t s seen.Idle = Unit {0}
 TurnsSeen over t s (seen.Asked private) = HearsFrame over t progress.Asked × (private ≡ private_heard t)
 TurnsSeen over t s (seen.Opened agreed private) = HearsReply over t agreed × (private ≡ private_heard t)
 TurnsSeen over t s (seen.Closed fault) = HearsFrame over t (progress.Faulted fault)
-TurnsSeen over t s (seen.Placed right stag to octets) = ReadsFrames over t × IsJudged t s (seen.Placed right stag to octets)
+TurnsSeen over t s (seen.Placed right stag to octets) =
+    ReadsFrames over t × (IsJudged t s (seen.Placed right stag to octets) ⊎ IsEarly t s (seen.Placed right stag to octets))
 TurnsSeen over t s (seen.Buffered msn mo len) = ReadsFrames over t × IsJudged t s (seen.Buffered msn mo len)
 TurnsSeen over t s (seen.Requested size stag to) = ReadsFrames over t × IsJudged t s (seen.Requested size stag to)
 TurnsSeen over t s (seen.Terminated fault) = ReadsFrames over t × IsJudged t s (seen.Terminated fault)
+TurnsSeen over t s (seen.Tried place) = ReadsFrames over t × IsEarly t s (seen.Tried place)
 TurnsSeen over t s seen.Passed = ReadsFrames over t × HasTurn t s seen.Passed
 TurnsSeen over t s (seen.Received octets solicited invalidate) =
     ReadsFrames over t × HasTurn t s (seen.Received octets solicited invalidate)

@@ -225,6 +225,7 @@ deed_of_step (seen.Placed right stag to octets) =
     record no_deed { placing = Some (record { right = right; stag = stag; to = to; octets = octets }) }
 deed_of_step (seen.Buffered msn mo len) = record no_deed { buffering = Some (record { msn = msn; mo = mo; len = len }) }
 deed_of_step (seen.Requested size stag to) = no_deed
+deed_of_step (seen.Tried place) = no_deed
 deed_of_step seen.Passed = no_deed
 deed_of_step (seen.Received octets solicited invalidate) =
     record no_deed { received = Some (record { octets = octets; solicited = solicited; invalidate = invalidate }) }

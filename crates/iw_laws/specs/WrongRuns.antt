@@ -86,14 +86,14 @@ send_frame = (0 ∷ 19 ∷ 0x41 ∷ 0x43 ∷ []) ++ replicate 11 0 ++ (1 ∷ 0 �
 abbrev pub emits : Octets → Act Octets
 emits octets = on (Emit (Frame 0 octets))
 
--- ---- frames behind a fault, and before the stream is open
+-- ---- frames after a fault, and before the stream is open
 
 abbrev pub reads_behind_fault : Run
 reads_behind_fault =
     opens b Preset
     ++ (b (raw 0 write_frame) ∷ b (works (seen.Fault faults.TAGGED_INVALID_STAG)) ∷ b registers ∷ b (works places) ∷ [])
 
--- the Request is read and not answered, and a frame behind it is placed
+-- the Request is read and not answered, and a frame after it is placed
 abbrev pub reads_unopened : Run
 reads_unopened =
     opens b Responder
@@ -134,7 +134,7 @@ RefusesFinishedUnsent = ¬ Finished finished_unsent
 abbrev pub RefusesFinishedAsWrite : Type 0
 RefusesFinishedAsWrite = ¬ Finished finished_as_write
 
--- ---- a frame that is too large, one at another place, and one behind the end
+-- ---- a frame that is too large, one at another place, and one after the end
 
 -- a Send of 204 octets in one frame of 228, where a ULPDU may have 128
 abbrev pub sends_too_large : Run
@@ -170,7 +170,7 @@ RefusesElsewhere = ¬ Sized sends_elsewhere
 abbrev pub RefusesBehindEnd : Type 0
 RefusesBehindEnd = ¬ Speaks sends_behind_end
 
--- ---- other octets, octets that are kept behind the end, and wrong answers
+-- ---- other octets, octets that are kept after the end, and wrong answers
 
 abbrev pub delivers_others : Run
 delivers_others =
@@ -252,7 +252,7 @@ abbrev pub fetches : ReadRequest → ℕ → ℕ → Bool → ℕ → Octets →
 fetches request from offset last to octets =
     on (Emit (Fetched from (frame_octets plain from (segment_octets (response_segment request offset last octets))) stag to octets))
 
--- a Read of 119 octets, which go out in two frames, the second though the region was invalidated behind the first
+-- a Read of 119 octets, which go out in two frames, the second though the region was invalidated after the first
 abbrev pub read_two : ReadRequest
 read_two = record { sink = stag; sink_to = 0; size = 119; source = stag; source_to = 0 }
 

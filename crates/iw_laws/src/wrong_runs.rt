@@ -1,8 +1,19 @@
 //! Runs that no two ends make, each refused by one law of a trace alone, beside that every answer follows the rules.
 
-ghost use Rattle.iw_laws.specs.WrongRuns.{RefusesFramesBehindFault, RefusesFramesUnopened, RefusesRestWithReply, RefusesNeverFinished, RefusesFinishedUnsent, RefusesFinishedAsWrite, RefusesTooLarge, RefusesCutShort, RefusesElsewhere, RefusesBehindEnd, RefusesOtherOctets, RefusesKeptBehindEnd, RefusesUnaskedAccept, RefusesWrongRefusal, RefusesSameStag, RefusesNumberedOverAll, RefusesFullForAll, RefusesFetchInvalid, RefusesReadUnanswered, RefusesFetchElsewhere, RefusesPlacesPast, RefusesEndsEarly, RefusesDoneByWrite, RefusesSeventeenReads, RefusesSinksUnfetched, RefusesDoneUnplaced, RefusesDoneUnanswered, RefusesSkippedSend, RefusesSecondTerminate, RefusesForgottenMessage, RefusesFinishedFlushed, RefusesBufferFirst, RefusesPlacedInvalidated};
+ghost use Rattle.iw_laws.specs.WrongRuns.{RefusesFramesBehindFault, RefusesFramesUnopened, RefusesRestWithReply};
+ghost use Rattle.iw_laws.specs.WrongRuns.{RefusesNeverFinished, RefusesFinishedUnsent, RefusesFinishedAsWrite};
+ghost use Rattle.iw_laws.specs.WrongRuns.{RefusesTooLarge, RefusesCutShort, RefusesElsewhere, RefusesBehindEnd};
+ghost use Rattle.iw_laws.specs.WrongRuns.{RefusesOtherOctets, RefusesKeptBehindEnd, RefusesUnaskedAccept};
+ghost use Rattle.iw_laws.specs.WrongRuns.{RefusesWrongRefusal, RefusesSameStag};
+ghost use Rattle.iw_laws.specs.WrongRuns.{RefusesNumberedOverAll, RefusesFullForAll};
+ghost use Rattle.iw_laws.specs.WrongRuns.{RefusesFetchInvalid, RefusesReadUnanswered, RefusesFetchElsewhere};
+ghost use Rattle.iw_laws.specs.WrongRuns.{RefusesPlacesPast, RefusesEndsEarly, RefusesDoneByWrite};
+ghost use Rattle.iw_laws.specs.WrongRuns.{RefusesSeventeenReads, RefusesSinksUnfetched};
+ghost use Rattle.iw_laws.specs.WrongRuns.{RefusesDoneUnplaced, RefusesDoneUnanswered, RefusesSkippedSend};
+ghost use Rattle.iw_laws.specs.WrongRuns.{RefusesSecondTerminate, RefusesForgottenMessage};
+ghost use Rattle.iw_laws.specs.WrongRuns.{RefusesFinishedFlushed, RefusesBufferFirst, RefusesPlacedInvalidated};
 
-/// A frame is not placed behind a fault, though its region was registered since.
+/// A frame is not placed after a fault, though its region was registered since.
 pub fn refuses_frames_behind_fault()
     ensures { RefusesFramesBehindFault }
 {}
@@ -42,7 +53,7 @@ pub fn refuses_cut_short()
     ensures { RefusesCutShort }
 {}
 
-/// A frame stands nowhere but behind what was sent before.
+/// A frame stands nowhere but past what was sent before.
 pub fn refuses_elsewhere()
     ensures { RefusesElsewhere }
 {}
