@@ -1,6 +1,6 @@
 -- What a call at a stream that is there leaves, and what is shown of it.
 use Rattle.std.proofs.Common.{◌≡◌, ℕ, zero, suc, ◌<◌, ◌++◌, List, [], ◌∷◌, length, Some, None, true, refl, sym, ap, ◌∙◌, arith}
-use Rattle.std.specs.Prelude.{slice_index_or, slice_set, unwrap_or}
+use Rattle.std.specs.Prelude.{is_some, slice_index_or, slice_set, unwrap_or}
 use Rattle.std.proofs.lemmas.List.{get_or-set_same}
 use Rattle.iw_stream.specs.declared.answer.Step.{Step}
 use Rattle.iw_stream.specs.Starting.{private_in}
@@ -19,6 +19,11 @@ use Rattle.iw_laws.proofs.States.{found}
 
 worked_there : (e : EndpointState) (n : ℕ) → has_stream e n ≡ true → stream_at (after_work e n) n ≡ worked e.table (stream_at e n)
 worked_there e n h = ap (λ o. unwrap_or o unopened) (get_or-set_same e.streams n (Some (worked e.table (stream_at e n))) None (there e.streams n h))
+
+-- the stream that was worked at is there
+pub still_there : (e left : EndpointState) (n : ℕ) → has_stream e n ≡ true → left ≡ after_work e n → has_stream left n ≡ true
+still_there e left n h left_is =
+    ap (λ z. has_stream z n) left_is ∙ ap is_some (get_or-set_same e.streams n (Some (worked e.table (stream_at e n))) None (there e.streams n h))
 
 -- what is seen in the state that a step left is what the rules say
 pub step_seen : (e left : EndpointState) (n : ℕ) (step : Step Octets) (seen : Seen Octets) → has_stream e n ≡ true → step ≡ work_step e.table (stream_at e n) → left ≡ after_work e n → seen ≡ seen_of left.table (private_at left n) step

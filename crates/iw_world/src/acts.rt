@@ -37,7 +37,8 @@ impl<A: Allocator + Copy> Host<A> {
         ensures peer { IfOk result (λ act. PeerRule peer.now (Act.Stream number act)) }
         ensures call { IfOk result (λ act. stream_call_of act ≡ call.now) }
         ensures state { IfOk result (λ act. self.new ≡ end_after self.old (Act.Stream number act)) }
-        ensures no_stream { result ≡ Err Failure.NoSuchStream → LacksStream self.old peer.now (Call.Stream number call.now) }
+        ensures no_stream { result ≡ Err Failure.NoSuchStream
+            → LacksStream self.old peer.now (Call.Stream number call.now) }
         ensures not_sent { result ≡ Err Failure.NotSent → AsksTooMuch self.old peer.now (Call.Stream number call.now) }
     {
         if needs_peer(call) && !peer.has_stream(number) {
@@ -230,7 +231,7 @@ impl<A: Allocator + Copy> Host<A> {
         ensures state { IfOk result (λ act. self.new ≡ end_after self.old (Act.Stream number act)) }
         ensures failure { IfErr result (λ failure. failure ≡ Failure.NoMemory) }
     {
-        let step = stream::work(&mut self.endpoint, number);
+        let step = stream::work(&mut self.endpoint, number)?;
         let seen = seen(alloc, &self.endpoint, number, step)?;
         Ok(StreamAct::Work(seen))
     }
@@ -300,6 +301,7 @@ fn seen<A: Allocator + Copy>(
         }),
         Step::Buffered { msn, mo, len } => Ok(Seen::Buffered { msn, mo, len }),
         Step::Requested { size, stag, to } => Ok(Seen::Requested { size, stag, to }),
+        Step::Tried(place) => Ok(Seen::Tried(place)),
         Step::Passed => Ok(Seen::Passed),
         Step::Received {
             buffer,

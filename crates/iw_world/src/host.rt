@@ -231,8 +231,11 @@ fn register<A: Allocator>(
     octets: Vec<u8, A>,
     rights: Rights,
 ) -> Result<Result<Stag, RegisterRefusal>, Failure>
-    ensures rule { IfOk result (λ answer. answer ≡ answer_or (register_refusal endpoint.old.table pd base (length octets.items)) (next_stag endpoint.old.table pd)) }
-    ensures state { IfOk result (λ answer. endpoint.new ≡ after endpoint.old (calls.Register pd base octets.items rights)) }
+    ensures rule { IfOk result (λ answer. answer
+        ≡ answer_or (register_refusal endpoint.old.table pd base (length octets.items))
+        (next_stag endpoint.old.table pd)) }
+    ensures state { IfOk result (λ answer. endpoint.new
+        ≡ after endpoint.old (calls.Register pd base octets.items rights)) }
     ensures failure { IfErr result (λ failure. failure ≡ Failure.NoMemory) }
 {
     match endpoint.register(pd, base, octets, rights) {

@@ -26,7 +26,8 @@ pub(crate) fn post_recv<A: Allocator>(
 ) -> Result<Option<RecvRefusal>, Failure>
     requires { has_stream endpoint.old number ≡ true }
     ensures rule { IfOk result (λ refused. refused ≡ recv_refusal (stream_at endpoint.old number)) }
-    ensures state { OnOk result (endpoint.new ≡ after endpoint.old (calls.AtStream number (calls.PostRecv buffer.items))) }
+    ensures state { OnOk result (endpoint.new
+        ≡ after endpoint.old (calls.AtStream number (calls.PostRecv buffer.items))) }
     ensures failure { IfErr result (λ failure. failure ≡ Failure.NoMemory) }
 {
     match endpoint.post_recv(number, buffer) {
@@ -64,8 +65,10 @@ pub(crate) fn deliver<A: Allocator>(
     octets: &[u8],
 ) -> Result<Delivery, Failure>
     requires { has_stream endpoint.old number ≡ true }
-    ensures rule { IfOk result (λ delivery. delivery ≡ delivery_of (stream_at endpoint.old number) from (length octets.now)) }
-    ensures state { OnOk result (endpoint.new ≡ after endpoint.old (calls.AtStream number (calls.Deliver from octets.now))) }
+    ensures rule { IfOk result (λ delivery. delivery
+        ≡ delivery_of (stream_at endpoint.old number) from (length octets.now)) }
+    ensures state { OnOk result (endpoint.new
+        ≡ after endpoint.old (calls.AtStream number (calls.Deliver from octets.now))) }
     ensures failure { IfErr result (λ failure. failure ≡ Failure.NoMemory) }
 {
     match endpoint.deliver(number, from, octets) {
@@ -99,7 +102,8 @@ pub(crate) fn accept<A: Allocator>(
     private: PrivateData,
 ) -> Result<Agreed, NotAsked>
     requires { has_stream endpoint.old number ≡ true }
-    ensures rule { result ≡ answer_or (unasked (stream_at endpoint.old number)) (agreement_in (stream_at endpoint.old number).start) }
+    ensures rule { result
+        ≡ answer_or (unasked (stream_at endpoint.old number)) (agreement_in (stream_at endpoint.old number).start) }
     ensures state { endpoint.new ≡ after endpoint.old (calls.AtStream number (calls.Accept private)) }
 {
     match endpoint.accept(number, private) {
@@ -127,15 +131,20 @@ pub(crate) fn reject<A: Allocator>(
 }
 
 /// Does one step.
-pub(crate) fn work<A: Allocator>(endpoint: &mut Endpoint<A>, number: u8) -> Step<Octets<A>>
+pub(crate) fn work<A: Allocator>(
+    endpoint: &mut Endpoint<A>,
+    number: u8,
+) -> Result<Step<Octets<A>>, Failure>
     requires there { has_stream endpoint.old number ≡ true }
     requires short { IsShort (stream_at endpoint.old number) }
-    ensures step { result ≡ work_step endpoint.old.table (stream_at endpoint.old number) }
-    ensures state { endpoint.new ≡ after_work endpoint.old number }
+    ensures step { IfOk result (λ step. step ≡ work_step endpoint.old.table (stream_at endpoint.old number)) }
+    ensures state { OnOk result (endpoint.new ≡ after_work endpoint.old number) }
+    ensures failure { IfErr result (λ failure. failure ≡ Failure.NoMemory) }
 {
     match endpoint.work(number) {
-        Ok(step) => step,
-        Err(_) => unreachable!(),
+        Ok(step) => Ok(step),
+        Err(CallRefusal::Refused(_)) => Err(Failure::NoMemory),
+        Err(CallRefusal::NoSuchStream) => unreachable!(),
     }
 }
 

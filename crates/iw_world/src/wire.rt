@@ -43,7 +43,7 @@ impl<A: Allocator + Copy> Wire<A> {
         self.octets.as_slice()
     }
 
-    /// Emits what is due at a stream, behind what it emitted, and shows it.
+    /// Emits what is due at a stream, after what it emitted, and shows it.
     pub(crate) fn emit(
         &mut self,
         alloc: A,
@@ -52,7 +52,8 @@ impl<A: Allocator + Copy> Wire<A> {
     ) -> Result<Shown<Bytes<A>>, Failure>
         requires there { has_stream endpoint.old number ≡ true }
         requires short { IsShort (stream_at endpoint.old number) }
-        ensures shown { IfOk result (λ shown. shown ≡ shown_of endpoint.old.table (emission_at endpoint.old number) (emitted_at endpoint.old number)) }
+        ensures shown { IfOk result (λ shown. shown
+            ≡ shown_of endpoint.old.table (emission_at endpoint.old number) (emitted_at endpoint.old number)) }
         ensures after { OnOk result (endpoint.new ≡ after_emit endpoint.old number) }
         ensures wire { OnOk result (self.new ≡ self.old ++ emitted_at endpoint.old number) }
         ensures failure { IfErr result (λ failure. failure ≡ Failure.NoMemory) }
@@ -61,7 +62,7 @@ impl<A: Allocator + Copy> Wire<A> {
     }
 }
 
-// Emits what is due at a stream, behind these octets, and shows it.
+// Emits what is due at a stream, after these octets, and shows it.
 fn emit_to<A: Allocator + Copy>(
     alloc: A,
     endpoint: &mut Endpoint<A>,
@@ -70,7 +71,8 @@ fn emit_to<A: Allocator + Copy>(
 ) -> Result<Shown<Bytes<A>>, Failure>
     requires there { has_stream endpoint.old number ≡ true }
     requires short { IsShort (stream_at endpoint.old number) }
-    ensures shown { IfOk result (λ shown. shown ≡ shown_of endpoint.old.table (emission_at endpoint.old number) (emitted_at endpoint.old number)) }
+    ensures shown { IfOk result (λ shown. shown
+        ≡ shown_of endpoint.old.table (emission_at endpoint.old number) (emitted_at endpoint.old number)) }
     ensures after { OnOk result (endpoint.new ≡ after_emit endpoint.old number) }
     ensures wire { OnOk result (wire.new.items ≡ wire.old.items ++ emitted_at endpoint.old number) }
     ensures failure { IfErr result (λ failure. failure ≡ Failure.NoMemory) }
@@ -80,7 +82,7 @@ fn emit_to<A: Allocator + Copy>(
     Ok(shown(alloc, endpoint.memory(), &wire[before..], emission)?)
 }
 
-// Emits what is due at a stream, behind these octets.
+// Emits what is due at a stream, after these octets.
 fn emission<A: Allocator + Copy>(
     endpoint: &mut Endpoint<A>,
     number: u8,

@@ -9,6 +9,8 @@ ghost use Rattle.iw_laws.specs.Faithful.{Faithful, Answering};
 ghost use Rattle.iw_laws.specs.Sends.{Emission, Sized, Speaks, NothingOnlyAtRest, Finished, FewReads};
 ghost use Rattle.iw_laws.specs.Turns.{Turns};
 ghost use Rattle.iw_laws.specs.Rest.{IdleOnlyAtRest};
+ghost use Rattle.iw_laws.specs.Early.{JudgesEarly, ChecksOnce};
+ghost use Rattle.iw_laws.specs.Once.{PlacesOnce};
 ghost use Rattle.iw_laws.specs.Ends.{Ends};
 ghost use Rattle.iw_laws.specs.Calls.{ShowsMemory, Answered, KeepsOctets, CarriesOctets};
 ghost use Rattle.iw_laws.specs.Isolated.{Isolated};
@@ -56,8 +58,10 @@ impl<A: Allocator + Copy> World<A> {
         ensures rule { IfOk result (λ e. Rule (end_of e.end self.old) (end_of (other e.end) self.old) e.act) }
         ensures event { IfOk result (λ e. event_of e ≡ event.now) }
         ensures state { IfOk result (λ e. self.new ≡ after_entry self.old e) }
-        ensures no_stream { result ≡ Err Failure.NoSuchStream → LacksStream (end_of event.now.end self.old) (end_of (other event.now.end) self.old) event.now.call }
-        ensures not_sent { result ≡ Err Failure.NotSent → AsksTooMuch (end_of event.now.end self.old) (end_of (other event.now.end) self.old) event.now.call }
+        ensures no_stream { result ≡ Err Failure.NoSuchStream
+            → LacksStream (end_of event.now.end self.old) (end_of (other event.now.end) self.old) event.now.call }
+        ensures not_sent { result ≡ Err Failure.NotSent
+            → AsksTooMuch (end_of event.now.end self.old) (end_of (other event.now.end) self.old) event.now.call }
     {
         match event.end {
             End::A => {
@@ -83,26 +87,33 @@ impl<A: Allocator + Copy> World<A> {
         ensures in_order { IfOk result (λ trace. InOrder trace.items) }
         // When a Send is received, each octet of the Writes before it was placed, and none too often.
         ensures covered { IfOk result (λ trace. Covered trace.items) }
-        // What was sent is the frames of what was posted and of the responses to the peer's Reads, no two of them mingled; and
-        // past them a Terminate, where one went out.
+        // What was sent is the frames of what was posted and of the responses to the peer's Reads, no two of them
+        // mingled; and past them a Terminate, where one went out.
         ensures emission { IfOk result (λ trace. Emission trace.items) }
-        // Each frame stands behind what was sent before, and has the size that was set last.
+        // Each frame stands past what was sent before, and has the size that was set last.
         ensures sized { IfOk result (λ trace. Sized trace.items) }
-        // But for the start-up frame and the Terminate that is due, a frame is sent only where the stream is open, has not ended
-        // and need not keep silent.
+        // But for the start-up frame and the Terminate that is due, a frame is sent only where the stream is open, has
+        // not ended and need not keep silent.
         ensures speaks { IfOk result (λ trace. Speaks trace.items) }
         // Nothing is emitted only where all was sent, or all before a Read that waits, and no Terminate is due.
         ensures nothing { IfOk result (λ trace. NothingOnlyAtRest trace.items) }
-        // A message that is finished is the oldest that was not handed back, and was sent to its last segment; a Read was answered.
+        // A message that is finished is the oldest that was not handed back, and was sent to its last segment; a Read
+        // was answered.
         ensures finished { IfOk result (λ trace. Finished trace.items) }
         // Octets that are delivered are those that the other end sent.
         ensures carried { IfOk result (λ trace. CarriesOctets trace.items) }
-        // Octets that come are kept, but behind the end of the stream and where there is no room for them.
+        // Octets that come are kept, but after the end of the stream and where there is no room for them.
         ensures kept { IfOk result (λ trace. KeepsOctets trace.items) }
         // Each frame that came is judged, and has its turn, in order, while the stream is open and has not ended.
         ensures turns { IfOk result (λ trace. Turns trace.items) }
-        // There is nothing to do only where every frame that came had its turn, and no message can be finished.
+        // There is nothing to do only where no frame can be judged or have its turn, and no message can be finished.
         ensures idle { IfOk result (λ trace. IdleOnlyAtRest trace.items) }
+        // Then no frame is left that could be judged before its turn; one that is judged so is placed at once, or left.
+        ensures early { IfOk result (λ trace. JudgesEarly trace.items) }
+        // A frame that was placed is not checked again at its turn, but for the order of segments.
+        ensures no_second_check { IfOk result (λ trace. ChecksOnce trace.items) }
+        // Each placement is that of a frame of its own: no two of these frames overlap.
+        ensures once { IfOk result (λ trace. PlacesOnce trace.items) }
         // A stream that has ended hands back what was posted, the messages first, and sends only what is due.
         ensures ended { IfOk result (λ trace. Ends trace.items) }
         // What changed lay where it was allowed.

@@ -1,5 +1,5 @@
 use Rattle.std.proofs.Common.{rules, ◌≡◌, ◌+◌, ◌<◌, List, [], ◌∷◌, ◌++◌, ℕ, length, map, take, drop, ap, sym, subst, ◌∙◌, arith}
-use Rattle.std.proofs.lemmas.List.{map_push, take_more, drop_more, take-append-drop, length-take, length-map}
+use Rattle.std.proofs.lemmas.List.{map_push, take_all, take_more, drop_more, take-append-drop, length-take, length-map}
 use Rattle.iw_events.specs.declared.call.Event.{Event}
 use Rattle.iw_events.specs.declared.act.Entry.{Entry}
 use Rattle.iw_events.specs.Events.{event_of}
@@ -7,7 +7,7 @@ use Rattle.iw_laws.specs.Words.{Octets, other, acts}
 use Rattle.iw_laws.specs.Rules.{State, start, state_after, after_entry, end_of, Rule, Follows}
 use Rattle.iw_laws.specs.Bounds.{IsShortState, LacksStream, AsksTooMuch}
 use Rattle.iw_laws.proofs.Whole.{follows_push, state_after-push, seen_after}
-use Rattle.iw_laws.proofs.Laws.{in_order, covered, emission, sized_all, speaks_all, nothing_at_rest, finished_all, turns_all, idle_at_rest, ends_all, within_all, shows_memory, answered_all, keeps_octets, carries_octets, fetched_all, answering_all, few_reads, names_no_stream, asks_not_sent}
+use Rattle.iw_laws.proofs.Laws.{in_order, covered, emission, sized_all, speaks_all, nothing_at_rest, finished_all, turns_all, idle_at_rest, early_all, second_all, once_all, ends_all, within_all, shows_memory, answered_all, keeps_octets, carries_octets, fetched_all, answering_all, few_reads, names_no_stream, asks_not_sent}
 use Rattle.iw_laws.proofs.Apart.{isolated_all}
 use Rattle.iw_laws.proofs.Shorts.{short_state}
 use Rattle.iw_world.proofs.world.World.run.Goals as goal
@@ -77,6 +77,15 @@ returns-clause-nothing g c = nothing_at_rest c.loop-event.trace.items c.loop-eve
 pub returns-clause-idle : goal.returns-clause-idle
 returns-clause-idle g c = idle_at_rest c.loop-event.trace.items c.loop-event.invariant.follows
 
+pub returns-clause-early : goal.returns-clause-early
+returns-clause-early g c = early_all c.loop-event.trace.items c.loop-event.invariant.follows
+
+pub returns-clause-no_second_check : goal.returns-clause-no_second_check
+returns-clause-no_second_check g c = second_all c.loop-event.trace.items c.loop-event.invariant.follows
+
+pub returns-clause-once : goal.returns-clause-once
+returns-clause-once g c = once_all c.loop-event.trace.items c.loop-event.invariant.follows
+
 pub returns-clause-ended : goal.returns-clause-ended
 returns-clause-ended g c = ends_all c.loop-event.trace.items c.loop-event.invariant.follows
 
@@ -128,3 +137,7 @@ returns-in-Err-NotSent-clause-refused g c =
       follows = c.loop-event.invariant.follows;
       is_so = asks_not_sent (end_of event.end w) (end_of (other event.end) w) (acts event.end trace) (acts (other event.end) trace) event.call (seen.ends event.end) (seen.ends (other event.end)) (λ n. (seen.pairs event.end n).own_peer.wire) asks;
     }
+
+pub returns-clause-events : goal.returns-clause-events
+returns-clause-events g c =
+    c.loop-event.invariant.events ∙ take_all c.loop-event.event-index c.args.events.now (omega (arith, c.loop-event-test.false, c.loop-event.auto.event-index-end))
