@@ -1,7 +1,6 @@
 //! The command line of `iwarp`: what its words ask for, and that it is done.
 #![tactic(auto)]
 
-mod commands;
 mod running;
 mod task;
 

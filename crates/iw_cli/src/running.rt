@@ -1,6 +1,6 @@
-use crate::commands::iwarp;
 use crate::task::{Task, task_of};
 use clap::error::ErrorKind;
+use iw_command_line::iwarp;
 use iw_commands::{CommandFault, Request, connect, listen, pair};
 use iw_links::MOST_TEXT;
 use iw_program::{ReplayFault, replay};
@@ -30,7 +30,7 @@ fn ended<R: Runtime>(rt: &R, outcome: Result<Status, CommandFault>) -> Status {
         Ok(status) => status,
         Err(fault) => {
             if fault == CommandFault::NoMemory {
-                let _ = eprintln!(rt; "no memory");
+                let _ = eprintln!(rt; "{fault}");
             }
             fault.status()
         }

@@ -3,17 +3,22 @@ ghost use Rattle.iw_commands.specs.Status.{fault_status};
 
 use iw_status::Status;
 use std::alloc::AllocError;
+use thiserror::Error;
 
 /// Why a command stopped before its end.
-#[derive(Clone, Copy, Debug, PartialEq, Eq)]
+#[derive(Clone, Copy, Debug, PartialEq, Eq, Error)]
 pub enum CommandFault {
     /// The port could not be bound.
+    #[error("the port could not be bound")]
     Port,
     /// The other process could not be started, or named no port.
+    #[error("the other process could not be started, or named no port")]
     Program,
     /// The output did not take all that was to be printed.
+    #[error("the output did not take all that was to be printed")]
     Output,
     /// There is no memory.
+    #[error("no memory")]
     NoMemory,
 }
 

@@ -7,7 +7,8 @@ ghost use Rattle.iw_commands.specs.Status.{report_status, unmade};
 
 use crate::fault::CommandFault;
 use crate::lines::lines_of;
-use iw_links::{Report, write_octets};
+use iw_links::Report;
+use iw_output::write_octets;
 use iw_status::Status;
 use std::alloc::Global;
 use std::io::Write;

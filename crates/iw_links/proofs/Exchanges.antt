@@ -1,8 +1,8 @@
 -- Calls at an endpoint one after another, and what they come to.
-use Rattle.std.proofs.Common.{◌≡◌, ℕ, ◌+◌, List, [], ◌∷◌, ◌++◌, length, take, drop, refl, sym, ap, append_assoc, append-nil, take-append-drop}
-use Rattle.std.specs.Prelude.{Option, None, Some, Ok}
+use Rattle.std.proofs.Common.{◌≡◌, ℕ, ◌+◌, List, [], ◌∷◌, ◌++◌, length, take, drop, refl, sym, append_assoc, append-nil, take-append-drop}
+use Rattle.std.specs.Prelude.{Option, None, Ok}
 use Rattle.std.specs.Io.KnownBytes.{Appends, Consumes, Keeps}
-use Rattle.std.proofs.KnownBytes.{Appends-kept, Appends-nil, Appends-trans, Consumes-kept, Consumes-nil, Consumes-trans}
+use Rattle.std.proofs.KnownBytes.{Appends-kept, Appends-nil, Appends-trans, Consumes-nil, Consumes-trans}
 use Rattle.arrayvec.specs.ArrayVec.{ArrayVec}
 use Rattle.iw_memory.specs.declared.rights.Rights.{Rights}
 use Rattle.iw_queues.specs.declared.request.Request.{Request}

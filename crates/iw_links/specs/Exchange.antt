@@ -1,8 +1,7 @@
 -- What a connection does at an endpoint between its first read and its last write.
-use Rattle.std.specs.Prelude.{◌≡◌, ℕ, ◌+◌, ◌≤◌, List, [], ◌∷◌, ◌++◌, length, replicate, take, drop, ◌⊎◌, Option, None, Some, Bool, true, false, not, is_some, if◌then◌else◌, Ok}
+use Rattle.std.specs.Prelude.{◌≡◌, ℕ, ◌+◌, List, [], ◌∷◌, ◌++◌, length, replicate, take, ◌⊎◌, Option, None, Some, Bool, true, false, not, is_some, if◌then◌else◌, Ok}
 use Rattle.std.specs.Io.KnownBytes.{Appends, Consumes, IsAtEnd}
 use Rattle.arrayvec.specs.ArrayVec.{ArrayVec}
-use Rattle.iw_octets.specs.declared.stag.Stag.{Stag}
 use Rattle.iw_memory.specs.declared.rights.Rights.{Rights}
 use Rattle.iw_queues.specs.declared.request.Request.{Request}
 use Rattle.iw_startup.specs.declared.config.Config.{Config}
@@ -62,6 +61,7 @@ told_by told (steps.Closed fault) = with_end told (ends.Closed fault)
 told_by told (steps.Placed right stag to len) = told
 told_by told (steps.Buffered msn mo len) = told
 told_by told (steps.Requested size stag to) = told
+told_by told (steps.Tried place) = told
 told_by told steps.Passed = told
 told_by told (steps.Received buffer len solicited invalidate) = with_received told (take len buffer)
 told_by told (steps.Terminated fault) = with_end told (ends.Terminated fault)
@@ -96,8 +96,8 @@ pub record Standing : Type 0 where
 abbrev pub at_endpoint : Standing → EndpointState → Standing
 at_endpoint s endpoint = record s { endpoint = endpoint }
 
--- The call, at the stream of this number, takes one standing to the other. Octets are delivered at the place that follows
--- all that came before.
+-- The call, at the stream of this number, takes one standing to the other. Octets are delivered at the place that
+-- follows all that came before.
 abbrev pub Goes : ℕ → Standing → Event → Standing → Type 0
 Goes n s (Opened role config) s' = s' ≡ at_endpoint s (opened s.endpoint n 1 role config)
 Goes n s (Lent buffer) s' = s' ≡ at_endpoint s (with_buffer s.endpoint n buffer)
@@ -159,16 +159,18 @@ pub record Emits (n : ℕ) (s s' : Standing) (out out' : List ℕ) : Type 0 wher
 
 -- The same with what is known of the input and the output before and after: what the reader gave is what was delivered,
 -- and what the writer took is what was emitted, in order and whole.
-pub record Exchanged (n : ℕ) (s : Standing) (i o : Option (List ℕ)) (s' : Standing) (i' o' : Option (List ℕ)) : Type 0 where
+pub record Exchanged (n : ℕ) (s : Standing) (i o : Option (List ℕ)) (s' : Standing) (i' o' : Option (List ℕ)) :
+    Type 0 where
   pub ins : List ℕ
   pub outs : List ℕ
   pub did : Did n s s' ins outs
   pub reads : Consumes i i' ins
   pub writes : Appends o o' outs
 
--- The same up to where the link broke: the reader may have given octets that were not delivered, and the writer may have
--- taken the front alone of what was emitted.
-pub record Failed (n : ℕ) (s : Standing) (i o : Option (List ℕ)) (s' : Standing) (i' o' : Option (List ℕ)) : Type 0 where
+-- The same up to where the link broke: the reader may have given octets that were not delivered, and the writer may
+-- have taken the front alone of what was emitted.
+pub record Failed (n : ℕ) (s : Standing) (i o : Option (List ℕ)) (s' : Standing) (i' o' : Option (List ℕ)) :
+    Type 0 where
   pub ins : List ℕ
   pub lost : List ℕ
   pub written : List ℕ
@@ -188,7 +190,8 @@ abbrev pub starting : EndpointState → Standing
 starting endpoint = record { endpoint = endpoint; came = 0; told = record { received = None; ended = None } }
 
 -- all was read to the end, and written, and the link did not break
-pub record Completed (n : ℕ) (e : EndpointState) (i o : Option (List ℕ)) (e' : EndpointState) (i' o' : Option (List ℕ)) (report : Report) : Type 0 where
+pub record Completed (n : ℕ) (e : EndpointState) (i o : Option (List ℕ)) (e' : EndpointState) (i' o' : Option (List ℕ))
+    (report : Report) : Type 0 where
   pub last : Standing
   pub exchanged : Exchanged n (starting e) i o last i' o'
   pub endpoint : e' ≡ last.endpoint
@@ -196,12 +199,14 @@ pub record Completed (n : ℕ) (e : EndpointState) (i o : Option (List ℕ)) (e'
   pub end : IsAtEnd i'
 
 -- the link broke: once, after all else
-pub record BrokeOff (n : ℕ) (e : EndpointState) (i o : Option (List ℕ)) (e' : EndpointState) (i' o' : Option (List ℕ)) (report : Report) : Type 0 where
+pub record BrokeOff (n : ℕ) (e : EndpointState) (i o : Option (List ℕ)) (e' : EndpointState) (i' o' : Option (List ℕ))
+    (report : Report) : Type 0 where
   pub last : Standing
   pub failed : Failed n (starting e) i o last i' o'
   pub endpoint : e' ≡ after_break last.endpoint n
   pub is : report ≡ report_of last.told true
 
 -- a connection: its link stood to the end, or broke, and the report says which
-abbrev pub Served : ℕ → EndpointState → Option (List ℕ) → Option (List ℕ) → EndpointState → Option (List ℕ) → Option (List ℕ) → Report → Type 0
+abbrev pub Served : ℕ → EndpointState → Option (List ℕ) → Option (List ℕ) →
+    EndpointState → Option (List ℕ) → Option (List ℕ) → Report → Type 0
 Served n e i o e' i' o' report = Completed n e i o e' i' o' report ⊎ BrokeOff n e i o e' i' o' report

@@ -3,16 +3,19 @@ ghost use Rattle.std.specs.Io.{ReadsAtMost};
 ghost use Rattle.std.specs.Io.KnownBytes.{Consumes, IsAtEnd, Keeps};
 
 use std::io::{ErrorKind, Read};
+use thiserror::Error;
 
 /// The most reads of one input.
 pub const MOST_READS: u32 = 1_000_000;
 
 /// Why nothing was read.
-#[derive(Clone, Copy, Debug, PartialEq, Eq)]
+#[derive(Clone, Copy, Debug, PartialEq, Eq, Error)]
 pub enum ReadFault {
     /// A read failed.
+    #[error("the input could not be read")]
     Failed,
     /// The input did not end within the most reads.
+    #[error("the input did not end within 1,000,000 reads")]
     TooMany,
 }
 
@@ -39,13 +42,15 @@ impl<R: Read> Counted<R> {
         requires bounded { self.old.reads ≤ 1000000 }
         requires room { 0 < length buffer.old }
         ensures count { IfOk result (λ n. n ≤ length buffer.new) }
-        ensures octets { IfOk result (λ n. Consumes (R.remaining self.old.reader) (R.remaining self.new.reader) (take n buffer.new)) }
+        ensures octets { IfOk result (λ n.
+            Consumes (R.remaining self.old.reader) (R.remaining self.new.reader) (take n buffer.new)) }
         ensures end { result ≡ Ok 0 → IsAtEnd (R.remaining self.new.reader) }
         ensures err { OnErr result (Keeps (R.remaining self.old.reader) (R.remaining self.new.reader)) }
         ensures bounded { self.new.reads ≤ 1000000 }
         ensures progress { OnOk result (self.old.reads < self.new.reads) }
         ensures kept { self.old.reads ≤ self.new.reads }
-        ensures fault { IfErr result (λ fault. (fault ≡ ReadFault.Failed) ⊎ ((fault ≡ ReadFault.TooMany) × (self.new.reads ≡ 1000000))) }
+        ensures fault { IfErr result (λ fault.
+            (fault ≡ ReadFault.Failed) ⊎ ((fault ≡ ReadFault.TooMany) × (self.new.reads ≡ 1000000))) }
     {
         for read in self.reads..MOST_READS {
             self.reads = read + 1;

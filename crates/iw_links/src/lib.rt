@@ -1,19 +1,23 @@
 //! What `iwarp listen` and `iwarp connect` do on one connection, over any reader and writer.
 //!
 //! The listening end ([`serve`]) has a region and tells its STag in the private data of its Reply; the connecting end
-//! ([`ask`]) writes a text there, sends it too, and ends its output. The listening end then sends back what stands in its
-//! region. Each holds an [`iw_endpoint::Endpoint`]: each read of the input is one delivery at the next stream place, and
-//! what the endpoint emits is written in order.
+//! ([`ask`]) writes a text there, sends it too, and ends its output. The listening end then sends back what stands in
+//! its region. Each holds an [`iw_endpoint::Endpoint`]: each read of the input is one delivery at the next stream
+//! place, and what the endpoint emits is written in order.
 #![tactic(auto)]
 
+mod asking;
 mod counted;
 mod exchange;
 mod link;
 mod output;
 mod report;
+mod serving;
 
+pub use asking::ask;
 pub use counted::{Counted, MOST_READS, ReadFault};
-pub use exchange::{Terms, ask, serve};
+pub use exchange::Terms;
 pub use link::{MOST_READ, MOST_TEXT, caller, listener};
-pub use output::{Half, Output, Short, write_octets};
+pub use output::{Half, Output};
 pub use report::{Ended, Report};
+pub use serving::serve;

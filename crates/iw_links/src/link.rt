@@ -1,4 +1,5 @@
-ghost use Rattle.std.specs.Prelude.{◌≡◌, ◌+◌, ◌≤◌, ◌^◌, ◌++◌, [], length, take, Some, None, Ok, IfOk, IfErr, OnOk, OnErr, List, ℕ};
+ghost use Rattle.std.specs.Prelude.{◌≡◌, ◌+◌, ◌≤◌, ◌^◌, ◌++◌, [], length, take, List, ℕ};
+ghost use Rattle.std.specs.Prelude.{Some, None, Ok, IfOk, IfErr, OnOk, OnErr};
 ghost use Rattle.iw_memory.specs.Table.{next_stag};
 ghost use Rattle.iw_stream.specs.Kept.{IsWithinBuffer};
 ghost use Rattle.iw_endpoint.specs.Endpoint.{fresh, added, registered};
@@ -48,8 +49,8 @@ fn zeroes(alloc: Global, count: usize) -> Result<Vec<u8>, AllocError>
     Ok(octets)
 }
 
-/// An endpoint for connections that come: with a domain, and a region of 65,536 zero octets at base 0 that peers may write,
-/// and that region's STag. An `Err` is want of memory.
+/// An endpoint for connections that come: with a domain, and a region of 65,536 zero octets at base 0 that peers may
+/// write, and that region's STag. An `Err` is want of memory.
 pub fn listener(alloc: Global) -> Result<(Endpoint, Stag), AllocError>
     ensures endpoint { IfOk result (λ end. end.0 ≡ registered with_domain 1 0 (zero_octets 65536) writable) }
     ensures stag { IfOk result (λ end. end.1 ≡ next_stag with_domain.table 1) }
@@ -135,6 +136,7 @@ impl Link {
             | Step::Placed { .. }
             | Step::Buffered { .. }
             | Step::Requested { .. }
+            | Step::Tried(_)
             | Step::Passed
             | Step::Idle => {}
         }
@@ -171,7 +173,8 @@ pub(crate) fn post(
 /// Delivers the octets of a read, at the place that follows all that came before.
 pub(crate) fn deliver(endpoint: &mut Endpoint, link: &mut Link, octets: &[u8]) -> Result<(), Broken>
     ensures number { link.new.number ≡ link.old.number }
-    ensures ok { OnOk result (Did link.old.number (standing endpoint.old link.old) (standing endpoint.new link.new) octets.now []) }
+    ensures ok { OnOk result (Did link.old.number
+        (standing endpoint.old link.old) (standing endpoint.new link.new) octets.now []) }
     ensures err { OnErr result (standing endpoint.new link.new ≡ standing endpoint.old link.old) }
 {
     let Some(came) = link.came.checked_add(octets.len() as u64) else {
@@ -263,7 +266,8 @@ pub(crate) fn work_all(
 // Emits what is due next. Returns whether something was, or the stream ended.
 fn emit(endpoint: &mut Endpoint, link: &mut Link, out: &mut Vec<u8>) -> Result<bool, Broken>
     ensures number { link.new.number ≡ link.old.number }
-    ensures did { Emits link.old.number (standing endpoint.old link.old) (standing endpoint.new link.new) out.old.items out.new.items }
+    ensures did { Emits link.old.number
+        (standing endpoint.old link.old) (standing endpoint.new link.new) out.old.items out.new.items }
 {
     match endpoint.sent(link.number) {
         Ok(sent) if sent <= MAX_PLACE => {}
@@ -288,7 +292,8 @@ pub(crate) fn emit_all(
     out: &mut Vec<u8>,
 ) -> Result<(), Broken>
     ensures number { link.new.number ≡ link.old.number }
-    ensures did { Emits link.old.number (standing endpoint.old link.old) (standing endpoint.new link.new) out.old.items out.new.items }
+    ensures did { Emits link.old.number
+        (standing endpoint.old link.old) (standing endpoint.new link.new) out.old.items out.new.items }
 {
     'frames: for _ in 0..u64::MAX {
         match emit(endpoint, link, out) {

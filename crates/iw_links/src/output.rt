@@ -1,7 +1,6 @@
-ghost use Rattle.std.specs.Prelude.{◌≡◌, ◌≤◌, length, take, MatchResult};
-ghost use Rattle.std.specs.Io.KnownBytes.{Appends, Keeps};
+ghost use Rattle.std.specs.Io.KnownBytes.{Keeps};
 
-use std::io::{self, ErrorKind, Write};
+use std::io::{self, Write};
 use std::net::{OpenStream, Shutdown};
 
 /// What a connection writes to.
@@ -47,32 +46,4 @@ impl<S: Write + OpenStream> Output for Half<S> {
     fn end(&mut self) -> io::Result<()> {
         self.0.shutdown(Shutdown::Write)
     }
-}
-
-/// How many octets a writer took before it failed.
-#[derive(Clone, Copy, Debug, PartialEq, Eq)]
-pub struct Short(pub usize);
-
-/// Writes the octets: in one write, as far as the writer takes them. A writer that takes none of those that are left has
-/// failed; a write that was interrupted is made again.
-pub fn write_octets<W: Write>(output: &mut W, octets: &[u8]) -> Result<(), Short>
-    ensures { MatchResult result (λ _. Appends (W.contents output.old) (W.contents output.new) octets.now)
-        (λ short. Appends (W.contents output.old) (W.contents output.new) (take short.0 octets.now)) }
-{
-    let mut written = 0;
-    'writes: for _ in 0..u64::MAX {
-        if written >= octets.len() {
-            return Ok(());
-        }
-        match output.write(&octets[written..]) {
-            Ok(0) => return Err(Short(written)),
-            Ok(n) => written += n,
-            Err(error) => {
-                if error.kind() != ErrorKind::Interrupted {
-                    return Err(Short(written));
-                }
-            }
-        }
-    }
-    Err(Short(written))
 }

@@ -12,16 +12,16 @@ pub enum Ended {
     Closed(StartupFault),
 }
 
-/// What came of a connection. What is told is told in this order: the Send that was received, how the stream ended, and that
-/// its link broke.
+/// What came of a connection. What is told is told in this order: the Send that was received, how the stream ended,
+/// and that its link broke.
 #[derive(Debug, PartialEq, Drop)]
 pub struct Report {
     /// The octets of the Send that was received.
     pub received: Option<Octets>,
     /// How the stream ended, if it did so by the peer's doing.
     pub ended: Option<Ended>,
-    /// The link broke: the reader or the writer failed, the peer's output ended before a Send was received on a stream that
-    /// had not ended, the Reply did not name a region, or there was no memory.
+    /// The link broke: the reader or the writer failed, the peer's output ended before a Send was received on a
+    /// stream that had not ended, the Reply did not name a region, or there was no memory.
     pub broken: bool,
 }
 

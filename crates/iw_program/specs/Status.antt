@@ -26,6 +26,7 @@ sees_fault (seen.Closed fault) = true
 sees_fault (seen.Placed right stag to octets) = false
 sees_fault (seen.Buffered msn mo len) = false
 sees_fault (seen.Requested size stag to) = false
+sees_fault (seen.Tried place) = false
 sees_fault seen.Passed = false
 sees_fault (seen.Received octets solicited invalidate) = false
 sees_fault (seen.Terminated fault) = true

@@ -3,8 +3,8 @@ ghost use Rattle.iw_program.specs.Replay.{Prints, Stops};
 
 use crate::fault::ReplayFault;
 use crate::input::read_text;
-use crate::output::write_text;
 use crate::text::replay_text;
+use iw_output::write_octets;
 use iw_status::Status;
 use std::alloc::Allocator;
 use std::io::{Read, Write};
@@ -19,12 +19,14 @@ pub fn replay<R: Read, W: Write, A: Allocator + Copy>(
     input: &mut R,
     output: &mut W,
 ) -> Result<Status, ReplayFault>
-    ensures prints { IfOk result (Prints (R.remaining input.old) (R.remaining input.new) (W.contents output.old) (W.contents output.new)) }
-    ensures stops { IfErr result (Stops (R.remaining input.old) (R.remaining input.new) (W.contents output.old) (W.contents output.new)) }
+    ensures prints { IfOk result (Prints (R.remaining input.old) (R.remaining input.new)
+        (W.contents output.old) (W.contents output.new)) }
+    ensures stops { IfErr result (Stops (R.remaining input.old) (R.remaining input.new)
+        (W.contents output.old) (W.contents output.new)) }
 {
     let text = read_text(alloc, input)?;
     let replayed = replay_text(alloc, text.as_slice())?;
-    match write_text(output, replayed.trace.as_bytes()) {
+    match write_octets(output, replayed.trace.as_bytes()) {
         Ok(()) => {}
         Err(_) => return Err(ReplayFault::Output),
     }

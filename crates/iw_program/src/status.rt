@@ -20,6 +20,7 @@ fn is_fault_seen<A: Allocator>(seen: &Seen<Bytes<A>>) -> bool
         | Seen::Placed { .. }
         | Seen::Buffered { .. }
         | Seen::Requested { .. }
+        | Seen::Tried(_)
         | Seen::Passed
         | Seen::Received { .. }
         | Seen::Idle => false,

@@ -1,4 +1,4 @@
-use Rattle.std.proofs.Common.{rules, ◌≡◌, ◌∙◌, [], arith}
+use Rattle.std.proofs.Common.{rules, ◌∙◌, []}
 use Rattle.std.proofs.KnownBytes.{Consumes-kept, Consumes-nil}
 use Rattle.iw_links.proofs.Exchanges.{exchanges, fails, fails_later, fails_now, stays}
 use Rattle.iw_links.proofs.exchange.hear.Goals as goal

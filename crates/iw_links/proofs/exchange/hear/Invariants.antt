@@ -1,4 +1,4 @@
-use Rattle.std.proofs.Common.{ℕ, ◌≡◌, ◌≤◌, ◌<◌, length}
+use Rattle.std.proofs.Common.{◌≡◌, ◌≤◌, length}
 use Rattle.iw_links.specs.Exchange.{Exchanged}
 use Rattle.iw_links.specs.Standing.{standing}
 use Rattle.iw_links.proofs.exchange.hear.Given as goal

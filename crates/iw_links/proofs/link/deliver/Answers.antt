@@ -1,4 +1,4 @@
-use Rattle.std.proofs.Common.{rules, ◌≡◌, ◌+◌, length, arith}
+use Rattle.std.proofs.Common.{rules, ◌≡◌, ◌+◌, length}
 use Rattle.iw_links.specs.Standing.{told_in}
 use Rattle.iw_links.proofs.Exchanges.{delivers}
 use Rattle.iw_links.proofs.link.deliver.Goals as goal

@@ -1,4 +1,4 @@
-use Rattle.std.proofs.Common.{rules, ◌∙◌}
+use Rattle.std.proofs.Common.{◌∙◌}
 use Rattle.iw_links.proofs.Exchanges.{emits_on}
 use Rattle.iw_links.proofs.link.emit_all.Goals as goal
 

@@ -1,4 +1,3 @@
-use Rattle.std.proofs.Common.{rules}
 use Rattle.iw_links.proofs.Exchanges.{registers_same}
 use Rattle.iw_links.proofs.link.listener.Goals as goal
 

@@ -1,4 +1,4 @@
-use Rattle.std.proofs.Common.{rules, ◌∙◌, []}
+use Rattle.std.proofs.Common.{◌∙◌, []}
 use Rattle.iw_links.proofs.Exchanges.{joins}
 use Rattle.iw_links.proofs.link.work_all.Goals as goal
 use Rattle.iw_links.proofs.link.work_all.Goals.{in-Ok-Work, in-Ok-Accept+in-Ok}

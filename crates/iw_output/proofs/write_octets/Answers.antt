@@ -1,8 +1,8 @@
 use Rattle.std.proofs.Common.{arith, take-add, length-drop}
 use Rattle.std.proofs.KnownBytes.{Appends-kept, Appends-trans}
-use Rattle.iw_links.proofs.Ends.{slice_end}
-use Rattle.iw_links.proofs.output.write_octets.Goals as goal
-use Rattle.iw_links.proofs.output.write_octets.Goals.{in-Ok, in-Err+else-ne}
+use Rattle.iw_output.proofs.Ends.{slice_end}
+use Rattle.iw_output.proofs.write_octets.Goals as goal
+use Rattle.iw_output.proofs.write_octets.Goals.{in-Ok, in-Err+else-ne}
 
 pub writes-preserved : goal.writes-preserved
 writes-preserved g c =

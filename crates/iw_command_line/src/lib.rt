@@ -1,4 +1,7 @@
-//! The commands, with their options and their help.
+//! The command line of `iwarp`: its commands, with their options and their help.
+//!
+//! It stands apart from what the commands do, so that it is built beside that.
+#![tactic(auto)]
 
 use clap::{Arg, ArgAction, Command, value_parser};
 use std::alloc::Global;
@@ -101,8 +104,8 @@ fn pair<'a>(alloc: Global) -> Result<Command<'a>, clap::Error> {
     )
 }
 
-/// The command line.
-pub(crate) fn iwarp<'a>(alloc: Global) -> Result<Command<'a>, clap::Error> {
+/// The command line. An `Err` is want of memory.
+pub fn iwarp<'a>(alloc: Global) -> Result<Command<'a>, clap::Error> {
     Ok(
         Command::new(alloc, "iwarp")
             .version("0.1.0")

@@ -2,7 +2,7 @@ use Rattle.std.proofs.Common.{refl, inl, inr}
 use Rattle.iw_stream.specs.declared.answer.Role.TheVariants as roles
 use Rattle.iw_links.specs.Standing.{standing}
 use Rattle.iw_links.proofs.Exchanges.{begins, begins_to_fail}
-use Rattle.iw_links.proofs.exchange.ask.Goals as goal
+use Rattle.iw_links.proofs.asking.ask.Goals as goal
 
 pub returns-in-Ok-speak_to-clause-served : goal.returns-in-Ok-speak_to-clause-served
 returns-in-Ok-speak_to-clause-served g c = inl (record {

@@ -1,5 +1,5 @@
 use Rattle.iw_links.proofs.Exchanges.{exchanges, fails_later, in_quiet}
-use Rattle.iw_links.proofs.exchange.answer.Goals as goal
+use Rattle.iw_links.proofs.serving.answer.Goals as goal
 
 pub returns-in-Ok-speak-clause-ok : goal.returns-in-Ok-speak-clause-ok
 returns-in-Ok-speak-clause-ok g c = λ i.

@@ -1,5 +1,5 @@
 use Rattle.iw_links.proofs.Exchanges.{fails_now, output_kept}
-use Rattle.iw_links.proofs.exchange.say.Goals as goal
+use Rattle.iw_links.proofs.asking.say.Goals as goal
 
 pub returns-in-Ok-end-clause-ok : goal.returns-in-Ok-end-clause-ok
 returns-in-Ok-end-clause-ok g c = λ i. output_kept _ _ _ i i _ _ _ (c.in-Ok.ensures.ok i) c.in-Ok-end.ensures

@@ -2,7 +2,7 @@ use Rattle.std.proofs.Common.{refl, inl, inr}
 use Rattle.iw_stream.specs.declared.answer.Role.TheVariants as roles
 use Rattle.iw_links.specs.Standing.{standing}
 use Rattle.iw_links.proofs.Exchanges.{begins, begins_to_fail}
-use Rattle.iw_links.proofs.exchange.serve.Goals as goal
+use Rattle.iw_links.proofs.serving.serve.Goals as goal
 
 pub returns-in-Ok-listen_to-clause-served : goal.returns-in-Ok-listen_to-clause-served
 returns-in-Ok-listen_to-clause-served g c = inl (record {

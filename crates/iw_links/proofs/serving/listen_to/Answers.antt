@@ -1,5 +1,5 @@
 use Rattle.iw_links.proofs.Exchanges.{exchanges, fails_later, fails_now, fails_quietly, in_quiet}
-use Rattle.iw_links.proofs.exchange.listen_to.Goals as goal
+use Rattle.iw_links.proofs.serving.listen_to.Goals as goal
 
 pub returns-in-Err-clause-err : goal.returns-in-Err-clause-err
 returns-in-Err-clause-err g c = fails_quietly _ _ _ _ _ c.in-Err.ensures.did

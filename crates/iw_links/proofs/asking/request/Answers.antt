@@ -1,6 +1,6 @@
 use Rattle.std.proofs.Common.{[]}
 use Rattle.iw_links.proofs.Exchanges.{exchanges, fails_later, fails_quietly, in_quiet, joins}
-use Rattle.iw_links.proofs.exchange.request.Goals as goal
+use Rattle.iw_links.proofs.asking.request.Goals as goal
 
 pub returns-in-Err-post_send-clause-err : goal.returns-in-Err-post_send-clause-err
 returns-in-Err-post_send-clause-err g c = λ i.

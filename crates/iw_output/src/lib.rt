@@ -1,0 +1,37 @@
+//! Octets written to an output: whole, or as far as it takes them.
+#![tactic(auto)]
+
+ghost use Rattle.std.specs.Prelude.{◌≡◌, ◌≤◌, length, take, MatchResult};
+ghost use Rattle.std.specs.Io.KnownBytes.{Appends};
+
+use std::io::{ErrorKind, Write};
+use thiserror::Error;
+
+/// How many octets a writer took before it failed.
+#[derive(Clone, Copy, Debug, PartialEq, Eq, Error)]
+#[error("the output took {0} octets, and no more")]
+pub struct Short(pub usize);
+
+/// Writes the octets: in one write, as far as the writer takes them. A writer that takes none of those that are left
+/// has failed; a write that was interrupted is made again.
+pub fn write_octets<W: Write>(output: &mut W, octets: &[u8]) -> Result<(), Short>
+    ensures { MatchResult result (λ _. Appends (W.contents output.old) (W.contents output.new) octets.now)
+        (λ short. Appends (W.contents output.old) (W.contents output.new) (take short.0 octets.now)) }
+{
+    let mut written = 0;
+    'writes: for _ in 0..u64::MAX {
+        if written >= octets.len() {
+            return Ok(());
+        }
+        match output.write(&octets[written..]) {
+            Ok(0) => return Err(Short(written)),
+            Ok(n) => written += n,
+            Err(error) => {
+                if error.kind() != ErrorKind::Interrupted {
+                    return Err(Short(written));
+                }
+            }
+        }
+    }
+    Err(Short(written))
+}

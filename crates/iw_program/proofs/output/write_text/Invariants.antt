@@ -1,6 +1,0 @@
-use Rattle.std.proofs.Common.{◌≤◌, length, take}
-use Rattle.std.specs.Io.KnownBytes.{Appends}
-use Rattle.iw_program.proofs.output.write_text.Given as goal
-
-abbrev pub invariant-writes : goal.invariant-writes
-invariant-writes g l = (l.written ≤ length l.text) × Appends (g.W.Write.contents l.fn.output) (g.W.Write.contents l.output) (take l.written l.text)
