@@ -35,6 +35,29 @@ fn port_lines_are_told_from_others(rt: HostRuntime) -> Result<(), Fail> {
     Ok(())
 }
 
+// Reads the line of a port, octet by octet; the read of this number fails so.
+fn port_read(alloc: Global, call: u64, kind: ErrorKind) -> (Result<u16, CommandFault>, u32) {
+    let line = Halting::new("port 4420\n".as_bytes(), 2);
+    let mut pipe = Counted::new(line.failing_at(call, kind));
+    (read_port(alloc, &mut pipe), pipe.reads)
+}
+
+#[test]
+fn a_port_line_that_fails_is_none(rt: HostRuntime) -> Result<(), Fail> {
+    for call in 1..=10u64 {
+        let (port, reads) = port_read(rt.alloc(), call, ErrorKind::BrokenPipe);
+        assert_eq!(rt; port, Err(CommandFault::Program), "at read {call}");
+        assert_eq!(rt; reads as u64, call);
+        let (port, _) = port_read(rt.alloc(), call, ErrorKind::Interrupted);
+        assert_eq!(rt; port, Ok(4_420), "at read {call}");
+    }
+    assert_eq!(rt;
+        port_read(rt.alloc(), 11, ErrorKind::BrokenPipe).0,
+        Ok(4_420)
+    );
+    Ok(())
+}
+
 #[test]
 fn octets_without_end_are_no_port(rt: HostRuntime) -> Result<(), Fail> {
     let mut pipe = Counted::new(Endless::new(b'p'));

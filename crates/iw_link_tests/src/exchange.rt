@@ -8,7 +8,7 @@ use std::test::Fail;
 
 const ROWS: [Row; 4] = [MARKERS, CRC, EMPTY, PLAIN];
 
-const WHOLE: Halts = Halts {
+pub(crate) const WHOLE: Halts = Halts {
     most: 128,
     read: 0,
     write: 0,
@@ -16,7 +16,7 @@ const WHOLE: Halts = Halts {
 };
 
 // Whether the text was received, and these octets were written.
-fn has_received(outcome: &Outcome, text: &[u8], written: &[u8]) -> bool {
+pub(crate) fn has_received(outcome: &Outcome, text: &[u8], written: &[u8]) -> bool {
     match &outcome.report.received {
         Some(octets) => {
             octets.as_slice() == text

@@ -25,13 +25,16 @@ impl Write for Pen {
 }
 
 impl Output for Pen {
+    // It is a call as each write is.
     fn end(&mut self) -> io::Result<()> {
+        self.written.flush()?;
         self.is_ended = true;
         Ok(())
     }
 }
 
-/// How much a call moves at most, which read and which write fails (none where it is 0), and how.
+/// How much a call moves at most, which read and which write fails (none where it is 0), and how. The end of the output
+/// counts as a write.
 #[derive(Clone, Copy)]
 pub(crate) struct Halts {
     pub(crate) most: usize,
@@ -40,12 +43,14 @@ pub(crate) struct Halts {
     pub(crate) kind: ErrorKind,
 }
 
-/// What came of a connection, and what was written to it.
+/// What came of a connection, what was written to it, and how many reads and writes there were.
 #[derive(Drop)]
 pub(crate) struct Outcome {
     pub(crate) report: Report,
     pub(crate) written: Vec<u8>,
     pub(crate) is_ended: bool,
+    pub(crate) reads: u64,
+    pub(crate) writes: u64,
 }
 
 impl Halts {
@@ -73,11 +78,13 @@ fn terms(row: Row) -> Terms {
     }
 }
 
-fn concluded(report: Report, pen: Pen) -> Outcome {
+fn concluded(report: Report, reads: u32, pen: Pen) -> Outcome {
     Outcome {
         report,
-        written: pen.written.into_inner(),
+        reads: reads as u64,
+        writes: pen.written.calls(),
         is_ended: pen.is_ended,
+        written: pen.written.into_inner(),
     }
 }
 
@@ -101,7 +108,7 @@ pub(crate) fn serving(
         &mut pen,
         &mut buffer,
     ) {
-        Ok(report) => Ok(concluded(report, pen)),
+        Ok(report) => Ok(concluded(report, input.reads, pen)),
         Err(_) => Err("not opened".into()),
     }
 }
@@ -126,7 +133,7 @@ pub(crate) fn asking(
         &mut pen,
         &mut buffer,
     ) {
-        Ok(report) => Ok(concluded(report, pen)),
+        Ok(report) => Ok(concluded(report, input.reads, pen)),
         Err(_) => Err("not opened".into()),
     }
 }

@@ -7,4 +7,6 @@ mod exchange;
 #[cfg(test)]
 mod halts;
 #[cfg(test)]
+mod pairs;
+#[cfg(test)]
 mod rows;

@@ -2,6 +2,8 @@
 #![tactic(auto)]
 
 #[cfg(test)]
+mod early;
+#[cfg(test)]
 mod queues;
 #[cfg(test)]
 mod rdmap;

@@ -10,7 +10,7 @@ use std::test::Fail;
 // `emit` and `work` ask that a stream has emitted, and come through, no more octets. No connection does.
 const MAX_PLACE: u64 = 1 << 62;
 
-const WRITES: Rights = Rights {
+pub(crate) const WRITES: Rights = Rights {
     write: true,
     read: false,
     sink: false,
@@ -18,7 +18,7 @@ const WRITES: Rights = Rights {
 };
 
 // A stream of domain 1 that is open at once.
-fn open(alloc: Global, markers: bool, crc: bool) -> Result<Stream, Fail> {
+pub(crate) fn open(alloc: Global, markers: bool, crc: bool) -> Result<Stream, Fail> {
     let config = Config {
         markers,
         crc,
@@ -53,7 +53,7 @@ fn send(alloc: Global) -> Result<Request<Bytes>, Fail> {
 }
 
 // Appends what is due next.
-fn emit(stream: &mut Stream, memory: &Memory, wire: &mut Vec<u8>) -> Result<(), Fail> {
+pub(crate) fn emit(stream: &mut Stream, memory: &Memory, wire: &mut Vec<u8>) -> Result<(), Fail> {
     if stream.sent() <= MAX_PLACE {
         stream.emit(memory, wire)?;
     }
@@ -61,11 +61,11 @@ fn emit(stream: &mut Stream, memory: &Memory, wire: &mut Vec<u8>) -> Result<(), 
 }
 
 // Does one step.
-fn work(stream: &mut Stream, memory: &mut Memory) -> Step<Octets> {
+pub(crate) fn work(stream: &mut Stream, memory: &mut Memory) -> Result<Step<Octets>, Fail> {
     if stream.in_order_point() <= MAX_PLACE {
-        stream.work(memory)
+        Ok(stream.work(memory)?)
     } else {
-        Step::Idle
+        Ok(Step::Idle)
     }
 }
 
@@ -77,7 +77,7 @@ fn steps(
     told: &mut String,
 ) -> Result<(), Fail> {
     for _ in 0..count {
-        let step = work(stream, memory);
+        let step = work(stream, memory)?;
         writeln!(told, "{step:?}")?;
     }
     Ok(())
@@ -175,7 +175,7 @@ fn judged(alloc: Global, frame: &[u8]) -> Result<String, Fail> {
     let mut memory = shared(alloc)?;
     let _ = stream.post_recv(vec![in alloc; 0u8; 4]?);
     stream.deliver(0, frame)?;
-    let step = work(&mut stream, &mut memory);
+    let step = work(&mut stream, &mut memory)?;
     Ok(format!(in alloc; "{step:?}")?)
 }
 

@@ -1,5 +1,5 @@
 //! Runs `iwarp` as two processes: with words it is `iwarp` itself; without any it starts itself with the words of
-//! each row, and prints what that wrote and how it ended.
+//! each row, and in scripts of the shell, and prints what that wrote and how it ended.
 #![tactic(auto)]
 
 use std::process::{Command, ExitCode, Processes, Stdio};
@@ -31,6 +31,61 @@ const ROWS: [&str; 20] = [
     "connect --port 1",
     "connect --port 1 --count 2",
 ];
+
+/// Scripts of the shell, in which `$0` is this program. Outputs that are full or closed; inputs that are closed or no file.
+const SCRIPTS: [&str; 10] = [
+    "echo 'a domain 1' | timeout 20 $0 replay > /dev/full",
+    "echo 'a domain 1' | timeout 20 $0 replay >&-",
+    "timeout 20 $0 replay <&-",
+    "timeout 20 $0 replay < /",
+    "timeout 20 $0 listen > /dev/full",
+    "timeout 20 $0 listen >&-",
+    "timeout 20 $0 connect --port 1 > /dev/full",
+    "timeout 20 $0 connect --port 1 >&-",
+    "timeout 20 $0 pair --program $0 --count 3 > /dev/full",
+    "timeout 20 $0 pair --program $0 --count 3 >&-",
+];
+
+/// The same with a listener, whose port is `$port`, and whose lines are in the file `$lines`.
+const LISTENING: &str =
+    "lines=$(mktemp); $0 listen > $lines & until [ -s $lines ]; do sleep 0.1; done; read word port < $lines; ";
+
+/// The listener goes away after its connection; and it is killed before it has one.
+const LISTENED: [&str; 2] = [
+    "timeout 20 $0 connect --port $port --count 3; echo $?; wait $!; echo $?; sed 1d $lines; rm $lines",
+    "kill -9 $!; wait $!; echo $?; rm $lines; timeout 20 $0 connect --port $port",
+];
+
+fn run_script<R: Runtime + AllocGlobal + Processes>(
+    rt: &R,
+    program: &str,
+    before: &str,
+    script: &str,
+) -> anyhow::Result<()> {
+    let whole = format!(in rt.alloc(); "{before}{script}")?;
+    let mut command = Command::new(rt.alloc(), "/bin/sh")?;
+    command.arg("-c")?;
+    command.arg(whole.as_str())?;
+    command.arg(program)?;
+    command.stdin(Stdio::null());
+    let output = command.output(rt)?;
+    println!(rt; "$ {script}")?;
+    let text = str::from_utf8(output.stdout.as_slice())?;
+    print!(rt; "{text}")?;
+    let status = output.status;
+    println!(rt; "{status}")?;
+    Ok(())
+}
+
+fn run_scripts<R: Runtime + AllocGlobal + Processes>(rt: &R, program: &str) -> anyhow::Result<()> {
+    for script in SCRIPTS {
+        run_script(rt, program, "", script)?;
+    }
+    for script in LISTENED {
+        run_script(rt, program, LISTENING, script)?;
+    }
+    Ok(())
+}
 
 fn run_row<R: Runtime + AllocGlobal + Processes>(rt: &R, row: &str) -> anyhow::Result<()> {
     let mut command = Command::new(rt.alloc(), SELF)?;
@@ -80,15 +135,18 @@ fn run_rows<R: Runtime + AllocGlobal + Processes>(rt: &R) -> anyhow::Result<()> 
     run_long(rt, 4_097)
 }
 
-fn main(rt: HostRuntime) -> ExitCode {
-    match std::env::args(&rt) {
-        Ok(words) if words.len() > 1 => ExitCode::from(iw_cli::run(&rt).code()),
-        _ => match run_rows(&rt) {
-            Ok(()) => ExitCode::SUCCESS,
-            Err(error) => {
-                let _ = eprintln!(rt; "{error}");
-                ExitCode::FAILURE
-            }
-        },
+fn run_all<R: Runtime + AllocGlobal + Processes>(rt: &R, program: &str) -> anyhow::Result<()> {
+    run_rows(rt)?;
+    run_scripts(rt, program)
+}
+
+fn main(rt: HostRuntime) -> anyhow::Result<ExitCode> {
+    let mut words = std::env::args(&rt)?;
+    match words.next() {
+        Some(program) if words.len() == 0 => {
+            run_all(&rt, program.as_str())?;
+            Ok(ExitCode::SUCCESS)
+        }
+        _ => Ok(ExitCode::from(iw_cli::run(&rt).code())),
     }
 }

@@ -23,9 +23,13 @@ const WRITABLE: Rights = Rights {
     invalidate: false,
 };
 
-fn plain() -> Config {
+// A Write of four octets behind a marker, at the stream place 512 (RFC 5044 4.1 to 4.3): it goes to offset 0 of the region
+// with the STag 01000000.
+const MARKED_WRITE: &[u8] = b"\0\0\0\0\0\x12\xc1\x40\x01\0\0\0\0\0\0\0\0\0\0\0text\0\0\0\0";
+
+fn config(markers: bool) -> Config {
     Config {
-        markers: false,
+        markers,
         crc: false,
         private: PrivateData::new(),
     }
@@ -40,9 +44,11 @@ fn endpoint<A: Allocator + Copy>(alloc: A) -> Result<Endpoint<A>, AllocError> {
     }
 }
 
-fn opens<A: Allocator + Copy>(endpoint: &mut Endpoint<A>) -> bool {
-    match endpoint.open(NUMBER, DOMAIN, Role::Preset, plain()) {
-        Err(OpenRefusal::NoMemory) => endpoint.open(NUMBER, DOMAIN, Role::Preset, plain()).is_ok(),
+fn opens<A: Allocator + Copy>(endpoint: &mut Endpoint<A>, markers: bool) -> bool {
+    match endpoint.open(NUMBER, DOMAIN, Role::Preset, config(markers)) {
+        Err(OpenRefusal::NoMemory) => endpoint
+            .open(NUMBER, DOMAIN, Role::Preset, config(markers))
+            .is_ok(),
         opened => opened.is_ok(),
     }
 }
@@ -77,10 +83,10 @@ fn posts_recv<A: Allocator>(endpoint: &mut Endpoint<A>, buffer: Vec<u8, A>) -> b
     }
 }
 
-fn takes<A: Allocator>(endpoint: &mut Endpoint<A>, octets: &[u8]) -> bool {
-    match endpoint.deliver(NUMBER, 0, octets) {
+fn takes<A: Allocator>(endpoint: &mut Endpoint<A>, from: u64, octets: &[u8]) -> bool {
+    match endpoint.deliver(NUMBER, from, octets) {
         Ok(_) => true,
-        Err(CallRefusal::Refused(AllocError)) => endpoint.deliver(NUMBER, 0, octets).is_ok(),
+        Err(CallRefusal::Refused(AllocError)) => endpoint.deliver(NUMBER, from, octets).is_ok(),
         Err(CallRefusal::NoSuchStream) => false,
     }
 }
@@ -134,7 +140,7 @@ fn sends<A: Allocator + Copy>(alloc: A, wire: &mut Vec<u8, A>) -> Result<bool, A
     };
     Ok(
         endpoint.add_domain(DOMAIN).is_ok()
-            && opens(&mut endpoint)
+            && opens(&mut endpoint, false)
             && posts(&mut endpoint, Request::Message(write))
             && posts(&mut endpoint, Request::Message(send))
             && emits(&mut endpoint, wire)
@@ -165,12 +171,64 @@ fn receives<A: Allocator + Copy>(alloc: A, wire: &[u8]) -> Result<bool, AllocErr
     };
     Ok(
         added
-            && opens(&mut endpoint)
+            && opens(&mut endpoint, false)
             && posts_recv(&mut endpoint, buffer(alloc)?)
-            && takes(&mut endpoint, wire)
+            && takes(&mut endpoint, 0, wire)
             && hands_out_text(&mut endpoint)
             && endpoint.local(stag) == Some(TEXT),
     )
+}
+
+// Whether a step placed octets; none where there was no memory.
+fn places_once<A: Allocator>(endpoint: &mut Endpoint<A>) -> Option<bool> {
+    match endpoint.in_order_point(NUMBER) {
+        Ok(point) if point <= MAX_PLACE => {}
+        _ => return Some(false),
+    }
+    match endpoint.work(NUMBER) {
+        Ok(Step::Placed { .. }) => Some(true),
+        Err(CallRefusal::Refused(AllocError)) => None,
+        _ => Some(false),
+    }
+}
+
+// Takes a frame that came whole before the octets in front of it: whether it was placed by one step and is not placed by
+// another, and what then stands in the region.
+fn places_early<A: Allocator + Copy>(alloc: A) -> Result<Early, AllocError> {
+    let mut endpoint = endpoint(alloc)?;
+    let added = endpoint.add_domain(DOMAIN).is_ok();
+    let Some(stag) = registers(&mut endpoint, buffer(alloc)?) else {
+        return Ok(Early::Not);
+    };
+    if !(added && opens(&mut endpoint, true) && takes(&mut endpoint, 512, MARKED_WRITE)) {
+        return Ok(Early::Not);
+    }
+    let first = places_once(&mut endpoint);
+    let is_untouched = endpoint.local(stag) == Some(&[0; 13]);
+    let is_placed = match first {
+        Some(placed) => placed,
+        None => is_untouched && places_once(&mut endpoint) == Some(true),
+    };
+    if is_placed
+        && places_once(&mut endpoint) == Some(false)
+        && endpoint.local(stag) == Some(b"text\0\0\0\0\0\0\0\0\0")
+    {
+        Ok(Early::Placed {
+            is_second: first.is_none(),
+        })
+    } else {
+        Ok(Early::Not)
+    }
+}
+
+// What came of it.
+#[derive(Clone, Copy, Debug, PartialEq, Eq)]
+enum Early {
+    Placed {
+        // The first step had no memory, and changed nothing.
+        is_second: bool,
+    },
+    Not,
 }
 
 #[test]
@@ -208,5 +266,24 @@ fn receiving_stands_each_refusal(rt: HostRuntime) -> Result<(), Fail> {
     }
     // At least the endpoint's two tables, two buffers, the region and its slot, the receive queue and the octets that came.
     assert!(rt; refusals >= 8);
+    Ok(())
+}
+
+// A step that judges a frame before its turn makes room for a record of it first.
+#[test]
+fn judging_early_stands_each_refusal(rt: HostRuntime) -> Result<(), Fail> {
+    let mut second_steps = 0u64;
+    for n in 0..100u64 {
+        let heap = FailsAt::new(rt.alloc(), n);
+        match places_early(&heap)? {
+            Early::Placed { is_second: true } => second_steps = second_steps.saturating_add(1),
+            Early::Placed { is_second: false } => {}
+            Early::Not => assert!(rt; false, "at allocation {n}"),
+        }
+        if !heap.has_refused() {
+            break;
+        }
+    }
+    assert!(rt; second_steps >= 1);
     Ok(())
 }

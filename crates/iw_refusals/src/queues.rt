@@ -27,7 +27,7 @@ fn post<A: Allocator>(queue: &mut SendQueue<A>, message: Request<Bytes<A>>) -> O
     }
 }
 
-// The ticket of the last of nine messages: a Send, and Reads behind it.
+// The ticket of the last of nine messages: a Send, and Reads after it.
 fn posted<A: Allocator>(queue: &mut SendQueue<A>) -> Option<u64> {
     let send = Message::Send {
         octets: Bytes::new(),

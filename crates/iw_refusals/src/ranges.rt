@@ -12,7 +12,7 @@ fn add<A: Allocator>(islands: &mut Islands<A>, place: u64) -> Result<(), AllocEr
     Ok(())
 }
 
-// Octets at the front, and eight islands behind them.
+// Octets at the front, and eight islands past them.
 fn came<A: Allocator + Copy>(alloc: A) -> Result<Islands<A>, AllocError> {
     let mut islands = match Islands::new(alloc) {
         Ok(islands) => islands,

@@ -1,9 +1,16 @@
 //! Replays the schedules of its folder, and compares what each writes and how it ends with what is expected of it.
 //!
-//! It prints a line for each schedule: `NAME: as written`, or what is not as written, with status 1.
+//! Then it refuses memory: to the replay each request in turn, which ends it; and to each call of the two endpoints each
+//! request in turn, after which the same call is made again, and the trace is the same.
+//!
+//! It prints a line for each schedule: `NAME: as written`, or what is not as written, with status 1; and a line for each
+//! call of an endpoint. On standard error it counts what was refused.
 #![tactic(auto)]
 
+mod refused;
+
 use iw_program::{ReplayFault, Status, replay};
+use refused::{Counts, each_refused, made_again};
 use std::alloc::{AllocError, Global};
 use std::fs;
 use std::process::ExitCode;
@@ -21,7 +28,7 @@ enum Ending {
 }
 
 /// The schedules, by the names of their files, `NAME.schedule`. The trace of one that has a trace is in `NAME.trace`.
-const ROWS: [(&str, Ending); 64] = [
+const ROWS: [(&str, Ending); 76] = [
     ("first", Ending::Completed),
     ("one-write", Ending::Completed),
     ("empty-messages", Ending::Completed),
@@ -50,6 +57,17 @@ const ROWS: [(&str, Ending); 64] = [
     ("start-up-octet-by-octet", Ending::Completed),
     ("start-up", Ending::Completed),
     ("many-segments", Ending::Completed),
+    ("a-frame-placed-before-its-turn", Ending::Completed),
+    ("a-placed-frame-is-not-checked-again", Ending::Faulted),
+    ("a-placed-frame-whose-region-is-gone", Ending::Faulted),
+    ("a-repeated-early-frame", Ending::Completed),
+    ("a-response-placed-before-its-turn", Ending::Completed),
+    ("a-tried-frame-is-judged-at-its-turn", Ending::Completed),
+    ("a-tried-frame-changes-no-memory", Ending::Completed),
+    ("a-frame-over-a-placed-one", Ending::Faulted),
+    ("a-placed-frame-behind-markers-that-agree", Ending::Faulted),
+    ("the-low-bits-of-a-pointer", Ending::Completed),
+    ("a-pointer-into-a-placed-frame", Ending::Completed),
     ("capture", Ending::Completed),
     ("reads", Ending::Faulted),
     ("a-seventeenth-read-waits", Ending::Completed),
@@ -75,6 +93,7 @@ const ROWS: [(&str, Ending); 64] = [
     ("every-fault-with-markers", Ending::Faulted),
     ("a-victim-among-attackers", Ending::Faulted),
     ("the-victim-alone", Ending::Completed),
+    ("what-is-too-long", Ending::Completed),
     ("options-out-of-order", Ending::Refused("line 1: BadOctets")),
     ("empty", Ending::Completed),
     ("unknown-word", Ending::Refused("line 2: BadWord")),
@@ -101,6 +120,10 @@ enum Difference {
     Line(usize),
     /// It ended in another way.
     Ended(Result<Status, ReplayFault>),
+    /// A replay that was refused memory did not end so, or wrote something.
+    Refused,
+    /// The trace is another one where calls that were refused memory are made again.
+    MadeAgain,
 }
 
 // What the replay has to write.
@@ -147,36 +170,94 @@ fn ends_so(
     })
 }
 
-fn compare<R: Runtime + AllocGlobal>(
-    rt: &R,
-    name: &str,
+fn compare(
+    alloc: Global,
+    schedule: &[u8],
+    trace: &[u8],
     ending: Ending,
-) -> anyhow::Result<Option<Difference>> {
-    let path = format!(in rt.alloc(); "{name}.schedule")?;
-    let mut input = fs::open(rt, path.as_str())?;
-    let mut written = Vec::new(rt.alloc());
-    let ended = replay(rt.alloc(), &mut input, &mut written);
-    let expected = expected(rt, name, ending)?;
-    if written.as_slice() != expected.as_slice() {
-        let line = first_difference(written.as_slice(), expected.as_slice());
+) -> Result<Option<Difference>, AllocError> {
+    let mut input = schedule;
+    let mut written = Vec::new(alloc);
+    let ended = replay(alloc, &mut input, &mut written);
+    if written.as_slice() != trace {
+        let line = first_difference(written.as_slice(), trace);
         return Ok(Some(Difference::Line(line)));
     }
-    if !ends_so(rt.alloc(), ended, ending)? {
+    if !ends_so(alloc, ended, ending)? {
         return Ok(Some(Difference::Ended(ended)));
     }
     Ok(None)
 }
 
+// The same where memory is refused.
+fn compare_refused<R: Runtime + AllocGlobal>(
+    rt: &R,
+    name: &str,
+    ending: Ending,
+    schedule: &[u8],
+    trace: &[u8],
+    counts: &mut Counts,
+) -> anyhow::Result<Option<Difference>> {
+    let Some(requests) = each_refused(rt.alloc(), schedule)? else {
+        return Ok(Some(Difference::Refused));
+    };
+    eprintln!(rt; "{name}: requests for memory 1 to {requests}")?;
+    if let Ending::Refused(_) = ending {
+        return Ok(None);
+    }
+    if !made_again(rt.alloc(), schedule, trace, counts)? {
+        return Ok(Some(Difference::MadeAgain));
+    }
+    Ok(None)
+}
+
+fn compare_row<R: Runtime + AllocGlobal>(
+    rt: &R,
+    name: &str,
+    ending: Ending,
+    counts: &mut Counts,
+) -> anyhow::Result<Option<Difference>> {
+    let path = format!(in rt.alloc(); "{name}.schedule")?;
+    let schedule = fs::read(rt, path.as_str())?;
+    let trace = expected(rt, name, ending)?;
+    let (schedule, trace) = (schedule.as_slice(), trace.as_slice());
+    match compare(rt.alloc(), schedule, trace, ending)? {
+        None => compare_refused(rt, name, ending, schedule, trace, counts),
+        difference => Ok(difference),
+    }
+}
+
+// Prints which calls were refused memory, and which take none. Returns whether each was made, and refused.
+fn print_calls<R: Runtime + AllocGlobal>(rt: &R, counts: &Counts) -> anyhow::Result<bool> {
+    let mut is_whole = true;
+    for (call, takes_memory, made, refused) in counts.each() {
+        let is_tried = made > 0 && (refused > 0 || !takes_memory);
+        let answer = match (is_tried, takes_memory) {
+            (true, true) => "refused memory, and made again",
+            (true, false) => "takes no memory",
+            (false, _) => "NOT TRIED",
+        };
+        println!(rt; "{call:?}: {answer}")?;
+        eprintln!(rt; "{call:?}: made {made} times, {refused} requests for memory refused")?;
+        is_whole = is_whole && is_tried;
+    }
+    Ok(is_whole)
+}
+
 fn run<R: Runtime + AllocGlobal>(rt: &R) -> anyhow::Result<ExitCode> {
     let mut code = ExitCode::SUCCESS;
+    let mut counts = Counts::new();
     for (name, ending) in &ROWS {
-        match compare(rt, name, *ending)? {
+        match compare_row(rt, name, *ending, &mut counts)? {
             None => println!(rt; "{name}: as written")?,
             Some(difference) => {
                 println!(rt; "{name}: not as written, {difference:?}")?;
                 code = ExitCode::FAILURE;
             }
         }
+    }
+    if !print_calls(rt, &counts)? {
+        code = ExitCode::FAILURE;
     }
     Ok(code)
 }

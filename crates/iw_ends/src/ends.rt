@@ -1,0 +1,98 @@
+use crate::meter::{Call, Heap, Meter, Stopped};
+use crate::side::Side;
+use bytes::Bytes;
+use iw_events::{Act, Call as EndCall, End, Entry, Event, StreamCall};
+
+/// Two ends, whose streams of one number are connected.
+#[derive(Drop)]
+pub struct Ends<'h> {
+    a: Side<'h>,
+    b: Side<'h>,
+    meter: Meter<'h>,
+}
+
+impl<'h> Ends<'h> {
+    /// Two ends with no domain, no region and no stream.
+    pub fn new(heap: Heap<'h>, is_refusing: bool) -> Result<Ends<'h>, Stopped> {
+        let mut meter = Meter::new(heap, is_refusing);
+        Ok(Ends {
+            a: Side::new(&mut meter)?,
+            b: Side::new(&mut meter)?,
+            meter,
+        })
+    }
+
+    /// How often a call was made, and how many of its requests for memory were refused.
+    pub fn counted(&self, call: Call) -> (u64, u64) {
+        self.meter.counted(call)
+    }
+
+    /// Makes one event happen.
+    pub fn happen(
+        &mut self,
+        event: &Event<Bytes<Heap<'h>>>,
+    ) -> Result<Entry<Bytes<Heap<'h>>>, Stopped> {
+        let act = match event.end {
+            End::A => act(&mut self.a, &self.b, &mut self.meter, &event.call)?,
+            End::B => act(&mut self.b, &self.a, &mut self.meter, &event.call)?,
+        };
+        Ok(Entry {
+            end: event.end,
+            act,
+        })
+    }
+
+    /// Gives up what was emitted on a stream and had its turn at the other end: it can't be delivered again.
+    pub fn forget(&mut self, number: u8) {
+        self.a.forget(number, &self.b);
+        self.b.forget(number, &self.a);
+    }
+}
+
+// Makes a call at an end.
+fn act<'h>(
+    end: &mut Side<'h>,
+    peer: &Side<'h>,
+    meter: &mut Meter<'h>,
+    call: &EndCall<Bytes<Heap<'h>>>,
+) -> Result<Act<Bytes<Heap<'h>>>, Stopped> {
+    match call {
+        EndCall::Domain { pd } => end.add_domain(meter, *pd),
+        EndCall::Register {
+            pd,
+            base,
+            rights,
+            octets,
+        } => end.register(meter, *pd, *base, *rights, octets),
+        EndCall::Deregister { stag } => end.deregister(meter, *stag),
+        EndCall::Invalidate { stag } => end.invalidate(meter, *stag),
+        EndCall::Store { stag, to, octets } => end.store(meter, *stag, *to, octets),
+        EndCall::Open {
+            stream,
+            pd,
+            role,
+            options,
+            private,
+        } => end.open(meter, *stream, *pd, *role, *options, private),
+        EndCall::Stream { stream, call } => act_at(end, peer, meter, *stream, call),
+    }
+}
+
+// Calls a stream of an end.
+fn act_at<'h>(
+    end: &mut Side<'h>,
+    peer: &Side<'h>,
+    meter: &mut Meter<'h>,
+    stream: u8,
+    call: &StreamCall<Bytes<Heap<'h>>>,
+) -> Result<Act<Bytes<Heap<'h>>>, Stopped> {
+    if !end.has_stream(stream) {
+        return Err(Stopped::NoSuchStream);
+    }
+    let came: &[u8] = match call {
+        StreamCall::Deliver { from, len } => peer.emitted(stream, *from, *len)?,
+        _ => &[],
+    };
+    let act = end.call(meter, stream, call, came)?;
+    Ok(Act::Stream { stream, act })
+}

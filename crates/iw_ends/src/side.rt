@@ -1,0 +1,529 @@
+//! One end: its endpoint, and what its streams emitted.
+
+use crate::copies::{message_in, private_data, shared, standing};
+use crate::meter::{Call, Heap, MOST_TRIES, Meter, Stopped};
+use crate::wire::Wire;
+use bytes::Bytes;
+use iw_endpoint::{
+    CallRefusal, Config, Delivery, Emission, Endpoint, NoSuchStream, Octets, OpenRefusal,
+    PostRefusal, RecvRefusal, RegisterRefusal, Request, Rights, Role, Stag, Step,
+};
+use iw_events::{Act, Options, Seen, Shown, StreamAct, StreamCall};
+use std::alloc::AllocError;
+
+const STREAM_NUMBERS: usize = 64;
+
+// `work` and `emit` ask that a stream has come no further.
+const MAX_PLACE: u64 = 1 << 62;
+
+#[derive(Drop)]
+pub(crate) struct Side<'h> {
+    endpoint: Endpoint<Heap<'h>>,
+    wires: Vec<Wire<'h>, Heap<'h>>,
+}
+
+type Answer<'h> = Result<Act<Bytes<Heap<'h>>>, Stopped>;
+
+type StreamAnswer<'h> = Result<StreamAct<Bytes<Heap<'h>>>, Stopped>;
+
+// A stream that has the number.
+fn there<T>(answer: Result<T, NoSuchStream>) -> Result<T, Stopped> {
+    answer.map_err(|_| Stopped::NoSuchStream)
+}
+
+fn endpoint<'h>(meter: &mut Meter<'h>) -> Result<Endpoint<Heap<'h>>, Stopped> {
+    for n in 0..MOST_TRIES {
+        meter.begin(n);
+        if let Ok(endpoint) = Endpoint::new(meter.heap()) {
+            meter.end(Call::New, n)?;
+            return Ok(endpoint);
+        }
+    }
+    Err(Stopped::Endless(Call::New))
+}
+
+impl<'h> Side<'h> {
+    pub(crate) fn new(meter: &mut Meter<'h>) -> Result<Side<'h>, Stopped> {
+        let endpoint = endpoint(meter)?;
+        let mut wires = Vec::with_capacity(meter.heap(), STREAM_NUMBERS)?;
+        for _ in 0..STREAM_NUMBERS {
+            wires.push(Wire::new(meter.heap()))?;
+        }
+        Ok(Side { endpoint, wires })
+    }
+
+    pub(crate) fn has_stream(&self, number: u8) -> bool {
+        self.endpoint.sent(number).is_ok()
+    }
+
+    /// The octets that a stream emitted, so many from a place on.
+    pub(crate) fn emitted(&self, number: u8, from: u64, len: u64) -> Result<&[u8], Stopped> {
+        let Some(wire) = self.wires.get(number as usize) else {
+            return Err(Stopped::NoSuchStream);
+        };
+        wire.part(from, len).ok_or(Stopped::NotSent)
+    }
+
+    /// The other end is done with what a stream emitted before this end's own in-order point.
+    pub(crate) fn forget(&mut self, number: u8, peer: &Side<'h>) {
+        if let (Ok(point), Some(wire)) = (
+            peer.endpoint.in_order_point(number),
+            self.wires.get_mut(number as usize),
+        ) {
+            wire.forget(point);
+        }
+    }
+
+    pub(crate) fn add_domain(&mut self, meter: &mut Meter<'h>, pd: u8) -> Answer<'h> {
+        meter.begin(0);
+        let refused = self.endpoint.add_domain(pd).err();
+        meter.end(Call::AddDomain, 0)?;
+        Ok(Act::Domain { pd, refused })
+    }
+
+    pub(crate) fn register(
+        &mut self,
+        meter: &mut Meter<'h>,
+        pd: u8,
+        base: u64,
+        rights: Rights,
+        octets: &Bytes<Heap<'h>>,
+    ) -> Answer<'h> {
+        let copy = Vec::from_slice(meter.heap(), octets.as_slice())?;
+        let answer = self.registered(meter, pd, base, rights, copy)?;
+        Ok(Act::Register {
+            pd,
+            base,
+            rights,
+            octets: octets.clone()?,
+            answer,
+        })
+    }
+
+    fn registered(
+        &mut self,
+        meter: &mut Meter<'h>,
+        pd: u8,
+        base: u64,
+        rights: Rights,
+        octets: Vec<u8, Heap<'h>>,
+    ) -> Result<Result<Stag, RegisterRefusal>, Stopped> {
+        let mut octets = octets;
+        for n in 0..MOST_TRIES {
+            meter.begin(n);
+            let answer = match self.endpoint.register(pd, base, octets, rights) {
+                Ok(stag) => Ok(stag),
+                Err((RegisterRefusal::NoMemory, back)) => {
+                    octets = back;
+                    continue;
+                }
+                Err((refusal, _)) => Err(refusal),
+            };
+            meter.end(Call::Register, n)?;
+            return Ok(answer);
+        }
+        Err(Stopped::Endless(Call::Register))
+    }
+
+    pub(crate) fn deregister(&mut self, meter: &mut Meter<'h>, stag: Stag) -> Answer<'h> {
+        meter.begin(0);
+        let answer = self.endpoint.deregister(stag);
+        meter.end(Call::Deregister, 0)?;
+        let answer = match answer {
+            Ok(octets) => Ok(Bytes::from_vec(octets)?),
+            Err(missing) => Err(missing),
+        };
+        Ok(Act::Deregister { stag, answer })
+    }
+
+    pub(crate) fn invalidate(&mut self, meter: &mut Meter<'h>, stag: Stag) -> Answer<'h> {
+        meter.begin(0);
+        let refused = self.endpoint.invalidate(stag).err();
+        meter.end(Call::Invalidate, 0)?;
+        Ok(Act::Invalidate { stag, refused })
+    }
+
+    pub(crate) fn store(
+        &mut self,
+        meter: &mut Meter<'h>,
+        stag: Stag,
+        to: u64,
+        octets: &Bytes<Heap<'h>>,
+    ) -> Answer<'h> {
+        let copy = octets.clone()?;
+        meter.begin(0);
+        let refused = self.endpoint.store(stag, to, octets.as_slice()).err();
+        meter.end(Call::Store, 0)?;
+        Ok(Act::Store {
+            stag,
+            to,
+            octets: copy,
+            refused,
+        })
+    }
+
+    pub(crate) fn open(
+        &mut self,
+        meter: &mut Meter<'h>,
+        stream: u8,
+        pd: u8,
+        role: Role,
+        options: Options,
+        private: &Bytes<Heap<'h>>,
+    ) -> Answer<'h> {
+        let copy = private.clone()?;
+        for n in 0..MOST_TRIES {
+            let config = Config {
+                markers: options.markers,
+                crc: options.crc,
+                private: private_data(private.as_slice()),
+            };
+            meter.begin(n);
+            let opened = self.endpoint.open(stream, pd, role, config);
+            if opened == Err(OpenRefusal::NoMemory) {
+                continue;
+            }
+            meter.end(Call::Open, n)?;
+            return Ok(Act::Open {
+                stream,
+                pd,
+                role,
+                options,
+                private: copy,
+                refused: opened.err(),
+            });
+        }
+        Err(Stopped::Endless(Call::Open))
+    }
+
+    /// Calls a stream; `came` are the octets that it delivers.
+    pub(crate) fn call(
+        &mut self,
+        meter: &mut Meter<'h>,
+        number: u8,
+        call: &StreamCall<Bytes<Heap<'h>>>,
+        came: &[u8],
+    ) -> StreamAnswer<'h> {
+        match call {
+            StreamCall::Recv { len } => self.recv(meter, number, *len),
+            StreamCall::Post { message } => self.post(meter, number, message),
+            StreamCall::Emit => Ok(StreamAct::Emit(self.emit(meter, number)?)),
+            StreamCall::Deliver { from, .. } => Ok(StreamAct::Deliver {
+                from: *from,
+                octets: Bytes::copy_from_slice(meter.heap(), came)?,
+                delivery: self.deliver(meter, number, *from, came)?,
+            }),
+            StreamCall::Raw { from, octets } => Ok(StreamAct::Raw {
+                from: *from,
+                octets: octets.clone()?,
+                delivery: self.deliver(meter, number, *from, octets.as_slice())?,
+            }),
+            StreamCall::Mulpdu { size } => self.mulpdu(meter, number, *size),
+            StreamCall::Accept { private } => self.accept(meter, number, private),
+            StreamCall::Reject { private } => self.reject(meter, number, private),
+            StreamCall::Work => Ok(StreamAct::Work(self.see(meter, number)?)),
+            StreamCall::Break => self.break_link(meter, number),
+        }
+    }
+
+    fn recv(&mut self, meter: &mut Meter<'h>, number: u8, len: u32) -> StreamAnswer<'h> {
+        let mut buffer = vec![in meter.heap(); 0; len as usize]?;
+        for n in 0..MOST_TRIES {
+            meter.begin(n);
+            let refused = match self.endpoint.post_recv(number, buffer) {
+                Ok(()) => None,
+                Err((CallRefusal::Refused(RecvRefusal::NoMemory), back)) => {
+                    buffer = back;
+                    continue;
+                }
+                Err((CallRefusal::Refused(refusal), _)) => Some(refusal),
+                Err((CallRefusal::NoSuchStream, _)) => return Err(Stopped::NoSuchStream),
+            };
+            meter.end(Call::PostRecv, n)?;
+            return Ok(StreamAct::Recv { len, refused });
+        }
+        Err(Stopped::Endless(Call::PostRecv))
+    }
+
+    fn post(
+        &mut self,
+        meter: &mut Meter<'h>,
+        number: u8,
+        message: &Request<Bytes<Heap<'h>>>,
+    ) -> StreamAnswer<'h> {
+        let call = Call::posting(message);
+        let mut request = shared(message)?;
+        for n in 0..MOST_TRIES {
+            meter.begin(n);
+            let refused = match self.endpoint.post(number, request) {
+                Ok(()) => None,
+                Err((CallRefusal::Refused(PostRefusal::NoMemory), back)) => {
+                    request = back;
+                    continue;
+                }
+                Err((CallRefusal::Refused(refusal), _)) => Some(refusal),
+                Err((CallRefusal::NoSuchStream, _)) => return Err(Stopped::NoSuchStream),
+            };
+            meter.end(call, n)?;
+            return Ok(StreamAct::Post {
+                message: shared(message)?,
+                refused,
+            });
+        }
+        Err(Stopped::Endless(call))
+    }
+
+    fn deliver(
+        &mut self,
+        meter: &mut Meter<'h>,
+        number: u8,
+        from: u64,
+        octets: &[u8],
+    ) -> Result<Delivery, Stopped> {
+        for n in 0..MOST_TRIES {
+            meter.begin(n);
+            match self.endpoint.deliver(number, from, octets) {
+                Ok(delivery) => {
+                    meter.end(Call::Deliver, n)?;
+                    return Ok(delivery);
+                }
+                Err(CallRefusal::Refused(AllocError)) => {}
+                Err(CallRefusal::NoSuchStream) => return Err(Stopped::NoSuchStream),
+            }
+        }
+        Err(Stopped::Endless(Call::Deliver))
+    }
+
+    // Emits what is due, behind what was emitted.
+    fn emission(&mut self, meter: &mut Meter<'h>, number: u8) -> Result<Emission, Stopped> {
+        let Some(wire) = self.wires.get_mut(number as usize) else {
+            return Err(Stopped::NoSuchStream);
+        };
+        for n in 0..MOST_TRIES {
+            match self.endpoint.sent(number) {
+                Ok(sent) if sent <= MAX_PLACE => {}
+                _ => return Err(Stopped::NoSuchStream),
+            }
+            meter.begin(n);
+            match self.endpoint.emit(number, &mut wire.octets) {
+                Ok(emission) => {
+                    meter.end(Call::Emit, n)?;
+                    return Ok(emission);
+                }
+                Err(CallRefusal::Refused(AllocError)) => {}
+                Err(CallRefusal::NoSuchStream) => return Err(Stopped::NoSuchStream),
+            }
+        }
+        Err(Stopped::Endless(Call::Emit))
+    }
+
+    fn emit(
+        &mut self,
+        meter: &mut Meter<'h>,
+        number: u8,
+    ) -> Result<Shown<Bytes<Heap<'h>>>, Stopped> {
+        let emission = self.emission(meter, number)?;
+        match emission {
+            Emission::Frame { from, len } => Ok(Shown::Frame {
+                from,
+                octets: self.frame(meter, number, from, len)?,
+            }),
+            Emission::Fetched {
+                from,
+                len,
+                stag,
+                to,
+                n,
+            } => Ok(Shown::Fetched {
+                from,
+                frame: self.frame(meter, number, from, len)?,
+                stag,
+                to,
+                octets: standing(meter.heap(), self.endpoint.memory(), stag, to, n)?,
+            }),
+            Emission::Fault(fault) => Ok(Shown::Fault(fault)),
+            Emission::Nothing => Ok(Shown::Nothing),
+        }
+    }
+
+    fn frame(
+        &self,
+        meter: &Meter<'h>,
+        number: u8,
+        from: u64,
+        len: usize,
+    ) -> Result<Bytes<Heap<'h>>, Stopped> {
+        let octets = self.emitted(number, from, len as u64)?;
+        Ok(Bytes::copy_from_slice(meter.heap(), octets)?)
+    }
+
+    fn mulpdu(&mut self, meter: &mut Meter<'h>, number: u8, size: u32) -> StreamAnswer<'h> {
+        meter.begin(0);
+        let answer = self.endpoint.set_mulpdu(number, size);
+        meter.end(Call::SetMulpdu, 0)?;
+        match answer {
+            Ok(()) => Ok(StreamAct::Mulpdu {
+                size,
+                refused: None,
+            }),
+            Err(CallRefusal::Refused(refusal)) => Ok(StreamAct::Mulpdu {
+                size,
+                refused: Some(refusal),
+            }),
+            Err(CallRefusal::NoSuchStream) => Err(Stopped::NoSuchStream),
+        }
+    }
+
+    fn accept(
+        &mut self,
+        meter: &mut Meter<'h>,
+        number: u8,
+        private: &Bytes<Heap<'h>>,
+    ) -> StreamAnswer<'h> {
+        let copy = private.clone()?;
+        meter.begin(0);
+        let answer = self
+            .endpoint
+            .accept(number, private_data(private.as_slice()));
+        meter.end(Call::Accept, 0)?;
+        let answer = match answer {
+            Ok(agreed) => Ok(agreed),
+            Err(CallRefusal::Refused(refusal)) => Err(refusal),
+            Err(CallRefusal::NoSuchStream) => return Err(Stopped::NoSuchStream),
+        };
+        Ok(StreamAct::Accept {
+            private: copy,
+            answer,
+        })
+    }
+
+    fn reject(
+        &mut self,
+        meter: &mut Meter<'h>,
+        number: u8,
+        private: &Bytes<Heap<'h>>,
+    ) -> StreamAnswer<'h> {
+        let copy = private.clone()?;
+        meter.begin(0);
+        let answer = self
+            .endpoint
+            .reject(number, private_data(private.as_slice()));
+        meter.end(Call::Reject, 0)?;
+        let refused = match answer {
+            Ok(()) => None,
+            Err(CallRefusal::Refused(refusal)) => Some(refusal),
+            Err(CallRefusal::NoSuchStream) => return Err(Stopped::NoSuchStream),
+        };
+        Ok(StreamAct::Reject {
+            private: copy,
+            refused,
+        })
+    }
+
+    // Does one step.
+    fn work(
+        &mut self,
+        meter: &mut Meter<'h>,
+        number: u8,
+    ) -> Result<Step<Octets<Heap<'h>>>, Stopped> {
+        for n in 0..MOST_TRIES {
+            match self.endpoint.in_order_point(number) {
+                Ok(point) if point <= MAX_PLACE => {}
+                _ => return Err(Stopped::NoSuchStream),
+            }
+            meter.begin(n);
+            match self.endpoint.work(number) {
+                Ok(step) => {
+                    meter.end(Call::Work, n)?;
+                    return Ok(step);
+                }
+                Err(CallRefusal::Refused(AllocError)) => {}
+                Err(CallRefusal::NoSuchStream) => return Err(Stopped::NoSuchStream),
+            }
+        }
+        Err(Stopped::Endless(Call::Work))
+    }
+
+    // The private data of the peer's start-up frame.
+    fn private(&self, meter: &mut Meter<'h>, number: u8) -> Result<Bytes<Heap<'h>>, Stopped> {
+        meter.begin(0);
+        let private = self.endpoint.private(number);
+        meter.end(Call::Private, 0)?;
+        let octets = there(private)?;
+        Ok(Bytes::copy_from_slice(meter.heap(), octets)?)
+    }
+
+    // The octets of a region where some were placed.
+    fn placed(
+        &self,
+        meter: &mut Meter<'h>,
+        stag: Stag,
+        to: u64,
+        len: usize,
+    ) -> Result<Bytes<Heap<'h>>, Stopped> {
+        meter.begin(0);
+        let is_there = self.endpoint.local(stag).is_some() && self.endpoint.facts(stag).is_some();
+        meter.end(Call::Local, 0)?;
+        if is_there {
+            Ok(standing(meter.heap(), self.endpoint.memory(), stag, to, len)?)
+        } else {
+            Ok(Bytes::new())
+        }
+    }
+
+    // Does one step, and shows it.
+    fn see(&mut self, meter: &mut Meter<'h>, number: u8) -> Result<Seen<Bytes<Heap<'h>>>, Stopped> {
+        match self.work(meter, number)? {
+            Step::Done(kind) => Ok(Seen::Done(kind)),
+            Step::Flushed(kind) => Ok(Seen::Flushed(kind)),
+            Step::FlushedRecv(buffer) => {
+                let len = buffer.len();
+                Ok(Seen::FlushedRecv(message_in(buffer, len)?))
+            }
+            Step::Asked => Ok(Seen::Asked {
+                private: self.private(meter, number)?,
+            }),
+            Step::Opened(agreed) => Ok(Seen::Opened {
+                agreed,
+                private: self.private(meter, number)?,
+            }),
+            Step::Closed(fault) => Ok(Seen::Closed(fault)),
+            Step::Placed {
+                right,
+                stag,
+                to,
+                len,
+            } => Ok(Seen::Placed {
+                right,
+                stag,
+                to,
+                octets: self.placed(meter, stag, to, len)?,
+            }),
+            Step::Buffered { msn, mo, len } => Ok(Seen::Buffered { msn, mo, len }),
+            Step::Requested { size, stag, to } => Ok(Seen::Requested { size, stag, to }),
+            Step::Passed => Ok(Seen::Passed),
+            Step::Tried(place) => Ok(Seen::Tried(place)),
+            Step::Received {
+                buffer,
+                len,
+                solicited,
+                invalidate,
+            } => Ok(Seen::Received {
+                octets: message_in(buffer, len)?,
+                solicited,
+                invalidate,
+            }),
+            Step::Terminated(fault) => Ok(Seen::Terminated(fault)),
+            Step::Fault(fault) => Ok(Seen::Fault(fault)),
+            Step::Idle => Ok(Seen::Idle),
+        }
+    }
+
+    fn break_link(&mut self, meter: &mut Meter<'h>, number: u8) -> StreamAnswer<'h> {
+        meter.begin(0);
+        let answer = self.endpoint.break_link(number);
+        meter.end(Call::BreakLink, 0)?;
+        there(answer)?;
+        Ok(StreamAct::Break)
+    }
+}
