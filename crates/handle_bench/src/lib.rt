@@ -1,0 +1,85 @@
+//! What bench/c calls: the same calls on an endpoint as it makes through the C interface, from Rattle.
+#![tactic(auto)]
+
+use iw_endpoint::{Config, Endpoint, PrivateData, Rights, Role, Step};
+use std::alloc::Global;
+
+// `work` asks that a stream has come no further.
+const MAX_PLACE: u64 = 1 << 62;
+
+const STREAM: u8 = 0;
+
+const WRITES: Rights = Rights {
+    write: true,
+    read: false,
+    sink: false,
+    invalidate: false,
+};
+
+// An endpoint with an open stream, and a region of zero octets that peers may write.
+fn opened(alloc: Global, octets: usize) -> Option<Endpoint> {
+    let mut endpoint = Endpoint::new(alloc).ok()?;
+    let _ = endpoint.add_domain(1);
+    let region = Vec::from_elem(alloc, 0u8, octets).ok()?;
+    let _ = endpoint.register(1, 0, region, WRITES);
+    let config = Config {
+        markers: false,
+        crc: false,
+        private: PrivateData::new(),
+    };
+    let _ = endpoint.open(STREAM, 1, Role::Preset, config);
+    Some(endpoint)
+}
+
+// Does one step, and tells whether there was anything to do.
+fn step(endpoint: &mut Endpoint) -> bool {
+    match endpoint.in_order_point(STREAM) {
+        Ok(point) if point <= MAX_PLACE => {}
+        _ => return false,
+    }
+    match endpoint.work(STREAM) {
+        Ok(Step::Idle) | Err(_) => false,
+        Ok(_) => true,
+    }
+}
+
+// Works until there is nothing to do, and counts the steps.
+fn work(endpoint: &mut Endpoint) -> u64 {
+    for steps in 0..1_000_000u64 {
+        if !step(endpoint) {
+            return steps;
+        }
+    }
+    1_000_000
+}
+
+/// Calls `work` so often where there is nothing to do. It counts the steps that did anything.
+#[unsafe(no_mangle)]
+pub extern "C" fn handle_bench_idle(alloc: Global, calls: u64) -> u64 {
+    let Some(mut endpoint) = opened(alloc, 0) else {
+        return 0;
+    };
+    let mut steps = 0u64;
+    for _ in 0..calls {
+        if step(&mut endpoint) {
+            steps = steps.wrapping_add(1);
+        }
+    }
+    steps
+}
+
+/// Delivers the frames of a Write so often, one after another, and works each off. It counts the steps.
+#[unsafe(no_mangle)]
+pub extern "C" fn handle_bench_write(alloc: Global, frames: &[u8], writes: u64) -> u64 {
+    let Some(mut endpoint) = opened(alloc, 65_536) else {
+        return 0;
+    };
+    let mut steps = 0u64;
+    let mut came = 0u64;
+    for _ in 0..writes {
+        let _ = endpoint.deliver(STREAM, came, frames);
+        came = came.wrapping_add(frames.len() as u64);
+        steps = steps.wrapping_add(work(&mut endpoint));
+    }
+    steps
+}

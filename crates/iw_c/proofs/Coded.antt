@@ -1,0 +1,16 @@
+-- What a refusal's code tells.
+use Rattle.std.proofs.Common.{◌≡◌, ℤ, pos, Option, Some, None, Ok, Err, ap, ◌∙◌, ◌⊎◌, inl, inr}
+use Rattle.std.specs.Prelude.{Result, IfSome, IfNone, IfErr}
+use Rattle.std.specs.Result.{result_err}
+use Rattle.iw_handle.specs.declared.refusal.Refusal.{Refusal}
+use Rattle.iw_handle.specs.declared.refusal.Refusal.TheVariants.{NoMemory}
+use Rattle.iw_handle.specs.Refusals.{code_of, refusal_code}
+
+pub coded_refusal : {A : Type 0} (o : Option Refusal) (r : Result A Refusal) (n : ℤ) → IfSome o (λ x. r ≡ Err x) → n ≡ pos (code_of (result_err r)) → IfSome o (λ x. n ≡ pos (refusal_code x))
+coded_refusal None r n refused is = tt
+coded_refusal (Some x) r n refused is = is ∙ ap (λ q. pos (code_of (result_err q))) refused
+
+pub coded_memory : {A : Type 0} (o : Option Refusal) (r : Result A Refusal) (n : ℤ) → IfNone o (IfErr r (λ e. e ≡ NoMemory)) → n ≡ pos (code_of (result_err r)) → IfNone o ((n ≡ pos 0) ⊎ (n ≡ pos 3))
+coded_memory None (Ok x) n memory is = inl is
+coded_memory None (Err e) n memory is = inr (is ∙ ap (λ x. pos (refusal_code x)) memory)
+coded_memory (Some x) r n memory is = tt

@@ -1,0 +1,108 @@
+// Octets that come and go.
+ghost use Rattle.std.specs.Prelude.{◌≡◌, ◌≢◌, ◌⊎◌, pos, Some, length, IfSome, IfNone};
+ghost use Rattle.iw_endpoint.specs.Endpoint.{delivery_at, after_deliver, step_at, emission_at, after_emit};
+ghost use Rattle.iw_handle.specs.Events.{kept_number, event_at, emitted_of, IsFrame};
+ghost use Rattle.iw_handle.specs.Refusals.{code_of, refusal_code};
+ghost use Rattle.iw_handle.specs.State.{refusal_in, changed, told_in, shown_in, stream_refusal};
+ghost use Rattle.iw_handle.specs.State.{copy_refusal, filled, length_told};
+ghost use Rattle.iw_handle.specs.Streams.{refusal_to_work, refusal_to_emit, due_shown};
+ghost use Rattle.iw_handle.specs.Streams.{BringsAt, TriesAt, worked, handed_in, fetched};
+ghost use Rattle.iw_handle.specs.declared.refusal.Refusal.TheVariants.{Closed};
+
+use iw_handle::{Emitted, Event, Handle, code, kept_number};
+use std::alloc::Global;
+
+/// Takes octets that came on a stream's connection, the first of them at the stream place `from`, and tells whether they
+/// are kept (1) or dropped (0).
+#[unsafe(no_mangle)]
+pub extern "C" fn iwarp_deliver(
+    alloc: Global,
+    handle: &mut Handle,
+    number: u8,
+    from: u64,
+    octets: &[u8],
+    kept: &mut u32,
+) -> i32
+    ensures refused { IfSome (refusal_in handle.old.state (λ e. stream_refusal e number)) (λ r. result ≡ pos (refusal_code r)) }
+    ensures memory { IfNone (refusal_in handle.old.state (λ e. stream_refusal e number)) ((result ≡ pos 0) ⊎ (result ≡ pos 3)) }
+    ensures want { IfSome handle.old.state (λ held. result ≡ pos 3 → BringsAt held.endpoint number from (length octets.now)) }
+    ensures delivery { result ≡ pos 0 → Some kept.new ≡ told_in handle.old.state (λ e. kept_number (delivery_at e number from (length octets.now))) }
+    ensures kept { result ≢ pos 0 → kept.new ≡ kept.old }
+    ensures ok { result ≡ pos 0 → handle.new.state ≡ changed handle.old.state (λ e. after_deliver e number from octets.now) }
+    ensures err { result ≢ pos 0 → handle.new.state ≡ handle.old.state }
+{
+    let done = handle.deliver(alloc, number, from, octets);
+    if let Ok(delivery) = done {
+        *kept = kept_number(delivery);
+    }
+    code(done.err())
+}
+
+/// Does one step at a stream, and tells it in numbers.
+#[unsafe(no_mangle)]
+pub extern "C" fn iwarp_work(
+    alloc: Global,
+    handle: &mut Handle,
+    number: u8,
+    event: &mut Event,
+) -> i32
+    ensures refused { IfSome (refusal_in handle.old.state (λ e. refusal_to_work e number)) (λ r. result ≡ pos (refusal_code r)) }
+    ensures memory { IfNone (refusal_in handle.old.state (λ e. refusal_to_work e number)) ((result ≡ pos 0) ⊎ (result ≡ pos 3)) }
+    ensures want { result ≡ pos 3 → IfSome handle.old.state (λ held. TriesAt held.endpoint number) }
+    ensures event { result ≡ pos 0 → Some event.new ≡ told_in handle.old.state (λ e. event_at (step_at e number)) }
+    ensures kept { result ≢ pos 0 → event.new ≡ event.old }
+    ensures ok { result ≡ pos 0 → handle.new.state ≡ worked handle.old.state number }
+    ensures err { result ≢ pos 0 → handle.new.state ≡ handle.old.state }
+{
+    let done = handle.work(alloc, number);
+    if let Ok(told) = done {
+        *event = told;
+    }
+    code(done.err())
+}
+
+/// Copies to the front of a buffer what `work` handed back last, which is then no longer kept.
+#[unsafe(no_mangle)]
+pub extern "C" fn iwarp_fetch(
+    alloc: Global,
+    handle: &mut Handle,
+    out: &mut [u8],
+    len: &mut usize,
+) -> i32
+    ensures code { result ≡ pos (code_of (copy_refusal (handed_in handle.old.state) Closed (length out.old))) }
+    ensures len { len.new ≡ length_told (handed_in handle.old.state) len.old }
+    ensures octets { result ≡ pos 0 → out.new ≡ filled (handed_in handle.old.state) out.old }
+    ensures kept { result ≢ pos 0 → out.new ≡ out.old }
+    ensures ok { result ≡ pos 0 → handle.new.state ≡ fetched handle.old.state }
+    ensures err { result ≢ pos 0 → handle.new.state ≡ handle.old.state }
+{
+    code(handle.fetch(alloc, out, len).err())
+}
+
+/// Emits what is due at a stream to the front of a buffer, and tells it in numbers.
+#[unsafe(no_mangle)]
+pub extern "C" fn iwarp_emit(
+    alloc: Global,
+    handle: &mut Handle,
+    number: u8,
+    out: &mut [u8],
+    len: &mut usize,
+    emitted: &mut Emitted,
+) -> i32
+    ensures refused { IfSome (refusal_in handle.old.state (λ e. refusal_to_emit e number (length out.old))) (λ r. result ≡ pos (refusal_code r)) }
+    ensures memory { IfNone (refusal_in handle.old.state (λ e. refusal_to_emit e number (length out.old))) ((result ≡ pos 0) ⊎ (result ≡ pos 3)) }
+    ensures want { result ≡ pos 3 → IfSome handle.old.state (λ held. IsFrame (emission_at held.endpoint number)) }
+    ensures len { len.new ≡ length_told (shown_in handle.old.state (λ e. due_shown e number)) len.old }
+    ensures emitted { result ≡ pos 0 → Some emitted.new ≡ told_in handle.old.state (λ e. emitted_of (emission_at e number)) }
+    ensures untold { result ≢ pos 0 → emitted.new ≡ emitted.old }
+    ensures octets { result ≡ pos 0 → out.new ≡ filled (shown_in handle.old.state (λ e. due_shown e number)) out.old }
+    ensures kept { result ≢ pos 0 → out.new ≡ out.old }
+    ensures ok { result ≡ pos 0 → handle.new.state ≡ changed handle.old.state (λ e. after_emit e number) }
+    ensures err { result ≢ pos 0 → handle.new.state ≡ handle.old.state }
+{
+    let done = handle.emit(alloc, number, out, len);
+    if let Ok(told) = done {
+        *emitted = told;
+    }
+    code(done.err())
+}

@@ -1,0 +1,7 @@
+pub mod Ownership
+pub mod Refusals
+pub mod State
+pub mod Words
+pub mod Regions
+pub mod Streams
+pub mod Events

@@ -1,0 +1,104 @@
+-- Why calls are refused, and the numbers that C is given.
+use Rattle.std.specs.Prelude.{◌≡◌, ℕ, Option, None, Some}
+use Rattle.iw_memory.specs.declared.refusal.DomainRefusal.{DomainRefusal}
+use Rattle.iw_memory.specs.declared.refusal.DomainRefusal.TheVariants as domain
+use Rattle.iw_memory.specs.declared.refusal.RegisterRefusal.{RegisterRefusal}
+use Rattle.iw_memory.specs.declared.refusal.RegisterRefusal.TheVariants as register
+use Rattle.iw_memory.specs.declared.refusal.StoreRefusal.{StoreRefusal}
+use Rattle.iw_memory.specs.declared.refusal.StoreRefusal.TheVariants as store
+use Rattle.iw_startup.specs.declared.startup.NotAsked.{NotAsked as Unasked}
+use Rattle.iw_stream.specs.declared.answer.OpenRefusal.{OpenRefusal}
+use Rattle.iw_stream.specs.declared.answer.OpenRefusal.TheVariants as opening
+use Rattle.iw_stream.specs.declared.answer.PostRefusal.{PostRefusal}
+use Rattle.iw_stream.specs.declared.answer.PostRefusal.TheVariants as post
+use Rattle.iw_stream.specs.declared.answer.RecvRefusal.{RecvRefusal}
+use Rattle.iw_stream.specs.declared.answer.RecvRefusal.TheVariants as recv
+use Rattle.iw_stream.specs.declared.answer.SizeRefusal.{SizeRefusal}
+use Rattle.iw_stream.specs.declared.answer.SizeRefusal.TheVariants as size
+use Rattle.iw_endpoint.specs.declared.refusal.CallRefusal.{CallRefusal}
+use Rattle.iw_endpoint.specs.declared.refusal.CallRefusal.TheVariants as call
+use Rattle.iw_handle.specs.declared.refusal.Refusal.{Refusal}
+use Rattle.iw_handle.specs.declared.refusal.Refusal.TheVariants.{Closed, AlreadyOpen, NoMemory, NoRoom, NoSuchStream, NoRegion, Outside, BadDomain, DomainTaken, NoDomain, DomainFull, RegionTooLong, BaseWrap, NumberTaken, BadNumber, BadRole, PrivateTooLong, NotAsked, NotOpen, MessagesFull, MessageTooLong, BuffersFull, Ended, BadSize, TooFar}
+
+-- ---- the endpoint's refusals
+
+abbrev pub domain_reason : DomainRefusal → Refusal
+domain_reason domain.BadDomain = BadDomain
+domain_reason domain.DomainTaken = DomainTaken
+domain_reason domain.NoMemory = NoMemory
+
+abbrev pub register_reason : RegisterRefusal → Refusal
+register_reason register.NoDomain = NoDomain
+register_reason register.DomainFull = DomainFull
+register_reason register.TooLong = RegionTooLong
+register_reason register.BaseWrap = BaseWrap
+register_reason register.NoMemory = NoMemory
+
+abbrev pub store_reason : StoreRefusal → Refusal
+store_reason store.NoRegion = NoRegion
+store_reason store.Outside = Outside
+
+abbrev pub open_reason : OpenRefusal → Refusal
+open_reason opening.NumberTaken = NumberTaken
+open_reason opening.BadNumber = BadNumber
+open_reason opening.NoDomain = NoDomain
+open_reason opening.NoMemory = NoMemory
+
+abbrev pub answer_reason : CallRefusal Unasked → Refusal
+answer_reason call.NoSuchStream = NoSuchStream
+answer_reason (call.Refused r) = NotAsked
+
+abbrev pub post_reason : CallRefusal PostRefusal → Refusal
+post_reason call.NoSuchStream = NoSuchStream
+post_reason (call.Refused post.Full) = MessagesFull
+post_reason (call.Refused post.TooLong) = MessageTooLong
+post_reason (call.Refused post.NotOpen) = NotOpen
+post_reason (call.Refused post.NoMemory) = NoMemory
+
+abbrev pub recv_reason : CallRefusal RecvRefusal → Refusal
+recv_reason call.NoSuchStream = NoSuchStream
+recv_reason (call.Refused recv.Full) = BuffersFull
+recv_reason (call.Refused recv.Ended) = Ended
+recv_reason (call.Refused recv.NoMemory) = NoMemory
+
+abbrev pub size_reason : CallRefusal SizeRefusal → Refusal
+size_reason call.NoSuchStream = NoSuchStream
+size_reason (call.Refused size.BadSize) = BadSize
+
+-- ---- codes
+
+abbrev pub refusal_code : Refusal → ℕ
+refusal_code Closed = 1
+refusal_code AlreadyOpen = 2
+refusal_code NoMemory = 3
+refusal_code NoRoom = 4
+refusal_code NoSuchStream = 5
+refusal_code NoRegion = 6
+refusal_code Outside = 7
+refusal_code BadDomain = 8
+refusal_code DomainTaken = 9
+refusal_code NoDomain = 10
+refusal_code DomainFull = 11
+refusal_code RegionTooLong = 12
+refusal_code BaseWrap = 13
+refusal_code NumberTaken = 14
+refusal_code BadNumber = 15
+refusal_code BadRole = 16
+refusal_code PrivateTooLong = 17
+refusal_code NotAsked = 18
+refusal_code NotOpen = 19
+refusal_code MessagesFull = 20
+refusal_code MessageTooLong = 21
+refusal_code BuffersFull = 22
+refusal_code Ended = 23
+refusal_code BadSize = 24
+refusal_code TooFar = 25
+
+-- 0 where nothing was refused
+abbrev pub code_of : Option Refusal → ℕ
+code_of None = 0
+code_of (Some r) = refusal_code r
+
+-- no two refusals have one code
+abbrev pub CodesAreDistinct : Type 0
+CodesAreDistinct = (a b : Refusal) → refusal_code a ≡ refusal_code b → a ≡ b

@@ -1,0 +1,50 @@
+-- What the numbers mean that C passes.
+use Rattle.std.specs.Prelude.{ℕ, ◌/◌, ◌%◌, ◌==◌, nat_lt, Bool, List, if◌then◌else◌, Option, None, Some, unwrap_or}
+use Rattle.arrayvec.specs.ArrayVec.{ArrayVec}
+use Rattle.iw_octets.specs.declared.stag.Stag.{Stag}
+use Rattle.iw_octets.specs.declared.payload.ReadRequest.{ReadRequest}
+use Rattle.iw_octets.specs.Stag.{stag_of}
+use Rattle.iw_memory.specs.declared.rights.Rights.{Rights}
+use Rattle.iw_startup.specs.declared.config.Config.{Config}
+use Rattle.iw_stream.specs.declared.answer.Role.{Role}
+use Rattle.iw_stream.specs.declared.answer.Role.TheVariants.{Preset, Initiator, Responder}
+use Rattle.iw_handle.specs.declared.refusal.Refusal.{Refusal}
+use Rattle.iw_handle.specs.declared.refusal.Refusal.TheVariants.{BadRole, PrivateTooLong}
+
+-- whether a sum of powers of two has this one
+abbrev pub has_bit : ℕ → ℕ → Bool
+has_bit n bit = n / bit % 2 == 1
+
+-- a sum of 1 (write), 2 (read), 4 (sink) and 8 (invalidate)
+abbrev pub rights_of : ℕ → Rights
+rights_of n = record { write = has_bit n 1; read = has_bit n 2; sink = has_bit n 4; invalidate = has_bit n 8 }
+
+-- 0 is open at once, 1 begins with the Request, 2 waits for it
+abbrev pub role_of : ℕ → Option Role
+role_of n = if n == 0 then Some Preset else if n == 1 then Some Initiator else if n == 2 then Some Responder else None
+
+abbrev pub role_in : ℕ → Role
+role_in n = unwrap_or (role_of n) Preset
+
+-- octets as private data
+abbrev pub private_of : List ℕ → ArrayVec ℕ
+private_of octets = record { items = octets }
+
+-- a sum of 1 (markers are expected) and 2 (CRCs), with private data
+abbrev pub config_of : ℕ → List ℕ → Config
+config_of options private = record { markers = has_bit options 1; crc = has_bit options 2; private = private_of private }
+
+abbrev pub role_refusal : ℕ → Option Refusal
+role_refusal n = if nat_lt 2 n then Some BadRole else None
+
+abbrev pub private_refusal : ℕ → Option Refusal
+private_refusal n = if nat_lt 512 n then Some PrivateTooLong else None
+
+-- the STag that a Send takes away: a sum of 1 (solicited) and 2 (an STag is taken away)
+abbrev pub invalidated_by : ℕ → ℕ → Option Stag
+invalidated_by flags stag = if has_bit flags 2 then Some (stag_of stag) else None
+
+-- what a Read asks for
+abbrev pub read_request : ℕ → ℕ → ℕ → ℕ → ℕ → ReadRequest
+read_request sink sink_to size source source_to =
+    record { sink = stag_of sink; sink_to = sink_to; size = size; source = stag_of source; source_to = source_to }

@@ -1,0 +1,22 @@
+ghost use Rattle.std.specs.Prelude.{◌≡◌, Some, length, OnOk, OnErr};
+ghost use Rattle.std.specs.Result.{result_err};
+ghost use Rattle.iw_handle.specs.State.{room_refusal, filled};
+
+use crate::refusal::Refusal;
+
+/// Copies octets to the front of a buffer, and tells how many they are, also where there is no room for them. An `Err` leaves
+/// the buffer as it was.
+pub(crate) fn copy_out(octets: &[u8], out: &mut [u8], len: &mut usize) -> Result<(), Refusal>
+    ensures refused { result_err result ≡ room_refusal (length octets.now) (length out.old) }
+    ensures len { len.new ≡ length octets.now }
+    ensures ok { OnOk result (out.new ≡ filled (Some octets.now) out.old) }
+    ensures err { OnErr result (out.new ≡ out.old) }
+{
+    let n = octets.len();
+    *len = n;
+    if n > out.len() {
+        return Err(Refusal::NoRoom);
+    }
+    out[..n].copy_from_slice(octets);
+    Ok(())
+}

@@ -1,0 +1,87 @@
+// What goes out.
+ghost use Rattle.std.specs.Prelude.{◌≡◌, None, Some, length, IfSome, IfNone, IfOk, IfErr, OnOk, OnErr};
+ghost use Rattle.iw_endpoint.specs.Endpoint.{emission_at, emitted_at, after_emit};
+ghost use Rattle.iw_handle.specs.Events.{emitted_of, IsFrame};
+ghost use Rattle.iw_handle.specs.State.{refusal_in, changed, told_in, shown_in, filled, length_told};
+ghost use Rattle.iw_handle.specs.Streams.{refusal_to_emit, due_shown};
+
+use crate::event::{Emitted, emitted_of};
+use crate::handle::Handle;
+use crate::refusal::Refusal;
+use crate::working::MAX_PLACE;
+use iw_endpoint::{CallRefusal, Endpoint};
+use std::alloc::Global;
+
+// Emits a frame into a buffer, where there is room for it.
+fn emit(
+    endpoint: &mut Endpoint,
+    alloc: Global,
+    number: u8,
+    out: &mut [u8],
+    len: &mut usize,
+) -> Result<Emitted, Refusal>
+    // The refusal, where one applies, and otherwise want of memory alone.
+    ensures refused { IfSome (refusal_to_emit endpoint.old number (length out.old)) (λ r. result ≡ Err r) }
+    ensures memory { IfNone (refusal_to_emit endpoint.old number (length out.old)) (IfErr result (λ e. e ≡ Refusal.NoMemory)) }
+    ensures want { result ≡ Err Refusal.NoMemory → IsFrame (emission_at endpoint.old number) }
+    ensures len { len.new ≡ length_told (due_shown endpoint.old number) len.old }
+    ensures emitted { IfOk result (λ emitted. emitted ≡ emitted_of (emission_at endpoint.old number)) }
+    ensures octets { OnOk result (out.new ≡ filled (due_shown endpoint.old number) out.old) }
+    ensures kept { OnErr result (out.new ≡ out.old) }
+    ensures ok { OnOk result (endpoint.new ≡ after_emit endpoint.old number) }
+    ensures err { OnErr result (endpoint.new ≡ endpoint.old) }
+{
+    let Ok(sent) = endpoint.sent(number) else {
+        return Err(Refusal::NoSuchStream);
+    };
+    if sent > MAX_PLACE {
+        return Err(Refusal::TooFar);
+    }
+    let Ok(due) = endpoint.due_len(number) else {
+        return Err(Refusal::NoSuchStream);
+    };
+    *len = due;
+    if due > out.len() {
+        return Err(Refusal::NoRoom);
+    }
+    let mut frame = Vec::new(alloc);
+    match endpoint.emit(number, &mut frame) {
+        Ok(emission) => {
+            let n = frame.len();
+            out[..n].copy_from_slice(frame.as_slice());
+            Ok(emitted_of(emission))
+        }
+        Err(CallRefusal::NoSuchStream) => Err(Refusal::NoSuchStream),
+        Err(CallRefusal::Refused(_)) => Err(Refusal::NoMemory),
+    }
+}
+
+impl Handle {
+    /// Emits what is due at a stream to the front of a buffer, as [`Endpoint::emit`] says, and tells it in numbers. It tells
+    /// how many octets that is, also where there is no room for them. An `Err` changes nothing else; `TooFar` comes where
+    /// more than 2^62 octets were emitted, and `NoMemory` only where no other refusal applies and octets are due.
+    pub fn emit(
+        &mut self,
+        alloc: Global,
+        number: u8,
+        out: &mut [u8],
+        len: &mut usize,
+    ) -> Result<Emitted, Refusal>
+        ensures refused { IfSome (refusal_in self.old.state (λ e. refusal_to_emit e number (length out.old))) (λ r. result ≡ Err r) }
+        ensures memory { IfNone (refusal_in self.old.state (λ e. refusal_to_emit e number (length out.old))) (IfErr result (λ e. e ≡ Refusal.NoMemory)) }
+        ensures want { result ≡ Err Refusal.NoMemory → IfSome self.old.state (λ held. IsFrame (emission_at held.endpoint number)) }
+        ensures len { len.new ≡ length_told (shown_in self.old.state (λ e. due_shown e number)) len.old }
+        ensures emitted { IfOk result (λ emitted. Some emitted ≡ told_in self.old.state (λ e. emitted_of (emission_at e number))) }
+        ensures octets { OnOk result (out.new ≡ filled (shown_in self.old.state (λ e. due_shown e number)) out.old) }
+        ensures kept { OnErr result (out.new ≡ out.old) }
+        ensures ok { OnOk result (self.new.state ≡ changed self.old.state (λ e. after_emit e number)) }
+        ensures err { OnErr result (self.new.state ≡ self.old.state) }
+    {
+        let Some(mut held) = self.take(alloc) else {
+            return Err(Refusal::Closed);
+        };
+        let done = emit(&mut held.endpoint, alloc, number, out, len);
+        self.put(held);
+        done
+    }
+}

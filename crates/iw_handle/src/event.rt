@@ -1,0 +1,305 @@
+// What a step of work and a call to emit answer, in numbers.
+ghost use Rattle.std.specs.Prelude.{◌≡◌, ◌≤◌};
+ghost use Rattle.iw_handle.specs.Events.{kind_number, right_number, startup_number, stag_number};
+ghost use Rattle.iw_handle.specs.Events.{flag, agreed_flags, received_flags, rights_number, kept_number};
+ghost use Rattle.iw_handle.specs.Events.{fault_event, event_of, emitted_of, facts_of};
+
+use iw_endpoint::{
+    Agreed, Delivery, Emission, Facts, Fault, Kind, Octets, Right, Rights, Stag, StartupFault, Step,
+};
+
+/// What a step of work did. `kind` says what else is told; the rest is 0.
+#[repr(C)]
+#[derive(Clone, Copy, Debug, PartialEq, Eq)]
+pub struct Event {
+    pub kind: u32,
+    /// Of what was posted: 1 (Write), 2 (Send) or 3 (Read).
+    pub message: u32,
+    /// The right that let octets be placed: 1 (write) or 4 (sink).
+    pub right: u32,
+    pub flags: u32,
+    pub stag: u32,
+    pub msn: u32,
+    pub mo: u32,
+    pub layer: u32,
+    pub error: u32,
+    pub code: u32,
+    pub to: u64,
+    pub len: u64,
+}
+
+/// What a call to emit did. `kind` says what else is told; the rest is 0.
+#[repr(C)]
+#[derive(Clone, Copy, Debug, PartialEq, Eq)]
+pub struct Emitted {
+    pub kind: u32,
+    pub stag: u32,
+    pub layer: u32,
+    pub error: u32,
+    pub code: u32,
+    pub from: u64,
+    pub to: u64,
+    pub n: u64,
+}
+
+/// What is told of a region.
+#[repr(C)]
+#[derive(Clone, Copy, Debug, PartialEq, Eq)]
+pub struct RegionFacts {
+    pub base: u64,
+    pub len: u64,
+    /// A sum of 1 (write), 2 (read), 4 (sink) and 8 (invalidate).
+    pub rights: u32,
+    /// 1 where a peer may use it, and else 0.
+    pub valid: u32,
+}
+
+const IDLE: Event = Event {
+    kind: 0,
+    message: 0,
+    right: 0,
+    flags: 0,
+    stag: 0,
+    msn: 0,
+    mo: 0,
+    layer: 0,
+    error: 0,
+    code: 0,
+    to: 0,
+    len: 0,
+};
+
+const NOTHING: Emitted = Emitted {
+    kind: 0,
+    stag: 0,
+    layer: 0,
+    error: 0,
+    code: 0,
+    from: 0,
+    to: 0,
+    n: 0,
+};
+
+fn kind_number(kind: Kind) -> u32
+    ensures { result ≡ kind_number kind }
+{
+    match kind {
+        Kind::Write => 1,
+        Kind::Send => 2,
+        Kind::Read => 3,
+    }
+}
+
+fn right_number(right: Right) -> u32
+    ensures { result ≡ right_number right }
+{
+    match right {
+        Right::Write => 1,
+        Right::Read => 2,
+        Right::Sink => 4,
+    }
+}
+
+fn startup_number(fault: StartupFault) -> u32
+    ensures { result ≡ startup_number fault }
+{
+    match fault {
+        StartupFault::BadKey => 1,
+        StartupFault::BadRev => 2,
+        StartupFault::BadLength => 3,
+        StartupFault::Rejected => 4,
+    }
+}
+
+fn flag(on: bool, value: u32) -> u32
+    ensures flag { result ≡ flag on value }
+    ensures within { result ≤ value }
+{
+    if on { value } else { 0 }
+}
+
+/// What both ends agree on: 1 where this end puts markers into what it sends, 2 where the peer does, 4 where there are CRCs.
+pub fn agreed_flags(agreed: Agreed) -> u32
+    ensures { result ≡ agreed_flags agreed }
+{
+    flag(agreed.send_markers, 1) + flag(agreed.expect_markers, 2) + flag(agreed.crc, 4)
+}
+
+fn received_flags(solicited: bool, invalidate: Option<Stag>) -> u32
+    ensures { result ≡ received_flags solicited invalidate }
+{
+    flag(solicited, 1) + flag(invalidate.is_some(), 2)
+}
+
+fn stag_number(stag: Option<Stag>) -> u32
+    ensures { result ≡ stag_number stag }
+{
+    match stag {
+        Some(stag) => stag.into(),
+        None => 0,
+    }
+}
+
+fn fault_event(kind: u32, fault: Fault) -> Event
+    ensures { result ≡ fault_event kind fault }
+{
+    Event {
+        kind,
+        layer: fault.layer.into(),
+        error: fault.kind.into(),
+        code: fault.code.into(),
+        ..IDLE
+    }
+}
+
+/// A step in numbers.
+#[inline(always)]
+pub fn event_of(step: &Step<Octets>) -> Event
+    ensures { result ≡ event_of step.now }
+{
+    match step {
+        Step::Idle => IDLE,
+        Step::Done(kind) => Event {
+            kind: 1,
+            message: kind_number(*kind),
+            ..IDLE
+        },
+        Step::Flushed(kind) => Event {
+            kind: 2,
+            message: kind_number(*kind),
+            ..IDLE
+        },
+        Step::FlushedRecv(buffer) => Event {
+            kind: 3,
+            len: buffer.len() as u64,
+            ..IDLE
+        },
+        Step::Asked => Event { kind: 4, ..IDLE },
+        Step::Opened(agreed) => Event {
+            kind: 5,
+            flags: agreed_flags(*agreed),
+            ..IDLE
+        },
+        Step::Closed(fault) => Event {
+            kind: 6,
+            code: startup_number(*fault),
+            ..IDLE
+        },
+        Step::Placed {
+            right,
+            stag,
+            to,
+            len,
+        } => Event {
+            kind: 7,
+            right: right_number(*right),
+            stag: (*stag).into(),
+            to: *to,
+            len: *len as u64,
+            ..IDLE
+        },
+        Step::Buffered { msn, mo, len } => Event {
+            kind: 8,
+            msn: *msn,
+            mo: *mo,
+            len: *len as u64,
+            ..IDLE
+        },
+        Step::Requested { size, stag, to } => Event {
+            kind: 9,
+            stag: (*stag).into(),
+            to: *to,
+            len: (*size).into(),
+            ..IDLE
+        },
+        Step::Passed => Event { kind: 10, ..IDLE },
+        Step::Received {
+            len,
+            solicited,
+            invalidate,
+            ..
+        } => Event {
+            kind: 11,
+            flags: received_flags(*solicited, *invalidate),
+            stag: stag_number(*invalidate),
+            len: *len as u64,
+            ..IDLE
+        },
+        Step::Terminated(fault) => fault_event(12, *fault),
+        Step::Fault(fault) => fault_event(13, *fault),
+        Step::Tried(place) => Event {
+            kind: 14,
+            to: *place,
+            ..IDLE
+        },
+    }
+}
+
+/// What was emitted, in numbers.
+pub fn emitted_of(emission: Emission) -> Emitted
+    ensures { result ≡ emitted_of emission }
+{
+    match emission {
+        Emission::Nothing => NOTHING,
+        Emission::Frame { from, .. } => Emitted {
+            kind: 1,
+            from,
+            ..NOTHING
+        },
+        Emission::Fetched {
+            from,
+            stag,
+            to,
+            n,
+            ..
+        } => Emitted {
+            kind: 2,
+            stag: stag.into(),
+            from,
+            to,
+            n: n as u64,
+            ..NOTHING
+        },
+        Emission::Fault(fault) => Emitted {
+            kind: 3,
+            layer: fault.layer.into(),
+            error: fault.kind.into(),
+            code: fault.code.into(),
+            ..NOTHING
+        },
+    }
+}
+
+fn rights_number(rights: Rights) -> u32
+    ensures { result ≡ rights_number rights }
+{
+    let Rights {
+        write,
+        read,
+        sink,
+        invalidate,
+    } = rights;
+    flag(write, 1) + flag(read, 2) + flag(sink, 4) + flag(invalidate, 8)
+}
+
+/// What is told of a region, in numbers.
+pub fn facts_of(facts: Facts) -> RegionFacts
+    ensures { result ≡ facts_of facts }
+{
+    RegionFacts {
+        base: facts.base,
+        len: facts.len as u64,
+        rights: rights_number(facts.rights),
+        valid: flag(facts.valid, 1),
+    }
+}
+
+/// Whether octets are kept (1) or dropped (0).
+pub fn kept_number(delivery: Delivery) -> u32
+    ensures { result ≡ kept_number delivery }
+{
+    match delivery {
+        Delivery::Kept => 1,
+        Delivery::Dropped => 0,
+    }
+}

@@ -1,0 +1,92 @@
+ghost use Rattle.std.specs.Prelude.{◌≡◌, Option, None, Some};
+ghost use Rattle.std.specs.Option.{option_map};
+ghost use Rattle.iw_handle.specs.declared.held.Held.{Held};
+ghost use Rattle.iw_handle.specs.Ownership.{handle_owns, state_coded};
+
+use crate::held::Held;
+use crate::parts::Parts;
+use std::alloc::Global;
+use std::marker::Model;
+use std::ptr::null_mut;
+
+/// An endpoint that C keeps, or none. In C it is a struct of one pointer, null where there is none.
+///
+/// A type whose values can be read through a `&` does not cross to C, nor does a pointer to one. So the pointer says nothing
+/// of what it leads to, and each call takes that out of the handle and puts it back.
+#[repr(C)]
+pub struct Handle {
+    at: *mut u8,
+    alloc: Global,
+    pub ghost state: { Option Held } by { state_coded },
+}
+
+impl Model for Handle {
+    ghost also_owns = { λ h. handle_owns h.alloc h.at h.state };
+}
+
+impl Handle {
+    /// A handle with no endpoint.
+    pub fn closed(alloc: Global) -> Handle
+        ensures { result.state ≡ None }
+    {
+        Handle {
+            at: null_mut(),
+            alloc,
+        }
+    }
+
+    // Takes out what it has.
+    pub(crate) fn take(&mut self, alloc: Global) -> Option<Box<Held>>
+        ensures held { option_map (λ b. b.value) result ≡ self.old.state }
+        ensures closed { self.new.state ≡ None }
+    {
+        let handle = std::mem::replace(self, Handle::closed(alloc));
+        handle.into_held()
+    }
+
+    // Puts this in. What was there goes.
+    pub(crate) fn put(&mut self, held: Box<Held>)
+        ensures { self.new.state ≡ Some held.value }
+    {
+        *self = Handle::of_parts(Parts::of(held));
+    }
+
+    fn into_held(self) -> Option<Box<Held>>
+        ensures { option_map (λ b. b.value) result ≡ self.state }
+    {
+        match self.into_parts() {
+            None => None,
+            Some(parts) => Some(parts.into_box()),
+        }
+    }
+
+    fn of_parts(parts: Parts<Held, Global>) -> Handle
+        ensures { result.state ≡ Some parts.value }
+    {
+        let Parts { ptr, alloc } = parts;
+        Handle {
+            at: ptr as *mut u8,
+            alloc,
+        }
+    }
+
+    fn into_parts(self) -> Option<Parts<Held, Global>>
+        ensures { option_map (λ p. p.value) result ≡ self.state }
+    {
+        let Handle { at, alloc } = self;
+        if at.is_null() {
+            None
+        } else {
+            Some(Parts {
+                ptr: at as *mut Held,
+                alloc,
+            })
+        }
+    }
+}
+
+impl Drop for Handle {
+    fn drop(self) {
+        drop(self.into_held());
+    }
+}

@@ -1,0 +1,6 @@
+ghost use Rattle.iw_handle.specs.Refusals.{CodesAreDistinct};
+
+/// No two refusals have one code.
+pub fn codes_are_distinct()
+    ensures { CodesAreDistinct }
+{}

@@ -1,0 +1,207 @@
+// Why calls are refused.
+ghost use Rattle.std.specs.Prelude.{◌≡◌, ◌↔◌, None, pos};
+ghost use Rattle.iw_handle.specs.Refusals.{domain_reason, register_reason, store_reason, code_of};
+ghost use Rattle.iw_handle.specs.Refusals.{open_reason, answer_reason, post_reason, recv_reason, size_reason};
+
+use iw_endpoint::{
+    CallRefusal, DomainRefusal, NotAsked, OpenRefusal, PostRefusal, RecvRefusal, RegisterRefusal,
+    SizeRefusal, StoreRefusal,
+};
+use thiserror::Error;
+
+/// Why a call did nothing: the first reason that holds.
+#[derive(Clone, Copy, Debug, PartialEq, Eq, Error)]
+pub enum Refusal {
+    /// The handle has no endpoint.
+    #[error("the handle has no endpoint")]
+    Closed,
+    /// The handle has an endpoint already.
+    #[error("the handle has an endpoint already")]
+    AlreadyOpen,
+    #[error("out of memory")]
+    NoMemory,
+    /// The caller's buffer is too short.
+    #[error("the buffer is too short")]
+    NoRoom,
+    /// No stream was opened under this number.
+    #[error("no stream was opened under this number")]
+    NoSuchStream,
+    /// The STag names no region.
+    #[error("the STag names no region")]
+    NoRegion,
+    /// Not all the octets stand in the region.
+    #[error("the octets are not all in the region")]
+    Outside,
+    /// 0 is no domain's number.
+    #[error("0 is no domain")]
+    BadDomain,
+    /// The domain was added before.
+    #[error("the domain was added before")]
+    DomainTaken,
+    /// The domain was not added.
+    #[error("the domain was not added")]
+    NoDomain,
+    /// The domain has 1,024 regions.
+    #[error("the domain is full")]
+    DomainFull,
+    /// A region has at most 16,777,216 octets.
+    #[error("too many octets for a region")]
+    RegionTooLong,
+    /// The base and the number of octets come to more than 2^64.
+    #[error("the tagged offsets wrap")]
+    BaseWrap,
+    /// The number was opened before.
+    #[error("a stream with this number was opened before")]
+    NumberTaken,
+    /// No stream has this number.
+    #[error("no stream has this number")]
+    BadNumber,
+    /// No role has this number.
+    #[error("no role has this number")]
+    BadRole,
+    /// Private data has at most 512 octets.
+    #[error("more than 512 octets of private data")]
+    PrivateTooLong,
+    /// No Request waits for an answer.
+    #[error("no Request waits for an answer")]
+    NotAsked,
+    /// The stream is not open yet, or has ended.
+    #[error("the stream is not open")]
+    NotOpen,
+    /// 256 messages are posted and not yet handed out.
+    #[error("256 messages are posted and not yet handed out")]
+    MessagesFull,
+    /// A message, or what a Read asks for, has at most 16,777,216 octets.
+    #[error("the message or Read has more than 16,777,216 octets")]
+    MessageTooLong,
+    /// 256 receive buffers are posted and not yet handed back.
+    #[error("256 receive buffers are posted and not yet handed back")]
+    BuffersFull,
+    /// The stream has ended.
+    #[error("the stream has ended")]
+    Ended,
+    /// A maximum ULPDU has 128 to 64,512 octets.
+    #[error("the ULPDU size is outside 128 to 64,512 octets")]
+    BadSize,
+    /// The stream has emitted, or come through, more than 2^62 octets.
+    #[error("the stream has gone too far")]
+    TooFar,
+}
+
+pub(crate) fn domain_reason(refusal: DomainRefusal) -> Refusal
+    ensures { result ≡ domain_reason refusal }
+{
+    match refusal {
+        DomainRefusal::BadDomain => Refusal::BadDomain,
+        DomainRefusal::DomainTaken => Refusal::DomainTaken,
+        DomainRefusal::NoMemory => Refusal::NoMemory,
+    }
+}
+
+pub(crate) fn register_reason(refusal: RegisterRefusal) -> Refusal
+    ensures { result ≡ register_reason refusal }
+{
+    match refusal {
+        RegisterRefusal::NoDomain => Refusal::NoDomain,
+        RegisterRefusal::DomainFull => Refusal::DomainFull,
+        RegisterRefusal::TooLong => Refusal::RegionTooLong,
+        RegisterRefusal::BaseWrap => Refusal::BaseWrap,
+        RegisterRefusal::NoMemory => Refusal::NoMemory,
+    }
+}
+
+pub(crate) fn store_reason(refusal: StoreRefusal) -> Refusal
+    ensures { result ≡ store_reason refusal }
+{
+    match refusal {
+        StoreRefusal::NoRegion => Refusal::NoRegion,
+        StoreRefusal::Outside => Refusal::Outside,
+    }
+}
+
+pub(crate) fn open_reason(refusal: OpenRefusal) -> Refusal
+    ensures { result ≡ open_reason refusal }
+{
+    match refusal {
+        OpenRefusal::NumberTaken => Refusal::NumberTaken,
+        OpenRefusal::BadNumber => Refusal::BadNumber,
+        OpenRefusal::NoDomain => Refusal::NoDomain,
+        OpenRefusal::NoMemory => Refusal::NoMemory,
+    }
+}
+
+pub(crate) fn answer_reason(refusal: CallRefusal<NotAsked>) -> Refusal
+    ensures { result ≡ answer_reason refusal }
+{
+    match refusal {
+        CallRefusal::NoSuchStream => Refusal::NoSuchStream,
+        CallRefusal::Refused(NotAsked) => Refusal::NotAsked,
+    }
+}
+
+pub(crate) fn post_reason(refusal: CallRefusal<PostRefusal>) -> Refusal
+    ensures { result ≡ post_reason refusal }
+{
+    match refusal {
+        CallRefusal::NoSuchStream => Refusal::NoSuchStream,
+        CallRefusal::Refused(PostRefusal::Full) => Refusal::MessagesFull,
+        CallRefusal::Refused(PostRefusal::TooLong) => Refusal::MessageTooLong,
+        CallRefusal::Refused(PostRefusal::NotOpen) => Refusal::NotOpen,
+        CallRefusal::Refused(PostRefusal::NoMemory) => Refusal::NoMemory,
+    }
+}
+
+pub(crate) fn recv_reason(refusal: CallRefusal<RecvRefusal>) -> Refusal
+    ensures { result ≡ recv_reason refusal }
+{
+    match refusal {
+        CallRefusal::NoSuchStream => Refusal::NoSuchStream,
+        CallRefusal::Refused(RecvRefusal::Full) => Refusal::BuffersFull,
+        CallRefusal::Refused(RecvRefusal::Ended) => Refusal::Ended,
+        CallRefusal::Refused(RecvRefusal::NoMemory) => Refusal::NoMemory,
+    }
+}
+
+pub(crate) fn size_reason(refusal: CallRefusal<SizeRefusal>) -> Refusal
+    ensures { result ≡ size_reason refusal }
+{
+    match refusal {
+        CallRefusal::NoSuchStream => Refusal::NoSuchStream,
+        CallRefusal::Refused(SizeRefusal::BadSize) => Refusal::BadSize,
+    }
+}
+
+/// The number that C is given: 0 where the call was done, and else a number of the refusal's own.
+pub fn code(refusal: Option<Refusal>) -> i32
+    ensures code { result ≡ pos (code_of refusal) }
+    ensures done { (result ≡ pos 0) ↔ (refusal ≡ None) }
+{
+    match refusal {
+        None => 0,
+        Some(Refusal::Closed) => 1,
+        Some(Refusal::AlreadyOpen) => 2,
+        Some(Refusal::NoMemory) => 3,
+        Some(Refusal::NoRoom) => 4,
+        Some(Refusal::NoSuchStream) => 5,
+        Some(Refusal::NoRegion) => 6,
+        Some(Refusal::Outside) => 7,
+        Some(Refusal::BadDomain) => 8,
+        Some(Refusal::DomainTaken) => 9,
+        Some(Refusal::NoDomain) => 10,
+        Some(Refusal::DomainFull) => 11,
+        Some(Refusal::RegionTooLong) => 12,
+        Some(Refusal::BaseWrap) => 13,
+        Some(Refusal::NumberTaken) => 14,
+        Some(Refusal::BadNumber) => 15,
+        Some(Refusal::BadRole) => 16,
+        Some(Refusal::PrivateTooLong) => 17,
+        Some(Refusal::NotAsked) => 18,
+        Some(Refusal::NotOpen) => 19,
+        Some(Refusal::MessagesFull) => 20,
+        Some(Refusal::MessageTooLong) => 21,
+        Some(Refusal::BuffersFull) => 22,
+        Some(Refusal::Ended) => 23,
+        Some(Refusal::BadSize) => 24,
+        Some(Refusal::TooFar) => 25,
+    }
+}

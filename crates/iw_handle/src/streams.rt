@@ -1,0 +1,199 @@
+// Calls that open a stream, answer its Request and end it.
+ghost use Rattle.std.specs.Prelude.{◌≡◌, None, Some, length, IfSome, IfNone, IfOk, IfErr, OnOk, OnErr};
+ghost use Rattle.std.specs.Result.{result_err};
+ghost use Rattle.iw_endpoint.specs.Endpoint.{opened, accepted, rejected, agreement, broken, with_mulpdu};
+ghost use Rattle.iw_handle.specs.State.{refusal_in, changed, told_in, shown_in, stream_refusal};
+ghost use Rattle.iw_handle.specs.State.{copy_refusal, filled, length_told};
+ghost use Rattle.iw_handle.specs.Streams.{refusal_to_open, refusal_to_answer, size_refusal, private_shown};
+ghost use Rattle.iw_handle.specs.Words.{role_in, config_of, private_of};
+
+use crate::copying::copy_out;
+use crate::handle::Handle;
+use crate::refusal::{Refusal, answer_reason, open_reason, size_reason};
+use crate::words::{has_bit, private_of, role_of};
+use iw_endpoint::{Agreed, Config, Endpoint};
+use std::alloc::Global;
+
+// Opens a stream, as numbers say.
+fn open_stream(
+    endpoint: &mut Endpoint,
+    number: u8,
+    pd: u8,
+    role: u32,
+    options: u32,
+    private: &[u8],
+) -> Result<(), Refusal>
+    // The refusal, where one applies, and otherwise want of memory alone.
+    ensures refused { IfSome (refusal_to_open endpoint.old number pd role (length private.now)) (λ r. result ≡ Err r) }
+    ensures memory { IfNone (refusal_to_open endpoint.old number pd role (length private.now)) (IfErr result (λ e. e ≡ Refusal.NoMemory)) }
+    ensures ok { OnOk result (endpoint.new ≡ opened endpoint.old number pd (role_in role) (config_of options private.now)) }
+    ensures err { OnErr result (endpoint.new ≡ endpoint.old) }
+{
+    let role = role_of(role)?;
+    let config = Config {
+        markers: has_bit(options, 1),
+        crc: has_bit(options, 2),
+        private: private_of(private)?,
+    };
+    match endpoint.open(number, pd, role, config) {
+        Ok(()) => Ok(()),
+        Err(refusal) => Err(open_reason(refusal)),
+    }
+}
+
+fn accept(endpoint: &mut Endpoint, number: u8, private: &[u8]) -> Result<Agreed, Refusal>
+    ensures refused { result_err result ≡ refusal_to_answer endpoint.old number (length private.now) }
+    ensures agreed { IfOk result (λ agreed. agreed ≡ agreement endpoint.old number) }
+    ensures ok { OnOk result (endpoint.new ≡ accepted endpoint.old number (private_of private.now)) }
+    ensures err { OnErr result (endpoint.new ≡ endpoint.old) }
+{
+    let private = private_of(private)?;
+    match endpoint.accept(number, private) {
+        Ok(agreed) => Ok(agreed),
+        Err(refusal) => Err(answer_reason(refusal)),
+    }
+}
+
+fn reject(endpoint: &mut Endpoint, number: u8, private: &[u8]) -> Result<(), Refusal>
+    ensures refused { result_err result ≡ refusal_to_answer endpoint.old number (length private.now) }
+    ensures ok { OnOk result (endpoint.new ≡ rejected endpoint.old number (private_of private.now)) }
+    ensures err { OnErr result (endpoint.new ≡ endpoint.old) }
+{
+    let private = private_of(private)?;
+    match endpoint.reject(number, private) {
+        Ok(()) => Ok(()),
+        Err(refusal) => Err(answer_reason(refusal)),
+    }
+}
+
+// Copies the peer's private data.
+fn copy_private(
+    endpoint: &Endpoint,
+    number: u8,
+    out: &mut [u8],
+    len: &mut usize,
+) -> Result<(), Refusal>
+    ensures refused { result_err result ≡ copy_refusal (private_shown endpoint.now number) Refusal.NoSuchStream (length out.old) }
+    ensures len { len.new ≡ length_told (private_shown endpoint.now number) len.old }
+    ensures ok { OnOk result (out.new ≡ filled (private_shown endpoint.now number) out.old) }
+    ensures err { OnErr result (out.new ≡ out.old) }
+{
+    match endpoint.private(number) {
+        Ok(private) => copy_out(private, out, len),
+        Err(_) => Err(Refusal::NoSuchStream),
+    }
+}
+
+impl Handle {
+    /// Opens a stream in a domain under a number from 0 to 63, as [`Endpoint::open`] says. `role` is 0 (preset), 1
+    /// (initiator) or 2 (responder); `options` a sum of 1 (the peer is to send markers) and 2 (CRCs). An `Err` changes
+    /// nothing; `NoMemory` comes only where no other refusal applies.
+    pub fn open_stream(
+        &mut self,
+        alloc: Global,
+        number: u8,
+        pd: u8,
+        role: u32,
+        options: u32,
+        private: &[u8],
+    ) -> Result<(), Refusal>
+        ensures refused { IfSome (refusal_in self.old.state (λ e. refusal_to_open e number pd role (length private.now))) (λ r. result ≡ Err r) }
+        ensures memory { IfNone (refusal_in self.old.state (λ e. refusal_to_open e number pd role (length private.now))) (IfErr result (λ e. e ≡ Refusal.NoMemory)) }
+        ensures ok { OnOk result (self.new.state ≡ changed self.old.state (λ e. opened e number pd (role_in role) (config_of options private.now))) }
+        ensures err { OnErr result (self.new.state ≡ self.old.state) }
+    {
+        let Some(mut held) = self.take(alloc) else {
+            return Err(Refusal::Closed);
+        };
+        let done = open_stream(&mut held.endpoint, number, pd, role, options, private);
+        self.put(held);
+        done
+    }
+
+    /// Accepts the Request that waits for an answer, with this private data, as [`Endpoint::accept`] says. An `Err` changes
+    /// nothing.
+    pub fn accept(&mut self, alloc: Global, number: u8, private: &[u8]) -> Result<Agreed, Refusal>
+        ensures refused { result_err result ≡ refusal_in self.old.state (λ e. refusal_to_answer e number (length private.now)) }
+        ensures agreed { IfOk result (λ agreed. Some agreed ≡ told_in self.old.state (λ e. agreement e number)) }
+        ensures ok { OnOk result (self.new.state ≡ changed self.old.state (λ e. accepted e number (private_of private.now))) }
+        ensures err { OnErr result (self.new.state ≡ self.old.state) }
+    {
+        let Some(mut held) = self.take(alloc) else {
+            return Err(Refusal::Closed);
+        };
+        let done = accept(&mut held.endpoint, number, private);
+        self.put(held);
+        done
+    }
+
+    /// Rejects the Request that waits for an answer, with this private data: the stream has ended. An `Err` changes nothing.
+    pub fn reject(&mut self, alloc: Global, number: u8, private: &[u8]) -> Result<(), Refusal>
+        ensures refused { result_err result ≡ refusal_in self.old.state (λ e. refusal_to_answer e number (length private.now)) }
+        ensures ok { OnOk result (self.new.state ≡ changed self.old.state (λ e. rejected e number (private_of private.now))) }
+        ensures err { OnErr result (self.new.state ≡ self.old.state) }
+    {
+        let Some(mut held) = self.take(alloc) else {
+            return Err(Refusal::Closed);
+        };
+        let done = reject(&mut held.endpoint, number, private);
+        self.put(held);
+        done
+    }
+
+    /// Copies the private data of the peer's start-up frame to the front of a buffer: none before that was read. It tells
+    /// how many octets they are, also where there is no room for them. An `Err` leaves the buffer as it was.
+    pub fn private(
+        &mut self,
+        alloc: Global,
+        number: u8,
+        out: &mut [u8],
+        len: &mut usize,
+    ) -> Result<(), Refusal>
+        ensures refused { result_err result ≡ refusal_in self.old.state (λ e. copy_refusal (private_shown e number) Refusal.NoSuchStream (length out.old)) }
+        ensures len { len.new ≡ length_told (shown_in self.old.state (λ e. private_shown e number)) len.old }
+        ensures ok { OnOk result (out.new ≡ filled (shown_in self.old.state (λ e. private_shown e number)) out.old) }
+        ensures err { OnErr result (out.new ≡ out.old) }
+        ensures same { self.new.state ≡ self.old.state }
+    {
+        let Some(held) = self.take(alloc) else {
+            return Err(Refusal::Closed);
+        };
+        let done = copy_private(&held.endpoint, number, out, len);
+        self.put(held);
+        done
+    }
+
+    /// Tells that a stream's link broke: the stream has ended, and nothing more is emitted. An `Err` changes nothing.
+    pub fn break_link(&mut self, alloc: Global, number: u8) -> Result<(), Refusal>
+        ensures refused { result_err result ≡ refusal_in self.old.state (λ e. stream_refusal e number) }
+        ensures ok { OnOk result (self.new.state ≡ changed self.old.state (λ e. broken e number)) }
+        ensures err { OnErr result (self.new.state ≡ self.old.state) }
+    {
+        let Some(mut held) = self.take(alloc) else {
+            return Err(Refusal::Closed);
+        };
+        let done = held.endpoint.break_link(number);
+        self.put(held);
+        match done {
+            Ok(()) => Ok(()),
+            Err(_) => Err(Refusal::NoSuchStream),
+        }
+    }
+
+    /// Sets the maximum ULPDU of what a stream emits from then on: 128 to 64,512 octets. An `Err` changes nothing.
+    pub fn set_mulpdu(&mut self, alloc: Global, number: u8, size: u32) -> Result<(), Refusal>
+        ensures refused { result_err result ≡ refusal_in self.old.state (λ e. size_refusal e number size) }
+        ensures ok { OnOk result (self.new.state ≡ changed self.old.state (λ e. with_mulpdu e number size)) }
+        ensures err { OnErr result (self.new.state ≡ self.old.state) }
+    {
+        let Some(mut held) = self.take(alloc) else {
+            return Err(Refusal::Closed);
+        };
+        let done = held.endpoint.set_mulpdu(number, size);
+        self.put(held);
+        match done {
+            Ok(()) => Ok(()),
+            Err(refusal) => Err(size_reason(refusal)),
+        }
+    }
+}

@@ -1,0 +1,175 @@
+// Octets that come, and what is done with them.
+ghost use Rattle.std.specs.Prelude.{◌≡◌, None, Some, length, IfSome, IfNone, IfOk, IfErr, OnOk, OnErr};
+ghost use Rattle.std.specs.Result.{result_err};
+ghost use Rattle.iw_endpoint.specs.Endpoint.{delivery_at, after_deliver, step_at};
+ghost use Rattle.iw_handle.specs.Events.{event_at};
+ghost use Rattle.iw_handle.specs.State.{refusal_in, changed, told_in, stream_refusal};
+ghost use Rattle.iw_handle.specs.State.{copy_refusal, filled, length_told};
+ghost use Rattle.iw_handle.specs.Streams.{refusal_to_work, BringsAt, TriesAt, handed_in, fetched};
+ghost use Rattle.iw_handle.specs.Streams.{handed_by, held_worked, worked};
+
+use crate::copying::copy_out;
+use crate::event::{Event, event_of};
+use crate::handle::Handle;
+use crate::held::Held;
+use crate::refusal::Refusal;
+use iw_endpoint::{CallRefusal, Delivery, Endpoint, Octets, Step};
+use std::alloc::Global;
+
+/// A stream goes through, and emits, no more octets than this.
+pub(crate) const MAX_PLACE: u64 = 1 << 62;
+
+fn deliver(
+    endpoint: &mut Endpoint,
+    number: u8,
+    from: u64,
+    octets: &[u8],
+) -> Result<Delivery, Refusal>
+    ensures refused { IfSome (stream_refusal endpoint.old number) (λ r. result ≡ Err r) }
+    ensures memory { IfNone (stream_refusal endpoint.old number) (IfErr result (λ e. e ≡ Refusal.NoMemory)) }
+    ensures want { IfNone (stream_refusal endpoint.old number) (OnErr result (BringsAt endpoint.old number from (length octets.now))) }
+    ensures delivery { IfOk result (λ delivery. delivery ≡ delivery_at endpoint.old number from (length octets.now)) }
+    ensures ok { OnOk result (endpoint.new ≡ after_deliver endpoint.old number from octets.now) }
+    ensures err { OnErr result (endpoint.new ≡ endpoint.old) }
+{
+    match endpoint.deliver(number, from, octets) {
+        Ok(delivery) => Ok(delivery),
+        Err(CallRefusal::NoSuchStream) => Err(Refusal::NoSuchStream),
+        Err(CallRefusal::Refused(_)) => Err(Refusal::NoMemory),
+    }
+}
+
+// Keeps what a step hands back.
+#[inline(always)]
+fn keep(step: Step<Octets>, handed: &mut Octets)
+    ensures { handed.new ≡ handed_by step handed.old }
+{
+    match step {
+        Step::Received { buffer, len, .. } => {
+            let mut octets = buffer.into_vec();
+            octets.truncate(len);
+            *handed = Octets::from_vec(octets);
+        }
+        Step::FlushedRecv(buffer) => *handed = buffer,
+        Step::Done(_)
+        | Step::Flushed(_)
+        | Step::Asked
+        | Step::Opened(_)
+        | Step::Closed(_)
+        | Step::Placed { .. }
+        | Step::Buffered { .. }
+        | Step::Requested { .. }
+        | Step::Tried(_)
+        | Step::Passed
+        | Step::Terminated(_)
+        | Step::Fault(_)
+        | Step::Idle => {}
+    }
+}
+
+#[inline(always)]
+fn work(held: &mut Held, number: u8) -> Result<Event, Refusal>
+    // The refusal, where one applies, and otherwise want of memory alone.
+    ensures refused { IfSome (refusal_to_work held.old.endpoint number) (λ r. result ≡ Err r) }
+    ensures memory { IfNone (refusal_to_work held.old.endpoint number) (IfErr result (λ e. e ≡ Refusal.NoMemory)) }
+    ensures want { result ≡ Err Refusal.NoMemory → TriesAt held.old.endpoint number }
+    ensures event { IfOk result (λ event. event ≡ event_at (step_at held.old.endpoint number)) }
+    ensures ok { OnOk result (held.new ≡ held_worked held.old number) }
+    ensures err { OnErr result (held.new ≡ held.old) }
+{
+    let Ok(point) = held.endpoint.in_order_point(number) else {
+        return Err(Refusal::NoSuchStream);
+    };
+    if point > MAX_PLACE {
+        return Err(Refusal::TooFar);
+    }
+    match held.endpoint.work(number) {
+        Ok(step) => {
+            let event = event_of(&step);
+            keep(step, &mut held.handed);
+            Ok(event)
+        }
+        Err(CallRefusal::NoSuchStream) => Err(Refusal::NoSuchStream),
+        Err(CallRefusal::Refused(_)) => Err(Refusal::NoMemory),
+    }
+}
+
+// Copies out what was handed back, and gives it up.
+fn fetch(held: &mut Held, alloc: Global, out: &mut [u8], len: &mut usize) -> Result<(), Refusal>
+    ensures refused { result_err result ≡ copy_refusal (Some held.old.handed) Refusal.Closed (length out.old) }
+    ensures len { len.new ≡ length held.old.handed }
+    ensures octets { OnOk result (out.new ≡ filled (Some held.old.handed) out.old) }
+    ensures kept { OnErr result (out.new ≡ out.old) }
+    ensures ok { OnOk result (Some held.new ≡ fetched (Some held.old)) }
+    ensures err { OnErr result (held.new ≡ held.old) }
+{
+    copy_out(held.handed.as_slice(), out, len)?;
+    held.handed = Octets::from_vec(Vec::new(alloc));
+    Ok(())
+}
+
+impl Handle {
+    /// Takes octets that came on a stream's connection, the first of them at the stream place `from`, as
+    /// [`Endpoint::deliver`] says. An `Err` changes nothing; `NoMemory` comes only where they would be kept and one of them
+    /// is new.
+    pub fn deliver(
+        &mut self,
+        alloc: Global,
+        number: u8,
+        from: u64,
+        octets: &[u8],
+    ) -> Result<Delivery, Refusal>
+        ensures refused { IfSome (refusal_in self.old.state (λ e. stream_refusal e number)) (λ r. result ≡ Err r) }
+        ensures memory { IfNone (refusal_in self.old.state (λ e. stream_refusal e number)) (IfErr result (λ e. e ≡ Refusal.NoMemory)) }
+        ensures want { IfSome self.old.state (λ held. IfNone (stream_refusal held.endpoint number) (OnErr result (BringsAt held.endpoint number from (length octets.now)))) }
+        ensures delivery { IfOk result (λ delivery. Some delivery ≡ told_in self.old.state (λ e. delivery_at e number from (length octets.now))) }
+        ensures ok { OnOk result (self.new.state ≡ changed self.old.state (λ e. after_deliver e number from octets.now)) }
+        ensures err { OnErr result (self.new.state ≡ self.old.state) }
+    {
+        let Some(mut held) = self.take(alloc) else {
+            return Err(Refusal::Closed);
+        };
+        let done = deliver(&mut held.endpoint, number, from, octets);
+        self.put(held);
+        done
+    }
+
+    /// Does one step at a stream, as [`Endpoint::work`] says, and tells it in numbers. A message that was received, or a
+    /// buffer that is handed back, stays for [`Handle::fetch`] until the next that is handed back. An `Err` changes
+    /// nothing; `TooFar` comes where the in-order point is past 2^62, and `NoMemory` only where no other refusal applies
+    /// and a frame is judged before its turn.
+    #[inline(always)]
+    pub fn work(&mut self, alloc: Global, number: u8) -> Result<Event, Refusal>
+        ensures refused { IfSome (refusal_in self.old.state (λ e. refusal_to_work e number)) (λ r. result ≡ Err r) }
+        ensures memory { IfNone (refusal_in self.old.state (λ e. refusal_to_work e number)) (IfErr result (λ e. e ≡ Refusal.NoMemory)) }
+        ensures want { result ≡ Err Refusal.NoMemory → IfSome self.old.state (λ held. TriesAt held.endpoint number) }
+        ensures event { IfOk result (λ event. Some event ≡ told_in self.old.state (λ e. event_at (step_at e number))) }
+        ensures ok { OnOk result (self.new.state ≡ worked self.old.state number) }
+        ensures err { OnErr result (self.new.state ≡ self.old.state) }
+    {
+        let Some(mut held) = self.take(alloc) else {
+            return Err(Refusal::Closed);
+        };
+        let done = work(&mut held, number);
+        self.put(held);
+        done
+    }
+
+    /// Copies to the front of a buffer what `work` handed back last, which is then no longer kept. It tells how many octets
+    /// that is, also where there is no room for them. An `Err` changes nothing else.
+    pub fn fetch(&mut self, alloc: Global, out: &mut [u8], len: &mut usize) -> Result<(), Refusal>
+        ensures refused { result_err result ≡ copy_refusal (handed_in self.old.state) Refusal.Closed (length out.old) }
+        ensures len { len.new ≡ length_told (handed_in self.old.state) len.old }
+        ensures octets { OnOk result (out.new ≡ filled (handed_in self.old.state) out.old) }
+        ensures kept { OnErr result (out.new ≡ out.old) }
+        ensures ok { OnOk result (self.new.state ≡ fetched self.old.state) }
+        ensures err { OnErr result (self.new.state ≡ self.old.state) }
+    {
+        let Some(mut held) = self.take(alloc) else {
+            return Err(Refusal::Closed);
+        };
+        let done = fetch(&mut held, alloc, out, len);
+        self.put(held);
+        done
+    }
+}

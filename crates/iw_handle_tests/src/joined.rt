@@ -1,0 +1,160 @@
+//! Two handles joined in memory: start-up, a Write, a Send, a Read, and an end.
+use iw_handle::{Handle, read_request, rights_of, stag_of};
+use std::alloc::Global;
+use std::test::Fail;
+
+const STREAM: u8 = 0;
+
+const INITIATOR: u32 = 1;
+
+const RESPONDER: u32 = 2;
+
+// Markers and CRCs.
+const OPTIONS: u32 = 3;
+
+// One end: its handle, and how many octets came for it.
+#[derive(Drop)]
+struct End {
+    handle: Handle,
+    came: u64,
+}
+
+impl End {
+    fn open(alloc: Global, role: u32, private: &[u8]) -> Result<End, Fail> {
+        let mut handle = Handle::closed(alloc);
+        handle.open(alloc)?;
+        handle.add_domain(alloc, 1)?;
+        handle.open_stream(alloc, STREAM, 1, role, OPTIONS, private)?;
+        Ok(End { handle, came: 0 })
+    }
+
+    // Works until there is nothing to do, and tells the kind of each step.
+    fn work(&mut self, alloc: Global) -> Result<Vec<u32>, Fail> {
+        let mut kinds = Vec::new(alloc);
+        for _ in 0..100 {
+            let event = self.handle.work(alloc, STREAM)?;
+            kinds.push(event.kind)?;
+            if event.kind == 0 {
+                break;
+            }
+        }
+        Ok(kinds)
+    }
+
+    fn take(&mut self, alloc: Global, octets: &[u8]) -> Result<(), Fail> {
+        let _ = self.handle.deliver(alloc, STREAM, self.came, octets)?;
+        self.came = self.came.saturating_add(octets.len() as u64);
+        Ok(())
+    }
+}
+
+// What one end emits comes to the other. It tells how many frames that were.
+fn carry(alloc: Global, from: &mut End, to: &mut End) -> Result<u32, Fail> {
+    let mut out = [0u8; 600];
+    let mut len = 0usize;
+    for frames in 0..100 {
+        let emitted = from.handle.emit(alloc, STREAM, &mut out, &mut len)?;
+        if emitted.kind == 0 {
+            return Ok(frames);
+        }
+        if len <= out.len() {
+            to.take(alloc, &out[..len])?;
+        }
+    }
+    Ok(100)
+}
+
+// Both ends, after the start-up frames: `b` has told `a` of its region.
+fn connected(alloc: Global) -> Result<(End, End), Fail> {
+    let mut a = End::open(alloc, INITIATOR, b"from a")?;
+    let mut b = End::open(alloc, RESPONDER, b"")?;
+    b.handle
+        .register(alloc, 1, 4096, &[b'.'; 16], rights_of(11))?;
+    b.handle.post_recv(alloc, STREAM, 32)?;
+    carry(alloc, &mut a, &mut b)?;
+    b.work(alloc)?;
+    b.handle.accept(alloc, STREAM, b"from b")?;
+    carry(alloc, &mut b, &mut a)?;
+    Ok((a, b))
+}
+
+#[test]
+fn start_up(rt: HostRuntime) -> Result<(), Fail> {
+    let alloc = rt.alloc();
+    let (mut a, mut b) = connected(alloc)?;
+    // Opened, and idle.
+    assert_eq!(rt; a.work(alloc)?.as_slice(), [5, 0].as_slice());
+    let mut private = [0u8; 8];
+    let mut len = 0usize;
+    a.handle.private(alloc, STREAM, &mut private, &mut len)?;
+    assert_eq!(rt; private, *b"from b\0\0");
+    b.handle.private(alloc, STREAM, &mut private, &mut len)?;
+    assert_eq!(rt; private, *b"from a\0\0");
+    assert_eq!(rt; len, 6);
+    Ok(())
+}
+
+#[test]
+fn written_and_sent(rt: HostRuntime) -> Result<(), Fail> {
+    let alloc = rt.alloc();
+    let (mut a, mut b) = connected(alloc)?;
+    a.work(alloc)?;
+    let stag = stag_of(0x01000000);
+    a.handle.post_write(alloc, STREAM, stag, 4098, b"octets")?;
+    a.handle.post_send(alloc, STREAM, b"hi", true, Some(stag))?;
+    assert_eq!(rt; carry(alloc, &mut a, &mut b)?, 2);
+    // Both are done.
+    assert_eq!(rt; a.work(alloc)?.as_slice(), [1, 1, 0].as_slice());
+    // Placed, passed, buffered, received.
+    assert_eq!(rt; b.work(alloc)?.as_slice(), [7, 10, 8, 11, 0].as_slice());
+    let mut out = [b'_'; 8];
+    let mut len = 0usize;
+    b.handle.fetch(alloc, &mut out, &mut len)?;
+    assert_eq!(rt; out, *b"hi______");
+    b.handle.load(alloc, stag, 4097, &mut out)?;
+    assert_eq!(rt; out, *b".octets.");
+    // It is fetched, and the region has gone out of use.
+    b.handle.fetch(alloc, &mut out, &mut len)?;
+    assert_eq!(rt; len, 0);
+    assert!(rt; !b.handle.facts(alloc, stag)?.valid);
+    Ok(())
+}
+
+#[test]
+fn read_back(rt: HostRuntime) -> Result<(), Fail> {
+    let alloc = rt.alloc();
+    let (mut a, mut b) = connected(alloc)?;
+    a.work(alloc)?;
+    let sink = a.handle.register(alloc, 1, 0, &[0u8; 4], rights_of(4))?;
+    b.handle.store(alloc, stag_of(0x01000000), 4100, b"read")?;
+    let request = read_request(0x01000000, 0, 4, 0x01000000, 4100);
+    a.handle.post_read(alloc, STREAM, request)?;
+    assert_eq!(rt; carry(alloc, &mut a, &mut b)?, 1);
+    // Requested.
+    assert_eq!(rt; b.work(alloc)?.as_slice(), [9, 0].as_slice());
+    assert_eq!(rt; carry(alloc, &mut b, &mut a)?, 1);
+    // Placed, passed, done.
+    assert_eq!(rt; a.work(alloc)?.as_slice(), [7, 10, 1, 0].as_slice());
+    let mut out = [0u8; 4];
+    let mut len = 0usize;
+    a.handle.deregister(alloc, sink, &mut out, &mut len)?;
+    assert_eq!(rt; out, *b"read");
+    Ok(())
+}
+
+#[test]
+fn broken(rt: HostRuntime) -> Result<(), Fail> {
+    let alloc = rt.alloc();
+    let (mut a, mut b) = connected(alloc)?;
+    a.work(alloc)?;
+    a.handle.post_send(alloc, STREAM, b"lost", false, None)?;
+    a.handle.break_link(alloc, STREAM)?;
+    assert_eq!(rt; carry(alloc, &mut a, &mut b)?, 0);
+    // The Send is given up; at the other end the receive buffer comes back.
+    assert_eq!(rt; a.work(alloc)?.as_slice(), [2, 0].as_slice());
+    b.handle.break_link(alloc, STREAM)?;
+    assert_eq!(rt; b.work(alloc)?.as_slice(), [3, 0].as_slice());
+    a.handle.close(alloc);
+    b.handle.close(alloc);
+    Ok(())
+}
