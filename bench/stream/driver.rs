@@ -25,6 +25,10 @@ const TURNS: usize = 300;
 const MAX_GROWTH: f64 = 1.15;
 const MAX_GROWTH_APART: f64 = 1.3;
 
+/// How much more a frame may take that is placed before its turn, and a delivery whose markers lie.
+const MAX_EARLY: f64 = 1.5;
+const MAX_LYING: f64 = 10.0;
+
 const GROWTH_TRIES: usize = 5;
 
 /// How many octets an idle stream may hold.
@@ -175,6 +179,48 @@ fn judge_reads(turns: usize, wanted: &mut Wanted) {
     }
 }
 
+/// Frames that are placed before their turn, beside the same in order, with markers and CRCs.
+fn judge_early(turns: usize, wanted: &mut Wanted) {
+    let mut rows = rows::early();
+    for (in_order, early) in &rows {
+        in_order.try_out();
+        early.try_out();
+    }
+    for _ in 0..turns {
+        for (in_order, early) in &mut rows {
+            in_order.turn_both();
+            early.turn_both();
+        }
+    }
+    println!("Placed before their turn, with markers and CRCs:\n\n| | ns a frame | in order | to in order | peer |\n|---|---|---|---|---|");
+    for (in_order, early) in &rows {
+        let ratio = early.an_octet() / in_order.an_octet();
+        println!("| {} | {:.0} | {:.0} | {ratio:.2} | {:.2} |", early.name, early.a_frame(), in_order.a_frame(), early.to_peer());
+    }
+    println!();
+    for (in_order, early) in &rows {
+        let ratio = early.an_octet() / in_order.an_octet();
+        wanted.at_most(&format!("{}, to in order", early.name), ratio, MAX_EARLY);
+    }
+}
+
+/// A window all of whose markers point somewhere else, beside one of honest frames: the time of a delivery of 1,408 octets.
+fn judge_lying(turns: usize, wanted: &mut Wanted) {
+    let honest = rows::window();
+    let lying = Load { lying: true, ..honest };
+    let octets = row::octets(honest.message + load::SHIFT);
+    let deliveries = ours::window(&honest, &octets);
+    let mut least = [f64::MAX; 2];
+    for _ in 0..turns {
+        for (load, least) in [&honest, &lying].into_iter().zip(&mut least) {
+            row::less(least, || assert_eq!(ours::window(load, &octets), deliveries));
+        }
+    }
+    let [honest, lying] = least.map(|time| time / deliveries as f64);
+    println!("a delivery of 1,408 octets behind a hole: {honest:.0} ns, with lying markers {lying:.0} ns");
+    wanted.at_most("lying markers, to honest ones", lying / honest, MAX_LYING);
+}
+
 fn take_crcs(crc32c: fn(&[u8]) -> u32, octets: &[u8]) {
     for _ in 0..100 {
         black_box(crc32c(black_box(octets)));
@@ -223,6 +269,8 @@ fn main() {
     judge_limits(&rows, &limits, &mut wanted);
     judge_growth(turns / 10 + 1, &mut wanted);
     judge_reads(turns / 10 + 1, &mut wanted);
+    judge_early(turns / 4 + 1, &mut wanted);
+    judge_lying(turns / 4 + 1, &mut wanted);
     judge_crc(turns, &mut wanted);
     std::process::exit(if wanted.missed == 0 { 0 } else { 1 });
 }

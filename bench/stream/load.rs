@@ -24,6 +24,10 @@ pub struct Load {
     pub compared: bool,
     /// The receiving streams' steps are called from two places, round by round.
     pub two_callers: bool,
+    /// Of the frames that are emitted at a time the last is delivered first.
+    pub reversed: bool,
+    /// Each marker of a window points somewhere else.
+    pub lying: bool,
     /// The maximum ULPDU, in octets.
     pub mulpdu: u32,
     /// How many octets a message has.
@@ -52,6 +56,8 @@ impl Load {
         reads: false,
         compared: false,
         two_callers: false,
+        reversed: false,
+        lying: false,
         mulpdu: 1_400,
         message: 16_384,
         posted: 1,

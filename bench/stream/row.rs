@@ -46,7 +46,7 @@ pub fn less(least: &mut f64, work: impl FnOnce()) {
 }
 
 /// Octets with no pattern, so that no message has what stood in the region before.
-fn octets(count: usize) -> Vec<u8> {
+pub fn octets(count: usize) -> Vec<u8> {
     let mut state = 1u64;
     let next = |_| {
         state = state.wrapping_mul(6_364_136_223_846_793_005).wrapping_add(1_442_695_040_888_963_407);
@@ -156,6 +156,14 @@ impl Row {
     /// The time of two copies in cache, and of the CRCs, to ours.
     pub fn to_cache(&self) -> f64 {
         (self.least.cache_copies + self.least.crcs) / self.least.ours
+    }
+
+    /// Times ours and the peer's once.
+    pub fn turn_both(&mut self) {
+        self.turn_ours();
+        let mut least = self.least.peer;
+        less(&mut least, || assert_eq!(self.carry_peer(&self.load), self.load.octets() as u64));
+        self.least.peer = least;
     }
 
     /// Our time, in nanoseconds a frame.

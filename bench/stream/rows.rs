@@ -57,6 +57,39 @@ fn scattered(load: Load, mulpdu: u32, message: usize) -> Load {
     Load { batch: usize::MAX, late: 2, ..sized(load, mulpdu, message) }
 }
 
+/// All frames of a message are emitted, and the last is delivered first.
+fn backwards(load: Load) -> Load {
+    Load { late: 1, reversed: true, ..load }
+}
+
+/// As many frames as 128 KiB have, and as many as the window has, with markers and CRCs.
+const FRAMES_NEAR: usize = 92;
+const FRAMES_FAR: usize = 183;
+
+/// All frames of a message of so many are emitted, and delivered in order.
+fn together(frames: usize) -> Load {
+    Load { batch: usize::MAX, ..sized(FRAMED, 1_400, frames * FRAMED.piece()) }
+}
+
+/// Orders in which frames are placed before their turn: names, the load in order, and the load.
+pub fn early() -> Vec<(Row, Row)> {
+    let (near, far) = (together(FRAMES_NEAR), together(FRAMES_FAR));
+    vec![
+        (Row::new("pairs in order", Load { batch: 2, ..FRAMED }), Row::new("pairs swapped", swapped(FRAMED))),
+        (
+            Row::new("128 KiB in order", near),
+            Row::new("every second frame first within 128 KiB", Load { late: 2, ..near }),
+        ),
+        (Row::new("a window in order", far), Row::new("the last frame of a window first", backwards(far))),
+        (Row::new("a window in order", far), Row::new("the first frame of a window last", Load { late: usize::MAX, ..far })),
+    ]
+}
+
+/// A window of frames with markers, of which all but the first delivery come, in order.
+pub fn window() -> Load {
+    Load { delivery: 1_408, rounds: 2, ..sized(Load::MARKERS, 1_400, FRAMES_FAR * FRAMED.piece()) }
+}
+
 pub fn rows() -> Vec<Row> {
     vec![
         Row::new("plain", PLAIN),

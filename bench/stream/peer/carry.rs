@@ -121,10 +121,13 @@ impl Receiving {
         placed
     }
 
-    /// Delivers frames: of each `late` the first behind all others.
-    fn take_all(&mut self, stream: &mut Stream, wire: &Wire, late: usize) -> u64 {
-        let others = if late > 1 { self.take_some(stream, wire, late, false) } else { 0 };
-        others + self.take_some(stream, wire, late, true)
+    /// Delivers frames: the last first, or of each `late` the first behind all others.
+    fn take_all(&mut self, stream: &mut Stream, wire: &Wire, load: &Load) -> u64 {
+        if load.reversed {
+            return wire.frames.iter().rev().map(|frame| self.take(stream, frame.from, wire.octets_of(*frame))).sum();
+        }
+        let others = if load.late > 1 { self.take_some(stream, wire, load.late, false) } else { 0 };
+        others + self.take_some(stream, wire, load.late, true)
     }
 
     /// Delivers frames: of each `late` the first, or all others.
@@ -200,7 +203,7 @@ impl<'a> Ends<'a> {
                 }
             } else {
                 self.wire.fill(&mut pair.sender, self.load.batch);
-                placed += self.receiving.take_all(&mut pair.receiver, &self.wire, self.load.late);
+                placed += self.receiving.take_all(&mut pair.receiver, &self.wire, self.load);
             }
         }
         placed

@@ -8,9 +8,6 @@ use iw_endpoint::{Endpoint, Message, Request, Stag};
 use std::alloc::Global;
 use std::io::{Read, Write};
 
-// How many Writes are posted, and their frames written out, at once.
-const POSTED: u32 = 4;
-
 // The region of the receiving end: the first of its domain.
 fn region() -> Stag {
     Stag::from_octets([1, 0, 0, 0])
@@ -54,6 +51,7 @@ fn flush<W: Write>(endpoint: &mut Endpoint, out: &mut Vec<u8>, output: &mut W) -
     Ok(())
 }
 
+// Writes out each block as it is posted, as the plain copy does.
 fn send_blocks<W: Write>(
     endpoint: &mut Endpoint,
     octets: &Bytes,
@@ -63,9 +61,7 @@ fn send_blocks<W: Write>(
 ) -> Result<()> {
     for number in 0..blocks {
         post_write(endpoint, number, octets)?;
-        if number % POSTED == POSTED - 1 {
-            flush(endpoint, out, output)?;
-        }
+        flush(endpoint, out, output)?;
     }
     post_end(endpoint)?;
     flush(endpoint, out, output)

@@ -6,8 +6,9 @@ pub(crate) const DOMAIN: u8 = 1;
 
 pub(crate) const STREAM: u8 = 0;
 
-/// How many blocks the region has that is written to, again and again.
-pub(crate) const REGION_BLOCKS: u32 = 16;
+/// How many blocks the region has that is written to, again and again: few, so that it stays in the processor's caches,
+/// as the buffer of a plain copy does.
+pub(crate) const REGION_BLOCKS: u32 = 2;
 
 // `emit` and `work` ask that a stream has emitted, and come through, no more octets.
 const MAX_PLACE: u64 = 1 << 62;

@@ -124,11 +124,14 @@ impl End {
         if self.stream.in_order_point() > MAX_PLACE {
             return Err(Stop);
         }
-        match self.stream.work(memory) {
+        let Ok(step) = self.stream.work(memory) else {
+            return Err(Stop);
+        };
+        match step {
             Step::Placed { len, .. } | Step::Buffered { len, .. } => Ok(Some(len as u64)),
             Step::Received { buffer, .. } => keep(spare, buffer),
-            Step::Done(_) | Step::Passed | Step::Asked | Step::Opened(_) | Step::Requested { .. } =>
-                Ok(Some(0)),
+            Step::Done(_) | Step::Tried(_) | Step::Passed => Ok(Some(0)),
+            Step::Asked | Step::Opened(_) | Step::Requested { .. } => Ok(Some(0)),
             Step::Idle => Ok(None),
             Step::Closed(_) | Step::Terminated(_) | Step::Fault(_) => Err(Stop),
             Step::Flushed(_) | Step::FlushedRecv(_) => Err(Stop),

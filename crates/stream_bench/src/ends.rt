@@ -88,14 +88,41 @@ impl Receiving {
         Ok(placed)
     }
 
-    // Delivers frames: of each `late` the first behind all others.
-    fn take_all(&mut self, end: &mut End, wire: &Wire, late: usize) -> Result<u64, Stop> {
-        let mut others = 0u64;
-        if late > 1 {
-            others = self.take_some(end, wire, late, false)?;
+    // Delivers frames: the last first, or of each `late` the first behind all others.
+    fn take_all(&mut self, end: &mut End, wire: &Wire, load: Load) -> Result<u64, Stop> {
+        if load.reversed {
+            return self.take_back(end, wire);
         }
-        let first = self.take_some(end, wire, late, true)?;
+        let mut others = 0u64;
+        if load.late > 1 {
+            others = self.take_some(end, wire, load.late, false)?;
+        }
+        let first = self.take_some(end, wire, load.late, true)?;
         Ok(others.wrapping_add(first))
+    }
+
+    // Delivers frames, the last first.
+    fn take_back(&mut self, end: &mut End, wire: &Wire) -> Result<u64, Stop> {
+        let mut placed = 0u64;
+        for frame in wire.frames().iter().rev() {
+            let more = self.take(end, frame.from, wire.octets_of(*frame)?)?;
+            placed = placed.wrapping_add(more);
+        }
+        Ok(placed)
+    }
+
+    // Delivers octets from place 0 on, but for those of the first delivery, and tells how many deliveries they were.
+    fn take_behind(&mut self, end: &mut End, octets: &[u8]) -> Result<u64, Stop> {
+        let mut deliveries = 0u64;
+        let mut place = 0u64;
+        for piece in InPieces::new(octets, self.delivery.max(1)) {
+            if place > 0 {
+                self.take_piece(end, place, piece)?;
+                deliveries = deliveries.wrapping_add(1);
+            }
+            place = place.wrapping_add(piece.len() as u64);
+        }
+        Ok(deliveries)
     }
 
     // Delivers frames: of each `late` the first, or all others.
@@ -200,7 +227,7 @@ fn carry_batch(
     load: Load,
 ) -> Result<u64, Stop> {
     wire.fill(&mut pair.sender, source, load.batch)?;
-    receiving.take_all(&mut pair.receiver, wire, load.late)
+    receiving.take_all(&mut pair.receiver, wire, load)
 }
 
 /// Streams, the regions and buffers of those that receive, and frames under way.
@@ -272,11 +299,13 @@ impl Ends {
     // The two ends exchange start-up frames.
     fn start_up(&mut self, pair: &mut Pair) -> Result<(), Stop> {
         self.wire.fill(&mut pair.sender, &self.source, 1)?;
-        self.receiving.take_all(&mut pair.receiver, &self.wire, 1)?;
+        self.receiving
+            .take_some(&mut pair.receiver, &self.wire, 1, true)?;
         pair.receiver.accept()?;
         self.wire
             .fill(&mut pair.receiver, &self.receiving.memory, 1)?;
-        self.receiving.take_all(&mut pair.sender, &self.wire, 1)?;
+        self.receiving
+            .take_some(&mut pair.sender, &self.wire, 1, true)?;
         Ok(())
     }
 
@@ -396,5 +425,17 @@ impl Ends {
             placed = placed.wrapping_add(more);
         }
         Ok(placed)
+    }
+
+    /// Delivers the octets that were emitted, but for those of the first delivery, to a new stream, and tells how many
+    /// deliveries they were. Where the load says so, each marker points somewhere else.
+    pub(crate) fn take_window(&mut self, alloc: Global) -> Result<u64, Stop> {
+        let mut end = End::new(alloc, self.load, Role::Preset)?;
+        self.receiving.take_behind(&mut end, self.wire.octets())
+    }
+
+    /// Lets each marker that was emitted point somewhere else.
+    pub(crate) fn lie(&mut self) {
+        self.wire.lie();
     }
 }

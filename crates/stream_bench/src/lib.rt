@@ -8,7 +8,7 @@ mod run;
 mod wire;
 
 pub use load::Load;
-use run::{carry, receive};
+use run::{carry, receive, window};
 use std::alloc::Global;
 
 /// Carries messages from new streams to others, and tells how many octets were placed: none where something went otherwise.
@@ -22,6 +22,13 @@ pub extern "C" fn stream_carry(alloc: Global, load: &Load, octets: &[u8]) -> u64
 #[unsafe(no_mangle)]
 pub extern "C" fn stream_receive(alloc: Global, load: &Load, octets: &[u8]) -> u64 {
     receive(alloc, *load, octets).unwrap_or(0)
+}
+
+/// Delivers the frames of one round of messages, but for the first delivery, to new streams again and again, and tells how many
+/// deliveries they were: none where something went otherwise.
+#[unsafe(no_mangle)]
+pub extern "C" fn stream_window(alloc: Global, load: &Load, octets: &[u8]) -> u64 {
+    window(alloc, *load, octets).unwrap_or(0)
 }
 
 /// The CRC-32C of the octets.

@@ -2,6 +2,11 @@ use crate::end::{End, Stop};
 use iw_memory::Memory;
 use std::alloc::Global;
 
+// From one marker to the next, and of a marker, in octets.
+const MARKER_SPACING: usize = 512;
+
+const MARKER_LEN: usize = 4;
+
 /// A frame under way: its place in the stream, and where its octets lie.
 #[derive(Clone, Copy, Debug, PartialEq, Eq)]
 pub(crate) struct Frame {
@@ -53,6 +58,18 @@ impl Wire {
 
     pub(crate) fn octets(&self) -> &[u8] {
         self.octets.as_slice()
+    }
+
+    /// Lets each marker among the octets, the first of which has place 0, point somewhere else.
+    pub(crate) fn lie(&mut self) {
+        let mut state = 1u32;
+        for marker in self.octets.chunks_mut(MARKER_SPACING) {
+            state = state.wrapping_mul(1_664_525).wrapping_add(1_013_904_223);
+            if marker.len() >= MARKER_LEN {
+                marker[2] = (state >> 24) as u8;
+                marker[3] = (state >> 16 & 255) as u8;
+            }
+        }
     }
 
     /// Emits so many frames of an end at most, in place of those that were here.
