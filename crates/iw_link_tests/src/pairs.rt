@@ -54,6 +54,16 @@ fn exchanged(alloc: Global, asks: Row, serves: Row) -> Result<Pair, Fail> {
     })
 }
 
+// What an end asks for, in letters.
+fn letters(row: Row) -> &'static str {
+    match (row.markers, row.crc) {
+        (false, false) => "-",
+        (false, true) => "c",
+        (true, false) => "m",
+        (true, true) => "mc",
+    }
+}
+
 fn pairs(alloc: Global) -> Result<Vec<Pair>, Fail> {
     let mut pairs = Vec::new(alloc);
     for asks in OPTIONS {
@@ -117,6 +127,11 @@ fn each_cut_is_broken(rt: HostRuntime) -> Result<(), Fail> {
         assert!(rt; has_received(&served, TEXT, pair.served.as_slice()));
         let asked = asking(rt.alloc(), pair.asks, pair.served.as_slice(), WHOLE)?;
         assert!(rt; has_received(&asked, TEXT, pair.asked.as_slice()));
+        let (asks, serves) = (letters(pair.asks), letters(pair.serves));
+        let (to_serving, to_asking) = (pair.asked.len(), pair.served.len());
+        println!(rt;
+            "asks {asks}, serves {serves}: cut before octet 1 to {to_serving}, and before 1 to {to_asking}"
+        )?;
     }
     Ok(())
 }
@@ -189,16 +204,6 @@ fn fails_each(rt: &impl Abort, alloc: Global, pair: &Pair, side: Side) -> Result
         fails(rt, alloc, pair, side, (0, write))?;
     }
     Ok((whole.reads, whole.writes))
-}
-
-// What an end asks for, in letters.
-fn letters(row: Row) -> &'static str {
-    match (row.markers, row.crc) {
-        (false, false) => "-",
-        (false, true) => "c",
-        (true, false) => "m",
-        (true, true) => "mc",
-    }
 }
 
 #[test]

@@ -173,7 +173,9 @@ fn output(alloc: Global, most: usize) -> Halting<Vec<u8>> {
 
 #[test]
 fn a_failed_read_leaves_nothing_written(rt: HostRuntime) -> Result<(), Fail> {
-    for call in 1..=SCHEDULE.len().div_ceil(READ) as u64 + 1 {
+    let reads = SCHEDULE.len().div_ceil(READ) as u64 + 1;
+    println!(rt; "reads 1 to {reads}")?;
+    for call in 1..=reads {
         let failing = input(READ).failing_at(call, ErrorKind::BrokenPipe);
         let ended = replayed(rt.alloc(), failing, output(rt.alloc(), WRITE));
         assert_eq!(rt; ended.answer, Err(ReplayFault::Input), "at {call}");
@@ -185,7 +187,9 @@ fn a_failed_read_leaves_nothing_written(rt: HostRuntime) -> Result<(), Fail> {
 // The last call flushes the trace, which was written whole.
 #[test]
 fn a_failed_write_leaves_the_front_written(rt: HostRuntime) -> Result<(), Fail> {
-    for call in 1..=TRACE.len().div_ceil(WRITE) + 1 {
+    let writes = TRACE.len().div_ceil(WRITE) + 1;
+    println!(rt; "writes 1 to {writes}")?;
+    for call in 1..=writes {
         let failing = output(rt.alloc(), WRITE).failing_at(call as u64, ErrorKind::BrokenPipe);
         let ended = replayed(rt.alloc(), input(READ), failing);
         assert_eq!(rt; ended.answer, Err(ReplayFault::Output), "at {call}");
