@@ -6,7 +6,7 @@ unsafe extern "C" {
     fn ranges_in_order(octets: *const u8, n: usize, segment: usize) -> u64;
     fn ranges_swapped(octets: *const u8, n: usize, segment: usize) -> u64;
     fn ranges_halves(octets: *const u8, n: usize, segment: usize) -> u64;
-    fn ranges_behind_islands(octets: *const u8, n: usize, islands_too: bool) -> u64;
+    fn ranges_past_islands(octets: *const u8, n: usize, islands_too: bool) -> u64;
 }
 
 const SEGMENT: usize = 1_460;
@@ -59,8 +59,8 @@ fn main() {
 
     let few = 150_000;
     let mut contenders: Vec<(&str, u64, Box<dyn FnMut() -> u64>)> = vec![
-        ("without islands", few as u64, Box::new(|| unsafe { ranges_behind_islands(all, few, false) })),
-        ("with 1,000 islands", few as u64, Box::new(|| unsafe { ranges_behind_islands(all, few, true) })),
+        ("without islands", few as u64, Box::new(|| unsafe { ranges_past_islands(all, few, false) })),
+        ("with 1,000 islands", few as u64, Box::new(|| unsafe { ranges_past_islands(all, few, true) })),
     ];
     let times = least(&mut contenders);
     let ratio = times[1] / times[0];

@@ -47,10 +47,10 @@ unfolding data_index
 run_end true a n some run = omega (arith, run.0, run.1)
 run_end false a n some run = refl
 
-pub behind_edge : (m : Bool) (a : ℕ) → IsEdge m a → a ≤ data_place m (data_index m a)
+pub past_edge : (m : Bool) (a : ℕ) → IsEdge m a → a ≤ data_place m (data_index m a)
 unfolding data_place data_index
-behind_edge true a edge = omega arith
-behind_edge false a edge = omega arith
+past_edge true a edge = omega arith
+past_edge false a edge = omega arith
 
 pub run_is : (m : Bool) (a n : ℕ) → m ≡ true → in_marker m a ≡ false → n ≤ 512 - a % 512 → IsRun m a n
 unfolding in_marker
@@ -99,7 +99,7 @@ place_after_none m a (suc n) e = absurd (omega arith)
 pub at_most_after : (m : Bool) (a n : ℕ) → IsEdge m a → a ≤ place_after m a n
 unfolding place_after
 at_most_after m a zero edge = omega arith
-at_most_after m a (suc n) edge = omega (arith, behind_edge m a edge, place_mono m (data_index m a) (data_index m a + n) (omega arith))
+at_most_after m a (suc n) edge = omega (arith, past_edge m a edge, place_mono m (data_index m a) (data_index m a + n) (omega arith))
 
 pub index_after : (m : Bool) (a n : ℕ) → data_index m (place_after m a n) ≡ data_index m a + n
 unfolding place_after
@@ -147,7 +147,7 @@ stretch false i n h = omega arith
 -- how far the markers stretch n octets
 pub after_bound : (m : Bool) (a n : ℕ) → IsEdge m a → n ≤ 64521 → place_after m a n ≤ data_place m (data_index m a) + 65100
 unfolding place_after
-after_bound m a zero edge h = omega (arith, behind_edge m a edge)
+after_bound m a zero edge h = omega (arith, past_edge m a edge)
 after_bound m a (suc n) edge h = stretch m (data_index m a) n (omega arith)
 
 pub start_bound : (m : Bool) (a : ℕ) → IsEdge m a → data_place m (data_index m a) ≤ a + 4
@@ -211,9 +211,9 @@ end_without m start len f =
     sym (ap (λ b. frame_end b start len) f ∙ after_some false start (frame_size len) (frame_size len - 1) (omega arith) ∙ last_without start (frame_size len) (omega arith))
 
 -- where the next data octet goes, with a marker before it and without
-pub next_behind : (m : Bool) (a : ℕ) → m ≡ true → a % 512 ≡ 0 → data_place m (data_index m a) ≡ a + 4
-next_behind true a t z = edge_marker a z
-next_behind false a t z = cc
+pub next_past : (m : Bool) (a : ℕ) → m ≡ true → a % 512 ≡ 0 → data_place m (data_index m a) ≡ a + 4
+next_past true a t z = edge_marker a z
+next_past false a t z = cc
 
 pub next_here : (m : Bool) (a : ℕ) → IsEdge m a → (m ≡ false) ⊎ (0 < a % 512) → data_place m (data_index m a) ≡ a
 next_here true a edge (inl f) = cc
@@ -231,6 +231,6 @@ unfolding data_index
 index_aligned true a h = omega arith
 index_aligned false a h = h
 
-pub four_behind : (m : Bool) (a : ℕ) → data_index m a % 4 ≡ 0 → place_after m a 4 ≡ data_place m (data_index m a) + 4
-four_behind m a h =
+pub four_past : (m : Bool) (a : ℕ) → data_index m a % 4 ≡ 0 → place_after m a 4 ≡ data_place m (data_index m a) + 4
+four_past m a h =
     after_some m a 4 3 (omega arith) ∙ ap (λ x. x + 1) (run_data m (data_index m a) 4 3 (four_in_row m (data_index m a) h) (omega arith)) ∙ omega arith

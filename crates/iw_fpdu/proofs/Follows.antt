@@ -42,9 +42,9 @@ between true at aligned h = record { aligned = aligned; span = go }
 between false at aligned h = record { aligned = aligned; span = place_index false at (no_in_marker at) }
 
 -- the place behind a field of four octets
-behind_field : (k : ℕ) → (data_place true k + 4) % 512 ≢ 4
+past_field : (k : ℕ) → (data_place true k + 4) % 512 ≢ 4
 unfolding data_place
-behind_field k h = omega arith
+past_field k h = omega arith
 
 pub frames_follow : FramesFollow
 frames_follow = record {
@@ -53,7 +53,7 @@ frames_follow = record {
       let i = data_index m start + (2 + len + pad_len len) in
       let end : frame_end m start len ≡ data_place m i + 4 = field_end m start len s in
       let aligned : data_place m i % 4 ≡ 0 = place_aligned m i (omega (arith, index_aligned m start s.aligned)) in
-      between m (frame_end m start len) (omega (arith, end, aligned)) (λ t h. behind_field i (subst (λ x. (data_place x i + 4) % 512 ≡ 4) t (sym (ap (λ p. p % 512) end) ∙ h)));
+      between m (frame_end m start len) (omega (arith, end, aligned)) (λ t h. past_field i (subst (λ x. (data_place x i + 4) % 512 ≡ 4) t (sym (ap (λ p. p % 512) end) ∙ h)));
   begins = begins;
   ends = ends;
 }

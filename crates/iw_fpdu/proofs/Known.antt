@@ -42,8 +42,8 @@ known_frames = record {
       (0x84 ∷ 0x92 ∷ 0x58 ∷ 0x98 ∷ []) refl refl refl;
   plain = worked (record { markers = false; crc = false }) 20 (0x68 ∷ 0x69 ∷ []) (0 ∷ 2 ∷ 0x68 ∷ 0x69 ∷ []) (0 ∷ 0 ∷ 0 ∷ 0 ∷ []) refl refl refl;
   last_before_marker = refl;
-  first_behind_marker = refl;
-  ends_behind_marker = refl;
+  first_past_marker = refl;
+  ends_past_marker = refl;
   ends_before_marker = refl;
   longest_without = refl;
   longest_with = refl;

@@ -7,7 +7,7 @@ use Rattle.std.proofs.lemmas.Bool.Decides.{nat_tests}
 use Rattle.std.specs.List.{range_with_len}
 use Rattle.iw_fpdu.specs.Places.{data_place, data_index, in_marker, place_after}
 use Rattle.iw_fpdu.specs.Frame.{marker_octets, octet_at, laid}
-use Rattle.iw_fpdu.specs.Laying.{IsRun, IsEdge, marker_before, marker_behind}
+use Rattle.iw_fpdu.specs.Laying.{IsRun, IsEdge, marker_before, marker_beyond}
 use Rattle.iw_fpdu.proofs.Counted.{index_place, index_mono, place_index, no_in_marker, edge_inside, edge_marker, run_place, run_end, before_after, after_edge, after_after, at_most_after, index_after}
 
 pub range_append : (a n m b k : ℕ) → b ≡ a + n → k ≡ n + m → range_with_len a k ≡ range_with_len a n ++ range_with_len b m
@@ -95,9 +95,9 @@ unfolding marker_before
 one_marker start a z = let one : eqb (a % 512) 0 ≡ true = grind (arith, nat_tests) in ap (λ b. cond b (marker_octets start (a / 512)) []) one
 
 -- the marker at a place and what stands behind it
-pub laid_behind : (m : Bool) (start origin : ℕ) (xs : List ℕ) (a to : ℕ) → IsEdge m a → data_place m (data_index m a) ≤ to
+pub laid_past : (m : Bool) (start origin : ℕ) (xs : List ℕ) (a to : ℕ) → IsEdge m a → data_place m (data_index m a) ≤ to
     → laid m start origin xs a to ≡ marker_before m start a ++ laid m start origin xs (data_place m (data_index m a)) to
-laid_behind true start origin xs a to edge fits =
+laid_past true start origin xs a to edge fits =
     elim (cases_lt 0 (a % 512)) [
       | inl inside ↦
           sym
@@ -112,7 +112,7 @@ laid_behind true start origin xs a to edge fits =
           (ap (λ ys. ys ++ laid true start origin xs (data_place true (data_index true a)) to) (one_marker start a z)
           ∙ ap (λ n. marker_octets start (a / 512) ++ laid true start origin xs n to) next)
     ]
-laid_behind false start origin xs a to edge fits =
+laid_past false start origin xs a to edge fits =
     sym
     (ap (λ ys. ys ++ laid false start origin xs (data_place false (data_index false a)) to) (no_marker false start a (inl refl))
     ∙ ap (λ n. laid false start origin xs n to) (place_index false a (no_in_marker a)))
@@ -123,7 +123,7 @@ pub laid_turn : (m : Bool) (start : ℕ) (rest : List ℕ) (a b n to : ℕ) → 
 laid_turn m start rest a b n to edge e some fits run high =
     let index : data_index m b ≡ data_index m a = ap (data_index m) e ∙ index_place m (data_index m a) in
     let next : data_index m (b + n) ≡ data_index m a + n = run_end m b n some run ∙ ap (λ k. k + n) index in
-    laid_behind m start (data_index m a) rest a to edge (omega arith)
+    laid_past m start (data_index m a) rest a to edge (omega arith)
     ∙ ap (λ ys. marker_before m start a ++ ys)
     (ap (λ x. laid m start (data_index m a) rest x to) (sym e)
     ∙ laid_split m start (data_index m a) rest b (b + n) to (omega arith) high
@@ -189,8 +189,8 @@ pub marker_here : (m : Bool) (start a : ℕ) → m ≡ true → a % 512 ≡ 0 �
 marker_here true start a t z = one_marker start a z
 marker_here false start a t z = cc
 
-pub none_behind : (m : Bool) (at : ℕ) → (m ≡ false) ⊎ (at % 512 ≢ 4) → marker_behind m at ≡ []
-unfolding marker_behind
-none_behind true at (inl f) = cc
-none_behind true at (inr h) = let far : eqb (at % 512) 4 ≡ false = grind (arith, nat_tests) in ap (λ b. cond b (0 ∷ 0 ∷ 0 ∷ 0 ∷ []) []) far
-none_behind false at h = refl
+pub none_beyond : (m : Bool) (at : ℕ) → (m ≡ false) ⊎ (at % 512 ≢ 4) → marker_beyond m at ≡ []
+unfolding marker_beyond
+none_beyond true at (inl f) = cc
+none_beyond true at (inr h) = let far : eqb (at % 512) 4 ≡ false = grind (arith, nat_tests) in ap (λ b. cond b (0 ∷ 0 ∷ 0 ∷ 0 ∷ []) []) far
+none_beyond false at h = refl

@@ -19,16 +19,16 @@ pub within_run : (run k : ℕ) → k < run → rest_place run k ≡ k
 unfolding rest_place
 within_run run k lt = let t : nat_lt k run ≡ true = grind (arith, nat_tests) in ap (λ b. cond b k (k + 4 * ((k - run) / 508 + 1))) t
 
-pub behind_run : (run k : ℕ) → run ≤ k → rest_place run k ≡ k + 4 * ((k - run) / 508 + 1)
+pub past_run : (run k : ℕ) → run ≤ k → rest_place run k ≡ k + 4 * ((k - run) / 508 + 1)
 unfolding rest_place
-behind_run run k le = let t : nat_lt k run ≡ false = grind (arith, nat_tests) in ap (λ b. cond b k (k + 4 * ((k - run) / 508 + 1))) t
+past_run run k le = let t : nat_lt k run ≡ false = grind (arith, nat_tests) in ap (λ b. cond b k (k + 4 * ((k - run) / 508 + 1))) t
 
 -- behind the run a marker stands, and behind that another run
 pub next_run : (run k : ℕ) → rest_place run (run + k) ≡ run + 4 + rest_place 508 k
 next_run run k =
-    behind_run run (run + k) (omega arith) ∙ elim (cases_lt k 508) [
+    past_run run (run + k) (omega arith) ∙ elim (cases_lt k 508) [
       | inl near ↦ omega (arith, within_run 508 k near)
-      | inr far ↦ omega (arith, behind_run 508 k (omega arith))
+      | inr far ↦ omega (arith, past_run 508 k (omega arith))
     ]
 
 -- n octets that are left
@@ -43,8 +43,8 @@ left_all rest run n short fits =
     ∙ cut_at 0 rest 0 n (omega arith) (omega arith)
 
 -- one does: the run before it, and what is left behind it
-pub left_behind : (rest : List ℕ) (run n : ℕ) → run ≤ n → run ≤ length rest → left_in rest run n ≡ take run rest ++ left_in (drop 4 (drop run rest)) 508 (n - run)
-left_behind rest run n fits within =
+pub left_past : (rest : List ℕ) (run n : ℕ) → run ≤ n → run ≤ length rest → left_in rest run n ≡ take run rest ++ left_in (drop 4 (drop run rest)) 508 (n - run)
+left_past rest run n fits within =
     ap (map octet) (range_append 0 run (n - run) run n (omega arith) (omega arith))
     ∙ map-append octet (range_with_len 0 run) (range_with_len run (n - run))
     ∙ ap (λ xs. xs ++ map octet (range_with_len run (n - run))) (left_all rest run run (omega arith) within)
@@ -59,7 +59,7 @@ left_behind rest run n fits within =
 
 place_later : (m : Bool) (from run j : ℕ) → IsRun m from run → m ≡ true → run + from % 512 ≡ 512 → run ≤ j → rest_place run j + from ≡ data_place m (data_index m from + j)
 unfolding data_place data_index
-place_later true from run j is t up far = omega (arith, behind_run run j far, is.0, up)
+place_later true from run j is t up far = omega (arith, past_run run j far, is.0, up)
 place_later false from run j is t up far = cc
 
 -- data octets from a place on, by the run up to the next marker

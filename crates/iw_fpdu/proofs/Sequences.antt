@@ -14,7 +14,7 @@ use Rattle.iw_fpdu.specs.Frame.{max_sent, frame_size, frame_end, frame_octet, fr
 use Rattle.iw_fpdu.specs.PiecesOctet.{octet_from}
 use Rattle.iw_fpdu.specs.Reading.{data_at, length_at, ulpdu_at, end_at, mismatch_at}
 use Rattle.iw_fpdu.specs.Found.{octet_in, IsWhole, LacksOctet, ulpdu, mismatch}
-use Rattle.iw_fpdu.specs.Sequence.{Carried, intact, carried_at, sequence, place_behind, first_frame, frames_within, frames_of}
+use Rattle.iw_fpdu.specs.Sequence.{Carried, intact, carried_at, sequence, place_past, first_frame, frames_within, frames_of}
 use Rattle.iw_fpdu.specs.Laws.{IsBetween, FirstTakes, StandFrom, found_at, FramesInSequence}
 use Rattle.iw_fpdu.proofs.Octets.{span_low, Agree, agree, same_frame_data, same_length, same_mismatch, length_within}
 use Rattle.iw_fpdu.proofs.Came.{part_agrees}
@@ -100,9 +100,9 @@ first_stays layout at octets more carried rest b e =
     same_first layout new old start (length_at old start) (begins m at b) refl
     (λ q low high. get_or_append_left octets more 0 (q - at) (omega (arith, b.span, low, high, p.fits, field_fits layout at (length_at old start) b))) in
     let fits : end_at new m start ≤ at + length (octets ++ more) = omega (arith, same.end, p.fits, length-append octets more) in
-    let behind : drop (end_at new m start - at) (octets ++ more) ≡ rest ++ more =
+    let beyond : drop (end_at new m start - at) (octets ++ more) ≡ rest ++ more =
     ap (λ k. drop (k - at) (octets ++ more)) same.end ∙ drop-append-le (end_at old m start - at) octets more (omega (arith, p.fits)) ∙ ap (λ z. z ++ more) (sym p.rest_is) in
-    first_from layout at (octets ++ more) b fits ∙ (λ i. Some ((same.carried ∙ sym p.carried_is) i, behind i))
+    first_from layout at (octets ++ more) b fits ∙ (λ i. Some ((same.carried ∙ sym p.carried_is) i, beyond i))
 
 -- ---- the frame alone
 -- the octets of the first frame, which are that frame whatever comes behind them
@@ -134,8 +134,8 @@ first_alone layout at octets carried rest b e =
           let in_one : q - at < length one = omega (arith, size, from, to, b.span, low) in
           get_or_append_left one more 0 (q - at) in_one ∙ sym (get_or_append_left one rest 0 (q - at) in_one) ∙ ap (λ z. get_or z (q - at) 0) split) in
           let fits : end_at new m start ≤ at + length (one ++ more) = omega (arith, same.end, size, low, length-append one more) in
-          let behind : drop (end_at new m start - at) (one ++ more) ≡ more = drop_at one more (end_at new m start - at) (omega (arith, size, same.end)) in
-          first_from layout at (one ++ more) b fits ∙ (λ i. Some ((same.carried ∙ sym p.carried_is) i, behind i));
+          let beyond : drop (end_at new m start - at) (one ++ more) ≡ more = drop_at one more (end_at new m start - at) (omega (arith, size, same.end)) in
+          first_from layout at (one ++ more) b fits ∙ (λ i. Some ((same.carried ∙ sym p.carried_is) i, beyond i));
     }
 
 -- ---- a frame that was written
@@ -172,8 +172,8 @@ written_is_first layout at u rest b short =
     let wrong : mismatch_at layout g start (length_at g start) ≡ None = ap (mismatch_at layout g start) back ∙ agrees_back layout start u s short in
     let payload : ulpdu_at g m start ≡ u = ap (data_at g m (data_index m start + 2)) back ∙ ulpdu_back layout start u in
     let carried : carried_at layout new start ≡ intact u = same.carried ∙ (λ i. record { mismatch = wrong i; ulpdu = payload i }) in
-    let behind : drop (end_at new m start - at) octets ≡ rest = drop_at (frame_octets layout at u) rest (end_at new m start - at) (omega (arith, size, end)) in
-    first_from layout at octets b fits ∙ (λ i. Some (carried i, behind i))
+    let beyond : drop (end_at new m start - at) octets ≡ rest = drop_at (frame_octets layout at u) rest (end_at new m start - at) (omega (arith, size, end)) in
+    first_from layout at octets b fits ∙ (λ i. Some (carried i, beyond i))
 
 -- ---- what is left
 pub first_takes : (layout : Layout) (at : ℕ) (octets : List ℕ) (carried : Carried) (rest : List ℕ) → IsBetween layout.markers at
@@ -186,8 +186,8 @@ first_takes layout at octets carried rest b e =
     let end : ℕ = frame_end m start n in
     let low : at + 2 ≤ end = omega (arith, field_fits layout at n b, b.span, span_low m start) in
     let left : length rest ≡ length octets - (end - at) = ap length p.rest_is ∙ length-drop (end - at) octets in
-    let behind : at + (length octets - length rest) ≡ end = omega (arith, left, low, p.fits) in
-    record { shorter = omega (arith, left, low, p.fits); next = subst (IsBetween m) (sym behind) (frames_follow.next m start n (begins m at b)) }
+    let beyond : at + (length octets - length rest) ≡ end = omega (arith, left, low, p.fits) in
+    record { shorter = omega (arith, left, low, p.fits); next = subst (IsBetween m) (sym beyond) (frames_follow.next m start n (begins m at b)) }
 
 -- ---- among octets that came
 came_here : (arrived : Arrived) (base at : ℕ) (octets : List ℕ) → StandFrom arrived base at octets → (p : ℕ) → at ≤ p → p < at + length octets → octet_in arrived base p ≡ octet_from at octets p
@@ -256,24 +256,24 @@ next_between layout at n b = subst (IsBetween layout.markers) (ends layout.marke
 end_past : (layout : Layout) (at n : ℕ) → IsBetween layout.markers at → at ≤ frame_end layout.markers at n
 end_past layout at n b = omega (arith, ends layout.markers at n, field_fits layout at n b, b.span, span_low layout.markers (frame_start layout.markers at))
 
-pub place_is : (layout : Layout) (at : ℕ) (us : List (List ℕ)) → IsBetween layout.markers at → place_behind layout at us ≡ at + length (sequence layout at us)
-unfolding sequence place_behind
+pub place_is : (layout : Layout) (at : ℕ) (us : List (List ℕ)) → IsBetween layout.markers at → place_past layout at us ≡ at + length (sequence layout at us)
+unfolding sequence place_past
 place_is layout at [] b = omega arith
 place_is layout at (u ∷ us) b =
     let end : ℕ = frame_end layout.markers at (length u) in
     omega (arith, place_is layout end us (next_between layout at (length u) b), length-append (frame_octets layout at u) (sequence layout end us), length_written layout at u, end_past layout at (length u) b)
 
-pub between_behind : (layout : Layout) (at : ℕ) (us : List (List ℕ)) → IsBetween layout.markers at → IsBetween layout.markers (place_behind layout at us)
-unfolding place_behind
-between_behind layout at [] b = b
-between_behind layout at (u ∷ us) b = between_behind layout (frame_end layout.markers at (length u)) us (next_between layout at (length u) b)
+pub between_past : (layout : Layout) (at : ℕ) (us : List (List ℕ)) → IsBetween layout.markers at → IsBetween layout.markers (place_past layout at us)
+unfolding place_past
+between_past layout at [] b = b
+between_past layout at (u ∷ us) b = between_past layout (frame_end layout.markers at (length u)) us (next_between layout at (length u) b)
 
-pub sequences_join : (layout : Layout) (at : ℕ) (us vs : List (List ℕ)) → sequence layout at (us ++ vs) ≡ sequence layout at us ++ sequence layout (place_behind layout at us) vs
-unfolding sequence place_behind
+pub sequences_join : (layout : Layout) (at : ℕ) (us vs : List (List ℕ)) → sequence layout at (us ++ vs) ≡ sequence layout at us ++ sequence layout (place_past layout at us) vs
+unfolding sequence place_past
 sequences_join layout at [] vs = refl
 sequences_join layout at (u ∷ us) vs =
     let end : ℕ = frame_end layout.markers at (length u) in
-    ap (λ z. frame_octets layout at u ++ z) (sequences_join layout end us vs) ∙ sym (append_assoc (frame_octets layout at u) (sequence layout end us) (sequence layout (place_behind layout end us) vs))
+    ap (λ z. frame_octets layout at u ++ z) (sequences_join layout end us vs) ∙ sym (append_assoc (frame_octets layout at u) (sequence layout end us) (sequence layout (place_past layout end us) vs))
 
 -- the frames behind the first
 abbrev others : Layout → ℕ → ℕ → List ℕ → Option (Carried × List ℕ) → List Carried
@@ -326,9 +326,9 @@ frames_written layout at (u ∷ us) b h =
     let rest : List ℕ = sequence layout end us in
     let octets : List ℕ = frame_octets layout at u ++ rest in
     let first : first_frame layout at octets ≡ Some (intact u, rest) = written_is_first layout at u rest b (All-head (λ x. length x ≤ max_sent) u us h) in
-    let behind : at + (length octets - length rest) ≡ end = omega (arith, length-append (frame_octets layout at u) rest, length_written layout at u, end_past layout at (length u) b) in
+    let beyond : at + (length octets - length rest) ≡ end = omega (arith, length-append (frame_octets layout at u) rest, length_written layout at u, end_past layout at (length u) b) in
     frames_first layout at octets (intact u) rest b first
-    ∙ ap (λ p. intact u ∷ frames_of layout p rest) behind
+    ∙ ap (λ p. intact u ∷ frames_of layout p rest) beyond
     ∙ ap (λ z. intact u ∷ z) (frames_written layout end us (next_between layout at (length u) b) (All-tail (λ x. length x ≤ max_sent) u us h))
 
 pub frames_in_sequence : FramesInSequence
@@ -337,7 +337,7 @@ frames_in_sequence = record {
   written = written_is_first;
   takes = first_takes;
   found = record { whole = found_whole; lacking = found_lacking };
-  read = λ layout at us b short. record { frames = frames_written layout at us b short; place = place_is layout at us b; next = between_behind layout at us b };
+  read = λ layout at us b short. record { frames = frames_written layout at us b short; place = place_is layout at us b; next = between_past layout at us b };
   join = sequences_join;
 }
 

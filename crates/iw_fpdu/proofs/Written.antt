@@ -9,9 +9,9 @@ use Rattle.iw_octets.specs.Crc.{crc32c}
 use Rattle.iw_fpdu.specs.declared.layout.Layout.{Layout}
 use Rattle.iw_fpdu.specs.Places.{data_place, data_index, in_marker, place_after, frame_start, span_start}
 use Rattle.iw_fpdu.specs.Frame.{marker_value, octet_at, laid, pad_len, frame_end, field_place, bare_data, covered, crc_field, frame_data, frame_octet, frame_octets}
-use Rattle.iw_fpdu.specs.Laying.{IsRun, IsEdge, marker_before, marker_behind}
-use Rattle.iw_fpdu.proofs.Counted.{place_after_none, run_place, four_behind, index_place, index_mono, place_mono, place_index, no_in_marker, edge_inside, edge_marker, run_data, behind_edge, after_edge, at_most_after, index_after, after_some, aligned_edge, marker_value_is, four_in_row, index_aligned, after_after}
-use Rattle.iw_fpdu.proofs.Laid.{laid_three, laid_turn, map_range, laid_split, laid_none, laid_shift, laid_run, laid_behind, laid_marker, octet_data, octet_marker}
+use Rattle.iw_fpdu.specs.Laying.{IsRun, IsEdge, marker_before, marker_beyond}
+use Rattle.iw_fpdu.proofs.Counted.{place_after_none, run_place, four_past, index_place, index_mono, place_mono, place_index, no_in_marker, edge_inside, edge_marker, run_data, past_edge, after_edge, at_most_after, index_after, after_some, aligned_edge, marker_value_is, four_in_row, index_aligned, after_after}
+use Rattle.iw_fpdu.proofs.Laid.{laid_three, laid_turn, map_range, laid_split, laid_none, laid_shift, laid_run, laid_past, laid_marker, octet_data, octet_marker}
 
 pub length_bare : (ulpdu : List ℕ) → length (bare_data ulpdu) ≡ 2 + length ulpdu + pad_len (length ulpdu)
 length_bare ulpdu = simp (length-append, length-replicate) (omega arith)
@@ -25,10 +25,10 @@ laid_up m start xs a edge =
     let to = data_place m (data_index m a + length xs) in
     let edge_p : IsEdge m p = after_edge m a (length xs) edge in
     let next : data_place m (data_index m p) ≡ to = ap (data_place m) (index_after m a (length xs)) in
-    let later : p ≤ to = omega (arith, next, behind_edge m p edge_p) in
+    let later : p ≤ to = omega (arith, next, past_edge m p edge_p) in
     laid_split m start (data_index m a) xs a p to (at_most_after m a (length xs) edge) later
     ∙ ap (λ ys. laid m start (data_index m a) xs a p ++ ys)
-    (laid_behind m start (data_index m a) xs p to edge_p (omega (arith, next))
+    (laid_past m start (data_index m a) xs p to edge_p (omega (arith, next))
     ∙ ap (λ ys. marker_before m start p ++ ys) (laid_none m start (data_index m a) xs (data_place m (data_index m p)) to (omega (arith, next)))
     ∙ append-nil (marker_before m start p))
 
@@ -63,10 +63,10 @@ laid_last m start xs field a aligned whole four =
     let end = place_after m a (length xs + 4) in
     let edge = aligned_edge m a aligned in
     let run : IsRun m fp 4 = four_in_row m i (omega (arith, index_aligned m a aligned)) in
-    let behind : end ≡ fp + 4 = after_some m a (length xs + 4) (length xs + 3) (omega arith) ∙ ap (λ x. x + 1) (ap (data_place m) (omega arith) ∙ run_data m i 4 3 run (omega arith)) ∙ omega arith in
-    let low : a ≤ fp = omega (arith, behind_edge m a edge, place_mono m (data_index m a) i (omega arith)) in
+    let beyond : end ≡ fp + 4 = after_some m a (length xs + 4) (length xs + 3) (omega arith) ∙ ap (λ x. x + 1) (ap (data_place m) (omega arith) ∙ run_data m i 4 3 run (omega arith)) ∙ omega arith in
+    let low : a ≤ fp = omega (arith, past_edge m a edge, place_mono m (data_index m a) i (omega arith)) in
     let at_fp : data_index m fp ≡ i = index_place m i in
-    ap (laid m start (data_index m a) (xs ++ field) a) behind
+    ap (laid m start (data_index m a) (xs ++ field) a) beyond
     ∙ laid_split m start (data_index m a) (xs ++ field) a fp (fp + 4) low (omega arith)
     ∙ ap (λ ys. ys ++ laid m start (data_index m a) (xs ++ field) fp (fp + 4)) (laid_before m start xs field a fp (omega arith))
     ∙ ap (λ ys. laid m start (data_index m a) xs a fp ++ ys)
@@ -79,8 +79,8 @@ laid_last m start xs field a aligned whole four =
 
 -- the span of a frame: the marker directly before it, where that isn't written with it, and what is written
 pub laid_span : (m : Bool) (at : ℕ) (xs : List ℕ) (to : ℕ) → at % 4 ≡ 0 → at ≤ to
-    → laid m (frame_start m at) (data_index m at) xs (span_start m (frame_start m at)) to ≡ marker_behind m at ++ laid m (frame_start m at) (data_index m at) xs at to
-unfolding span_start marker_behind
+    → laid m (frame_start m at) (data_index m at) xs (span_start m (frame_start m at)) to ≡ marker_beyond m at ++ laid m (frame_start m at) (data_index m at) xs at to
+unfolding span_start marker_beyond
 laid_span true at xs to aligned later =
     elim (cases_eq (at % 512) 0) [
       | inl zero_at ↦
@@ -162,10 +162,10 @@ length_field layout start ulpdu = go layout.crc
 
 -- what the CRC of a frame is over
 pub covered_is : (m : Bool) (at : ℕ) (ulpdu : List ℕ) → at % 4 ≡ 0
-    → covered m (frame_start m at) ulpdu ≡ marker_behind m at ++ laid m (frame_start m at) (data_index m at) (bare_data ulpdu) at (field_place m at (length ulpdu))
+    → covered m (frame_start m at) ulpdu ≡ marker_beyond m at ++ laid m (frame_start m at) (data_index m at) (bare_data ulpdu) at (field_place m at (length ulpdu))
 covered_is m at ulpdu aligned =
     let index : data_index m (frame_start m at) ≡ data_index m at = index_place m (data_index m at) in
-    let later : at ≤ field_place m at (length ulpdu) = omega (arith, behind_edge m at (aligned_edge m at aligned), place_mono m (data_index m at) (data_index m at + (2 + length ulpdu + pad_len (length ulpdu))) (omega arith)) in
+    let later : at ≤ field_place m at (length ulpdu) = omega (arith, past_edge m at (aligned_edge m at aligned), place_mono m (data_index m at) (data_index m at + (2 + length ulpdu + pad_len (length ulpdu))) (omega arith)) in
     ap (λ i. laid m (frame_start m at) i (bare_data ulpdu) (span_start m (frame_start m at)) (data_place m (i + (2 + length ulpdu + pad_len (length ulpdu))))) index
     ∙ laid_span m at (bare_data ulpdu) (field_place m at (length ulpdu)) aligned later
 
@@ -198,14 +198,14 @@ length-frame_octets layout at ulpdu = length-map-range_with_len (frame_octet lay
 -- the CRC field, worked out over what was written
 pub field_is : (layout : Layout) (at : ℕ) (ulpdu written : List ℕ) → at % 4 ≡ 0
     → written ≡ laid layout.markers (frame_start layout.markers at) (data_index layout.markers at) (bare_data ulpdu) at (field_place layout.markers at (length ulpdu))
-    → cond layout.crc (to_le_bytes w32 (crc32c (marker_behind layout.markers at ++ written))) (0 ∷ 0 ∷ 0 ∷ 0 ∷ []) ≡ crc_field layout (frame_start layout.markers at) ulpdu
+    → cond layout.crc (to_le_bytes w32 (crc32c (marker_beyond layout.markers at ++ written))) (0 ∷ 0 ∷ 0 ∷ 0 ∷ []) ≡ crc_field layout (frame_start layout.markers at) ulpdu
 field_is layout at ulpdu written aligned e =
-    ap (λ xs. cond layout.crc (to_le_bytes w32 (crc32c xs)) (0 ∷ 0 ∷ 0 ∷ 0 ∷ [])) (ap (λ xs. marker_behind layout.markers at ++ xs) e ∙ sym (covered_is layout.markers at ulpdu aligned))
+    ap (λ xs. cond layout.crc (to_le_bytes w32 (crc32c xs)) (0 ∷ 0 ∷ 0 ∷ 0 ∷ [])) (ap (λ xs. marker_beyond layout.markers at ++ xs) e ∙ sym (covered_is layout.markers at ulpdu aligned))
 
 pub whole_written : (layout : Layout) (at len : ℕ) (ulpdu old bare new field written : List ℕ) → at % 4 ≡ 0 → len ≡ length ulpdu
     → bare ≡ old ++ laid layout.markers (frame_start layout.markers at) (data_index layout.markers at) (bare_data ulpdu) at (field_place layout.markers at len)
     → written ≡ drop (length old) bare
-    → field ≡ cond layout.crc (to_le_bytes w32 (crc32c (marker_behind layout.markers at ++ written))) (0 ∷ 0 ∷ 0 ∷ 0 ∷ [])
+    → field ≡ cond layout.crc (to_le_bytes w32 (crc32c (marker_beyond layout.markers at ++ written))) (0 ∷ 0 ∷ 0 ∷ 0 ∷ [])
     → new ≡ bare ++ field → new ≡ old ++ frame_octets layout at ulpdu
 whole_written layout at len ulpdu old bare new field written aligned n_is bare_is written_is field_eq new_is =
     let m = layout.markers in
@@ -228,8 +228,8 @@ unfolding data_place data_index
 two_in_row true at h = (omega arith, omega arith)
 two_in_row false at h = tt
 
-pub two_behind : (m : Bool) (at : ℕ) → at % 4 ≡ 0 → place_after m at 2 ≡ data_place m (data_index m at) + 2
-two_behind m at h =
+pub two_past : (m : Bool) (at : ℕ) → at % 4 ≡ 0 → place_after m at 2 ≡ data_place m (data_index m at) + 2
+two_past m at h =
     after_some m at 2 1 (omega arith) ∙ ap (λ x. x + 1) (run_data m (data_index m at) 2 1 (two_in_row m at h) (omega arith)) ∙ omega arith
 
 pub laid_two : (m : Bool) (start a b at : ℕ) → IsEdge m at → at % 4 ≡ 0
@@ -237,7 +237,7 @@ pub laid_two : (m : Bool) (start a b at : ℕ) → IsEdge m at → at % 4 ≡ 0
 laid_two m start a b at edge h =
     let p = data_place m (data_index m at) in
     let run = two_in_row m at h in
-    ap (laid m start (data_index m at) (a ∷ b ∷ []) at) (two_behind m at h)
+    ap (laid m start (data_index m at) (a ∷ b ∷ []) at) (two_past m at h)
     ∙ laid_turn m start (a ∷ b ∷ []) at p 2 (p + 2) edge refl (omega arith) (omega arith) run (omega arith)
     ∙ ap (λ ys. marker_before m start at ++ ((a ∷ b ∷ []) ++ ys)) (laid_none m start (data_index m (p + 2)) [] (p + 2) (p + 2) (omega arith))
 
@@ -248,12 +248,12 @@ pad_in_row true at pad (inr inside) some few h = (inside, omega arith)
 pad_in_row false at pad edge some few h = tt
 
 -- the place behind the pad, and the one behind the CRC field, which is no nearer than four octets
-pub pad_behind : (m : Bool) (at pad : ℕ) → IsEdge m at → pad < 4 → (data_index m at + pad) % 4 ≡ 0 → (place_after m at pad ≡ at + pad) × (at + pad + 4 ≤ place_after m at (pad + 4))
-pad_behind m at pad edge few h =
-    let behind : place_after m at pad ≡ at + pad = elim (cases_lt 0 pad) [ inl some ↦ row some | inr none ↦ place_after_none m at pad (omega arith) ∙ omega arith ] in
+pub pad_past : (m : Bool) (at pad : ℕ) → IsEdge m at → pad < 4 → (data_index m at + pad) % 4 ≡ 0 → (place_after m at pad ≡ at + pad) × (at + pad + 4 ≤ place_after m at (pad + 4))
+pad_past m at pad edge few h =
+    let beyond : place_after m at pad ≡ at + pad = elim (cases_lt 0 pad) [ inl some ↦ row some | inr none ↦ place_after_none m at pad (omega arith) ∙ omega arith ] in
     let after = after_after m at pad 4 in
-    let field = four_behind m (place_after m at pad) (omega (arith, index_after m at pad, h)) in
-    (behind, omega (arith, after, field, behind, behind_edge m (place_after m at pad) (after_edge m at pad edge)))
+    let field = four_past m (place_after m at pad) (omega (arith, index_after m at pad, h)) in
+    (beyond, omega (arith, after, field, beyond, past_edge m (place_after m at pad) (after_edge m at pad edge)))
   where
     row : 0 < pad → place_after m at pad ≡ at + pad
     row some =
@@ -264,7 +264,7 @@ pad_behind m at pad edge few h =
 
 pub laid_pad : (m : Bool) (start at pad : ℕ) → IsEdge m at → pad < 4 → (data_index m at + pad) % 4 ≡ 0 → laid m start (data_index m at) (replicate pad 0) at (place_after m at pad) ≡ replicate pad 0
 laid_pad m start at pad edge few h =
-    ap (laid m start (data_index m at) (replicate pad 0) at) (pad_behind m at pad edge few h).0
+    ap (laid m start (data_index m at) (replicate pad 0) at) (pad_past m at pad edge few h).0
     ∙ elim (cases_lt 0 pad) [
       | inl some ↦
           laid_run m start (replicate pad 0) at pad (omega (arith, length-replicate {A = ℕ} pad 0)) (pad_in_row m at pad edge some few h) ∙ take-replicate pad pad 0 (omega arith)

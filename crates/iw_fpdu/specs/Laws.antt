@@ -8,7 +8,7 @@ use Rattle.iw_fpdu.specs.Places.{IsStart, data_place, frame_start, span_start}
 use Rattle.iw_fpdu.specs.Frame.{max_sent, marker_value, frame_end, frame_octet, frame_octets}
 use Rattle.iw_fpdu.specs.Reading.{crc_agrees, end_at, mismatch_at}
 use Rattle.iw_fpdu.specs.Found.{Found, octet_in, IsWhole, LacksOctet, is_whole, ulpdu_len, ulpdu, mismatch}
-use Rattle.iw_fpdu.specs.Sequence.{Carried, intact, sequence, place_behind, first_frame, frames_of}
+use Rattle.iw_fpdu.specs.Sequence.{Carried, intact, sequence, place_past, first_frame, frames_of}
 
 -- ---- one frame after another
 -- where a frame is written with its whole span: at a multiple of four octets that isn't directly after a marker
@@ -90,14 +90,14 @@ pub record FoundIsFirst : Type 0 where
 -- frames that were written one after another are those that are read, in order, and the next is written where the last ends
 pub record SequenceIsRead (layout : Layout) (at : ℕ) (us : List (List ℕ)) : Type 0 where
   pub frames : frames_of layout at (sequence layout at us) ≡ map intact us
-  pub place : place_behind layout at us ≡ at + length (sequence layout at us)
-  pub next : IsBetween layout.markers (place_behind layout at us)
+  pub place : place_past layout at us ≡ at + length (sequence layout at us)
+  pub next : IsBetween layout.markers (place_past layout at us)
 
 abbrev pub SequencesAreRead : Type 0
 SequencesAreRead = (layout : Layout) (at : ℕ) (us : List (List ℕ)) → IsBetween layout.markers at → All (λ u. length u ≤ max_sent) us → SequenceIsRead layout at us
 
 abbrev pub SequencesJoin : Type 0
-SequencesJoin = (layout : Layout) (at : ℕ) (us vs : List (List ℕ)) → sequence layout at (us ++ vs) ≡ sequence layout at us ++ sequence layout (place_behind layout at us) vs
+SequencesJoin = (layout : Layout) (at : ℕ) (us vs : List (List ℕ)) → sequence layout at (us ++ vs) ≡ sequence layout at us ++ sequence layout (place_past layout at us) vs
 
 pub record FramesInSequence : Type 0 where
   pub stays : FirstStays
@@ -137,8 +137,8 @@ pub record KnownFrames : Type 0 where
       ≡ (0 ∷ 0x2a ∷ 0x41 ∷ 0x43 ∷ []) ++ replicate 8 0 ++ (0 ∷ 0 ∷ 0 ∷ 2 ∷ 0 ∷ 0 ∷ 0 ∷ 0 ∷ []) ++ (0 ∷ 0 ∷ 0 ∷ 0x14 ∷ []) ++ replicate 24 0 ++ (0x84 ∷ 0x92 ∷ 0x58 ∷ 0x98 ∷ [])
   pub plain : frame_octets (record { markers = false; crc = false }) 20 (0x68 ∷ 0x69 ∷ []) ≡ 0 ∷ 2 ∷ 0x68 ∷ 0x69 ∷ 0 ∷ 0 ∷ 0 ∷ 0 ∷ []
   pub last_before_marker : data_place true 507 ≡ 511
-  pub first_behind_marker : data_place true 508 ≡ 516
-  pub ends_behind_marker : frame_end true 4 600 ≡ 616
+  pub first_past_marker : data_place true 508 ≡ 516
+  pub ends_past_marker : frame_end true 4 600 ≡ 616
   pub ends_before_marker : frame_end true 4 502 ≡ 512
   pub longest_without : frame_end false 0 65535 ≡ 65544
   pub longest_with : frame_end true 4 65535 ≡ 66064

@@ -18,8 +18,8 @@ unfoldable pub marker_before : Bool → ℕ → ℕ → List ℕ
 marker_before markers start at = if markers && (at % 512 == 0) then marker_octets start (at / 512) else []
 
 -- the marker that stands directly before a place, if there is one, where a frame begins at that place
-unfoldable pub marker_behind : Bool → ℕ → List ℕ
-marker_behind markers at = if markers && (at % 512 == 4) then 0 ∷ 0 ∷ 0 ∷ 0 ∷ [] else []
+unfoldable pub marker_beyond : Bool → ℕ → List ℕ
+marker_beyond markers at = if markers && (at % 512 == 4) then 0 ∷ 0 ∷ 0 ∷ 0 ∷ [] else []
 
 -- octets of the frame that begins at `start`, from place `at` on, with the markers before and among them
 abbrev pub laid_from : ℕ → ℕ → List ℕ → List ℕ

@@ -14,9 +14,9 @@ sequence layout at [] = []
 sequence layout at (u ∷ us) = frame_octets layout at u ++ sequence layout (frame_end layout.markers at (length u)) us
 
 -- where the next one is written
-unfoldable pub place_behind : Layout → ℕ → List (List ℕ) → ℕ
-place_behind layout at [] = at
-place_behind layout at (u ∷ us) = place_behind layout (frame_end layout.markers at (length u)) us
+unfoldable pub place_past : Layout → ℕ → List (List ℕ) → ℕ
+place_past layout at [] = at
+place_past layout at (u ∷ us) = place_past layout (frame_end layout.markers at (length u)) us
 
 -- a frame as it is read: what is wrong with it, and its ULPDU
 pub record Carried : Type 0 where

@@ -5,7 +5,7 @@ ghost use Rattle.std.specs.Prelude.{MatchOption, OnOk, OnErr, IfErr, IsOk};
 ghost use Rattle.iw_octets.specs.Crc.{after_octets, all_ones, crc32c};
 ghost use Rattle.iw_octets.specs.Pieces.{joined};
 ghost use Rattle.iw_fpdu.specs.Frame.{max_sent, bare_data, frame_end, frame_octets, frame_size, field_place, laid};
-ghost use Rattle.iw_fpdu.specs.Laying.{marker_behind};
+ghost use Rattle.iw_fpdu.specs.Laying.{marker_beyond};
 ghost use Rattle.iw_fpdu.specs.Places.{data_index, frame_start};
 
 use crate::layout::{Layout, MARKER, SPACING, end_of, index_of, pad_of, place_of};
@@ -125,9 +125,9 @@ fn put_bare<A: Allocator>(markers: bool, at: u64, len: u16, parts: &[&[u8]], out
 
 /// The CRC so far of a frame that is written at `at`: over the marker directly before it, where that stands before
 /// `at`.
-#[tactic(auto, unfolding(crate::specs::Laying::marker_behind))]
+#[tactic(auto, unfolding(crate::specs::Laying::marker_beyond))]
 fn crc_before(markers: bool, at: u64) -> Crc
-    ensures { result ≡ after_octets all_ones (marker_behind markers at) }
+    ensures { result ≡ after_octets all_ones (marker_beyond markers at) }
 {
     let mut crc = Crc::new();
     if markers && at % SPACING == MARKER {
@@ -138,7 +138,7 @@ fn crc_before(markers: bool, at: u64) -> Crc
 
 /// The CRC field of a frame of which all before that field was written at `at`.
 fn crc_field(layout: Layout, at: u64, written: &[u8]) -> [u8; 4]
-    ensures { result ≡ (if layout.crc then to_le_bytes w32 (crc32c (marker_behind layout.markers at ++ written.now))
+    ensures { result ≡ (if layout.crc then to_le_bytes w32 (crc32c (marker_beyond layout.markers at ++ written.now))
         else 0 ∷ 0 ∷ 0 ∷ 0 ∷ []) }
 {
     if !layout.crc {

@@ -32,7 +32,7 @@ use Rattle.iw_queues.specs.declared.completions.Sent.{Sent as WasSent}
 use Rattle.iw_queues.specs.declared.send_queue.Part.{Part}
 use Rattle.iw_queues.specs.Request.{kind_of, payload, header_len}
 use Rattle.iw_queues.specs.Completions.{place_of, added, done_from, is_finished_when_sent}
-use Rattle.iw_queues.specs.Queue.{Queue, next_part, part_sent, posted, sent_with, done_in, handed_from, behind_oldest}
+use Rattle.iw_queues.specs.Queue.{Queue, next_part, part_sent, posted, sent_with, done_in, handed_from, past_oldest}
 use Rattle.iw_queues.specs.Segments.{Numbers, IsCut, AreSegments, write_segment, send_segment, request_segment, segment_with, segment_of, numbers_after}
 use Rattle.iw_octets.specs.declared.operation.TaggedOperation.TheVariants as tagged
 use Rattle.iw_octets.specs.declared.operation.UntaggedOperation.TheVariants as untagged
@@ -212,7 +212,7 @@ pub record IsNextRead (a n : ℕ) (xs : List (Request Octets)) (p : ℕ) : Type 
   pub high : p < n + length xs
   pub some : a < count_reads xs
   pub marked : marks (suc a) xs ≡ slice_set (marks a xs) (p - n) (record { kind = kinds.Read; finished = true })
-  pub behind : (f : ℕ) → count_reads (take f xs) ≤ a → n + f ≤ p
+  pub beyond : (f : ℕ) → count_reads (take f xs) ≤ a → n + f ≤ p
 
 pub next_read : (a n : ℕ) (xs : List (Request Octets)) (p : ℕ) (rest : List ℕ) → drop a (places n xs) ≡ p ∷ rest → IsNextRead a n xs p
 next_read a n [] p rest e = absurd (omega (arith, ap length e, length-drop a (places n [])))
@@ -224,12 +224,12 @@ next_read a n (Posted m ∷ xs) p rest e =
       high = omega (arith, r.high);
       some = r.some;
       marked = ap (λ z. record { kind = kind_of (Posted m); finished = true } ∷ z) r.marked ∙ ap (λ i. slice_set (marks a (Posted m ∷ xs)) i (record { kind = kinds.Read; finished = true })) (sym one);
-      behind = posted_behind r.behind r.low;
+      beyond = posted_past r.beyond r.low;
     }
   where
-    posted_behind : ((f : ℕ) → count_reads (take f xs) ≤ a → n + 1 + f ≤ p) → n + 1 ≤ p → (f : ℕ) → count_reads (take f (Posted m ∷ xs)) ≤ a → n + f ≤ p
-    posted_behind h low zero few = omega (arith, low)
-    posted_behind h low (suc f) few = let more = h f few in omega (arith, more)
+    posted_past : ((f : ℕ) → count_reads (take f xs) ≤ a → n + 1 + f ≤ p) → n + 1 ≤ p → (f : ℕ) → count_reads (take f (Posted m ∷ xs)) ≤ a → n + f ≤ p
+    posted_past h low zero few = omega (arith, low)
+    posted_past h low (suc f) few = let more = h f few in omega (arith, more)
 next_read zero n (Read r ∷ xs) p rest e =
     let same : n ≡ p = ap (λ (z : List ℕ). get_or z 0 n) e in
     let none : p - n ≡ 0 = omega (arith, same) in
@@ -238,12 +238,12 @@ next_read zero n (Read r ∷ xs) p rest e =
       high = omega (arith, same);
       some = omega arith;
       marked = ap (λ i. slice_set (marks zero (Read r ∷ xs)) i (record { kind = kinds.Read; finished = true })) (sym none);
-      behind = read_behind same;
+      beyond = read_past same;
     }
   where
-    read_behind : n ≡ p → (f : ℕ) → count_reads (take f (Read r ∷ xs)) ≤ 0 → n + f ≤ p
-    read_behind same zero few = omega (arith, same)
-    read_behind same (suc f) few = absurd (omega (arith, few))
+    read_past : n ≡ p → (f : ℕ) → count_reads (take f (Read r ∷ xs)) ≤ 0 → n + f ≤ p
+    read_past same zero few = omega (arith, same)
+    read_past same (suc f) few = absurd (omega (arith, few))
 next_read (suc a) n (Read r ∷ xs) p rest e =
     let i = next_read a (n + 1) xs p rest e in
     let one : p - n ≡ suc (p - (n + 1)) = omega (arith, i.low) in
@@ -252,12 +252,12 @@ next_read (suc a) n (Read r ∷ xs) p rest e =
       high = omega (arith, i.high);
       some = omega (arith, i.some);
       marked = ap (λ z. record { kind = kinds.Read; finished = true } ∷ z) i.marked ∙ ap (λ j. slice_set (marks (suc a) (Read r ∷ xs)) j (record { kind = kinds.Read; finished = true })) (sym one);
-      behind = more_behind i.behind i.low;
+      beyond = more_past i.beyond i.low;
     }
   where
-    more_behind : ((f : ℕ) → count_reads (take f xs) ≤ a → n + 1 + f ≤ p) → n + 1 ≤ p → (f : ℕ) → count_reads (take f (Read r ∷ xs)) ≤ suc a → n + f ≤ p
-    more_behind h low zero few = omega (arith, low)
-    more_behind h low (suc f) few = let more = h f (omega (arith, few)) in omega (arith, more)
+    more_past : ((f : ℕ) → count_reads (take f xs) ≤ a → n + 1 + f ≤ p) → n + 1 ≤ p → (f : ℕ) → count_reads (take f (Read r ∷ xs)) ≤ suc a → n + f ≤ p
+    more_past h low zero few = omega (arith, low)
+    more_past h low (suc f) few = let more = h f (omega (arith, few)) in omega (arith, more)
 
 pub drop-set : (f p : ℕ) (xs : List WasSent) (v : WasSent) → f ≤ p → drop f (slice_set xs p v) ≡ slice_set (drop f xs) (p - f) v
 drop-set zero p xs v h = ap (λ i. slice_set xs i v) (omega arith)
@@ -448,7 +448,7 @@ hands q d e = go q.sent.messages refl e
       where
         by : (b : Bool) → m.finished ≡ b → cond b (Some (record { ticket = q.sent.first; kind = m.kind })) None ≡ Some d → Hands q d
         by false f h = absurd (none-some _ h)
-        by true f h = record { message = m; messages = ms; is = is; finished = f; left = ap (λ z. behind_oldest ((q.sent.first + 1) % 2 ^ 64) z q.unsent q.offset) is }
+        by true f h = record { message = m; messages = ms; is = is; finished = f; left = ap (λ z. past_oldest ((q.sent.first + 1) % 2 ^ 64) z q.unsent q.offset) is }
 
 pub handed_counts : (q : Queue) (us : List (Segment Octets)) (ms : List (Request Octets)) (ks : List Kind) (a : ℕ) (rs : List Outstanding) (d : Done) → done_in q ≡ Some d → Counts q us ms ks a rs → Counts (handed_from q (done_in q)) us (ms ++ []) (ks ++ d.kind ∷ []) a rs
 handed_counts q us ms ks a rs d e n =
@@ -521,7 +521,7 @@ answered_counts q us ms ks a read rs few n = same_counts refl (append-nil ms) (a
     go [] is t = absurd (omega (arith, ap length t))
     go (p ∷ ps) is t =
         let r = next_read a 0 n.first p ps is in
-        let low : length ks ≤ p = (let b = r.behind (length ks) n.done in omega (arith, b)) in
+        let low : length ks ≤ p = (let b = r.beyond (length ks) n.done in omega (arith, b)) in
         let place : place_of q.sent read.ticket ≡ p - length ks = place_there read.ticket q.sent.first p (length ks) (ap (first_or 0) t) n.oldest low (omega (arith, r.high, n.counted, few)) in
         let mark : WasSent = record { kind = kinds.Read; finished = true } in
         let marked : slice_set q.sent.messages (place_of q.sent read.ticket) mark ≡ drop (length ks) (marks (suc a) n.first) =
@@ -582,12 +582,12 @@ same_handing {q} {q'} {first} {ms} {ms'} {ks} {ks'} {a} {a'} e f g h n =
 pub one_handed : (q : Queue) (first ms : List (Request Octets)) (ks : List Kind) (a : ℕ) (d : Done) → IsHandedOut q d → Handing q first ms ks a → Handing (handed_from q (Some d)) first (ms ++ []) (ks ++ d.kind ∷ []) a
 one_handed q first ms ks a d out n = same_handing refl (append-nil ms) refl refl (record {
   order = n.order ∙ ap (λ z. ks ++ z) out.kind ∙ sym (append_assoc ks (d.kind ∷ []) (kinds_in (handed_from q (Some d))));
-  marked = behind q.sent.messages ∙ ap (drop 1) n.marked ∙ drop-drop 1 (length ks) (marks a first) ∙ ap (λ z. drop z (marks a first)) (sym (length_push ks d.kind));
+  marked = beyond q.sent.messages ∙ ap (drop 1) n.marked ∙ drop-drop 1 (length ks) (marks a first) ∙ ap (λ z. drop z (marks a first)) (sym (length_push ks d.kind));
 })
   where
-    behind : (messages : List WasSent) → (behind_oldest ((q.sent.first + 1) % 2 ^ 64) messages q.unsent q.offset).sent.messages ≡ drop 1 messages
-    behind [] = refl
-    behind (x ∷ xs) = refl
+    beyond : (messages : List WasSent) → (past_oldest ((q.sent.first + 1) % 2 ^ 64) messages q.unsent q.offset).sent.messages ≡ drop 1 messages
+    beyond [] = refl
+    beyond (x ∷ xs) = refl
 
 -- ---- frames that stand one behind another
 

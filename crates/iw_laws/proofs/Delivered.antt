@@ -38,12 +38,12 @@ use Rattle.iw_locate.specs.Records.{from_of, IsPlaced}
 use Rattle.iw_stream.specs.declared.judging.PlacedFrame.{PlacedFrame}
 use Rattle.iw_stream.specs.Frames.{EarlyRecord, placed}
 use Rattle.iw_stream.proofs.Fronts.{carried_by}
-use Rattle.iw_laws.specs.Turns.{Located, located, located_of, behind_last}
-use Rattle.iw_laws.proofs.Located.{frames_at, located_first, behind_last-push}
+use Rattle.iw_laws.specs.Turns.{Located, located, located_of, past_last}
+use Rattle.iw_laws.proofs.Located.{frames_at, located_first, past_last-push}
 use Rattle.iw_laws.proofs.FirstSent.{read_intact}
 use Rattle.iw_laws.proofs.EarlySent.{scene_sent, early_fits}
 use Rattle.iw_laws.proofs.Judged.{Adds, segments_early}
-use Rattle.iw_laws.proofs.Nexts.{Front, fore, place_behind, standing, segment_in, segment_at}
+use Rattle.iw_laws.proofs.Nexts.{Front, fore, place_past, standing, segment_in, segment_at}
 use Rattle.iw_laws.proofs.Tracks.{Track, first_is, front_is, split_is, ends_there}
 use Rattle.iw_laws.proofs.Joins.{told, count_waiting, count-append}
 use Rattle.iw_laws.specs.Sends.{farewells}
@@ -113,16 +113,16 @@ known_first xs [] zs e = (xs, refl)
 known_first [] (y ∷ ys) zs e = absurd (omega (arith, ap length e))
 known_first (x ∷ xs) (y ∷ ys) zs e =
     let same : Some x ≡ Some y = ap (first_or (Some y)) e in
-    let rest = known_first xs ys zs (ap behind e) in
+    let rest = known_first xs ys zs (ap beyond e) in
     (rest.0, λ i. same_Some _ _ same i ∷ rest.1 i)
   where
     first_or : Option (Segment Octets) → List (Option (Segment Octets)) → Option (Segment Octets)
     first_or d [] = d
     first_or d (o ∷ os) = o
 
-    behind : List (Option (Segment Octets)) → List (Option (Segment Octets))
-    behind [] = []
-    behind (o ∷ os) = os
+    beyond : List (Option (Segment Octets)) → List (Option (Segment Octets))
+    beyond [] = []
+    beyond (o ∷ os) = os
 
 no_segments : (xs : List (Segment Octets)) → map Some xs ≡ [] → xs ≡ []
 no_segments [] e = refl
@@ -154,8 +154,8 @@ abbrev pub FitsIn : (List (Segment Octets) → ℕ) → List (Segment Octets) �
 FitsIn count firsts s all = count firsts + count (segments_early (scene s) s.early) ≤ count all
 
 fits_by : (c : Connected) (t : Tale) (d : Connected) (u : Tale) (e : Emits c.stream t) (k : Track d.stream u) → t.sent ≡ k.intro ++ sequence (expecting d.stream.start) 0 (map segment_octets (out_of c.stream t e)) → IsOf u.story.came t.sent
-    → (fs others : List Located) → located_of (expecting d.stream.start) 0 (sequence (expecting d.stream.start) 0 (map segment_octets (out_of c.stream t e))) ≡ fs ++ others → length k.before ≤ behind_last 0 fs
-    → ((r : EarlyRecord) → Contains d.stream.early r → IsPlaced r.state → behind_last 0 fs ≤ from_of r) → (firsts : List (Segment Octets)) → map segment_in (frames_at fs) ≡ map Some firsts
+    → (fs others : List Located) → located_of (expecting d.stream.start) 0 (sequence (expecting d.stream.start) 0 (map segment_octets (out_of c.stream t e))) ≡ fs ++ others → length k.before ≤ past_last 0 fs
+    → ((r : EarlyRecord) → Contains d.stream.early r → IsPlaced r.state → past_last 0 fs ≤ from_of r) → (firsts : List (Segment Octets)) → map segment_in (frames_at fs) ≡ map Some firsts
     → (count : List (Segment Octets) → ℕ) → Adds count → FitsIn count firsts d.stream (map reread (out_of c.stream t e))
 fits_by c t d u e k is of fs others parts on past firsts carried count adds =
     let layout : Layout = expecting d.stream.start in
@@ -201,14 +201,14 @@ fits_waiting c t d u e k (Clear is) of count adds f front frame left segment who
     let others : List Located = located_of layout (at + (length all - length (left ++ r.rest))) (left ++ r.rest) in
     let parts : located_of layout 0 (sequence layout 0 (map segment_octets (out_of c.stream t e))) ≡ (k.located ++ here ∷ []) ++ others =
     ap (located_of layout 0) (sym same) ∙ k.split all ∙ ap (λ z. k.located ++ z) (located_first layout at all frame (left ++ r.rest) k.between first) ∙ sym (append_assoc k.located (here ∷ []) others) in
-    let behind : behind_last 0 (k.located ++ here ∷ []) ≡ at + (length all - length (left ++ r.rest)) = behind_last-push 0 k.located here in
-    let place : place_behind d.stream (fore d.stream) ≡ d.stream.arrived.floor + (length (inbox d.stream) - length left) = ap (place_behind d.stream) whole in
+    let beyond : past_last 0 (k.located ++ here ∷ []) ≡ at + (length all - length (left ++ r.rest)) = past_last-push 0 k.located here in
+    let place : place_past d.stream (fore d.stream) ≡ d.stream.arrived.floor + (length (inbox d.stream) - length left) = ap (place_past d.stream) whole in
     let end = ends_there d.stream u k frame left whole in
     let w = k.fore_is f front in
     let stands : f ≡ placed (standing d.stream frame) = w.is ∙ ap (λ (x : Carried × Octets). placed (standing d.stream x.0)) (same_Some _ _ (sym w.whole ∙ whole)) in
-    let to : frame_end layout.markers f.start f.len ≡ behind_last 0 (k.located ++ here ∷ []) =
-    ap (λ (z : PlacedFrame). frame_end layout.markers z.start z.len) stands ∙ sym end ∙ omega (arith, behind, place, k.point, intro, length-append (inbox d.stream) r.rest, length-append left r.rest) in
-    fits_by c t d u e k is of (k.located ++ here ∷ []) others parts (omega (arith, behind)) (λ x within here_placed. omega (arith, to, k.early.clear f front x within here_placed)) (k.segments ++ segment ∷ [])
+    let to : frame_end layout.markers f.start f.len ≡ past_last 0 (k.located ++ here ∷ []) =
+    ap (λ (z : PlacedFrame). frame_end layout.markers z.start z.len) stands ∙ sym end ∙ omega (arith, beyond, place, k.point, intro, length-append (inbox d.stream) r.rest, length-append left r.rest) in
+    fits_by c t d u e k is of (k.located ++ here ∷ []) others parts (omega (arith, beyond)) (λ x within here_placed. omega (arith, to, k.early.clear f front x within here_placed)) (k.segments ++ segment ∷ [])
     (ap (map segment_in) (map-append (λ (z : Located). carried_by z.frame) k.located (here ∷ []))
     ∙ map-append segment_in (frames_at k.located) (frame ∷ []) ∙ (λ i. map segment_in (k.named i) ++ segment_in frame ∷ []) ∙ (λ i. k.carried i ++ carries i ∷ []) ∙ sym (map-append Some k.segments (segment ∷ [])))
     count adds

@@ -13,7 +13,7 @@ use Rattle.iw_fpdu.specs.Places.{span_start}
 use Rattle.iw_fpdu.specs.Frame.{max_sent, frame_end}
 use Rattle.iw_fpdu.specs.Found.{ulpdu_len}
 use Rattle.iw_fpdu.specs.Laws.{IsReadAgain, found_at}
-use Rattle.iw_fpdu.specs.Sequence.{sequence, place_behind}
+use Rattle.iw_fpdu.specs.Sequence.{sequence, place_past}
 use Rattle.iw_locate.specs.declared.judged.State.{State}
 use Rattle.iw_locate.specs.declared.judged.State.TheVariants.{Tried, Placed}
 use Rattle.iw_locate.specs.Records.{from_of, IsPlaced, added, kept_from}
@@ -25,7 +25,7 @@ use Rattle.iw_locate.proofs.Honest.{IsSent, IsRecordOf, IsReadOf, sent_past, one
 use Rattle.iw_locate.proofs.Recorded.{IsLater, placed_of, placed_count}
 use Rattle.iw_stream.specs.Frames.{EarlyRecord, segment_in}
 use Rattle.iw_laws.specs.Words.{Octets, listed}
-use Rattle.iw_laws.specs.Turns.{Located, located_of, behind_last}
+use Rattle.iw_laws.specs.Turns.{Located, located_of, past_last}
 use Rattle.iw_laws.proofs.Nexts as nexts
 use Rattle.iw_laws.proofs.Located.{frames_at}
 use Rattle.iw_laws.proofs.FirstSent.{AreFirst, Later, are_first, later_sent}
@@ -98,13 +98,13 @@ module _ (v : View) (us : List Octets) (marked : v.layout.markers ≡ true) (sho
       let end : r.end ≡ frame_end v.layout.markers r.start (ulpdu_len (found_at v.arrived v.layout v.base r.start)) = s.end ∙ (λ i. frame_end (sym marked i) r.start (same i)) in
       s.whole q (omega (arith, low, ap (λ m. span_start m r.start) marked)) (omega (arith, high, end))
 
-  later_of : (done : List Octets) (r : EarlyRecord) → Contains v.records r → place_behind v.layout 0 done ≤ from_of r → IsLater v us done r
+  later_of : (done : List Octets) (r : EarlyRecord) → Contains v.records r → place_past v.layout 0 done ≤ from_of r → IsLater v us done r
   later_of done r within past = record { of = recorded r within; past = past; come = come_of r within }
 
   -- ---- what was placed
   -- behind the frames that had their turn, and one more that was placed, where there is one
-  fits_marked : (fs others : List Located) → located_of v.layout 0 (sequence v.layout 0 us) ≡ fs ++ others → point_of v ≤ behind_last 0 fs
-      → ((r : EarlyRecord) → Contains v.records r → IsPlaced r.state → behind_last 0 fs ≤ from_of r)
+  fits_marked : (fs others : List Located) → located_of v.layout 0 (sequence v.layout 0 us) ≡ fs ++ others → point_of v ≤ past_last 0 fs
+      → ((r : EarlyRecord) → Contains v.records r → IsPlaced r.state → past_last 0 fs ≤ from_of r)
       → (all firsts : List (Segment Octets)) → map read_segment us ≡ map Some all → map nexts.segment_in (frames_at fs) ≡ map Some firsts
       → (count : List (Segment Octets) → ℕ) → Adds count → count firsts + count (segments_early v v.records) ≤ count all
   fits_marked fs others parts low past all firsts reads carried count adds =
@@ -117,8 +117,8 @@ module _ (v : View) (us : List Octets) (marked : v.layout.markers ≡ true) (sho
 
 -- of the segments that were sent, those at the front that had their turn and those that were placed before it count at most as many as all
 pub early_fits : (v : View) (us : List Octets) → All (λ u. length u ≤ max_sent) us → IsSent v (sequence v.layout 0 us) → AreJudged v → AreSent v.layout us v.records
-    → (fs others : List Located) → located_of v.layout 0 (sequence v.layout 0 us) ≡ fs ++ others → point_of v ≤ behind_last 0 fs
-    → ((r : EarlyRecord) → Contains v.records r → IsPlaced r.state → behind_last 0 fs ≤ from_of r)
+    → (fs others : List Located) → located_of v.layout 0 (sequence v.layout 0 us) ≡ fs ++ others → point_of v ≤ past_last 0 fs
+    → ((r : EarlyRecord) → Contains v.records r → IsPlaced r.state → past_last 0 fs ≤ from_of r)
     → (all firsts : List (Segment Octets)) → map read_segment us ≡ map Some all → map nexts.segment_in (frames_at fs) ≡ map Some firsts
     → (count : List (Segment Octets) → ℕ) → Adds count → count firsts + count (segments_early v v.records) ≤ count all
 early_fits v us short sent judged are fs others parts low past all firsts reads carried count adds = go v.records refl

@@ -9,7 +9,7 @@ use Rattle.iw_octets.specs.Segment.{read_segment}
 use Rattle.iw_fpdu.specs.declared.layout.Layout.{Layout}
 use Rattle.iw_fpdu.specs.Places.{frame_start}
 use Rattle.iw_fpdu.specs.Frame.{max_sent, frame_end, frame_octets}
-use Rattle.iw_fpdu.specs.Sequence.{Carried, intact, sequence, place_behind, first_frame}
+use Rattle.iw_fpdu.specs.Sequence.{Carried, intact, sequence, place_past, first_frame}
 use Rattle.iw_fpdu.specs.Laws.{IsBetween}
 use Rattle.iw_fpdu.proofs.Follows.{frames_follow}
 use Rattle.iw_fpdu.proofs.Sequences.{length_written, written_is_first, next_between}
@@ -17,7 +17,7 @@ use Rattle.iw_locate.proofs.Sequenced.{end_low}
 use Rattle.iw_stream.specs.Frames.{standing_at}
 use Rattle.iw_stream.proofs.Fronts.{carried_by}
 use Rattle.iw_laws.specs.Words.{Octets}
-use Rattle.iw_laws.specs.Turns.{Located, located_of, behind_last}
+use Rattle.iw_laws.specs.Turns.{Located, located_of, past_last}
 use Rattle.iw_laws.proofs.Located.{frames_at, located_first, located_none, none_first}
 use Rattle.iw_laws.proofs.Nexts.{segment_in}
 
@@ -25,7 +25,7 @@ use Rattle.iw_laws.proofs.Nexts.{segment_in}
 abbrev locations : Layout → ℕ → List Octets → List Located
 locations layout at [] = []
 locations layout at (u ∷ us) =
-    record { frame = standing_at (frame_start layout.markers at) (intact u); behind = frame_end layout.markers at (length u) } ∷ locations layout (frame_end layout.markers at (length u)) us
+    record { frame = standing_at (frame_start layout.markers at) (intact u); beyond = frame_end layout.markers at (length u) } ∷ locations layout (frame_end layout.markers at (length u)) us
 
 located_written : (layout : Layout) (at : ℕ) (us : List Octets) → IsBetween layout.markers at → All (λ u. length u ≤ max_sent) us → located_of layout at (sequence layout at us) ≡ locations layout at us
 unfolding sequence
@@ -35,33 +35,33 @@ located_written layout at (u ∷ us) b short =
     let rest : Octets = sequence layout end us in
     let octets : Octets = frame_octets layout at u ++ rest in
     let first : first_frame layout at octets ≡ Some (intact u, rest) = written_is_first layout at u rest b (All-head (λ x. length x ≤ max_sent) u us short) in
-    let behind : at + (length octets - length rest) ≡ end = omega (arith, length-append (frame_octets layout at u) rest, length_written layout at u, end_low layout at (length u) b) in
+    let beyond : at + (length octets - length rest) ≡ end = omega (arith, length-append (frame_octets layout at u) rest, length_written layout at u, end_low layout at (length u) b) in
     located_first layout at octets (intact u) rest b first
-    ∙ ap (λ p. record { frame = standing_at (frame_start layout.markers at) (intact u); behind = p } ∷ located_of layout p rest) behind
-    ∙ ap (λ z. record { frame = standing_at (frame_start layout.markers at) (intact u); behind = end } ∷ z) (located_written layout end us (next_between layout at (length u) b) (All-tail (λ x. length x ≤ max_sent) u us short))
+    ∙ ap (λ p. record { frame = standing_at (frame_start layout.markers at) (intact u); beyond = p } ∷ located_of layout p rest) beyond
+    ∙ ap (λ z. record { frame = standing_at (frame_start layout.markers at) (intact u); beyond = end } ∷ z) (located_written layout end us (next_between layout at (length u) b) (All-tail (λ x. length x ≤ max_sent) u us short))
 
 -- these are the first of the frames that were sent
 pub record AreFirst (layout : Layout) (at : ℕ) (us : List Octets) (fs : List Located) : Type 0 where
   pub done : List Octets  -- what they carry
   pub rest : List Octets  -- what was sent past them
   pub is : us ≡ done ++ rest
-  pub place : behind_last at fs ≡ place_behind layout at done
+  pub place : past_last at fs ≡ place_past layout at done
   pub frames : frames_at fs ≡ map intact done
 
 one_more : (layout : Layout) (at : ℕ) (u : Octets) (us : List Octets) (f : Located) (fs : List Located)
-    → f ≡ record { frame = standing_at (frame_start layout.markers at) (intact u); behind = frame_end layout.markers at (length u) } → AreFirst layout (frame_end layout.markers at (length u)) us fs
+    → f ≡ record { frame = standing_at (frame_start layout.markers at) (intact u); beyond = frame_end layout.markers at (length u) } → AreFirst layout (frame_end layout.markers at (length u)) us fs
     → AreFirst layout at (u ∷ us) (f ∷ fs)
-unfolding place_behind
+unfolding place_past
 one_more layout at u us f fs same r = record {
   done = u ∷ r.done;
   rest = r.rest;
   is = ap (λ z. u ∷ z) r.is;
-  place = ap (λ (x : Located). behind_last x.behind fs) same ∙ r.place;
+  place = ap (λ (x : Located). past_last x.beyond fs) same ∙ r.place;
   frames = λ i. carried_by ((same i).frame) ∷ r.frames i;
 }
 
 first_of : (layout : Layout) (at : ℕ) (us : List Octets) (fs others : List Located) → locations layout at us ≡ fs ++ others → AreFirst layout at us fs
-unfolding place_behind
+unfolding place_past
 first_of layout at us [] others e = record { done = []; rest = us; is = refl; place = refl; frames = refl }
 first_of layout at [] (f ∷ fs) others e = absurd (cc e)
 first_of layout at (u ∷ us) (f ∷ fs) others e =

@@ -324,9 +324,9 @@ first_record v f between k e = go v.records refl e
         span x within e = (λ i. span_start (sym (k.stand x within).marked i) (e i)) ∙ between.span
 
         -- none behind the first begins there
-        behind : (xs : List EarlyRecord) → ((x : EarlyRecord) → Contains xs x → Contains v.records x × (r.end ≤ from_of x)) → placed_at xs (front_of v) ≡ None
-        behind [] h = refl
-        behind (x ∷ xs) h = by (nat_eq x.start (front_of v)) refl (behind xs (λ y (j, lt, y_is). h y (suc j, omega arith, y_is)))
+        beyond : (xs : List EarlyRecord) → ((x : EarlyRecord) → Contains xs x → Contains v.records x × (r.end ≤ from_of x)) → placed_at xs (front_of v) ≡ None
+        beyond [] h = refl
+        beyond (x ∷ xs) h = by (nat_eq x.start (front_of v)) refl (beyond xs (λ y (j, lt, y_is). h y (suc j, omega arith, y_is)))
           where
             by : (b : Bool) → nat_eq x.start (front_of v) ≡ b → placed_at xs (front_of v) ≡ None → cond b (kept_by x x.state) (placed_at xs (front_of v)) ≡ None
             by false t rest = rest
@@ -372,7 +372,7 @@ first_record v f between k e = go v.records refl e
                     ap (λ b. cond b (x ∷ kept_from r.end xs) (kept_from r.end xs)) (let t : nat_le r.end (from_of x) ≡ true = grind (arith, nat_tests) in t) ∙ ap (λ z. x ∷ z) (all xs (λ y (j, lt, y_is). h y (suc j, omega arith, y_is)))
 
         at : (b : Bool) → nat_eq r.start (front_of v) ≡ b → cond b (kept_by r r.state) (placed_at rs (front_of v)) ≡ Some f → IsFirstRecord v f
-        at false t h = absurd (none-some _ (sym (behind rs later_one) ∙ h))
+        at false t h = absurd (none-some _ (sym (beyond rs later_one) ∙ h))
         at true t h = of_state r.state refl (let same : r.start ≡ front_of v = grind (arith, nat_tests) in same) h (k.stand r here).kept
 
 -- where there is none

@@ -101,7 +101,7 @@ use Rattle.iw_laws.proofs.Tales.{Tale, tale_of}
 use Rattle.iw_laws.proofs.Counts.{plain_part, message_at}
 use Rattle.iw_laws.proofs.Merges.{asked_or}
 use Rattle.iw_laws.proofs.Sending.{shown_good, Rests, Ended, Shut, Silent, Sent, MaySpeak, none_left, shows, EmitsStart, EmitsLast, EmitsPart, EmitsResponse, emits_as, terminate_small, terminate_good}
-use Rattle.iw_laws.proofs.Owns.{first_fits, Own, out_of, alone_out, lives, all_spoken, owes_some, runs_unbroken, answers_part, part_is_of, within, WithinTale, IsFramed, Unspoken, Spoken, behind_start, before_start}
+use Rattle.iw_laws.proofs.Owns.{first_fits, Own, out_of, alone_out, lives, all_spoken, owes_some, runs_unbroken, answers_part, part_is_of, within, WithinTale, IsFramed, Unspoken, Spoken, past_start, before_start}
 use Rattle.iw_laws.proofs.Messages.{start_frame_is, open_is, sequence_is, can_finish, cannot_finish}
 use Rattle.iw_laws.proofs.Heard.{IsHeard, hears_all}
 use Rattle.iw_laws.proofs.Delivered.{whole_of, received_prefix, writes_covered}
@@ -266,7 +266,7 @@ all_frames o c t own running owes unbegun none =
       frames = record {
         segments = e.segments;
         carry = subst (λ z. AreMerged first_numbers 0 z e.segments) (append-nil k.items) (subst (AreMerged first_numbers 0 (k.items ++ [])) (append-nil e.segments) whole);
-        framed = behind_start c.stream t e own.sent (all_spoken c.stream owes (runs_unbroken c.stream.ending running)) ∙ sym (sequence_is c.stream t own.track (out_of c.stream t e))
+        framed = past_start c.stream t e own.sent (all_spoken c.stream owes (runs_unbroken c.stream.ending running)) ∙ sym (sequence_is c.stream t own.track (out_of c.stream t e))
             ∙ ap (λ z. own_frame t.story.start ++ sequence (sending t.story.start) 0 (map segment_octets z)) all;
       };
     }
@@ -315,7 +315,7 @@ nothing_stream o c done table (Emit Nothing) rule own =
     frame_sent : owes_frame c.stream ≡ false → is_broken c.stream.ending ≡ false → IsPrefixOf (own_frame (story o done).start) (sent done)
     frame_sent owes unbroken =
         let frames : List ℕ = sequence (sending c.stream.start) 0 (map segment_octets (out_of c.stream (tale_of o done) own.emits)) in
-        (frames, ap (λ z. z ++ frames) (start_frame_is c.stream (tale_of o done) own.track) ∙ sym (behind_start c.stream (tale_of o done) own.emits own.sent (all_spoken c.stream owes unbroken)))
+        (frames, ap (λ z. z ++ frames) (start_frame_is c.stream (tale_of o done) own.track) ∙ sym (past_start c.stream (tale_of o done) own.emits own.sent (all_spoken c.stream owes unbroken)))
 
     all : ended c.stream ≡ false → owes_frame c.stream ≡ false → response_due c.stream ≡ None → (c.stream.queue.unsent ≡ []) ⊎ WaitsFor c.stream → HasNothing (has_ended_by done) (story o done) (sent done) (posted done)
     all running owes quiet (inl left) =

@@ -7,7 +7,7 @@ use Rattle.iw_fpdu.specs.Sequence.{Carried, first_frame, frames_within, frames_o
 use Rattle.iw_fpdu.specs.Laws.{IsBetween}
 use Rattle.iw_fpdu.proofs.Sequences.{first_takes}
 use Rattle.iw_stream.proofs.Fronts.{carried_by}
-use Rattle.iw_laws.specs.Turns.{Located, located, located_within, located_of, behind_last}
+use Rattle.iw_laws.specs.Turns.{Located, located, located_within, located_of, past_last}
 
 -- without their places they are the frames of the octets
 abbrev pub frames_at : List Located → List Carried
@@ -69,6 +69,6 @@ unfolding located_within
 located_none layout at [] e = refl
 located_none layout at (y ∷ ys) e = ap (others (length ys) layout at (y ∷ ys)) e
 
-pub behind_last-push : (at : ℕ) (fs : List Located) (f : Located) → behind_last at (fs ++ f ∷ []) ≡ f.behind
-behind_last-push at [] f = refl
-behind_last-push at (x ∷ xs) f = behind_last-push x.behind xs f
+pub past_last-push : (at : ℕ) (fs : List Located) (f : Located) → past_last at (fs ++ f ∷ []) ≡ f.beyond
+past_last-push at [] f = refl
+past_last-push at (x ∷ xs) f = past_last-push x.beyond xs f

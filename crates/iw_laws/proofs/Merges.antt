@@ -9,7 +9,7 @@ use Rattle.iw_queues.specs.Request.{kind_of, payload, header_len}
 use Rattle.iw_queues.specs.Completions.{Outstanding, next_ticket, added}
 use Rattle.iw_queues.specs.Queue.{Queue, next_part, part_from, part_sent, IsBegun}
 use Rattle.iw_queues.specs.Queue as queues
-use Rattle.iw_queues.specs.Segments.{Numbers, first_numbers, numbers_after, numbers_behind, segment_of, IsCut, AreSegments, AreSpelled}
+use Rattle.iw_queues.specs.Segments.{Numbers, first_numbers, numbers_after, numbers_beyond, segment_of, IsCut, AreSegments, AreSpelled}
 use Rattle.iw_queues.proofs.Sending.{part_with, goes_on_with, some_cut, some_segments}
 use Rattle.iw_reads.specs.declared.requests.Asked.{Asked}
 use Rattle.iw_reads.specs.Requests as requests
@@ -150,7 +150,7 @@ segment_more segments s ss = append_assoc segments (s ∷ []) ss
 
 pub merges_part : (q : Queue) (numbers : Numbers) (waiting : List Asked) (posted : List (Request Octets)) (answers : List Answer) (segments : List (Segment Octets)) (max : ℕ) (part : Part (Request Octets)) → 128 ≤ max → max ≤ 64512
     → next_part q max ≡ Some part → Merges q numbers waiting [] posted answers segments
-    → Merges (part_sent q (Some part)) (numbers_behind numbers part) waiting [] posted answers (segments ++ segment_of numbers part ∷ [])
+    → Merges (part_sent q (Some part)) (numbers_beyond numbers part) waiting [] posted answers (segments ++ segment_of numbers part ∷ [])
 merges_part q numbers waiting posted answers segments max part low high e k = by part.last refl
   where
     m : Request Octets
@@ -296,10 +296,10 @@ merges_front q numbers oldest others begun octets posted answers segments unbegu
         let rest_is : rest ≡ Response answer ∷ b.items = b.is ∙ ap (λ (z : Asked). Response (record { request = z.request; octets = (begun ++ octets) ++ b.more }) ∷ b.items) (sym same) in
         let r = subst (λ z. AreMerged numbers (q.offset + length (begun ++ octets)) z ss) rest_is merged in
         let size_is : length ((begun ++ octets) ++ b.more) ≡ oldest.request.size = r.3.0 in
-        let behind : drop (q.offset + length (begun ++ octets)) ((begun ++ octets) ++ b.more) ≡ b.more = drop_at (begun ++ octets) b.more (q.offset + length (begun ++ octets)) (omega (arith, unbegun)) in
+        let beyond : drop (q.offset + length (begun ++ octets)) ((begun ++ octets) ++ b.more) ≡ b.more = drop_at (begun ++ octets) b.more (q.offset + length (begun ++ octets)) (omega (arith, unbegun)) in
         let cut : IsCut (64512 - 14) (response_segment oldest.request) (length begun + length octets) b.more r.0 =
         subst (λ n. IsCut (64512 - 14) (response_segment oldest.request) n b.more r.0) (omega (arith, unbegun, length-append begun octets))
-        (subst (λ z. IsCut (64512 - 14) (response_segment oldest.request) (q.offset + length (begun ++ octets)) z r.0) behind r.3.1) in
+        (subst (λ z. IsCut (64512 - 14) (response_segment oldest.request) (q.offset + length (begun ++ octets)) z r.0) beyond r.3.1) in
         let left : 0 < length b.more = omega (arith, size, size_is, length-append (begun ++ octets) b.more, length-append begun octets) in
         let whole : drop (length begun) ((begun ++ octets) ++ b.more) ≡ octets ++ b.more = ap (drop (length begun)) (append_assoc begun octets b.more) ∙ drop_at begun (octets ++ b.more) (length begun) refl in
         let cuts : IsCut (64512 - 14) (response_segment oldest.request) (length begun) (drop (length begun) ((begun ++ octets) ++ b.more)) (one ∷ r.0) =

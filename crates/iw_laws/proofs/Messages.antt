@@ -8,7 +8,7 @@ use Rattle.iw_queues.specs.declared.request.Request.TheVariants.{Message as Post
 use Rattle.iw_octets.specs.declared.segment.Segment.{Segment}
 use Rattle.iw_octets.specs.Segment.{segment_octets}
 use Rattle.iw_fpdu.specs.declared.layout.Layout.{Layout}
-use Rattle.iw_fpdu.specs.Sequence.{sequence, place_behind}
+use Rattle.iw_fpdu.specs.Sequence.{sequence, place_past}
 use Rattle.iw_fpdu.proofs.Sequences.{sequences_join}
 use Rattle.iw_fpdu.proofs.Follows.{frames_follow}
 use Rattle.iw_queues.specs.declared.request.Kind.{Kind}
@@ -69,7 +69,7 @@ sent_first s t k e n some enough =
     let parted : List (Segment Octets) = farewells t.story.farewell in
     let others : List Octets = map segment_octets ((m.back ++ e.merges.partial) ++ parted) in
     let front : Octets = own_frame t.story.start ++ sequence layout 0 mine in
-    let rest : Octets = sequence layout (place_behind layout 0 mine) others in
+    let rest : Octets = sequence layout (place_past layout 0 mine) others in
     let all : out_of s t e ≡ m.front ++ ((m.back ++ e.merges.partial) ++ parted) =
     ap (λ z. z ++ parted) (e.merges.segments_are ∙ ap (λ z. z ++ e.merges.partial) m.is ∙ append_assoc m.front m.back e.merges.partial) ∙ append_assoc m.front (m.back ++ e.merges.partial) parted in
     let joined : sequence layout 0 mine ++ rest ≡ sequence layout 0 (map segment_octets (out_of s t e)) =

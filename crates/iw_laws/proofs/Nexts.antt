@@ -49,13 +49,13 @@ segment_at None = None
 segment_at (Some x) = segment_in x.0
 
 -- where the frame ends
-abbrev pub place_behind : StreamState → Front → ℕ
-place_behind s None = s.arrived.floor
-place_behind s (Some x) = s.arrived.floor + (length (inbox s) - length x.1)
+abbrev pub place_past : StreamState → Front → ℕ
+place_past s None = s.arrived.floor
+place_past s (Some x) = s.arrived.floor + (length (inbox s) - length x.1)
 
 -- the in-order point lies behind it
-abbrev pub behind_front : StreamState → Arrived
-behind_front s = advanced s.arrived (place_behind s (fore s))
+abbrev pub past_front : StreamState → Arrived
+past_front s = advanced s.arrived (place_past s (fore s))
 
 -- what the turn of its segment leaves of the message that is due, where that is not complete
 abbrev pub turned_by : Receiving → Option (Segment (List ℕ)) → Receiving
@@ -88,14 +88,14 @@ pub record IsFirstHere (s : StreamState) (frame : Frame) : Type 0 where
   pub rest : List ℕ
   pub whole : fore s ≡ Some (carried_by frame, rest)
   pub is : frame ≡ standing s (carried_by frame)
-  pub behind : rest ≡ drop (frame_end (expecting s.start).markers frame.start (length frame.ulpdu) - place_in s) (inbox s)
+  pub beyond : rest ≡ drop (frame_end (expecting s.start).markers frame.start (length frame.ulpdu) - place_in s) (inbox s)
 
 pub first_is_here : (s : StreamState) (frame : Frame) → Sound s → next_frame s ≡ Some frame → IsFirstHere s frame
 first_is_here s frame k e = record {
   rest = drop (frame_end (expecting s.start).markers frame.start (length frame.ulpdu) - place_in s) (inbox s);
   whole = first_here (expecting s.start) s.arrived (first_place_in s.start) frame k.low k.between k.held e;
   is = go (is_whole s.arrived (expecting s.start).markers (first_place_in s.start) (frame_start (expecting s.start).markers (place_in s))) e;
-  behind = refl;
+  beyond = refl;
 }
   where
     found : Frame
@@ -106,8 +106,8 @@ first_is_here s frame k e = record {
     go true h = let same : found ≡ frame = same_Some _ _ h in subst (λ z. z ≡ standing s (carried_by z)) same refl
 
 -- where it ends
-pub behind_is : (s : StreamState) (frame : Carried) (rest : List ℕ) → Sound s → fore s ≡ Some (frame, rest) → work.place_behind s (placed (standing s frame)) ≡ place_behind s (fore s)
-behind_is s frame rest k e =
+pub past_is : (s : StreamState) (frame : Carried) (rest : List ℕ) → Sound s → fore s ≡ Some (frame, rest) → work.place_past s (placed (standing s frame)) ≡ place_past s (fore s)
+past_is s frame rest k e =
     let layout : Layout = expecting s.start in
     let m : Bool = layout.markers in
     let at : ℕ = place_in s in
@@ -120,4 +120,4 @@ behind_is s frame rest k e =
     let left : length rest ≡ length (inbox s) - (end - at) = ap length p.rest_is ∙ length-drop (end - at) (inbox s) in
     let shorter : length rest < length (inbox s) = (first_takes layout at (inbox s) frame rest k.between e).shorter in
     let place : first_place_in s.start + end ≡ s.arrived.floor + (length (inbox s) - length rest) = omega (arith, left, shorter, p.fits, k.low) in
-    ap (λ z. first_place_in s.start + frame_end m start z) size ∙ place ∙ ap (place_behind s) (sym e)
+    ap (λ z. first_place_in s.start + frame_end m start z) size ∙ place ∙ ap (place_past s) (sym e)

@@ -43,7 +43,7 @@ use Rattle.iw_laws.specs.Words.{Octets}
 use Rattle.iw_laws.specs.Turns.{early_frame}
 use Rattle.iw_laws.specs.Once.{Span, span_of, judged_span, spans_by, AreOnce}
 use Rattle.iw_laws.proofs.Judged.{View, frame_in, Stands, IsFirstRecord, IsOpenAt, open_at}
-use Rattle.iw_laws.proofs.Nexts.{fore, place_behind, behind_front, standing, IsFore, behind_is}
+use Rattle.iw_laws.proofs.Nexts.{fore, place_past, past_front, standing, IsFore, past_is}
 use Rattle.iw_laws.proofs.Told.{Told, Hears, Fronts, JudgedEarly, kept_of, early_left, after_act, after_shown, left_frame, nothing_waits}
 use Rattle.iw_laws.proofs.Told as told_of
 use Rattle.iw_laws.proofs.Tales.{Tale}
@@ -100,9 +100,9 @@ emits_once s spans shows.Nothing o = same_once s s spans refl refl refl refl o
 end_here : StreamState → Carried → ℕ
 end_here s frame = frame_end (expecting s.start).markers (standing s frame).start (length frame.ulpdu)
 
-ends_there : (s : StreamState) (t : Tale) → Track s t → (frame : Carried) (rest : Octets) → fore s ≡ Some (frame, rest) → first_place_in s.start + end_here s frame ≡ place_behind s (fore s)
+ends_there : (s : StreamState) (t : Tale) → Track s t → (frame : Carried) (rest : Octets) → fore s ≡ Some (frame, rest) → first_place_in s.start + end_here s frame ≡ place_past s (fore s)
 unfolding end_here
-ends_there s t k frame rest e = behind_is s frame rest (sound s t k) e
+ends_there s t k frame rest e = past_is s frame rest (sound s t k) e
 
 starts_there : (s : StreamState) (t : Tale) → Track s t → (frame : Carried) → span_start (expecting s.start).markers (standing s frame).start ≡ point_of (scene s)
 starts_there s t k frame = (sound s t k).between.span
@@ -208,7 +208,7 @@ fore_end s f frame rest w e =
     let same : w.frame ≡ frame = (some_pair_parts _ _ _ _ (sym w.whole ∙ e)).0 in
     ap (λ (g : PlacedFrame). frame_end (expecting s.start).markers g.start g.len) (w.is ∙ ap (λ x. placed (standing s x)) same)
 
-turns_there : (s s' : StreamState) (t : Tale) (k : Track s t) (spans : List (Option Span)) (frame : Carried) (rest : Octets) → fore s ≡ Some (frame, rest) → is_open s.start ≡ true → s'.start ≡ s.start → s'.arrived ≡ behind_front s → s'.front ≡ None → s'.early ≡ early_left s
+turns_there : (s s' : StreamState) (t : Tale) (k : Track s t) (spans : List (Option Span)) (frame : Carried) (rest : Octets) → fore s ≡ Some (frame, rest) → is_open s.start ≡ true → s'.start ≡ s.start → s'.arrived ≡ past_front s → s'.front ≡ None → s'.early ≡ early_left s
     → GoesOrStays s frame → Onces s spans → Onces s' (spans ++ [])
 turns_there s s' t k spans frame rest e opened start arrived front early goes o = record {
   known = o.known;
@@ -217,15 +217,15 @@ turns_there s s' t k spans frame rest e opened start arrived front early goes o 
   bare = λ shut. absurd (false≢true (sym shut ∙ ap is_open start ∙ opened));
 }
   where
-    low : s.arrived.floor ≤ place_behind s (fore s)
-    low = omega (arith, ap (place_behind s) e)
+    low : s.arrived.floor ≤ place_past s (fore s)
+    low = omega (arith, ap (place_past s) e)
 
-    end : first_place_in s.start + end_here s frame ≡ place_behind s (fore s)
+    end : first_place_in s.start + end_here s frame ≡ place_past s (fore s)
     end = ends_there s t k frame rest e
 
     there : point_of (scene s') ≡ end_here s frame
     there =
-        let floor : s'.arrived.floor ≡ max s.arrived.floor (place_behind s (fore s)) = ap (λ (a : Arrived). a.floor) arrived ∙ floor_moves s.arrived (place_behind s (fore s)) in
+        let floor : s'.arrived.floor ≡ max s.arrived.floor (place_past s (fore s)) = ap (λ (a : Arrived). a.floor) arrived ∙ floor_moves s.arrived (place_past s (fore s)) in
         omega (arith, floor, low, end, ap first_place_in start)
 
     of_front : (f : Option PlacedFrame) → s.front ≡ f → (x : Span) → IsOfFront (scene s) f x → x.to ≤ point_of (scene s')
@@ -236,7 +236,7 @@ turns_there s s' t k spans frame rest e opened start arrived front early goes o 
     left r within is_placed =
         elim (goes r within is_placed) [
           | inl before ↦ inl (omega (arith, before, there))
-          | inr past ↦ inr (subst (λ rs. Contains rs r) (sym early) ((keeps_from (place_behind s (fore s) - first_place_in s.start) s.early r).1 (within, omega (arith, past, end))))
+          | inr past ↦ inr (subst (λ rs. Contains rs r) (sym early) ((keeps_from (place_past s (fore s) - first_place_in s.start) s.early r).1 (within, omega (arith, past, end))))
         ]
 
 -- none lies over a frame that is judged there
@@ -274,7 +274,7 @@ goes_turned s t k f frame rest waits e r within is_placed = go s.front refl
     go None is = let w = first_early s t k f is waits in first_goes w (subst (λ rs. Contains rs r) w.records within)
     go (Some g) is = let same : g ≡ f = same_Some _ _ (ap (λ o. option_or o (placed_at s.early (front_of (scene s)))) (sym is) ∙ waits) in inr (omega (arith, k.early.clear f (is ∙ ap Some same) r within is_placed, ends))
 
-turned_once : (s s' : StreamState) (t : Tale) (k : Track s t) (spans : List (Option Span)) (segment : Segment Octets) → Fronts s true segment → s'.start ≡ s.start → s'.arrived ≡ behind_front s → s'.front ≡ None → s'.early ≡ early_left s
+turned_once : (s s' : StreamState) (t : Tale) (k : Track s t) (spans : List (Option Span)) (segment : Segment Octets) → Fronts s true segment → s'.start ≡ s.start → s'.arrived ≡ past_front s → s'.front ≡ None → s'.early ≡ early_left s
     → Onces s spans → Onces s' (spans ++ [])
 turned_once s s' t k spans segment w start arrived front early o = go (waiting s) refl
   where
@@ -282,7 +282,7 @@ turned_once s s' t k spans segment w start arrived front early o = go (waiting s
     go None is = absurd (false≢true (sym (ap is_some is) ∙ w.placed))
     go (Some f) is = turns_there s s' t k spans w.frame w.rest w.whole w.started start arrived front early (goes_turned s t k f w.frame w.rest is w.whole) o
 
-judged_once : (s s' : StreamState) (t : Tale) (k : Track s t) (spans : List (Option Span)) (segment : Segment Octets) → Fronts s false segment → s'.start ≡ s.start → s'.arrived ≡ behind_front s → s'.front ≡ None → s'.early ≡ early_left s
+judged_once : (s s' : StreamState) (t : Tale) (k : Track s t) (spans : List (Option Span)) (segment : Segment Octets) → Fronts s false segment → s'.start ≡ s.start → s'.arrived ≡ past_front s → s'.front ≡ None → s'.early ≡ early_left s
     → Onces s spans → Onces s' (spans ++ [])
 judged_once s s' t k spans segment w start arrived front early o =
     turns_there s s' t k spans w.frame w.rest w.whole w.started start arrived front early (goes_judged s t k w.frame (w.clear refl)) o

@@ -20,7 +20,7 @@ use Rattle.iw_memory.specs.Region.{Region, octets_from}
 use Rattle.iw_memory.specs.Laws.{Serves}
 use Rattle.iw_fpdu.specs.Laws.{IsBetween}
 use Rattle.iw_fpdu.specs.Sequence.{Carried, intact, first_frame}
-use Rattle.iw_fpdu.proofs.Sequences.{between_behind, written_is_first}
+use Rattle.iw_fpdu.proofs.Sequences.{between_past, written_is_first}
 use Rattle.iw_queues.specs.declared.request.Request.TheVariants.{Message as Posted, Read}
 use Rattle.iw_queues.specs.declared.request.Kind.TheVariants as kinds
 use Rattle.iw_queues.specs.Completions as completions
@@ -58,7 +58,7 @@ use Rattle.iw_ranges.specs.declared.Delivery.TheVariants.{Kept, Dropped}
 use Rattle.iw_ranges.proofs.InOrder.{floor_takes}
 use Rattle.iw_fpdu.specs.declared.layout.Layout.{Layout}
 use Rattle.iw_fpdu.specs.Frame.{frame_octets}
-use Rattle.iw_fpdu.specs.Sequence.{sequence, place_behind}
+use Rattle.iw_fpdu.specs.Sequence.{sequence, place_past}
 use Rattle.iw_fpdu.proofs.Sequences.{sequences_join, place_is}
 use Rattle.iw_fpdu.proofs.Follows.{frames_follow}
 use Rattle.iw_untagged.specs.Receiving.{Receiving, ahead_of}
@@ -115,7 +115,7 @@ use Rattle.iw_laws.proofs.Onces.{Onces, once_after}
 use Rattle.iw_laws.proofs.Tracks.{Track, by_ended, shown_stays, sound, silent_is, next_whole, next_none, next_reads_are, was_placed_is, tracking, MayAnswer, may, accepting, refusing, unanswered}
 use Rattle.iw_laws.proofs.Lists.{Each, each-push, each-first, each-last}
 use Rattle.iw_laws.proofs.Counts.{marks, length-marks, count_reads-kinds, map-take, take-all, count_done-append, read_mark, message_at, Hands, Counts, Handing, handing_of, same_handing, one_handed, same_counts, posted_counts, part_counts, handed_counts, answered_counts, part_ticket, hands, one_for, count_last, count_last-append, last_of, plain_part, whole_of}
-use Rattle.iw_laws.proofs.Sending.{FitsNumbers, IsSendable, accepted, EmitsStart, EmitsLast, EmitsPart, EmitsResponse, emits_as, shown_good, response_good, shows, behind_small, is_answer, terminate_few, terminate_good}
+use Rattle.iw_laws.proofs.Sending.{FitsNumbers, IsSendable, accepted, EmitsStart, EmitsLast, EmitsPart, EmitsResponse, emits_as, shown_good, response_good, shows, past_small, is_answer, terminate_few, terminate_good}
 use Rattle.iw_laws.proofs.Checks.{HasBuffer, checked_buffer, same_lengths, index_of, length_of, length-splice}
 
 -- what was sent is the start-up frame, if there is one, and the frames of these segments; or neither yet
@@ -672,8 +672,8 @@ below : (n m : ℕ) → nat_lt n m ≡ true → n < m
 below n m h = grind (arith, nat_tests)
 
 -- where no octet of the start-up frame is left, it has been sent, if there is one
-pub behind_start : (s : StreamState) (t : Tale) (e : Emits s t) → s.sent ≡ length t.sent → nat_lt s.sent (first_place_out s.start) ≡ false → t.sent ≡ own_frame s.start ++ sequence (sending s.start) 0 (map segment_octets (out_of s t e))
-behind_start s t e sent spoken = go e.framed
+pub past_start : (s : StreamState) (t : Tale) (e : Emits s t) → s.sent ≡ length t.sent → nat_lt s.sent (first_place_out s.start) ≡ false → t.sent ≡ own_frame s.start ++ sequence (sending s.start) 0 (map segment_octets (out_of s t e))
+past_start s t e sent spoken = go e.framed
   where
     us : List (Segment Octets)
     us = out_of s t e
@@ -714,11 +714,11 @@ reads_again s t from octets segment start from_is spoken octets_are good sent e 
     let us : List (List ℕ) = map segment_octets e.segments in
     let own : Octets = own_frame s.start in
     let layout : Layout = sending s.start in
-    let framed : t.sent ≡ own ++ sequence layout 0 us = behind_start s t e sent spoken ∙ ap (λ z. own ++ sequence layout 0 (map segment_octets z)) (alone_out e.segments (farewells t.story.farewell) none) in
-    let between : IsBetween layout.markers (place_behind layout 0 us) = between_behind layout 0 us (frames_follow.first layout.markers) in
-    let place : place_behind layout 0 us ≡ s.sent - length own =
+    let framed : t.sent ≡ own ++ sequence layout 0 us = past_start s t e sent spoken ∙ ap (λ z. own ++ sequence layout 0 (map segment_octets z)) (alone_out e.segments (farewells t.story.farewell) none) in
+    let between : IsBetween layout.markers (place_past layout 0 us) = between_past layout 0 us (frames_follow.first layout.markers) in
+    let place : place_past layout 0 us ≡ s.sent - length own =
     place_is layout 0 us (frames_follow.first layout.markers) ∙ omega (arith, ap length framed, length-append own (sequence layout 0 us), sent) in
-    let one : sequence layout (place_behind layout 0 us) (segment_octets segment ∷ []) ≡ octets =
+    let one : sequence layout (place_past layout 0 us) (segment_octets segment ∷ []) ≡ octets =
     ap (λ n. sequence layout n (segment_octets segment ∷ [])) place ∙ alone layout (s.sent - length own) (segment_octets segment) ∙ sym octets_are in
     let more : sequence layout 0 us ++ octets ≡ sequence layout 0 (map segment_octets (e.segments ++ segment ∷ [])) =
     ap (λ z. sequence layout 0 us ++ z) (sym one) ∙ sym (sequences_join layout 0 us (segment_octets segment ∷ [])) ∙ ap (sequence layout 0) (sym (map-append segment_octets e.segments (segment ∷ []))) in
@@ -814,7 +814,7 @@ sends_part s t from octets p start sent e =
       parts = loud_parts s s' t.story (sends_segment t.story segment) e.segments (e.segments ++ segment ∷ []) loud.started loud.loud (record { ending = refl; told = refl; farewell = refl }) e.parts;
       limits = limits_sent s.queue s.mulpdu part loud.part_is l.limits;
       fit = subst (Each FitsPosted) (sym (append-nil t.posted)) e.fit;
-      numbers = behind_small s.numbers part e.numbers;
+      numbers = past_small s.numbers part e.numbers;
       size = e.size;
       enough = e.enough;
       few = e.few;

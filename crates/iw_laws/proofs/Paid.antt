@@ -42,7 +42,7 @@ use Rattle.iw_events.specs.declared.act.Shown.TheVariants as shows
 use Rattle.iw_events.specs.declared.act.Seen.TheVariants as seen
 use Rattle.iw_laws.specs.Words.{Octets, deed, ended_after, listed}
 use Rattle.iw_laws.proofs.Tales.{Tale}
-use Rattle.iw_laws.proofs.Nexts.{fore, place_in, place_behind, behind_front}
+use Rattle.iw_laws.proofs.Nexts.{fore, place_in, place_past, past_front}
 use Rattle.iw_laws.proofs.Judged.{segments_early, placed_by, more_come, one_counts, open_at, same_segments}
 use Rattle.iw_laws.proofs.Told.{Told, Fronts, Hears, kept_of, early_left, left_frame, after_shown, after_act}
 use Rattle.iw_laws.proofs.Tracks.{Track, waiting_count, between_is, first_is, unread, ends_there, unclashed, none_left, segments_left, turning, left_early, left_tried, left_there, kept_whole, MayAnswer, may, accepting, refusing, unanswered}
@@ -133,34 +133,34 @@ shown_few s shows.Nothing = same_charge s s refl refl refl refl
 -- ---- frames
 
 -- the end of the frame at the in-order point
-turn_far : (s : StreamState) (t : Tale) (frame : Carried) (rest : Octets) → fore s ≡ Some (frame, rest) → Track s t → (s.arrived.floor ≤ place_behind s (fore s)) × (place_behind s (fore s) ≤ s.arrived.floor + 262144)
+turn_far : (s : StreamState) (t : Tale) (frame : Carried) (rest : Octets) → fore s ≡ Some (frame, rest) → Track s t → (s.arrived.floor ≤ place_past s (fore s)) × (place_past s (fore s) ≤ s.arrived.floor + 262144)
 turn_far s t frame rest e k =
-    let place : place_behind s (fore s) ≡ s.arrived.floor + (length (inbox s) - length rest) = ap (place_behind s) e in
+    let place : place_past s (fore s) ≡ s.arrived.floor + (length (inbox s) - length rest) = ap (place_past s) e in
     (omega (arith, place), omega (arith, place, short s.arrived, k.window))
 
-floor_behind : (s s' : StreamState) (t : Tale) (frame : Carried) (rest : Octets) → fore s ≡ Some (frame, rest) → s'.arrived ≡ behind_front s → Track s t → s'.arrived.floor ≡ place_behind s (fore s)
-floor_behind s s' t frame rest e arrived k =
+floor_past : (s s' : StreamState) (t : Tale) (frame : Carried) (rest : Octets) → fore s ≡ Some (frame, rest) → s'.arrived ≡ past_front s → Track s t → s'.arrived.floor ≡ place_past s (fore s)
+floor_past s s' t frame rest e arrived k =
     let far = turn_far s t frame rest e k in
-    let floor = ap (λ (a : Arrived). a.floor) arrived ∙ floor_moves s.arrived (place_behind s (fore s)) in
+    let floor = ap (λ (a : Arrived). a.floor) arrived ∙ floor_moves s.arrived (place_past s (fore s)) in
     omega (arith, floor, far.0)
 
 -- one that was placed has its turn
-turned_few : (s s' : StreamState) (t : Tale) (segment : Segment Octets) → (f : Fronts s true segment) → s'.start ≡ s.start → s'.arrived ≡ behind_front s → s'.front ≡ None → s'.early ≡ early_left s → Track s t → charge s' ≤ charge s + 131072
+turned_few : (s s' : StreamState) (t : Tale) (segment : Segment Octets) → (f : Fronts s true segment) → s'.start ≡ s.start → s'.arrived ≡ past_front s → s'.front ≡ None → s'.early ≡ early_left s → Track s t → charge s' ≤ charge s + 131072
 turned_few s s' t segment f start arrived front early k =
     let far = turn_far s t f.frame f.rest f.whole k in
     let w = turning s t k segment f in
-    omega (arith, floor_behind s s' t f.frame f.rest f.whole arrived k, far.1, w.fewer, ap waiting_count front, ap length (segments_left s s' t start arrived early far.0 k))
+    omega (arith, floor_past s s' t f.frame f.rest f.whole arrived k, far.1, w.fewer, ap waiting_count front, ap length (segments_left s s' t start arrived early far.0 k))
 
 -- one that was not has it where it is judged
-judged_few : (s s' : StreamState) (t : Tale) (segment : Segment Octets) (n : ℕ) → (f : Fronts s false segment) → s'.start ≡ s.start → s'.arrived ≡ behind_front s → s'.front ≡ None → s'.early ≡ early_left s
-    → place_behind s (fore s) ≤ s.arrived.floor + n → Track s t → charge s' ≤ charge s + n
+judged_few : (s s' : StreamState) (t : Tale) (segment : Segment Octets) (n : ℕ) → (f : Fronts s false segment) → s'.start ≡ s.start → s'.arrived ≡ past_front s → s'.front ≡ None → s'.early ≡ early_left s
+    → place_past s (fore s) ≤ s.arrived.floor + n → Track s t → charge s' ≤ charge s + n
 judged_few s s' t segment n f start arrived front early near k =
     let far = turn_far s t f.frame f.rest f.whole k in
     let left = none_left s t k f.frame f.rest f.whole (unclashed s t k f.frame (f.clear refl)) in
-    omega (arith, floor_behind s s' t f.frame f.rest f.whole arrived k, near, ap waiting_count front, ap length (segments_left s s' t start arrived early far.0 k), ap length left)
+    omega (arith, floor_past s s' t f.frame f.rest f.whole arrived k, near, ap waiting_count front, ap length (segments_left s s' t start arrived early far.0 k), ap length left)
 
 -- a short frame
-short_near : (s : StreamState) (t : Tale) (frame : Carried) (rest : Octets) → fore s ≡ Some (frame, rest) → length frame.ulpdu ≤ 46 → Track s t → place_behind s (fore s) ≤ s.arrived.floor + 131072
+short_near : (s : StreamState) (t : Tale) (frame : Carried) (rest : Octets) → fore s ≡ Some (frame, rest) → length frame.ulpdu ≤ 46 → Track s t → place_past s (fore s) ≤ s.arrived.floor + 131072
 short_near s t frame rest e small k =
     let m : Bool = (expecting s.start).markers in
     let at : ℕ = place_in s in

@@ -40,15 +40,15 @@ use Rattle.iw_laws.specs.Rest.{Over, AwaitsFrame, AwaitsAnswer, NoFrame}
 use Rattle.iw_laws.specs.Turns.{is_last}
 use Rattle.iw_laws.specs.Merged.{Post}
 use Rattle.iw_laws.specs.Sends.{terminate_segment, IsAnswered, IsSentMessage}
-use Rattle.iw_laws.specs.WrongRuns.{a, b, on, raw, works, places, registers, emits, send_frame, reads_behind_fault, reads_unopened, rests_with_reply, never_finished, finished_unsent, finished_as_write, sends_too_large, cut_frame, cuts_short, sends_elsewhere, sends_behind_end, delivers_others, keeps_behind_end, accepts_unasked, answers_stag_again, fetches_last, fetches_invalid, request_frame, read_one, reads_unanswered}
+use Rattle.iw_laws.specs.WrongRuns.{a, b, on, raw, works, places, registers, emits, send_frame, reads_past_fault, reads_unopened, rests_with_reply, never_finished, finished_unsent, finished_as_write, sends_too_large, cut_frame, cuts_short, sends_elsewhere, sends_past_end, delivers_others, keeps_past_end, accepts_unasked, answers_stag_again, fetches_last, fetches_invalid, request_frame, read_one, reads_unanswered}
 use Rattle.iw_laws.specs.WrongRuns.{RefusesFramesBehindFault, RefusesFramesUnopened, RefusesRestWithReply, RefusesNeverFinished, RefusesFinishedUnsent, RefusesFinishedAsWrite, RefusesTooLarge, RefusesCutShort, RefusesElsewhere, RefusesBehindEnd, RefusesOtherOctets, RefusesKeptBehindEnd, RefusesUnaskedAccept, RefusesWrongRefusal, RefusesSameStag, RefusesFetchInvalid, RefusesReadUnanswered}
 use Rattle.iw_laws.proofs.Messages.{nothing_sent}
 use Rattle.iw_laws.proofs.Counts.{last_in, tagged_told}
 use Rattle.iw_laws.proofs.Sending.{version_of}
 
-pub refuses_frames_behind_fault : RefusesFramesBehindFault
+pub refuses_frames_past_fault : RefusesFramesBehindFault
 unfolding acts stream_acts ended
-refuses_frames_behind_fault h = true≢false (h (take 5 reads_behind_fault) (b (works places)) [] refl).0.running
+refuses_frames_past_fault h = true≢false (h (take 5 reads_past_fault) (b (works places)) [] refl).0.running
 
 pub refuses_frames_unopened : RefusesFramesUnopened
 unfolding acts stream_acts openings story agreed_of pushed
@@ -194,9 +194,9 @@ not_terminate payload e =
     let other : 0x43 ≡ 0x47 = ap (λ (xs : Octets). get_or xs 1 0) same in
     omega (arith, other)
 
-pub refuses_behind_end : RefusesBehindEnd
+pub refuses_past_end : RefusesBehindEnd
 unfolding acts stream_acts openings story sent ended
-refuses_behind_end h = elim (h (take 5 sends_behind_end) (a (emits send_frame)) [] refl) [
+refuses_past_end h = elim (h (take 5 sends_past_end) (a (emits send_frame)) [] refl) [
   | inl s ↦ absurd (omega (arith, ap length s.1))
   | inr (inl w) ↦ not_terminate w.payload w.is
   | inr (inr m) ↦ true≢false m.running
@@ -209,9 +209,9 @@ refuses_other_octets h =
     let other : 9 ≡ 0 = ap (λ (xs : Octets). get_or xs 0 0) r.are in
     omega (arith, other)
 
-pub refuses_kept_behind_end : RefusesKeptBehindEnd
+pub refuses_kept_past_end : RefusesKeptBehindEnd
 unfolding acts stream_acts ended
-refuses_kept_behind_end h = let r = h (take 4 keeps_behind_end) (b (raw 8 (0 ∷ []))) [] refl in let other : Kept ≡ Dropped = r in cc
+refuses_kept_past_end h = let r = h (take 4 keeps_past_end) (b (raw 8 (0 ∷ []))) [] refl in let other : Kept ≡ Dropped = r in cc
 
 pub refuses_unasked_accept : RefusesUnaskedAccept
 unfolding acts stream_acts openings story ended progress_of startup_end

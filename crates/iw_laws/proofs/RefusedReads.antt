@@ -320,8 +320,8 @@ refuses_done_by_write h =
     let asks : Story = story_of 0 (acts A (take 4 done_by_write)) in
     let t : Story = story_of 0 (acts A (take 7 done_by_write)) in
     let kept = shown_stays asks (shows.Frame 0 request_frame) in
-    let behind : Story = story_of 0 (acts A (take 8 done_by_write)) in
-    let answered : 1 ≤ behind.answered = subst (IsAnswered behind (Read read_one ∷ [])) (sym (same_Some _ _ r.is)) r.answered in
+    let beyond : Story = story_of 0 (acts A (take 8 done_by_write)) in
+    let answered : 1 ≤ beyond.answered = subst (IsAnswered beyond (Read read_one ∷ [])) (sym (same_Some _ _ r.is)) r.answered in
     let left : next_reads t ≡ t.reads = leaves_reads t kept.start kept.turns (ap (λ z. in_order (taken_in z 0 write_frame)) kept.came ∙ write_came) in
     omega (arith, answered, kept.answered, ap length left)
 

@@ -193,8 +193,8 @@ merged_before c numbers (Post m ∷ items) first later ss e (mine, rest, is, one
     elim (either first later mine rest (e ∙ is)) [
       | inl r ↦
           let same : count_ended first ≡ count_ended r.0 = omega (arith, ap count_ended r.1, ended-append mine r.0, posted_ended numbers m 0 mine one) in
-          let behind : AreLaid c (answers_in items) r.0 (count_ended r.0) = merged_before c (numbers_after numbers m) items r.0 later rest r.2 merged in
-          subst (AreLaid c (answers_in items) first) (sym same) (omega (arith, behind, ap (count_responses c) r.1, responses-append c mine r.0))
+          let beyond : AreLaid c (answers_in items) r.0 (count_ended r.0) = merged_before c (numbers_after numbers m) items r.0 later rest r.2 merged in
+          subst (AreLaid c (answers_in items) first) (sym same) (omega (arith, beyond, ap (count_responses c) r.1, responses-append c mine r.0))
       | inr r ↦
           let none : count_ended first ≡ 0 = omega (arith, posted_ended numbers m 0 mine one, ap count_ended r.2, ended-append first (r.0 ∷ r.1)) in
           subst (AreLaid c (answers_in items) first) (sym none) (omega arith)
@@ -203,10 +203,10 @@ merged_before c numbers (Response a ∷ items) first later ss e (mine, rest, is,
     elim (either first later mine rest (e ∙ is)) [
       | inl r ↦
           let same : count_ended first ≡ suc (count_ended r.0) = omega (arith, ap count_ended r.1, ended-append mine r.0, response_ended _ a.request 0 a.octets mine one.1) in
-          let behind : AreLaid c (answers_in items) r.0 (count_ended r.0) = merged_before c numbers items r.0 later rest r.2 merged in
+          let beyond : AreLaid c (answers_in items) r.0 (count_ended r.0) = merged_before c numbers items r.0 later rest r.2 merged in
           let place : count_in c a.request.sink (a.request.sink_to + 0) a.octets ≡ count_in c a.request.sink a.request.sink_to a.octets = ap (λ k. count_in c a.request.sink k a.octets) (omega arith) in
           subst (AreLaid c (a ∷ answers_in items) first) (sym same)
-          (omega (arith, behind, ap (count_responses c) r.1, responses-append c mine r.0, response_counted c _ a.request 0 a.octets mine one.1, place))
+          (omega (arith, beyond, ap (count_responses c) r.1, responses-append c mine r.0, response_counted c _ a.request 0 a.octets mine one.1, place))
       | inr r ↦
           let none : count_ended first ≡ 0 = response_stopped _ a.request 0 a.octets first r.0 r.1 (subst (IsCut _ (response_segment a.request) 0 a.octets) r.2 one.1) in
           subst (AreLaid c (a ∷ answers_in items) first) (sym none) (omega arith)
@@ -319,7 +319,7 @@ begun_left c q waiting (x ∷ xs) items goes (inl unbegun) = go (goes.response (
         let request : ReadRequest = b.oldest.request in
         let place : left_in c (q.offset + length (x ∷ xs)) items ≡ count_in c request.sink (request.sink_to + length (x ∷ xs)) b.more + laid_in c b.items =
         ap (left_in c (q.offset + length (x ∷ xs))) b.is
-        ∙ (λ i. count_in c request.sink (request.sink_to + sizes i) (behind i) + laid_in c b.items) in
+        ∙ (λ i. count_in c request.sink (request.sink_to + sizes i) (beyond i) + laid_in c b.items) in
         omega (
           arith,
           ap (laid_in c) b.is,
@@ -331,8 +331,8 @@ begun_left c q waiting (x ∷ xs) items goes (inl unbegun) = go (goes.response (
         sizes : q.offset + length (x ∷ xs) ≡ length (x ∷ xs)
         sizes = omega (arith, unbegun)
 
-        behind : drop (q.offset + length (x ∷ xs)) ((x ∷ xs) ++ b.more) ≡ b.more
-        behind = drop_at (x ∷ xs) b.more (q.offset + length (x ∷ xs)) (omega (arith, unbegun))
+        beyond : drop (q.offset + length (x ∷ xs)) ((x ∷ xs) ++ b.more) ≡ b.more
+        beyond = drop_at (x ∷ xs) b.more (q.offset + length (x ∷ xs)) (omega (arith, unbegun))
 
 -- the segments of responses that were sent have the octets that were fetched, each once
 pub sent_responses : (c : Cell) (s : StreamState) (t : Tale) (e : Emits s t) → count_responses c e.segments ≡ count_writes c (responses t.story)

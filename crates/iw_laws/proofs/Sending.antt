@@ -19,7 +19,7 @@ use Rattle.iw_queues.specs.Request.{payload, size_of, header_len}
 use Rattle.iw_queues.specs.Completions.{next_ticket}
 use Rattle.iw_queues.specs.Queue.{Queue, next_part, part_of_first, part_from, IsBegun, IsWithinLimits}
 use Rattle.iw_queues.specs.Queue as queues
-use Rattle.iw_queues.specs.Segments.{Numbers, numbers_after, numbers_behind, segment_with, segment_of}
+use Rattle.iw_queues.specs.Segments.{Numbers, numbers_after, numbers_beyond, segment_with, segment_of}
 use Rattle.iw_octets.specs.declared.operation.UntaggedOperation.TheVariants as untagged
 use Rattle.iw_octets.specs.Operation.{control_of, opcode_of, untagged_opcode}
 use Rattle.iw_stream.specs.declared.answer.PostRefusal.TheVariants as post_refusals
@@ -382,8 +382,8 @@ next_small numbers (Posted (Write stag to octets)) h = h
 next_small numbers (Posted (Send octets solicited invalidate)) h = record { send = omega arith; read = h.read }
 next_small numbers (Read request) h = record { send = h.send; read = omega arith }
 
-pub behind_small : (numbers : Numbers) (part : Part (Request Octets)) → FitsNumbers numbers → FitsNumbers (numbers_behind numbers part)
-behind_small numbers part h = go part.last
+pub past_small : (numbers : Numbers) (part : Part (Request Octets)) → FitsNumbers numbers → FitsNumbers (numbers_beyond numbers part)
+past_small numbers part h = go part.last
   where
     go : (last : Bool) → FitsNumbers (cond last (numbers_after numbers part.message) numbers)
     go true = next_small numbers part.message h

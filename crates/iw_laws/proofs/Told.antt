@@ -23,7 +23,7 @@ use Rattle.iw_queues.specs.declared.request.Request.{Request}
 use Rattle.iw_queues.specs.declared.send_queue.Part.{Part}
 use Rattle.iw_queues.specs.Completions as completions
 use Rattle.iw_queues.specs.Queue.{Queue, part_sent, sent_with, done_in, oldest_in, handed_from}
-use Rattle.iw_queues.specs.Segments.{numbers_behind}
+use Rattle.iw_queues.specs.Segments.{numbers_beyond}
 use Rattle.iw_reads.specs.declared.reads.Outstanding.{Outstanding}
 use Rattle.iw_reads.specs.declared.response.ResponsePart.{ResponsePart}
 use Rattle.iw_rdmap.specs.Judging.{request_fault}
@@ -70,7 +70,7 @@ use Rattle.iw_laws.specs.Words.{Octets, private_data}
 use Rattle.iw_laws.specs.Turns.{asked_in, seen_judged, seen_tried, seen_turned, front_verdict}
 use Rattle.iw_laws.specs.Rules.{StreamRule, seen_of, shown_of}
 use Rattle.iw_laws.proofs.States.{stream_after}
-use Rattle.iw_laws.proofs.Nexts.{fore, place_behind, segment_in, segment_at, turned_by, behind_front, standing, Sound, none_first_here, first_is_here, behind_is}
+use Rattle.iw_laws.proofs.Nexts.{fore, place_past, segment_in, segment_at, turned_by, past_front, standing, Sound, none_first_here, first_is_here, past_is}
 use Rattle.iw_laws.proofs.Seeing.{LandsTagged, LandsRequest, LandsAs, InRegion, lands_as, early_lands, stands}
 
 -- ---- what an act leaves of a stream, by what is seen of it
@@ -85,7 +85,7 @@ asked_front s = option_map_or (λ x. taken_up s.asked (asked_in (standing s x.0)
 
 -- the records that stay when the frame at the in-order point had its turn
 abbrev pub early_left : StreamState → List EarlyRecord
-early_left s = kept_from (place_behind s (fore s) - first_place_in s.start) s.early
+early_left s = kept_from (place_past s (fore s) - first_place_in s.start) s.early
 
 -- the records, with that of the frame that can be judged early
 abbrev pub early_with : StreamState → (Frame → State (ArrayVec ℕ)) → List EarlyRecord
@@ -120,7 +120,7 @@ left_frame s StartUp = record s { sent = s.sent + length (own_frame s.start) }
 left_frame s (LastWord payload) = record s { sent = s.sent + length (frame_of_terminate s payload); ending = Over None }
 left_frame s (NextPart part) = record s {
   queue = part_sent s.queue (Some part);
-  numbers = numbers_behind s.numbers part;
+  numbers = numbers_beyond s.numbers part;
   sent = s.sent + length (frame_of_part s part);
   reads = reads_with s.reads part.ticket part.message;
 }
@@ -142,18 +142,18 @@ after_seen s (seen.Opened agreed private) = hears s
 after_seen s (seen.Closed fault) = ends (hears s)
 after_seen s (seen.Placed right stag to octets) = places s
 after_seen s (seen.Tried place) = record s { early = early_with s (λ f. states.Tried) }
-after_seen s (seen.Requested size stag to) = record s { front = None; arrived = behind_front s; early = early_left s; asked = asked_front s }
+after_seen s (seen.Requested size stag to) = record s { front = None; arrived = past_front s; early = early_left s; asked = asked_front s }
 after_seen s (seen.Buffered msn mo len) = record s { front = kept_of s; receiving = written s.receiving msn mo (payload_of (segment_at (fore s))) }
 after_seen s seen.Passed = record s {
   front = None;
   receiving = turned_by s.receiving (segment_at (fore s));
-  arrived = behind_front s;
+  arrived = past_front s;
   early = early_left s;
   reads = reads_front s;
   queue = with_finished s.queue (finishes_read s.reads (segment_at (fore s)));
 }
-after_seen s (seen.Received octets solicited invalidate) = record s { front = None; receiving = finished s.receiving; arrived = behind_front s; early = early_left s }
-after_seen s (seen.Terminated fault) = ends (record s { front = None; arrived = behind_front s; early = early_left s })
+after_seen s (seen.Received octets solicited invalidate) = record s { front = None; receiving = finished s.receiving; arrived = past_front s; early = early_left s }
+after_seen s (seen.Terminated fault) = ends (record s { front = None; arrived = past_front s; early = early_left s })
 after_seen s (seen.Fault fault) = ends_by s (fault_front s fault)
 after_seen s seen.Idle = s
 
@@ -381,13 +381,13 @@ module _ (table : Table) (s : StreamState) (k : Sound s) (runs : IsRunning s) wh
     faulted fault e = (inl (judged (seen.Fault fault) (ap (seen_judged frame) (sym e))), ap (ends_by s) (terminates fault))
 
     -- its segment, its place and the place behind it
-    place_here : work.place_behind s (placed frame) ≡ place_behind s (fore s)
+    place_here : work.place_past s (placed frame) ≡ place_past s (fore s)
     place_here =
         let first = first_is_here s frame k is_next in
-        ap (λ z. work.place_behind s (placed z)) first.is ∙ behind_is s (record { mismatch = frame.mismatch; ulpdu = frame.ulpdu }) first.rest k first.whole
+        ap (λ z. work.place_past s (placed z)) first.is ∙ past_is s (record { mismatch = frame.mismatch; ulpdu = frame.ulpdu }) first.rest k first.whole
 
-    behind_here : advanced s.arrived (work.place_behind s (placed frame)) ≡ behind_front s
-    behind_here = ap (advanced s.arrived) place_here
+    past_here : advanced s.arrived (work.place_past s (placed frame)) ≡ past_front s
+    past_here = ap (advanced s.arrived) place_here
 
     early_here : kept_from (frame_end (expecting s.start).markers frame.start (length frame.ulpdu)) s.early ≡ early_left s
     early_here = ap (λ n. kept_from n s.early) (omega (arith, place_here))
@@ -455,7 +455,7 @@ module _ (table : Table) (s : StreamState) (k : Sound s) (runs : IsRunning s) wh
             to_is = ap (λ (z : ReadRequest). z.source_to) w.is;
           },
         ),
-        (λ i. record s { front = None; arrived = behind_here i; early = early_here i; asked = (same_request request w ∙ takes) i }),
+        (λ i. record s { front = None; arrived = past_here i; early = early_here i; asked = (same_request request w ∙ takes) i }),
       )
         where
           same_request : (request : ReadRequest) → LandsRequest (work.standing table s) frame request → taken_up s.asked (record { header = (placed frame).header; request = request }) ≡ taken_up s.asked (asked_in frame)
@@ -465,7 +465,7 @@ module _ (table : Table) (s : StreamState) (k : Sound s) (runs : IsRunning s) wh
           judged (seen.Terminated fault) (ap (seen_judged frame) (answer e)),
           record { head = w.head; payload = w.payload; fronts = fronts clear (Untagged w.head w.payload) w.carries; queue = w.queue },
         ),
-        (λ i. ends (record s { front = None; arrived = behind_here i; early = early_here i })),
+        (λ i. ends (record s { front = None; arrived = past_here i; early = early_here i })),
       )
 
       lands : Given table s (seen_of (table_judged table frame (verdict (work.standing table s) frame)) private (judged_step (verdict (work.standing table s) frame))) (after_judging s frame (verdict (work.standing table s) frame))
@@ -554,11 +554,11 @@ module _ (table : Table) (s : StreamState) (k : Sound s) (runs : IsRunning s) wh
     reads_are : reads_left s.reads (placed (standing s frame)) ≡ reads_front s
     reads_are = left_kept s.reads (standing s frame) segment carries ∙ ap (λ o. left_by_turn s.reads (length (payload_of o)) o) (sym at)
 
-    arrived_is : advanced s.arrived (work.place_behind s (placed (standing s frame))) ≡ behind_front s
-    arrived_is = ap (advanced s.arrived) (behind_is s frame rest k whole)
+    arrived_is : advanced s.arrived (work.place_past s (placed (standing s frame))) ≡ past_front s
+    arrived_is = ap (advanced s.arrived) (past_is s frame rest k whole)
 
     early_is : kept_from (frame_end (expecting s.start).markers (standing s frame).start (length frame.ulpdu)) s.early ≡ early_left s
-    early_is = ap (λ n. kept_from n s.early) (omega (arith, behind_is s frame rest k whole))
+    early_is = ap (λ n. kept_from n s.early) (omega (arith, past_is s frame rest k whole))
 
     -- the turn, by the segment
     abbrev Turned_as : Result Turning Fault → Type 0

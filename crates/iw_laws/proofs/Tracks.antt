@@ -76,7 +76,7 @@ use Rattle.iw_events.specs.declared.act.Seen.TheVariants as seen
 use Rattle.iw_laws.specs.Words.{Octets, Sent, Placing, placed_by, private_data, listed, written as written_of, written_by, sunk, sunk_by, as_write}
 use Rattle.iw_queues.specs.Joined.{Cell, count_in, count_writes, count_segments}
 use Rattle.iw_fpdu.specs.Places.{frame_start}
-use Rattle.iw_laws.specs.Turns.{Located, located_of, behind_last}
+use Rattle.iw_laws.specs.Turns.{Located, located_of, past_last}
 use Rattle.iw_laws.specs.Sends.{asked_of}
 use Rattle.iw_reads.specs.declared.reads.Outstanding.{Outstanding}
 use Rattle.iw_reads.specs.Outstanding.{response_turn_fault, reads_turned}
@@ -86,10 +86,10 @@ use Rattle.iw_laws.specs.Turns.{Answer, Story, is_silent, hears, frames_in, next
 use Rattle.iw_reads.specs.declared.requests.Asked.{Asked}
 use Rattle.iw_memory.specs.declared.rights.Right.TheVariants as rights
 use Rattle.iw_events.specs.declared.act.Shown.TheVariants as shows
-use Rattle.iw_laws.proofs.Located.{frames_at, located_are, located_first, located_none, behind_last-push}
+use Rattle.iw_laws.proofs.Located.{frames_at, located_are, located_first, located_none, past_last-push}
 use Rattle.iw_endpoint.specs.Endpoint.{unasked}
 use Rattle.iw_endpoint.specs.Isolation.{answer_or}
-use Rattle.iw_laws.proofs.Nexts.{Front, fore, place_in, standing, segment_in, segment_at, place_behind, behind_front, behind_is, first_is_here, IsFirstHere, turned_by, IsFore, Sound}
+use Rattle.iw_laws.proofs.Nexts.{Front, fore, place_in, standing, segment_in, segment_at, place_past, past_front, past_is, first_is_here, IsFirstHere, turned_by, IsFore, Sound}
 use Rattle.iw_laws.proofs.Judged.{View, AreJudged, IsForRegion, IsFirstRecord, Adds, frame_in, first_record, judges_one, more_come, moves_to, none_goes, none_in, none_judged, same_segments, one_counts, open_at, segments_early}
 use Rattle.iw_laws.proofs.Judged as judged
 use Rattle.iw_locate.proofs.Honest.{of_earlier}
@@ -173,7 +173,7 @@ pub record Track (s : StreamState) (t : Tale) : Type 0 where
   pub located : List Located  -- the same with their places
   pub named : frames_at located ≡ frames
   pub split : (more : Octets) → located_of (expecting s.start) 0 (before ++ more) ≡ located ++ located_of (expecting s.start) (length before) more
-  pub ends : behind_last 0 located ≡ length before
+  pub ends : past_last 0 located ≡ length before
   pub turns : t.story.turns ≡ length frames
   pub placed : t.story.placed ≡ (is_some s.front)
   pub receiving : t.story.receiving ≡ s.receiving
@@ -191,9 +191,9 @@ pub record Track (s : StreamState) (t : Tale) : Type 0 where
   pub joins : Joins segments s.receiving (is_some s.front) (ended s) (segment_at (fore s)) t.received shown
   pub tells : Tells t.story.answered (asked_of t.story) segments
 
-get_behind : (xs ys : List Located) → slice_get (xs ++ ys) (length xs) ≡ slice_get ys 0
-get_behind [] ys = refl
-get_behind (x ∷ xs) ys = get_behind xs ys
+get_past : (xs ys : List Located) → slice_get (xs ++ ys) (length xs) ≡ slice_get ys 0
+get_past [] ys = refl
+get_past (x ∷ xs) ys = get_past xs ys
 
 -- the place of the in-order point among the frames
 place_is : (s : StreamState) (t : Tale) (k : Track s t) → place_in s ≡ length k.before
@@ -257,8 +257,8 @@ sound s t k = record {
     go (Some g) is f e = k.fore_is f (is ∙ e)
 
 -- the octets behind the start-up frame
-behind_intro : (s : StreamState) (t : Tale) (k : Track s t) → drop (first_place_in t.story.start) (in_order t.story.came) ≡ k.before ++ inbox s
-behind_intro s t k =
+past_intro : (s : StreamState) (t : Tale) (k : Track s t) → drop (first_place_in t.story.start) (in_order t.story.came) ≡ k.before ++ inbox s
+past_intro s t k =
     let place : first_place_in t.story.start ≡ length k.intro = ap first_place_in k.begins.start ∙ sym (first_is s t k.intro k.begins) in
     (λ i. drop (place i) (k.came i)) ∙ drop_at k.intro (k.before ++ inbox s) (length k.intro) refl
 
@@ -268,13 +268,13 @@ turns_located s t k = omega (arith, k.turns, ap length k.named, length-map k.loc
 
 -- those that came are those, and the others
 located_is : (s : StreamState) (t : Tale) (k : Track s t) → located_of (expecting t.story.start) 0 (drop (first_place_in t.story.start) (in_order t.story.came)) ≡ k.located ++ located_of (expecting s.start) (length k.before) (inbox s)
-located_is s t k = (λ i. located_of (expecting (k.begins.start i)) 0 (behind_intro s t k i)) ∙ k.split (inbox s)
+located_is s t k = (λ i. located_of (expecting (k.begins.start i)) 0 (past_intro s t k i)) ∙ k.split (inbox s)
 
 -- the frame whose turn is next is the one at the in-order point
 next_is : (s : StreamState) (t : Tale) (k : Track s t) → next_frame t.story ≡ option_map (λ (f : Located). f.frame) (slice_get (located_of (expecting s.start) (length k.before) (inbox s)) 0)
 next_is s t k =
     ap (option_map (λ (f : Located). f.frame))
-    ((λ i. slice_get (located_is s t k i) (turns_located s t k i)) ∙ get_behind k.located (located_of (expecting s.start) (length k.before) (inbox s)))
+    ((λ i. slice_get (located_is s t k i) (turns_located s t k i)) ∙ get_past k.located (located_of (expecting s.start) (length k.before) (inbox s)))
 
 pub next_whole : (s : StreamState) (t : Tale) (frame : Carried) (rest : Octets) → Track s t → fore s ≡ Some (frame, rest) → next_frame t.story ≡ Some (standing s frame)
 next_whole s t frame rest k e =
@@ -290,16 +290,16 @@ split_is s t k more =
     sym (located_are (expecting s.start) 0 (k.before ++ more)) ∙ ap frames_at (k.split more) ∙ map-append (λ (f : Located). carried_by f.frame) k.located (located_of (expecting s.start) (length k.before) more)
     ∙ (λ i. k.named i ++ located_are (expecting s.start) (length k.before) more i)
 
-take_behind : (xs ys : List Located) → take (length xs) (xs ++ ys) ≡ xs
-take_behind xs ys = take-append_seam xs ys
+take_beyond : (xs ys : List Located) → take (length xs) (xs ++ ys) ≡ xs
+take_beyond xs ys = take-append_seam xs ys
 
 -- the in-order point of the state is that of the acts
 pub point_is : (s : StreamState) (t : Tale) (k : Track s t) → in_order_point t.story ≡ length k.intro + length k.before
 point_is s t k =
     let place : first_place_in t.story.start ≡ length k.intro = ap first_place_in k.begins.start ∙ sym (first_is s t k.intro k.begins) in
-    let behind : behind_last 0 (take t.story.turns (located_of (expecting t.story.start) 0 (drop (first_place_in t.story.start) (in_order t.story.came)))) ≡ length k.before =
-    ap (behind_last 0) ((λ i. take (turns_located s t k i) (located_is s t k i)) ∙ take_behind k.located (located_of (expecting s.start) (length k.before) (inbox s))) ∙ k.ends in
-    (λ i. place i + behind i)
+    let beyond : past_last 0 (take t.story.turns (located_of (expecting t.story.start) 0 (drop (first_place_in t.story.start) (in_order t.story.came)))) ≡ length k.before =
+    ap (past_last 0) ((λ i. take (turns_located s t k i) (located_is s t k i)) ∙ take_beyond k.located (located_of (expecting s.start) (length k.before) (inbox s))) ∙ k.ends in
+    (λ i. place i + beyond i)
 
 -- what came, and the frames of it that were judged before their turn, are the same
 pub scene_is : (s : StreamState) (t : Tale) (k : Track s t) → turns.scene t.story ≡ scene s
@@ -336,11 +336,11 @@ moved_records s t k frame rest e =
     let later : List Located = located_of layout (at + (length (inbox s) - length rest)) rest in
     let all : frames_in t.story ≡ k.located ++ here ∷ later =
     located_is s t k ∙ ap (λ z. k.located ++ z) (located_first layout at (inbox s) frame rest k.between (sym (front_is s t k) ∙ e)) in
-    let behind : behind_last 0 (take (t.story.turns + 1) (frames_in t.story)) ≡ at + (length (inbox s) - length rest) =
-    ap (behind_last 0) ((λ i. take (turns_located s t k i + 1) (all i)) ∙ take_past k.located later here) ∙ behind_last-push 0 k.located here in
-    let place : place_behind s (fore s) ≡ s.arrived.floor + (length (inbox s) - length rest) = ap (place_behind s) e in
-    let to : at + (length (inbox s) - length rest) ≡ place_behind s (fore s) - first_place_in s.start = omega (arith, place, k.point, first_is s t k.intro k.begins) in
-    λ i. kept_from ((behind ∙ to) i) (k.early.records_are i)
+    let beyond : past_last 0 (take (t.story.turns + 1) (frames_in t.story)) ≡ at + (length (inbox s) - length rest) =
+    ap (past_last 0) ((λ i. take (turns_located s t k i + 1) (all i)) ∙ take_past k.located later here) ∙ past_last-push 0 k.located here in
+    let place : place_past s (fore s) ≡ s.arrived.floor + (length (inbox s) - length rest) = ap (place_past s) e in
+    let to : at + (length (inbox s) - length rest) ≡ place_past s (fore s) - first_place_in s.start = omega (arith, place, k.point, first_is s t k.intro k.begins) in
+    λ i. kept_from ((beyond ∙ to) i) (k.early.records_are i)
 
 -- to move on in two steps is to move on at once
 twice : (a : Arrived) (m n : ℕ) → a.floor ≡ 0 → m ≤ n → advanced (advanced a m) n ≡ advanced a n
@@ -378,18 +378,18 @@ pub record TurnCounts (s : StreamState) (t : Tale) (shown : List Placing) : Type
   pub sunk_are : (c : Cell) → count_writes c (sunk t.placings) ≡ count_writes c (sunk shown) + count_responses c (segments_early (scene s) (early_left s))
 
 -- the frames that are still judged before their turn, where the in-order point lies behind the front
-pub segments_left : (s s' : StreamState) (t : Tale) → s'.start ≡ s.start → s'.arrived ≡ behind_front s → s'.early ≡ early_left s → s.arrived.floor ≤ place_behind s (fore s) → Track s t
+pub segments_left : (s s' : StreamState) (t : Tale) → s'.start ≡ s.start → s'.arrived ≡ past_front s → s'.early ≡ early_left s → s.arrived.floor ≤ place_past s (fore s) → Track s t
     → segments_early (scene s') s'.early ≡ segments_early (scene s) (early_left s)
 segments_left s s' t start arrived kept on k =
-    let moved = moves_to (scene s) (place_behind s (fore s)) (omega (arith, k.point, first_is s t k.intro k.begins)) on k.early.judged in
-    let scenes : scene s' ≡ scene_of (expecting s.start) (first_place_in s.start) (advanced s.arrived (place_behind s (fore s))) (early_left s) = λ i. scene_of (expecting (start i)) (first_place_in (start i)) (arrived i) (kept i) in
+    let moved = moves_to (scene s) (place_past s (fore s)) (omega (arith, k.point, first_is s t k.intro k.begins)) on k.early.judged in
+    let scenes : scene s' ≡ scene_of (expecting s.start) (first_place_in s.start) (advanced s.arrived (place_past s (fore s))) (early_left s) = λ i. scene_of (expecting (start i)) (first_place_in (start i)) (arrived i) (kept i) in
     (λ i. segments_early (scenes i) (kept i)) ∙ moved.1
 
 -- the records that stay
-early_turned : (s s' : StreamState) (t t' : Tale) (frame : Carried) (rest : Octets) (shown : List Placing) → fore s ≡ Some (frame, rest) → is_open s.start ≡ true → SameStart s s' t t' → s'.arrived ≡ behind_front s → s'.front ≡ None
-    → s'.early ≡ early_left s → t'.story.early ≡ (moves_on t.story).early → s.arrived.floor ≤ place_behind s (fore s) → TurnCounts s t' shown → (k : Track s t) → Early s' t' shown
+early_turned : (s s' : StreamState) (t t' : Tale) (frame : Carried) (rest : Octets) (shown : List Placing) → fore s ≡ Some (frame, rest) → is_open s.start ≡ true → SameStart s s' t t' → s'.arrived ≡ past_front s → s'.front ≡ None
+    → s'.early ≡ early_left s → t'.story.early ≡ (moves_on t.story).early → s.arrived.floor ≤ place_past s (fore s) → TurnCounts s t' shown → (k : Track s t) → Early s' t' shown
 early_turned s s' t t' frame rest shown e started same arrived empty kept records on counts k =
-    let to : ℕ = place_behind s (fore s) in
+    let to : ℕ = place_past s (fore s) in
     let moved = moves_to (scene s) to (omega (arith, k.point, first_is s t k.intro k.begins)) on k.early.judged in
     let scenes : scene s' ≡ scene_of (expecting s.start) (first_place_in s.start) (advanced s.arrived to) (early_left s) = λ i. scene_of (expecting (same.start i)) (first_place_in (same.start i)) (arrived i) (kept i) in
     let left = segments_left s s' t same.start arrived kept on k in
@@ -404,7 +404,7 @@ early_turned s s' t t' frame rest shown e started same arrived empty kept record
 
 -- the frame at the in-order point has its turn
 turned : (s s' : StreamState) (t t' : Tale) (frame : Carried) (rest : Octets) (segment : Segment Octets) → fore s ≡ Some (frame, rest) → segment_in frame ≡ Some segment → is_open s.start ≡ true → SameStart s s' t t'
-    → s'.arrived ≡ behind_front s → s'.front ≡ None → s'.early ≡ early_left s
+    → s'.arrived ≡ past_front s → s'.front ≡ None → s'.early ≡ early_left s
     → t'.story.came ≡ t.story.came → t'.story.turns ≡ t.story.turns + 1 → t'.story.placed ≡ false → t'.story.early ≡ (moves_on t.story).early → t'.story.receiving ≡ s'.receiving → (k : Track s t)
     → (shown : List Placing) → TurnCounts s t' shown → Joins (k.segments ++ segment ∷ []) s'.receiving (is_some s'.front) (ended s') (segment_at (fore s')) t'.received shown
     → Tells t'.story.answered (asked_of t'.story) (k.segments ++ segment ∷ []) → Track s' t'
@@ -417,7 +417,7 @@ turned s s' t t' frame rest segment e carries started same arrived empty kept ca
     let before : Octets = k.before ++ one.one in
     let size : length before ≡ at + length one.one = length-append k.before one.one in
     let all : length one.one + length rest ≡ length (inbox s) = omega (arith, ap length one.split, length-append one.one rest) in
-    let to : place_behind s (fore s) ≡ m + length before = ap (place_behind s) e ∙ omega (arith, k.point, size, all) in
+    let to : place_past s (fore s) ≡ m + length before = ap (place_past s) e ∙ omega (arith, k.point, size, all) in
     let moved : s'.arrived ≡ advanced t.story.came (m + length before) =
     arrived ∙ (λ i. advanced (k.arrived i) (to i)) ∙ twice t.story.came (m + at) (m + length before) k.from_start (omega (arith, size)) in
     let point : s'.arrived.floor ≡ m + length before = ap (λ (a : Arrived). a.floor) moved ∙ floor_moves t.story.came (m + length before) ∙ omega (arith, k.from_start) in
@@ -430,7 +430,7 @@ turned s s' t t' frame rest segment e carries started same arrived empty kept ca
     ∙ (λ i. drop (m + length before - k.from_start i) (grouped i))
     ∙ drop_at (k.intro ++ before) rest (m + length before - 0) (omega (arith, length-append k.intro before)) in
     let few : length (inbox s) ≤ 262144 = omega (arith, short s.arrived, k.window) in
-    let here : Located = record { frame = standing_at (frame_start layout.markers at) frame; behind = length before } in
+    let here : Located = record { frame = standing_at (frame_start layout.markers at) frame; beyond = length before } in
     record {
       intro = k.intro;
       begins = same_begins s s' t t' k.intro same k.begins;
@@ -444,21 +444,21 @@ turned s s' t t' frame rest segment e carries started same arrived empty kept ca
       between = subst (λ (l : Layout). IsBetween l.markers (length before)) (sym (same_expecting s s' t t' same)) (subst (IsBetween layout.markers) (omega (arith, size, all)) (first_takes layout at (inbox s) frame rest k.between first).next);
       located = k.located ++ here ∷ [];
       named = map-append (λ (f : Located). carried_by f.frame) k.located (here ∷ []) ∙ ap (λ z. z ++ frame ∷ []) k.named;
-      ends = behind_last-push 0 k.located here;
+      ends = past_last-push 0 k.located here;
       split = λ more.
           let again : first_frame layout at (one.one ++ more) ≡ Some (frame, more) = one.again more in
           subst (λ (l : Layout). located_of l 0 (before ++ more) ≡ (k.located ++ here ∷ []) ++ located_of l (length before) more) (sym (same_expecting s s' t t' same))
           (ap (located_of layout 0) (append_assoc k.before one.one more)
           ∙ k.split (one.one ++ more)
           ∙ ap (λ z. k.located ++ z) (located_first layout at (one.one ++ more) frame more k.between again)
-          ∙ ap (λ n. k.located ++ record { frame = standing_at (frame_start layout.markers at) frame; behind = n } ∷ located_of layout n more) (omega (arith, size, length-append one.one more))
+          ∙ ap (λ n. k.located ++ record { frame = standing_at (frame_start layout.markers at) frame; beyond = n } ∷ located_of layout n more) (omega (arith, size, length-append one.one more))
           ∙ sym (append_assoc k.located (here ∷ []) (located_of layout (length before) more)));
       turns = turns ∙ ap (λ n. n + 1) k.turns ∙ omega (arith, length-append k.frames (frame ∷ []));
       placed = told ∙ sym (ap is_some empty);
       fore_is = λ f h. absurd (none-some _ (sym empty ∙ h));
-      held = subst IsHeld (sym arrived) (held_moves s.arrived (place_behind s (fore s)) k.held);
+      held = subst IsHeld (sym arrived) (held_moves s.arrived (place_past s (fore s)) k.held);
       receiving = receiving;
-      window = subst IsInWindow (sym arrived) (window_moves s.arrived (place_behind s (fore s)) k.window);
+      window = subst IsInWindow (sym arrived) (window_moves s.arrived (place_past s (fore s)) k.window);
       near = omega (arith, k.near, few, all, size, length-append k.frames (frame ∷ []));
       far = omega (arith, k.far, all, size, length-append k.frames (frame ∷ []), (first_takes layout at (inbox s) frame rest k.between first).shorter);
       soon = k.soon;
@@ -468,7 +468,7 @@ turned s s' t t' frame rest segment e carries started same arrived empty kept ca
       early = early_turned s s' t t' frame rest shown e started same arrived empty kept records (omega (arith, to, k.point, size)) counts k;
       sent_ones = λ us short of.
           subst (λ rs. AreSent (expecting s'.start) us rs) (sym kept)
-          (fewer_sent (expecting s'.start) us (place_behind s (fore s) - first_place_in s.start) s.early
+          (fewer_sent (expecting s'.start) us (place_past s (fore s) - first_place_in s.start) s.early
           (same_sent s (record s { start = s'.start }) t.story t'.story k.intro same.start refl came k.sent_ones us short of));
       joins = joins;
       tells = tells;
@@ -779,8 +779,8 @@ fronted : (s : StreamState) (t : Tale) (k : Track s t) (segment : Segment Octets
 fronted s t k segment f = reshape refl (ap is_some (nothing_waits s f.placed)) f.running (ap segment_at f.whole ∙ f.carries) refl refl k.joins
 
 -- no placed record begins before its end
-pub ends_there : (s : StreamState) (t : Tale) (k : Track s t) (frame : Carried) (rest : Octets) → fore s ≡ Some (frame, rest) → place_behind s (fore s) - first_place_in s.start ≡ end_of_frame (expecting s.start).markers (standing s frame).start (length frame.ulpdu)
-ends_there s t k frame rest e = let b : first_place_in s.start + end_of_frame (expecting s.start).markers (standing s frame).start (length frame.ulpdu) ≡ place_behind s (fore s) = behind_is (bare_state s) frame rest (bare_sound s t k) e in omega (arith, b)
+pub ends_there : (s : StreamState) (t : Tale) (k : Track s t) (frame : Carried) (rest : Octets) → fore s ≡ Some (frame, rest) → place_past s (fore s) - first_place_in s.start ≡ end_of_frame (expecting s.start).markers (standing s frame).start (length frame.ulpdu)
+ends_there s t k frame rest e = let b : first_place_in s.start + end_of_frame (expecting s.start).markers (standing s frame).start (length frame.ulpdu) ≡ place_past s (fore s) = past_is (bare_state s) frame rest (bare_sound s t k) e in omega (arith, b)
 
 pub unclashed : (s : StreamState) (t : Tale) (k : Track s t) (frame : Carried) → clashes s (standing s frame) ≡ false → IsClearOf s (placed_of (standing s frame))
 unclashed s t k frame clear r within placed =
@@ -799,7 +799,7 @@ unclashed s t k frame clear r within placed =
 -- so none goes with it
 pub none_left : (s : StreamState) (t : Tale) (k : Track s t) (frame : Carried) (rest : Octets) → fore s ≡ Some (frame, rest) → IsClearOf s (placed_of (standing s frame)) → segments_early (scene s) (early_left s) ≡ segments_early (scene s) s.early
 none_left s t k frame rest e clear =
-    none_goes (scene s) (place_behind s (fore s) - first_place_in s.start) s.early (λ r within placed. subst (λ n. n ≤ from_of r) (sym (ends_there s t k frame rest e)) (clear r within placed))
+    none_goes (scene s) (place_past s (fore s) - first_place_in s.start) s.early (λ r within placed. subst (λ n. n ≤ from_of r) (sym (ends_there s t k frame rest e)) (clear r within placed))
 
 -- the frame at the in-order point was not placed, and has its turn as it is judged
 same_counts : (s : StreamState) (t t' : Tale) (k : Track s t) (segment : Segment Octets) → Fronts s false segment → t'.placings ≡ t.placings → TurnCounts s t' k.shown
@@ -841,7 +841,7 @@ turning s t k segment f = go s.front refl
         carried : frames.segment_in (frame_in (scene s) (front_of (scene s))) ≡ Some segment
         carried = sym (ap segment_at here.whole) ∙ at
 
-        end : end_of_frame (expecting s.start).markers p.start p.len ≡ place_behind s (fore s) - first_place_in s.start
+        end : end_of_frame (expecting s.start).markers p.start p.len ≡ place_past s (fore s) - first_place_in s.start
         end =
             ap (λ (z : PlacedFrame). end_of_frame (expecting s.start).markers z.start z.len) (w.is ∙ ap placed_of here.is)
             ∙ sym (ends_there s t k (carried_by (frame_in (scene s) (front_of (scene s)))) here.rest here.whole)

@@ -24,10 +24,10 @@ use Rattle.iw_stream.specs.Starting.{StartState, AtOnce, Unheard, Heard, IsFresh
 use Rattle.iw_stream.specs.Starting as starting
 use Rattle.iw_stream.specs.Stream.{StreamState, frame_of}
 use Rattle.iw_fpdu.specs.declared.layout.Layout.{Layout}
-use Rattle.iw_fpdu.specs.Sequence.{sequence, place_behind}
+use Rattle.iw_fpdu.specs.Sequence.{sequence, place_past}
 use Rattle.iw_fpdu.specs.Laws.{IsBetween}
 use Rattle.iw_fpdu.proofs.Follows.{frames_follow}
-use Rattle.iw_fpdu.proofs.Sequences.{written_few, place_is, between_behind}
+use Rattle.iw_fpdu.proofs.Sequences.{written_few, place_is, between_past}
 use Rattle.iw_queues.proofs.Limits.{limits_start}
 use Rattle.iw_octets.specs.declared.segment.Segment.{Segment}
 use Rattle.iw_octets.proofs.Segments.{length-segment_octets_tagged}
@@ -59,7 +59,7 @@ use Rattle.iw_laws.proofs.Spent.{none_spent}
 use Rattle.iw_laws.proofs.Tales.{Tale, tale_of, tale_after, tale-push, stream_acts-push, openings-push, acts_mine, acts_other}
 use Rattle.iw_laws.proofs.Sending.{shown_good, EmitsStart, EmitsLast, EmitsPart, emits_as, terminate_small}
 use Rattle.iw_laws.proofs.Tracks.{OnStart, start_octets, Track, shown_stays}
-use Rattle.iw_laws.proofs.Owns.{Own, owning, answers_part, first_fits, Emits, out_of, lives, all_spoken, word_unbroken, runs_unbroken, Unspoken, IsSmall, IsStartOf, behind_start}
+use Rattle.iw_laws.proofs.Owns.{Own, owning, answers_part, first_fits, Emits, out_of, lives, all_spoken, word_unbroken, runs_unbroken, Unspoken, IsSmall, IsStartOf, past_start}
 use Rattle.iw_laws.proofs.Ends.{EndSeen, end_step, opens, opens_same, at_act, at_same, at_other, number_there, unopened, opening_none, opening_one}
 
 -- what the acts of an end say of a stream
@@ -374,9 +374,9 @@ few_frame c t o spoken segment small =
     let own : Octets = starting.own_frame s.start in
     let layout : Layout = sending s.start in
     let us : List (List ℕ) = map segment_octets (out_of s t o.emits) in
-    let framed : t.sent ≡ own ++ sequence layout 0 us = behind_start s t o.emits o.sent spoken in
-    let between : IsBetween layout.markers (place_behind layout 0 us) = between_behind layout 0 us (frames_follow.first layout.markers) in
-    let place : place_behind layout 0 us ≡ s.sent - length own =
+    let framed : t.sent ≡ own ++ sequence layout 0 us = past_start s t o.emits o.sent spoken in
+    let between : IsBetween layout.markers (place_past layout 0 us) = between_past layout 0 us (frames_follow.first layout.markers) in
+    let place : place_past layout 0 us ≡ s.sent - length own =
     place_is layout 0 us (frames_follow.first layout.markers) ∙ omega (arith, ap length framed, length-append own (sequence layout 0 us), o.sent) in
     written_few layout (s.sent - length own) (segment_octets segment) (omega (arith, between.aligned, place)) small
 

@@ -58,12 +58,12 @@ use Rattle.iw_laws.specs.Words.{OnSome, OnStream, AtEach}
 -- a frame at its place, and the place past it
 pub record Located : Type 0 where
   pub frame : Frame
-  pub behind : ℕ
+  pub beyond : ℕ
 
 -- the first frame of octets that stand at place `at`, where these are past it
 abbrev pub located : Layout → ℕ → List ℕ → Carried → List ℕ → Located
 located layout at octets frame rest =
-    record { frame = standing_at (frame_start layout.markers at) frame; behind = at + (length octets - length rest) }
+    record { frame = standing_at (frame_start layout.markers at) frame; beyond = at + (length octets - length rest) }
 
 -- at most n frames that are whole, one after another
 unfoldable pub located_within : ℕ → Layout → ℕ → List ℕ → List Located
@@ -78,9 +78,9 @@ abbrev pub located_of : Layout → ℕ → List ℕ → List Located
 located_of layout at octets = located_within (length octets) layout at octets
 
 -- the place past the last of these frames; without one, the place before them
-abbrev pub behind_last : ℕ → List Located → ℕ
-behind_last at [] = at
-behind_last at (frame ∷ frames) = behind_last frame.behind frames
+abbrev pub past_last : ℕ → List Located → ℕ
+past_last at [] = at
+past_last at (frame ∷ frames) = past_last frame.beyond frames
 
 -- ---- what the acts of a stream say of the frames that came
 
@@ -119,7 +119,7 @@ next_frame t = option_map (λ f. f.frame) (slice_get (frames_in t) t.turns)
 
 -- the in-order point: the place in the stream past the start-up frame and the frames that had their turn
 abbrev pub in_order_point : Story → ℕ
-in_order_point t = first_place_in t.start + behind_last 0 (take t.turns (frames_in t))
+in_order_point t = first_place_in t.start + past_last 0 (take t.turns (frames_in t))
 
 -- what came past that point, and the frames of it that were judged before their turn
 abbrev pub scene : Story → Scene (ArrayVec ℕ)
@@ -171,7 +171,7 @@ abbrev pub moves_on : Story → Story
 moves_on t = record t {
   turns = t.turns + 1;
   placed = false;
-  early = kept_from (behind_last 0 (take (t.turns + 1) (frames_in t))) t.early;
+  early = kept_from (past_last 0 (take (t.turns + 1) (frames_in t))) t.early;
 }
 
 -- the peer's start-up frame is read off the octets that came

@@ -88,8 +88,8 @@ emits octets = on (Emit (Frame 0 octets))
 
 -- ---- frames after a fault, and before the stream is open
 
-abbrev pub reads_behind_fault : Run
-reads_behind_fault =
+abbrev pub reads_past_fault : Run
+reads_past_fault =
     opens b Preset
     ++ (b (raw 0 write_frame) ∷ b (works (seen.Fault faults.TAGGED_INVALID_STAG)) ∷ b registers ∷ b (works places) ∷ [])
 
@@ -100,7 +100,7 @@ reads_unopened =
     ++ (b registers ∷ b (raw 0 (request_key ++ (0 ∷ 1 ∷ 0 ∷ 0 ∷ []) ++ write_frame)) ∷ b (works (seen.Asked [])) ∷ b (works places) ∷ [])
 
 abbrev pub RefusesFramesBehindFault : Type 0
-RefusesFramesBehindFault = ¬ Turns reads_behind_fault
+RefusesFramesBehindFault = ¬ Turns reads_past_fault
 
 abbrev pub RefusesFramesUnopened : Type 0
 RefusesFramesUnopened = ¬ Turns reads_unopened
@@ -153,8 +153,8 @@ cuts_short = opens a Preset ++ (a (on (Post (Posted (messages.Write stag 0 (0xaa
 abbrev pub sends_elsewhere : Run
 sends_elsewhere = opens a Preset ++ (a sends_one ∷ a (on (Emit (Frame 7 send_frame))) ∷ [])
 
-abbrev pub sends_behind_end : Run
-sends_behind_end =
+abbrev pub sends_past_end : Run
+sends_past_end =
     opens a Preset
     ++ (a sends_one ∷ a (raw 0 (replicate 8 0)) ∷ a (works (seen.Fault faults.SEGMENT_SHORT)) ∷ a (emits send_frame) ∷ [])
 
@@ -168,7 +168,7 @@ abbrev pub RefusesElsewhere : Type 0
 RefusesElsewhere = ¬ Sized sends_elsewhere
 
 abbrev pub RefusesBehindEnd : Type 0
-RefusesBehindEnd = ¬ Speaks sends_behind_end
+RefusesBehindEnd = ¬ Speaks sends_past_end
 
 -- ---- other octets, octets that are kept after the end, and wrong answers
 
@@ -176,8 +176,8 @@ abbrev pub delivers_others : Run
 delivers_others =
     opens a Preset ++ (a sends_one ∷ a (emits send_frame) ∷ []) ++ opens b Preset ++ (b (on (Deliver 0 (9 ∷ []) Kept)) ∷ [])
 
-abbrev pub keeps_behind_end : Run
-keeps_behind_end =
+abbrev pub keeps_past_end : Run
+keeps_past_end =
     opens b Preset ++ (b (raw 0 (replicate 8 0)) ∷ b (works (seen.Fault faults.SEGMENT_SHORT)) ∷ b (raw 8 (0 ∷ [])) ∷ [])
 
 abbrev pub accepts_unasked : Run
@@ -195,7 +195,7 @@ abbrev pub RefusesOtherOctets : Type 0
 RefusesOtherOctets = ¬ CarriesOctets delivers_others
 
 abbrev pub RefusesKeptBehindEnd : Type 0
-RefusesKeptBehindEnd = ¬ KeepsOctets keeps_behind_end
+RefusesKeptBehindEnd = ¬ KeepsOctets keeps_past_end
 
 abbrev pub RefusesUnaskedAccept : Type 0
 RefusesUnaskedAccept = ¬ Answered accepts_unasked

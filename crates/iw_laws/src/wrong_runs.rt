@@ -14,7 +14,7 @@ ghost use Rattle.iw_laws.specs.WrongRuns.{RefusesSecondTerminate, RefusesForgott
 ghost use Rattle.iw_laws.specs.WrongRuns.{RefusesFinishedFlushed, RefusesBufferFirst, RefusesPlacedInvalidated};
 
 /// A frame is not placed after a fault, though its region was registered since.
-pub fn refuses_frames_behind_fault()
+pub fn refuses_frames_past_fault()
     ensures { RefusesFramesBehindFault }
 {}
 
@@ -59,7 +59,7 @@ pub fn refuses_elsewhere()
 {}
 
 /// A stream that has ended sends no frame.
-pub fn refuses_behind_end()
+pub fn refuses_past_end()
     ensures { RefusesBehindEnd }
 {}
 
@@ -69,7 +69,7 @@ pub fn refuses_other_octets()
 {}
 
 /// A stream that has ended keeps no octets.
-pub fn refuses_kept_behind_end()
+pub fn refuses_kept_past_end()
     ensures { RefusesKeptBehindEnd }
 {}
 

@@ -15,19 +15,19 @@ use Rattle.iw_fpdu.specs.Places.{IsStart, frame_start, span_start}
 use Rattle.iw_fpdu.specs.Frame.{max_sent, frame_end, frame_octet}
 use Rattle.iw_fpdu.specs.Reading.{length_at, pointer_at}
 use Rattle.iw_fpdu.specs.Found.{octet_of as octet_held, IsWhole}
-use Rattle.iw_fpdu.specs.Sequence.{sequence, place_behind}
+use Rattle.iw_fpdu.specs.Sequence.{sequence, place_past}
 use Rattle.iw_fpdu.specs.Laws.{IsBetween, IsReadAgain, found_at}
 use Rattle.iw_fpdu.proofs.Again.{length_back, reads_again}
 use Rattle.iw_fpdu.proofs.Follows.{begins, ends, frames_follow}
 use Rattle.iw_fpdu.proofs.Octets.{span_low, length_within}
-use Rattle.iw_fpdu.proofs.Sequences.{place_is, between_behind}
+use Rattle.iw_fpdu.proofs.Sequences.{place_is, between_past}
 use Rattle.iw_locate.specs.declared.judged.Record.{Record}
 use Rattle.iw_locate.specs.Records.{from_of}
 use Rattle.iw_locate.specs.Free.{Scene, point_of, octet_of, end_of, IsMarkerSeen, PointsTo, EndsBefore, IsOpen, IsFree}
 use Rattle.iw_locate.proofs.Open.{start_high}
 use Rattle.iw_locate.proofs.Turning.{not_before}
 use Rattle.iw_locate.proofs.Stays.{cell_taken}
-use Rattle.iw_locate.proofs.Sequenced.{IsOneOf, LiesIn, behind-append, behind_one, start_low, octet_sent, lies_in, pointer_written, end_near, points_to_start, next_start, marker_whole}
+use Rattle.iw_locate.proofs.Sequenced.{IsOneOf, LiesIn, beyond-append, past_one, start_low, octet_sent, lies_in, pointer_written, end_near, points_to_start, next_start, marker_whole}
 
 -- from the in-order point on nothing that came was given up, and it is what these octets have at the same frame place
 pub record IsSent {T : Type 0} (v : Scene T) (octets : List ℕ) : Type 0 where
@@ -88,32 +88,32 @@ module _ {T : Type 0} (v : Scene T) (us : List (List ℕ)) (marked : v.layout.ma
   first = frames_follow.first v.layout.markers
 
   -- every list of frames at the front of these
-  front_between : (before : List (List ℕ)) → IsBetween v.layout.markers (place_behind v.layout 0 before)
-  front_between before = between_behind v.layout 0 before first
+  front_between : (before : List (List ℕ)) → IsBetween v.layout.markers (place_past v.layout 0 before)
+  front_between before = between_past v.layout 0 before first
 
-  all_end : place_behind v.layout 0 us ≡ length (sequence v.layout 0 us)
+  all_end : place_past v.layout 0 us ≡ length (sequence v.layout 0 us)
   all_end = omega (arith, place_is v.layout 0 us first)
 
   short_one : (before : List (List ℕ)) (u : List ℕ) (after : List (List ℕ)) → us ≡ before ++ u ∷ after → length u ≤ max_sent
   short_one before u after is =
-      let behind : length before < length (before ++ u ∷ after) = omega (arith, length-append before (u ∷ after)) in
-      subst (λ x. length x ≤ max_sent) (get_or-append_seam before u after u) (All-get_or (λ x. length x ≤ max_sent) (before ++ u ∷ after) (length before) u behind (subst (All (λ x. length x ≤ max_sent)) is short))
+      let beyond : length before < length (before ++ u ∷ after) = omega (arith, length-append before (u ∷ after)) in
+      subst (λ x. length x ≤ max_sent) (get_or-append_seam before u after u) (All-get_or (λ x. length x ≤ max_sent) (before ++ u ∷ after) (length before) u beyond (subst (All (λ x. length x ≤ max_sent)) is short))
 
   -- ---- what came of one of the frames
-  cell_of : (before : List (List ℕ)) (u : List ℕ) (after : List (List ℕ)) → us ≡ before ++ u ∷ after → (q : ℕ) → point_of v ≤ q → has_come v.arrived (v.base + q) ≡ true → place_behind v.layout 0 before ≤ q
-      → q < frame_end v.layout.markers (place_behind v.layout 0 before) (length u)
-      → cell_at v.arrived (v.base + q) ≡ Here (frame_octet v.layout (frame_start v.layout.markers (place_behind v.layout 0 before)) u q)
+  cell_of : (before : List (List ℕ)) (u : List ℕ) (after : List (List ℕ)) → us ≡ before ++ u ∷ after → (q : ℕ) → point_of v ≤ q → has_come v.arrived (v.base + q) ≡ true → place_past v.layout 0 before ≤ q
+      → q < frame_end v.layout.markers (place_past v.layout 0 before) (length u)
+      → cell_at v.arrived (v.base + q) ≡ Here (frame_octet v.layout (frame_start v.layout.markers (place_past v.layout 0 before)) u q)
   cell_of before u after is q past come low high =
       (stands v (sequence v.layout 0 us) sent q past come).cell
       ∙ ap Here (ap (λ ws. get_or (sequence v.layout 0 ws) q 0) is ∙ ap (λ i. get_or (sequence v.layout 0 (before ++ u ∷ after)) i 0) (let e : q ≡ q - 0 = omega arith in e) ∙ octet_sent v.layout 0 before u after q first low high)
 
   start_of : (s : ℕ) (u : List ℕ) → IsOneOf v.layout 0 us s u → IsStart v.layout.markers s
-  start_of s u o = subst (IsStart v.layout.markers) (sym o.place) (begins v.layout.markers (place_behind v.layout 0 o.before) (front_between o.before))
+  start_of s u o = subst (IsStart v.layout.markers) (sym o.place) (begins v.layout.markers (place_past v.layout 0 o.before) (front_between o.before))
 
   cell_in : (s : ℕ) (u : List ℕ) → IsOneOf v.layout 0 us s u → (q : ℕ) → point_of v ≤ q → span_start v.layout.markers s ≤ q → q < frame_end v.layout.markers s (length u) → has_come v.arrived (v.base + q) ≡ true
       → cell_at v.arrived (v.base + q) ≡ Here (frame_octet v.layout s u q)
   cell_in s u o q past low high come =
-      let at : ℕ = place_behind v.layout 0 o.before in
+      let at : ℕ = place_past v.layout 0 o.before in
       let span : span_start v.layout.markers s ≡ at = ap (span_start v.layout.markers) o.place ∙ (front_between o.before).span in
       let end : frame_end v.layout.markers s (length u) ≡ frame_end v.layout.markers at (length u) = ap (λ p. frame_end v.layout.markers p (length u)) o.place ∙ ends v.layout.markers at (length u) in
       cell_of o.before u o.after o.is q past come (omega (arith, span, low)) (omega (arith, end, high)) ∙ ap (λ p. Here (frame_octet v.layout p u q)) (sym o.place)
@@ -158,7 +158,7 @@ module _ {T : Type 0} (v : Scene T) (us : List (List ℕ)) (marked : v.layout.ma
   }
     where
       at : ℕ
-      at = place_behind v.layout 0 w.before
+      at = place_past v.layout 0 w.before
 
       start : ℕ
       start = frame_start v.layout.markers at
@@ -179,9 +179,9 @@ module _ {T : Type 0} (v : Scene T) (us : List (List ℕ)) (marked : v.layout.ma
       (w.ulpdu, pointed_from p s seen points past w)
 
   -- the next begins where one ends
-  next_of : (before : List (List ℕ)) (u : List ℕ) (after : List (List ℕ)) (s : ℕ) → us ≡ before ++ u ∷ after → s < place_behind v.layout 0 us
-      → s ≡ frame_start v.layout.markers (place_behind v.layout 0 (before ++ u ∷ [])) → (next : List ℕ) × IsOneOf v.layout 0 us s next
-  next_of before u [] s is inside place = absurd (omega (arith, inside, place, start_low v.layout (place_behind v.layout 0 (before ++ u ∷ [])) (front_between (before ++ u ∷ [])), ap (place_behind v.layout 0) is))
+  next_of : (before : List (List ℕ)) (u : List ℕ) (after : List (List ℕ)) (s : ℕ) → us ≡ before ++ u ∷ after → s < place_past v.layout 0 us
+      → s ≡ frame_start v.layout.markers (place_past v.layout 0 (before ++ u ∷ [])) → (next : List ℕ) × IsOneOf v.layout 0 us s next
+  next_of before u [] s is inside place = absurd (omega (arith, inside, place, start_low v.layout (place_past v.layout 0 (before ++ u ∷ [])) (front_between (before ++ u ∷ [])), ap (place_past v.layout 0) is))
   next_of before u (next ∷ after) s is inside place =
       (next, record { before = before ++ u ∷ []; after = after; is = is ∙ sym (append_assoc before (u ∷ []) (next ∷ after)); place = place })
 
@@ -190,20 +190,20 @@ module _ {T : Type 0} (v : Scene T) (us : List (List ℕ)) (marked : v.layout.ma
       next_of of.one.before of.ulpdu of.one.after s of.one.is inside (next_start v.layout.markers end s marked (front_between (of.one.before ++ of.ulpdu ∷ [])) (start_high v.layout.markers s marked open_.start) at_end)
     where
       at : ℕ
-      at = place_behind v.layout 0 of.one.before
+      at = place_past v.layout 0 of.one.before
 
       end : ℕ
-      end = place_behind v.layout 0 (of.one.before ++ of.ulpdu ∷ [])
+      end = place_past v.layout 0 (of.one.before ++ of.ulpdu ∷ [])
 
       end_is : r.end ≡ end
       end_is =
           of.end ∙ (λ i. frame_end (sym marked i) (of.one.place i) (of.len i)) ∙ ends v.layout.markers at (length of.ulpdu)
-          ∙ sym (behind-append v.layout 0 of.one.before (of.ulpdu ∷ []) ∙ behind_one v.layout at of.ulpdu)
+          ∙ sym (beyond-append v.layout 0 of.one.before (of.ulpdu ∷ []) ∙ past_one v.layout at of.ulpdu)
 
       at_end : EndsBefore end s
       at_end = subst (λ e. EndsBefore e s) end_is ends_before
 
-      inside : s < place_behind v.layout 0 us
+      inside : s < place_past v.layout 0 us
       inside =
           let low : span_start v.layout.markers s ≤ s = span_low v.layout.markers s in
           let two : s + 2 ≤ end_of v s = length_within v.layout.markers s (length_at (octet_of v) s) open_.start in

@@ -8,10 +8,10 @@ use Rattle.iw_fpdu.specs.declared.layout.Layout.{Layout}
 use Rattle.iw_fpdu.specs.Places.{IsStart, frame_start, span_start}
 use Rattle.iw_fpdu.specs.Frame.{max_sent, frame_end}
 use Rattle.iw_fpdu.specs.Found.{ulpdu}
-use Rattle.iw_fpdu.specs.Sequence.{sequence, place_behind}
+use Rattle.iw_fpdu.specs.Sequence.{sequence, place_past}
 use Rattle.iw_fpdu.specs.Laws.{IsBetween, found_at}
 use Rattle.iw_fpdu.proofs.Follows.{ends, frames_follow}
-use Rattle.iw_fpdu.proofs.Sequences.{next_between, between_behind}
+use Rattle.iw_fpdu.proofs.Sequences.{next_between, between_past}
 use Rattle.iw_locate.specs.declared.judged.Record.{Record}
 use Rattle.iw_locate.specs.declared.judged.State.{State}
 use Rattle.iw_locate.specs.declared.judged.State.TheVariants.{Tried, Placed}
@@ -19,27 +19,27 @@ use Rattle.iw_locate.specs.Records.{from_of, IsPlaced, AreApart}
 use Rattle.iw_locate.specs.Free.{Scene, point_of}
 use Rattle.iw_locate.specs.Lowest.{is_placed}
 use Rattle.iw_locate.proofs.Apart.{apart_drop}
-use Rattle.iw_locate.proofs.Sequenced.{IsOneOf, behind-append, behind_one, behind_low, end_low}
+use Rattle.iw_locate.proofs.Sequenced.{IsOneOf, beyond-append, past_one, past_low, end_low}
 use Rattle.iw_locate.proofs.Honest.{IsSent, IsRecordOf, record_is_read}
 use Rattle.iw_locate.proofs.Sublists.{IsSublist, sublist-picked, filter_map-map, sublist_counts}
 
 -- ---- one of the frames behind the first ones
 later_of : (layout : Layout) (at : ℕ) (done rest before : List (List ℕ)) (s : ℕ) (u : List ℕ) (after : List (List ℕ)) → IsBetween layout.markers at → done ++ rest ≡ before ++ u ∷ after
-    → s ≡ frame_start layout.markers (place_behind layout at before) → place_behind layout at done ≤ span_start layout.markers s → IsOneOf layout (place_behind layout at done) rest s u
-unfolding place_behind
+    → s ≡ frame_start layout.markers (place_past layout at before) → place_past layout at done ≤ span_start layout.markers s → IsOneOf layout (place_past layout at done) rest s u
+unfolding place_past
 later_of layout at [] rest before s u after b is place past = record { before = before; after = after; is = is; place = place }
 later_of layout at (d ∷ done) rest [] s u after b is place past =
     let end : ℕ = frame_end layout.markers at (length d) in
     let span : span_start layout.markers s ≡ at = ap (span_start layout.markers) place ∙ b.span in
-    absurd (omega (arith, past, span, end_low layout at (length d) b, behind_low layout end done (next_between layout at (length d) b)))
+    absurd (omega (arith, past, span, end_low layout at (length d) b, past_low layout end done (next_between layout at (length d) b)))
 later_of layout at (d ∷ done) rest (x ∷ before) s u after b is place past =
     let first : x ≡ d = cc (sym is) in
     let others : done ++ rest ≡ before ++ u ∷ after = cc is in
     later_of layout (frame_end layout.markers at (length d)) done rest before s u after (next_between layout at (length d) b) others
-    (place ∙ ap (λ (y : List ℕ). frame_start layout.markers (place_behind layout (frame_end layout.markers at (length y)) before)) first) past
+    (place ∙ ap (λ (y : List ℕ). frame_start layout.markers (place_past layout (frame_end layout.markers at (length y)) before)) first) past
 
 pub one_later : (layout : Layout) (at : ℕ) (done rest us : List (List ℕ)) (s : ℕ) (u : List ℕ) → IsBetween layout.markers at → us ≡ done ++ rest → IsOneOf layout at us s u
-    → place_behind layout at done ≤ span_start layout.markers s → IsOneOf layout (place_behind layout at done) rest s u
+    → place_past layout at done ≤ span_start layout.markers s → IsOneOf layout (place_past layout at done) rest s u
 one_later layout at done rest us s u b parts o past = later_of layout at done rest o.before s u o.after b (sym parts ∙ o.is) o.place past
 
 -- ---- records in order
@@ -51,18 +51,18 @@ module _ {T : Type 0} (layout : Layout) (marked : layout.markers ≡ true) (carr
 
   -- one that begins past another is of the frames past that one's
   carries_later : (at : ℕ) (us : List (List ℕ)) (r x : Record T) → IsBetween layout.markers at → (first : Carries at us r) → Carries at us x → r.end ≤ from_of x
-      → Carries (place_behind layout at (first.one.before ++ carried r ∷ [])) first.one.after x
+      → Carries (place_past layout at (first.one.before ++ carried r ∷ [])) first.one.after x
   carries_later at us r x b first other past = record {
     one = one_later layout at (first.one.before ++ carried r ∷ []) first.one.after us x.start (carried x) b (first.one.is ∙ sym (append_assoc first.one.before (carried r ∷ []) first.one.after)) other.one
         (omega (arith, end_is, past, ap (λ m. span_start m x.start) marked));
     end = other.end;
   }
     where
-      end_is : r.end ≡ place_behind layout at (first.one.before ++ carried r ∷ [])
+      end_is : r.end ≡ place_past layout at (first.one.before ++ carried r ∷ [])
       end_is =
-          let behind : ℕ = place_behind layout at first.one.before in
-          first.end ∙ (λ i. frame_end (sym marked i) (first.one.place i) (length (carried r))) ∙ ends layout.markers behind (length (carried r))
-          ∙ sym (behind-append layout at first.one.before (carried r ∷ []) ∙ behind_one layout behind (carried r))
+          let beyond : ℕ = place_past layout at first.one.before in
+          first.end ∙ (λ i. frame_end (sym marked i) (first.one.place i) (length (carried r))) ∙ ends layout.markers beyond (length (carried r))
+          ∙ sym (beyond-append layout at first.one.before (carried r ∷ []) ∙ past_one layout beyond (carried r))
 
   pub sublist_of : (rs : List (Record T)) (at : ℕ) (us : List (List ℕ)) → IsBetween layout.markers at → AreApart rs → ((r : Record T) → Contains rs r → Carries at us r) → IsSublist (map carried rs) us
   sublist_of [] at us b apart each = tt
@@ -71,7 +71,7 @@ module _ {T : Type 0} (layout : Layout) (marked : layout.markers ≡ true) (carr
         first.one.before,
         first.one.after,
         first.one.is,
-        sublist_of rs (place_behind layout at (first.one.before ++ carried r ∷ [])) first.one.after (between_behind layout at (first.one.before ++ carried r ∷ []) b) (apart_drop (r ∷ rs) apart)
+        sublist_of rs (place_past layout at (first.one.before ++ carried r ∷ [])) first.one.after (between_past layout at (first.one.before ++ carried r ∷ []) b) (apart_drop (r ∷ rs) apart)
             (λ x (k, lt, is). carries_later at us r x b first (each x (suc k, omega arith, is)) (omega (arith, apart.order 0 (suc k) x (omega arith) (omega arith), ap (λ (y : Record T). from_of y) is))),
       )
 
@@ -125,7 +125,7 @@ placed_is (Placed x) e = tt
 -- a record is of one of the frames past the first ones, and all the octets of that came
 pub record IsLater {T : Type 0} (v : Scene T) (us done : List (List ℕ)) (r : Record T) : Type 0 where
   pub of : IsRecordOf v.layout us r
-  pub past : place_behind v.layout 0 done ≤ from_of r
+  pub past : place_past v.layout 0 done ≤ from_of r
   pub come : (q : ℕ) → from_of r ≤ q → q < r.end → has_come v.arrived (v.base + q) ≡ true
 
 -- what the frame of a record carries, as it is read
@@ -133,8 +133,8 @@ abbrev pub ulpdu_at : {T : Type 0} → Scene T → Record T → List ℕ
 ulpdu_at v r = ulpdu (found_at v.arrived v.layout v.base r.start)
 
 module _ {T : Type 0} (v : Scene T) (us : List (List ℕ)) (marked : v.layout.markers ≡ true) (short : All (λ u. length u ≤ max_sent) us) (sent : IsSent v (sequence v.layout 0 us))
-    (done rest : List (List ℕ)) (parts : us ≡ done ++ rest) (low : point_of v ≤ place_behind v.layout 0 done) where
-  carries : (r : Record T) → IsLater v us done r → Carries v.layout marked (ulpdu_at v) (place_behind v.layout 0 done) rest r
+    (done rest : List (List ℕ)) (parts : us ≡ done ++ rest) (low : point_of v ≤ place_past v.layout 0 done) where
+  carries : (r : Record T) → IsLater v us done r → Carries v.layout marked (ulpdu_at v) (place_past v.layout 0 done) rest r
   carries r is =
       let read : ulpdu_at v r ≡ is.of.ulpdu = (record_is_read v us marked short sent r is.of (omega (arith, low, is.past)) is.come).ulpdu in
       record {
@@ -146,7 +146,7 @@ module _ {T : Type 0} (v : Scene T) (us : List (List ℕ)) (marked : v.layout.ma
   -- lowest first, what they carry is some of what was sent past the first ones, in its order
   pub later_are_sublist : (rs : List (Record T)) → AreApart rs → ((r : Record T) → Contains rs r → IsLater v us done r) → IsSublist (map (ulpdu_at v) rs) rest
   later_are_sublist rs apart each =
-      sublist_of v.layout marked (ulpdu_at v) rs (place_behind v.layout 0 done) rest (between_behind v.layout 0 done (frames_follow.first v.layout.markers)) apart (λ r within. carries r (each r within))
+      sublist_of v.layout marked (ulpdu_at v) rs (place_past v.layout 0 done) rest (between_past v.layout 0 done (frames_follow.first v.layout.markers)) apart (λ r within. carries r (each r within))
 
   -- so of the placed ones
   pub placed_are_sublist : (rs : List (Record T)) → AreApart rs → ((r : Record T) → Contains rs r → IsPlaced r.state → IsLater v us done r) → IsSublist (map (ulpdu_at v) (placed_of rs)) rest

@@ -8,9 +8,9 @@ use Rattle.iw_fpdu.specs.declared.layout.Layout.{Layout}
 use Rattle.iw_fpdu.specs.Places.{data_index, frame_start}
 use Rattle.iw_fpdu.specs.Frame.{max_sent, marker_value, marker_octets, octet_at, frame_size, frame_end, frame_data, frame_octet, frame_octets}
 use Rattle.iw_fpdu.specs.Reading.{pointer_at}
-use Rattle.iw_fpdu.specs.Sequence.{sequence, place_behind}
+use Rattle.iw_fpdu.specs.Sequence.{sequence, place_past}
 use Rattle.iw_fpdu.specs.Laws.{IsBetween}
-use Rattle.iw_fpdu.proofs.Counted.{edge_inside, edge_marker, aligned_edge, behind_edge, after_high, after_bound, marker_value_is}
+use Rattle.iw_fpdu.proofs.Counted.{edge_inside, edge_marker, aligned_edge, past_edge, after_high, after_bound, marker_value_is}
 use Rattle.iw_fpdu.proofs.Laid.{marker_octet}
 use Rattle.iw_fpdu.proofs.Octets.{marker_within}
 use Rattle.iw_fpdu.proofs.Sequences.{length_written, next_between, place_is, sequences_join}
@@ -20,7 +20,7 @@ pub record IsOneOf (layout : Layout) (at : ℕ) (us : List (List ℕ)) (s : ℕ)
   pub before : List (List ℕ)
   pub after : List (List ℕ)
   pub is : us ≡ before ++ u ∷ after
-  pub place : s ≡ frame_start layout.markers (place_behind layout at before)
+  pub place : s ≡ frame_start layout.markers (place_past layout at before)
 
 -- the frame that place p lies in
 pub record LiesIn (layout : Layout) (at : ℕ) (us : List (List ℕ)) (p : ℕ) : Type 0 where
@@ -28,31 +28,31 @@ pub record LiesIn (layout : Layout) (at : ℕ) (us : List (List ℕ)) (p : ℕ) 
   pub ulpdu : List ℕ
   pub after : List (List ℕ)
   pub is : us ≡ before ++ ulpdu ∷ after
-  pub low : place_behind layout at before ≤ p
-  pub high : p < frame_end layout.markers (place_behind layout at before) (length ulpdu)
+  pub low : place_past layout at before ≤ p
+  pub high : p < frame_end layout.markers (place_past layout at before) (length ulpdu)
 
 -- ---- places
 pub end_high : (layout : Layout) (at n : ℕ) → IsBetween layout.markers at → frame_start layout.markers at < frame_end layout.markers at n
 end_high layout at n b = after_high layout.markers at (frame_size n) (omega arith)
 
 pub start_low : (layout : Layout) (at : ℕ) → IsBetween layout.markers at → at ≤ frame_start layout.markers at
-start_low layout at b = behind_edge layout.markers at (aligned_edge layout.markers at b.aligned)
+start_low layout at b = past_edge layout.markers at (aligned_edge layout.markers at b.aligned)
 
 pub end_low : (layout : Layout) (at n : ℕ) → IsBetween layout.markers at → at < frame_end layout.markers at n
 end_low layout at n b = omega (arith, end_high layout at n b, start_low layout at b)
 
-pub behind_low : (layout : Layout) (at : ℕ) (us : List (List ℕ)) → IsBetween layout.markers at → at ≤ place_behind layout at us
-behind_low layout at us b = omega (arith, place_is layout at us b)
+pub past_low : (layout : Layout) (at : ℕ) (us : List (List ℕ)) → IsBetween layout.markers at → at ≤ place_past layout at us
+past_low layout at us b = omega (arith, place_is layout at us b)
 
 -- the places behind a list of frames, and behind one more
-pub behind-append : (layout : Layout) (at : ℕ) (us vs : List (List ℕ)) → place_behind layout at (us ++ vs) ≡ place_behind layout (place_behind layout at us) vs
-unfolding place_behind
-behind-append layout at [] vs = refl
-behind-append layout at (u ∷ us) vs = behind-append layout (frame_end layout.markers at (length u)) us vs
+pub beyond-append : (layout : Layout) (at : ℕ) (us vs : List (List ℕ)) → place_past layout at (us ++ vs) ≡ place_past layout (place_past layout at us) vs
+unfolding place_past
+beyond-append layout at [] vs = refl
+beyond-append layout at (u ∷ us) vs = beyond-append layout (frame_end layout.markers at (length u)) us vs
 
-pub behind_one : (layout : Layout) (at : ℕ) (u : List ℕ) → place_behind layout at (u ∷ []) ≡ frame_end layout.markers at (length u)
-unfolding place_behind
-behind_one layout at u = refl
+pub past_one : (layout : Layout) (at : ℕ) (u : List ℕ) → place_past layout at (u ∷ []) ≡ frame_end layout.markers at (length u)
+unfolding place_past
+past_one layout at u = refl
 
 -- ---- what stands there
 written_octet : (layout : Layout) (at : ℕ) (u rest : List ℕ) (q : ℕ) → at ≤ q → q < frame_end layout.markers at (length u)
@@ -70,20 +70,20 @@ unfolding sequence
 first_octet layout at u us q low high = written_octet layout at u (sequence layout (frame_end layout.markers at (length u)) us) q low high
 
 -- the octets of one of the frames among all
-pub octet_sent : (layout : Layout) (at : ℕ) (before : List (List ℕ)) (u : List ℕ) (after : List (List ℕ)) (q : ℕ) → IsBetween layout.markers at → place_behind layout at before ≤ q
-    → q < frame_end layout.markers (place_behind layout at before) (length u)
-    → get_or (sequence layout at (before ++ u ∷ after)) (q - at) 0 ≡ frame_octet layout (frame_start layout.markers (place_behind layout at before)) u q
+pub octet_sent : (layout : Layout) (at : ℕ) (before : List (List ℕ)) (u : List ℕ) (after : List (List ℕ)) (q : ℕ) → IsBetween layout.markers at → place_past layout at before ≤ q
+    → q < frame_end layout.markers (place_past layout at before) (length u)
+    → get_or (sequence layout at (before ++ u ∷ after)) (q - at) 0 ≡ frame_octet layout (frame_start layout.markers (place_past layout at before)) u q
 octet_sent layout at before u after q b low high =
-    let behind : ℕ = place_behind layout at before in
-    let size : behind ≡ at + length (sequence layout at before) = place_is layout at before b in
+    let beyond : ℕ = place_past layout at before in
+    let size : beyond ≡ at + length (sequence layout at before) = place_is layout at before b in
     ap (λ xs. get_or xs (q - at) 0) (sequences_join layout at before (u ∷ after))
-    ∙ ap (λ i. get_or (sequence layout at before ++ sequence layout behind (u ∷ after)) i 0) (let e : q - at ≡ length (sequence layout at before) + (q - behind) = omega (arith, size, low) in e)
-    ∙ get_or-append-add (sequence layout at before) (sequence layout behind (u ∷ after)) (q - behind) 0
-    ∙ first_octet layout behind u after q low high
+    ∙ ap (λ i. get_or (sequence layout at before ++ sequence layout beyond (u ∷ after)) i 0) (let e : q - at ≡ length (sequence layout at before) + (q - beyond) = omega (arith, size, low) in e)
+    ∙ get_or-append-add (sequence layout at before) (sequence layout beyond (u ∷ after)) (q - beyond) 0
+    ∙ first_octet layout beyond u after q low high
 
 -- ---- which frame a place lies in
-pub lies_in : (layout : Layout) (at : ℕ) (us : List (List ℕ)) (p : ℕ) → IsBetween layout.markers at → at ≤ p → p < place_behind layout at us → LiesIn layout at us p
-unfolding place_behind
+pub lies_in : (layout : Layout) (at : ℕ) (us : List (List ℕ)) (p : ℕ) → IsBetween layout.markers at → at ≤ p → p < place_past layout at us → LiesIn layout at us p
+unfolding place_past
 lies_in layout at [] p b low high = absurd (omega arith)
 lies_in layout at (u ∷ us) p b low high =
     let end : ℕ = frame_end layout.markers at (length u) in

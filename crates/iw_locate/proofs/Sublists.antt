@@ -11,9 +11,9 @@ abbrev pub IsSublist : {A : Type 0} → List A → List A → Type 0
 IsSublist [] ys = Unit {0}
 IsSublist {A} (x ∷ xs) ys = (before after : List A) × (ys ≡ before ++ x ∷ after) × IsSublist xs after
 
-pub sublist_behind : {A : Type 0} (xs zs ys : List A) → IsSublist xs ys → IsSublist xs (zs ++ ys)
-sublist_behind [] zs ys h = tt
-sublist_behind (x ∷ xs) zs ys (before, after, is, rest) = (zs ++ before, after, ap (λ w. zs ++ w) is ∙ sym (append_assoc zs before (x ∷ after)), rest)
+pub sublist_past : {A : Type 0} (xs zs ys : List A) → IsSublist xs ys → IsSublist xs (zs ++ ys)
+sublist_past [] zs ys h = tt
+sublist_past (x ∷ xs) zs ys (before, after, is, rest) = (zs ++ before, after, ap (λ w. zs ++ w) is ∙ sym (append_assoc zs before (x ∷ after)), rest)
 
 pub sublist_all : {A : Type 0} (xs : List A) → IsSublist xs xs
 sublist_all [] = tt
@@ -21,7 +21,7 @@ sublist_all (x ∷ xs) = ([], xs, refl, sublist_all xs)
 
 -- without the first
 pub sublist_rest : {A : Type 0} (x : A) (xs ys : List A) → IsSublist (x ∷ xs) ys → IsSublist xs ys
-sublist_rest x xs ys (before, after, is, rest) = subst (IsSublist xs) (append_assoc before (x ∷ []) after ∙ sym is) (sublist_behind xs (before ++ x ∷ []) after rest)
+sublist_rest x xs ys (before, after, is, rest) = subst (IsSublist xs) (append_assoc before (x ∷ []) after ∙ sym is) (sublist_past xs (before ++ x ∷ []) after rest)
 
 pub sublist_within : {A : Type 0} (xs ys zs : List A) → IsSublist xs ys → IsSublist ys zs → IsSublist xs zs
 sublist_within [] ys zs h k = tt
@@ -29,7 +29,7 @@ sublist_within {A} (x ∷ xs) ys zs (before, after, is, rest) k = go (λ a m. su
   where
     go : ((a : List A) → IsSublist after a → IsSublist xs a) → (front ws : List A) → IsSublist (front ++ x ∷ after) ws → IsSublist (x ∷ xs) ws
     go more [] ws (b, a, e, m) = (b, a, e, more a m)
-    go more (y ∷ front) ws (b, a, e, m) = subst (IsSublist (x ∷ xs)) (append_assoc b (y ∷ []) a ∙ sym e) (sublist_behind (x ∷ xs) (b ++ y ∷ []) a (go more front a m))
+    go more (y ∷ front) ws (b, a, e, m) = subst (IsSublist (x ∷ xs)) (append_assoc b (y ∷ []) a ∙ sym e) (sublist_past (x ∷ xs) (b ++ y ∷ []) a (go more front a m))
 
 pub sublist-map : {A B : Type 0} (f : A → B) (xs ys : List A) → IsSublist xs ys → IsSublist (map f xs) (map f ys)
 sublist-map f [] ys h = tt
@@ -41,7 +41,7 @@ sublist-filter p (x ∷ xs) = go (p x) (sublist-filter p xs)
   where
     go : (b : Bool) → IsSublist (filter p xs) xs → IsSublist (cond b (x ∷ filter p xs) (filter p xs)) (x ∷ xs)
     go true h = ([], xs, refl, h)
-    go false h = sublist_behind (filter p xs) (x ∷ []) xs h
+    go false h = sublist_past (filter p xs) (x ∷ []) xs h
 
 -- what is read off each of xs is what is read off the element of ys that it has, or nothing
 pub sublist-picked : {R A B : Type 0} (pick : R → Option B) (has : R → A) (read : A → Option B) (rs : List R) (ys : List A)
@@ -49,12 +49,12 @@ pub sublist-picked : {R A B : Type 0} (pick : R → Option B) (has : R → A) (r
 sublist-picked pick has read [] ys picked h = tt
 sublist-picked {R} {A} {B} pick has read (r ∷ rs) ys picked (before, after, is, rest) =
     subst (IsSublist (cons_option (pick r) (filter_map pick rs))) (sym (ap (filter_map read) is ∙ filter_map-append read before (has r ∷ after)))
-    (sublist_behind (cons_option (pick r) (filter_map pick rs)) (filter_map read before) (cons_option (read (has r)) (filter_map read after))
+    (sublist_past (cons_option (pick r) (filter_map pick rs)) (filter_map read before) (cons_option (read (has r)) (filter_map read after))
     (go (pick r) (read (has r)) (picked r (0, omega arith, refl)) (sublist-picked pick has read rs after (λ x (k, lt, e). picked x (suc k, omega arith, e)) rest)))
   where
     go : (o p : Option B) → (o ≡ None) ⊎ (o ≡ p) → IsSublist (filter_map pick rs) (filter_map read after) → IsSublist (cons_option o (filter_map pick rs)) (cons_option p (filter_map read after))
     go None None e h = h
-    go None (Some y) e h = sublist_behind (filter_map pick rs) (y ∷ []) (filter_map read after) h
+    go None (Some y) e h = sublist_past (filter_map pick rs) (y ∷ []) (filter_map read after) h
     go (Some x) p (inl e) h = absurd (cc e)
     go (Some x) p (inr e) h = ([], filter_map read after, ap (λ z. cons_option z (filter_map read after)) (sym e), h)
 

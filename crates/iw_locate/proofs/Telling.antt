@@ -5,7 +5,7 @@ use Rattle.std.proofs.lemmas.List.{get_or_past}
 use Rattle.std.proofs.lemmas.Bool.{cases_lt, true≢false, false≢true}
 use Rattle.std.proofs.lemmas.Bool.Decides.{nat_tests, Decides-and, Decides-or, Decides-not, Decides-by_or, Decides-below_or, Decides-eqb, Decides-ltb}
 use Rattle.iw_ranges.specs.Arrived.{Missing, cell_at, has_come, is_missing, end_of as end_of_arrived}
-use Rattle.iw_ranges.proofs.ByPlace.{behind}
+use Rattle.iw_ranges.proofs.ByPlace.{beyond}
 use Rattle.iw_fpdu.specs.Places.{in_marker, span_start}
 use Rattle.iw_fpdu.specs.Reading.{length_at, pointer_at}
 use Rattle.iw_fpdu.proofs.Came.{tells_whole}
@@ -110,7 +110,7 @@ module _ {T : Type 0} (v : Scene T) where
       elim (cases_lt q (end_of_arrived v.arrived)) [
         | inl near ↦ near
         | inr far ↦
-            let none : cell_at v.arrived q ≡ Missing = behind v.arrived q (omega (arith, far)) ∙ get_or_past v.arrived.cells (q - v.arrived.floor) Missing (omega (arith, far)) in
+            let none : cell_at v.arrived q ≡ Missing = beyond v.arrived q (omega (arith, far)) ∙ get_or_past v.arrived.cells (q - v.arrived.floor) Missing (omega (arith, far)) in
             absurd (true≢false (sym come ∙ ap (λ c. not (is_missing c)) none))
       ]
 

@@ -31,8 +31,8 @@ part octets at n small i = elim (cases_lt i n) [
 long_part : (octets : List ℕ) (at n next : ℕ) → at + n ≡ next → next ≤ length octets → length (take n (drop at octets)) ≡ n
 long_part octets at n next e room = simp (length-take, length-drop) (omega arith)
 
-behind : (octets : List ℕ) (at n next : ℕ) → at + n ≡ next → take n (drop at octets) ++ drop next octets ≡ drop at octets
-behind octets at n next e =
+beyond : (octets : List ℕ) (at n next : ℕ) → at + n ≡ next → take n (drop at octets) ++ drop next octets ≡ drop at octets
+beyond octets at n next e =
     ap (λ k. take n (drop at octets) ++ drop k octets) (sym e)
     ∙ ap (λ l. take n (drop at octets) ++ l) (sym (drop-drop n at octets))
     ∙ take-append-drop n (drop at octets)
@@ -40,15 +40,15 @@ behind octets at n next e =
 -- a number that was read is written again in front of what is behind it
 again_16 : (octets : List ℕ) (at next : ℕ) → at + 2 ≡ next → next ≤ length octets → AreOctets octets → to_be_bytes w16 (from_be_bytes w16 (take 2 (drop at octets))) ++ drop next octets ≡ drop at octets
 again_16 octets at next e room small =
-    ap (λ l. l ++ drop next octets) (be_bytes_2 (take 2 (drop at octets)) _ (long_part octets at 2 next e room) (part octets at 2 small) refl) ∙ behind octets at 2 next e
+    ap (λ l. l ++ drop next octets) (be_bytes_2 (take 2 (drop at octets)) _ (long_part octets at 2 next e room) (part octets at 2 small) refl) ∙ beyond octets at 2 next e
 
 again_32 : (octets : List ℕ) (at next : ℕ) → at + 4 ≡ next → next ≤ length octets → AreOctets octets → to_be_bytes w32 (number_32 octets at) ++ drop next octets ≡ drop at octets
 again_32 octets at next e room small =
-    ap (λ l. l ++ drop next octets) (be_bytes_4 (take 4 (drop at octets)) _ (long_part octets at 4 next e room) (part octets at 4 small) refl) ∙ behind octets at 4 next e
+    ap (λ l. l ++ drop next octets) (be_bytes_4 (take 4 (drop at octets)) _ (long_part octets at 4 next e room) (part octets at 4 small) refl) ∙ beyond octets at 4 next e
 
 again_64 : (octets : List ℕ) (at next : ℕ) → at + 8 ≡ next → next ≤ length octets → AreOctets octets → to_be_bytes w64 (number_64 octets at) ++ drop next octets ≡ drop at octets
 again_64 octets at next e room small =
-    ap (λ l. l ++ drop next octets) (be_bytes_8 (take 8 (drop at octets)) _ (long_part octets at 8 next e room) (part octets at 8 small) refl) ∙ behind octets at 8 next e
+    ap (λ l. l ++ drop next octets) (be_bytes_8 (take 8 (drop at octets)) _ (long_part octets at 8 next e room) (part octets at 8 small) refl) ∙ beyond octets at 8 next e
 
 stag_again : (octets : List ℕ) (at : ℕ) → at + 4 ≤ length octets → AreOctets octets → spelled (stag_at octets at) ++ drop (at + 4) octets ≡ drop at octets
 stag_again octets at room small =

@@ -39,17 +39,17 @@ window_on w i octet room =
 
 pub fold_step : (first block w : List ℕ) (i octet : ℕ) → i < length block → i + 290 < length w → octet < 256 → octet ≡ bit_xor (get_or block i 0) (owed_next (drop i w))
     → Folds first (take i block) (take 290 (drop i w)) → Folds first (take (i + 1) block) (take 290 (drop (i + 1) (set w (i + 290) octet)))
-fold_step first block w i octet more room small is so_far = λ behind enough.
+fold_step first block w i octet more room small is so_far = λ beyond enough.
     let x : ℕ = get_or block i 0 in
     let window = take 290 (drop i w) in
     let long : length window ≡ 290 = length-take 290 (drop i w) ∙ omega (arith, length-drop i w) in
     let same : bit_xor x (owed_next window) ≡ octet = ap (bit_xor x) (owed_next_front (drop i w)) ∙ sym is in
     let fits : bit_xor x (owed_next window) < 256 = subst (λ n. n < 256) (sym same) small in
-    let longer : 290 ≤ length (x ∷ behind) = omega (arith, enough) in
-    ap (remainder_with first) (ap (λ l. l ++ behind) (take_more block i 0 more) ∙ append_assoc (take i block) (x ∷ []) behind)
-    ∙ so_far (x ∷ behind) longer
-    ∙ folds_one window x behind long fits enough
-    ∙ ap (λ l. remainder_with l behind) (ap (λ n. drop 1 window ++ n ∷ []) same ∙ window_on w i octet room)
+    let longer : 290 ≤ length (x ∷ beyond) = omega (arith, enough) in
+    ap (remainder_with first) (ap (λ l. l ++ beyond) (take_more block i 0 more) ∙ append_assoc (take i block) (x ∷ []) beyond)
+    ∙ so_far (x ∷ beyond) longer
+    ∙ folds_one window x beyond long fits enough
+    ∙ ap (λ l. remainder_with l beyond) (ap (λ n. drop 1 window ++ n ∷ []) same ∙ window_on w i octet room)
 
 pub folds_all : (first block w : List ℕ) (i : ℕ) → i ≡ length block → Folds first (take i block) (take 290 (drop i w)) → Folds first block (take 290 (drop (length block) w))
 folds_all first block w i all so_far =
@@ -60,20 +60,20 @@ folds_all first block w i all so_far =
 pub block_step : (remainder : ℕ) (front old piece new : List ℕ) (k : ℕ)
     → piece ≡ take 2048 (drop (2048 * k) front)
     → Folds old piece new
-    → ((behind : List ℕ) → 290 ≤ length behind → remainder_with old behind ≡ after_octets remainder (take (2048 * k) front ++ behind))
-    → (behind : List ℕ) → 290 ≤ length behind → remainder_with new behind ≡ after_octets remainder (take (2048 * (k + 1)) front ++ behind)
-block_step remainder front old piece new k is folds so_far = λ behind enough.
-    let longer : 290 ≤ length (piece ++ behind) = omega (arith, enough, length-append piece behind) in
+    → ((beyond : List ℕ) → 290 ≤ length beyond → remainder_with old beyond ≡ after_octets remainder (take (2048 * k) front ++ beyond))
+    → (beyond : List ℕ) → 290 ≤ length beyond → remainder_with new beyond ≡ after_octets remainder (take (2048 * (k + 1)) front ++ beyond)
+block_step remainder front old piece new k is folds so_far = λ beyond enough.
+    let longer : 290 ≤ length (piece ++ beyond) = omega (arith, enough, length-append piece beyond) in
     let count : 2048 * k + 2048 ≡ 2048 * (k + 1) = omega arith in
     let whole : take (2048 * k) front ++ piece ≡ take (2048 * (k + 1)) front = ap (λ p. take (2048 * k) front ++ p) is ∙ sym (take-add (2048 * k) 2048 front) ∙ ap (λ n. take n front) count in
-    sym (folds behind enough) ∙ so_far (piece ++ behind) longer
-    ∙ ap (after_octets remainder) (sym (append_assoc (take (2048 * k) front) piece behind) ∙ ap (λ l. l ++ behind) whole)
+    sym (folds beyond enough) ∙ so_far (piece ++ beyond) longer
+    ∙ ap (after_octets remainder) (sym (append_assoc (take (2048 * k) front) piece beyond) ∙ ap (λ l. l ++ beyond) whole)
 
 -- the rest of the front is folded away, and the octets at the back are all that is left
 pub last_step : (remainder : ℕ) (octets front back old piece new : List ℕ) (k : ℕ)
     → front ++ back ≡ octets → piece ≡ drop (2048 * k) front → 290 ≤ length back
     → Folds old piece new
-    → ((behind : List ℕ) → 290 ≤ length behind → remainder_with old behind ≡ after_octets remainder (take (2048 * k) front ++ behind))
+    → ((beyond : List ℕ) → 290 ≤ length beyond → remainder_with old beyond ≡ after_octets remainder (take (2048 * k) front ++ beyond))
     → remainder_with new back ≡ after_octets remainder octets
 last_step remainder octets front back old piece new k whole is enough folds so_far =
     let longer : 290 ≤ length (piece ++ back) = omega (arith, enough, length-append piece back) in

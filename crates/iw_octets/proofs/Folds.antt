@@ -170,23 +170,23 @@ stands_on m k n octet e =
     ap (λ c. after_bits c (octet * 2 ^ (8 * k))) count ∙ after_bits-add (8 * k) (8 * m) (octet * 2 ^ (8 * k)) ∙ ap (after_bits (8 * m)) (after_bits-shifted (8 * k) octet)
 
 -- an octet is folded into the window
-pub folds_one : (w : List ℕ) (x : ℕ) (behind : List ℕ) → length w ≡ 290 → bit_xor x (owed_next w) < 256 → 290 ≤ length behind
-    → remainder_with w (x ∷ behind) ≡ remainder_with (drop 1 w ++ bit_xor x (owed_next w) ∷ []) behind
+pub folds_one : (w : List ℕ) (x : ℕ) (beyond : List ℕ) → length w ≡ 290 → bit_xor x (owed_next w) < 256 → 290 ≤ length beyond
+    → remainder_with w (x ∷ beyond) ≡ remainder_with (drop 1 w ++ bit_xor x (owed_next w) ∷ []) beyond
 unfolding remainder_with
-folds_one w x behind long small enough =
+folds_one w x beyond long small enough =
     let octet : ℕ = bit_xor x (owed_next w) in
     let u = drop 1 w in
-    let n : ℕ = length behind in
+    let n : ℕ = length beyond in
     let more : ℕ = n - 290 in
-    let rest : ℕ = bit_xor (little behind) (owed u) in
+    let rest : ℕ = bit_xor (little beyond) (owed u) in
     let short : length u ≡ 289 = length-drop 1 w ∙ omega (arith, long) in
     let count : 8 * suc n ≡ 8 + 8 * n = omega arith in
     let far : 8 + 8 * n ≡ 8 * (291 + more) = omega (arith, enough) in
     let five = sum_of_five (octet * 2 ^ (8 * 289)) (octet * 2 ^ (8 * 257)) (octet * 2 ^ (8 * 182)) (octet * 2 ^ (8 * 176)) (octet * 2 ^ (8 * 153)) in
-    let number : bit_xor (little (x ∷ behind)) (owed w) ≡ bit_xor (rest * 2 ^ 8) octet =
-    ap (bit_xor (little (x ∷ behind))) (owed_shift w)
-    ∙ swap_inner (little behind * 2 ^ 8) x (owed u * 2 ^ 8) (owed_next w)
-    ∙ ap (λ r. bit_xor r octet) (shifted-xor (little behind) (owed u)) in
+    let number : bit_xor (little (x ∷ beyond)) (owed w) ≡ bit_xor (rest * 2 ^ 8) octet =
+    ap (bit_xor (little (x ∷ beyond))) (owed_shift w)
+    ∙ swap_inner (little beyond * 2 ^ 8) x (owed u * 2 ^ 8) (owed_next w)
+    ∙ ap (λ r. bit_xor r octet) (shifted-xor (little beyond) (owed u)) in
     let left : after_bits (8 + 8 * n) (bit_xor (rest * 2 ^ 8) octet) ≡ bit_xor (after_bits (8 * n) rest) (after_bits (8 * (291 + more)) octet) =
     after_bits-xor (8 + 8 * n) (rest * 2 ^ 8) octet
     ∙ (λ i. bit_xor (let s : after_bits (8 + 8 * n) (rest * 2 ^ 8) ≡ after_bits (8 * n) rest = after_bits-add 8 (8 * n) (rest * 2 ^ 8) ∙ ap (after_bits (8 * n)) (after_bits-shifted 8 rest) in s i) (after_bits (far i) octet)) in
@@ -201,7 +201,7 @@ folds_one w x behind long small enough =
     ∙ sym (octet_vanishes more octet small) in
     (λ i. after_bits (count i) (number i)) ∙ left
     ∙ ap (bit_xor (after_bits (8 * n) rest)) (sym right) ∙ sym (after_bits-xor (8 * n) rest five)
-    ∙ ap (after_bits (8 * n)) (xor_assoc (little behind) (owed u) five ∙ ap (bit_xor (little behind)) (sym (owed_push u octet short)))
+    ∙ ap (after_bits (8 * n)) (xor_assoc (little beyond) (owed u) five ∙ ap (bit_xor (little beyond)) (sym (owed_push u octet short)))
 
 -- the octets that are left, with what the window adds to them
 settled : (xs w ys : List ℕ) → length ys ≡ length xs → length w ≤ length xs → ((i : ℕ) → i < length xs → get_or ys i 0 ≡ bit_xor (get_or xs i 0) (owed_next (drop i w)))

@@ -10,7 +10,7 @@ use Rattle.iw_octets.specs.declared.segment.Segment.{Segment}
 use Rattle.iw_octets.specs.declared.segment.Segment.TheVariants.{Tagged, Untagged}
 use Rattle.iw_octets.specs.Stag.{stag_at}
 use Rattle.iw_octets.specs.Head.{is_tagged, is_last, version_of, number_32, number_64, tagged_fields, untagged_fields, read_tagged, read_untagged}
-use Rattle.iw_octets.specs.Segment.{read_segment, with_behind}
+use Rattle.iw_octets.specs.Segment.{read_segment, with_past}
 use Rattle.iw_octets.proofs.Spelled.{read_tagged-long, read_tagged-short, read_untagged-long, read_untagged-short}
 use Rattle.iw_octets.proofs.Segments.{read_segment-tagged, read_segment-untagged, read_segment-none}
 
@@ -82,13 +82,13 @@ read_segment-short_untagged [] h untagged = read_segment-none
 read_segment-short_untagged (first ∷ rest) h untagged =
     read_segment-untagged (first ∷ rest) (omega arith) untagged ∙ ap (option_map (λ read. Untagged read.0 read.1)) (read_untagged-short (first ∷ rest) h)
 
-pub read_segment-append : (octets more : List ℕ) (segment : Segment (List ℕ)) → read_segment octets ≡ Some segment → read_segment (octets ++ more) ≡ Some (with_behind segment more)
+pub read_segment-append : (octets more : List ℕ) (segment : Segment (List ℕ)) → read_segment octets ≡ Some segment → read_segment (octets ++ more) ≡ Some (with_past segment more)
 read_segment-append octets more segment e = go (is_tagged (get_or octets 0 0)) refl
   where
     first : 0 < length octets → is_tagged (get_or (octets ++ more) 0 0) ≡ is_tagged (get_or octets 0 0)
     first some = ap is_tagged (get_or-append octets more 0 0 some)
 
-    go : (tagged : Bool) → is_tagged (get_or octets 0 0) ≡ tagged → read_segment (octets ++ more) ≡ Some (with_behind segment more)
+    go : (tagged : Bool) → is_tagged (get_or octets 0 0) ≡ tagged → read_segment (octets ++ more) ≡ Some (with_past segment more)
     go true tagged = elim (cases_lt (length octets) 14) [
       | inl short ↦ absurd (none-some _ (sym (read_segment-short_tagged octets short tagged) ∙ e))
       | inr long ↦
@@ -96,7 +96,7 @@ read_segment-append octets more segment e = go (is_tagged (get_or octets 0 0)) r
           let some : 0 < length octets = omega arith in
           read_segment-tagged (octets ++ more) (omega (arith, length-append octets more)) (first some ∙ tagged)
           ∙ ap (option_map (λ read. Tagged read.0 read.1)) (read_tagged-append octets more long)
-          ∙ ap (λ s. Some (with_behind s more)) same
+          ∙ ap (λ s. Some (with_past s more)) same
     ]
     go false untagged = elim (cases_lt (length octets) 18) [
       | inl short ↦ absurd (none-some _ (sym (read_segment-short_untagged octets short untagged) ∙ e))
@@ -105,5 +105,5 @@ read_segment-append octets more segment e = go (is_tagged (get_or octets 0 0)) r
           let some : 0 < length octets = omega arith in
           read_segment-untagged (octets ++ more) (omega (arith, length-append octets more)) (first some ∙ untagged)
           ∙ ap (option_map (λ read. Untagged read.0 read.1)) (read_untagged-append octets more long)
-          ∙ ap (λ s. Some (with_behind s more)) same
+          ∙ ap (λ s. Some (with_past s more)) same
     ]

@@ -25,4 +25,4 @@ remainder_with window octets = after_bits (8 * length octets) (bit_xor (little o
 
 -- the octets at the front are folded into the window: with any that come after, the remainder stays
 abbrev pub Folds : List ℕ → List ℕ → List ℕ → Type 0
-Folds old front new = (behind : List ℕ) → 290 ≤ length behind → remainder_with old (front ++ behind) ≡ remainder_with new behind
+Folds old front new = (beyond : List ℕ) → 290 ≤ length beyond → remainder_with old (front ++ beyond) ≡ remainder_with new beyond

@@ -17,7 +17,7 @@ use Rattle.iw_octets.specs.Head.{is_tagged, tagged_octets, untagged_octets, read
 use Rattle.iw_octets.specs.Operation.{rdmap_version, opcode_of, control_of, tagged_opcode, untagged_opcode, tagged_operation, untagged_operation}
 use Rattle.iw_octets.specs.Parts.{part_at, parts_from}
 use Rattle.iw_octets.specs.Payload.{request_octets, read_request, word_octets, read_word, FitsRequest, FitsWord}
-use Rattle.iw_octets.specs.Segment.{segment_octets, read_segment, FitsSegment, with_behind}
+use Rattle.iw_octets.specs.Segment.{segment_octets, read_segment, FitsSegment, with_past}
 
 pub record ReadsAgain : Type 0 where
   pub tagged : (head : TaggedHead) (rest : List ℕ) → FitsTagged head → read_tagged (tagged_octets head ++ rest) ≡ Some (head, rest)
@@ -25,7 +25,7 @@ pub record ReadsAgain : Type 0 where
   pub request : (request : ReadRequest) (rest : List ℕ) → FitsRequest request → read_request (request_octets request ++ rest) ≡ Some (request, rest)
   pub word : (word : TerminateWord) (rest : List ℕ) → FitsWord word → read_word (word_octets word ++ rest) ≡ Some (word, rest)
   pub segment : (segment : Segment (List ℕ)) → FitsSegment segment → read_segment (segment_octets segment) ≡ Some segment
-  pub behind : (octets more : List ℕ) (segment : Segment (List ℕ)) → read_segment octets ≡ Some segment → read_segment (octets ++ more) ≡ Some (with_behind segment more)
+  pub beyond : (octets more : List ℕ) (segment : Segment (List ℕ)) → read_segment octets ≡ Some segment → read_segment (octets ++ more) ≡ Some (with_past segment more)
 
 -- each is an octet
 abbrev pub AreOctets : List ℕ → Type 0

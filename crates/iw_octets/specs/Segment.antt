@@ -17,9 +17,9 @@ read_segment (first ∷ rest) =
     else option_map (λ read. Untagged read.0 read.1) (read_untagged (first ∷ rest))
 
 -- the segment with more octets past its payload
-abbrev pub with_behind : Segment (List ℕ) → List ℕ → Segment (List ℕ)
-with_behind (Tagged head payload) more = Tagged head (payload ++ more)
-with_behind (Untagged head payload) more = Untagged head (payload ++ more)
+abbrev pub with_past : Segment (List ℕ) → List ℕ → Segment (List ℕ)
+with_past (Tagged head payload) more = Tagged head (payload ++ more)
+with_past (Untagged head payload) more = Untagged head (payload ++ more)
 
 -- the numbers of the header fit their fields
 abbrev pub FitsSegment : Segment (List ℕ) → Type 0

@@ -17,9 +17,9 @@ abbrev awaited : Sent
 awaited = record { kind = kinds.Read; finished = false }
 
 -- ---- lists
-get_behind : (xs : List Sent) (x : Sent) → slice_get (xs ++ x ∷ []) (length xs) ≡ Some x
-get_behind [] x = refl
-get_behind (y ∷ ys) x = get_behind ys x
+get_past : (xs : List Sent) (x : Sent) → slice_get (xs ++ x ∷ []) (length xs) ≡ Some x
+get_past [] x = refl
+get_past (y ∷ ys) x = get_past ys x
 
 get_before : (xs ys : List Sent) (i : ℕ) (x : Sent) → slice_get xs i ≡ Some x → slice_get (xs ++ ys) i ≡ Some x
 get_before [] ys i x e = cc
@@ -37,7 +37,7 @@ get_beside (z ∷ xs) (suc i) (suc j) x y apart e = get_beside xs i j x y (λ sa
 added_awaits : (c : Outstanding) → length c.messages ≤ 256 → c.first < 2 ^ 64 → IsAwaited (added c kinds.Read) (next_ticket c)
 added_awaits c few first =
     let at : length c.messages ≡ place_of c (next_ticket c) = omega arith in
-    subst (λ i. slice_get (c.messages ++ awaited ∷ []) i ≡ Some awaited) at (get_behind c.messages awaited)
+    subst (λ i. slice_get (c.messages ++ awaited ∷ []) i ≡ Some awaited) at (get_past c.messages awaited)
 
 sent_read : (sent : Outstanding) (unsent : List (Request (List ℕ))) (offset max : ℕ) (part : Part (Request (List ℕ))) → length sent.messages ≤ 256 → sent.first < 2 ^ 64
     → next_part (record { sent = sent; unsent = unsent; offset = offset }) max ≡ Some part → kind_of part.message ≡ kinds.Read
@@ -69,8 +69,8 @@ others_finished : (c : Outstanding) (ticket other : ℕ) → c.first < 2 ^ 64 �
 others_finished c ticket other first small small' apart h =
     get_beside c.messages (place_of c ticket) (place_of c other) awaited _ (λ same. apart (omega arith)) h
 
-place_behind : (first ticket p : ℕ) → first < 2 ^ 64 → ticket < 2 ^ 64 → (ticket + (2 ^ 64 - first)) % 2 ^ 64 ≡ suc p → (ticket + (2 ^ 64 - (first + 1) % 2 ^ 64)) % 2 ^ 64 ≡ p
-place_behind first ticket p f t e = omega arith
+place_past : (first ticket p : ℕ) → first < 2 ^ 64 → ticket < 2 ^ 64 → (ticket + (2 ^ 64 - first)) % 2 ^ 64 ≡ suc p → (ticket + (2 ^ 64 - (first + 1) % 2 ^ 64)) % 2 ^ 64 ≡ p
+place_past first ticket p f t e = omega arith
 
 handed : (q : Queue) (first : ℕ) (messages : List Sent) (ticket : ℕ) → first < 2 ^ 64 → ticket < 2 ^ 64 → (p : ℕ) → (ticket + (2 ^ 64 - first)) % 2 ^ 64 ≡ p → slice_get messages p ≡ Some awaited
     → IsAwaited (handed_from (record q { sent = record { first = first; messages = messages } }) (done_from first messages)).sent ticket
@@ -84,13 +84,13 @@ handed q first (m ∷ ms) ticket f t p at h = go m.finished refl p at h
         let same : m ≡ awaited = cc in
         let open_still : m.finished ≡ false = ap (λ s. s.finished) same in
         cc
-    go true e (suc p) at h = subst (λ i. slice_get ms i ≡ Some awaited) (sym (place_behind first ticket p f t at)) h
+    go true e (suc p) at h = subst (λ i. slice_get ms i ≡ Some awaited) (sym (place_past first ticket p f t at)) h
 
 given_up : (q : Queue) (first : ℕ) (messages : List Sent) (ticket : ℕ) → first < 2 ^ 64 → ticket < 2 ^ 64 → ticket ≢ first → (p : ℕ) → (ticket + (2 ^ 64 - first)) % 2 ^ 64 ≡ p → slice_get messages p ≡ Some awaited
     → IsAwaited (handed_from (record q { sent = record { first = first; messages = messages } }) (oldest_among first messages q.unsent)).sent ticket
 given_up q first [] ticket f t apart p at h = cc
 given_up q first (m ∷ ms) ticket f t apart zero at h = absurd (apart (omega (arith, at)))
-given_up q first (m ∷ ms) ticket f t apart (suc p) at h = subst (λ i. slice_get ms i ≡ Some awaited) (sym (place_behind first ticket p f t at)) h
+given_up q first (m ∷ ms) ticket f t apart (suc p) at h = subst (λ i. slice_get ms i ≡ Some awaited) (sym (place_past first ticket p f t at)) h
 
 pub awaits : AwaitsReads
 awaits = record {

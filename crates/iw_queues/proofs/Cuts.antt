@@ -221,9 +221,9 @@ before_write c k room stag to octets ms delivered later mine rest cut e below ne
     elim (either delivered later mine rest e) [
       | inl r ↦
           let same : joined [] delivered ≡ joined [] r.0 = ap (joined []) r.1 ∙ write_joined room stag to 0 octets [] mine r.0 cut in
-          let behind : count_before c k ms ≤ count_segments c r.0 = next r.0 r.2 (omega (arith, below, ap length same)) in
+          let beyond : count_before c k ms ≤ count_segments c r.0 = next r.0 r.2 (omega (arith, below, ap length same)) in
           let all : count_segments c delivered ≡ count_segments c (mine ++ r.0) = ap (count_segments c) r.1 in
-          omega (arith, behind, all, count_segments-append c mine r.0, whole_write_counted c room stag to octets mine cut)
+          omega (arith, beyond, all, count_segments-append c mine r.0, whole_write_counted c room stag to octets mine cut)
       | inr r ↦ absurd (nothing_joined k delivered (stopped_write room stag to 0 octets [] delivered r.0 r.1 (subst (IsCut room (write_segment stag to) 0 octets) r.2 cut)) below)
     ]
 
@@ -237,8 +237,8 @@ before_read c k s ms delivered later mine rest quiet uncounted is e below next =
       | inl r ↦
           let all : delivered ≡ s ∷ r.0 = r.1 ∙ ap (λ z. z ++ r.0) is in
           let same : joined [] delivered ≡ joined [] r.0 = ap (joined []) all ∙ quiet [] r.0 in
-          let behind : count_before c k ms ≤ count_segments c r.0 = next r.0 r.2 (omega (arith, below, ap length same)) in
-          omega (arith, behind, ap (count_segments c) all, uncounted r.0)
+          let beyond : count_before c k ms ≤ count_segments c r.0 = next r.0 r.2 (omega (arith, below, ap length same)) in
+          omega (arith, beyond, ap (count_segments c) all, uncounted r.0)
       | inr r ↦ absurd (nothing_joined k delivered (stopped_read [] delivered r.0 s r.1 (sym r.2 ∙ is)) below)
     ]
 
@@ -251,9 +251,9 @@ before_send c (suc k) room msn solicited invalidate octets ms delivered later mi
     elim (either delivered later mine rest e) [
       | inl r ↦
           let same : joined [] delivered ≡ whole_of octets solicited invalidate ∷ joined [] r.0 = ap (joined []) r.1 ∙ send_joined room msn solicited invalidate 0 octets [] mine r.0 cut in
-          let behind : count_before c k ms ≤ count_segments c r.0 = next k r.0 r.2 (omega (arith, below, ap length same)) in
+          let beyond : count_before c k ms ≤ count_segments c r.0 = next k r.0 r.2 (omega (arith, below, ap length same)) in
           let all : count_segments c delivered ≡ count_segments c (mine ++ r.0) = ap (count_segments c) r.1 in
-          omega (arith, behind, all, count_segments-append c mine r.0)
+          omega (arith, beyond, all, count_segments-append c mine r.0)
       | inr r ↦ absurd (nothing_joined (suc k) delivered (stopped_send room msn solicited invalidate 0 octets [] delivered r.0 r.1 (subst (IsCut room (send_segment msn solicited invalidate) 0 octets) r.2 cut)) below)
     ]
 

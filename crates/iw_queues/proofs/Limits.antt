@@ -12,7 +12,7 @@ use Rattle.iw_queues.specs.declared.completions.Done.{Done}
 use Rattle.iw_queues.specs.declared.send_queue.Part.{Part}
 use Rattle.iw_queues.specs.Request.{kind_of, payload, size_of, header_len}
 use Rattle.iw_queues.specs.Completions.{is_finished_when_sent, added, next_ticket, done_from}
-use Rattle.iw_queues.specs.Queue.{Queue, nothing_posted, post_refusal, posted, next_part, part_of_first, part_from, part_sent, done_in, handed_from, behind_oldest, IsBegun, IsWithinLimits}
+use Rattle.iw_queues.specs.Queue.{Queue, nothing_posted, post_refusal, posted, next_part, part_of_first, part_from, part_sent, done_in, handed_from, past_oldest, IsBegun, IsWithinLimits}
 
 pub limits_start : IsWithinLimits nothing_posted
 limits_start = record { posted = omega arith; sizes = λ k d h. absurd (omega (arith, h)); begun = refl }
@@ -80,5 +80,5 @@ limits_handed q l = go (done_in q) q.sent.messages refl refl
     go None messages d is = l
     go (Some done) [] d is = absurd (none-some _ d)
     go (Some done) (m ∷ ms) d is =
-        subst (λ z. IsWithinLimits (behind_oldest ((q.sent.first + 1) % 2 ^ 64) z q.unsent q.offset)) (sym is)
+        subst (λ z. IsWithinLimits (past_oldest ((q.sent.first + 1) % 2 ^ 64) z q.unsent q.offset)) (sym is)
         (record { posted = omega (arith, l.posted, ap length is); sizes = l.sizes; begun = l.begun })

@@ -12,7 +12,7 @@ use Rattle.iw_queues.specs.declared.send_queue.Part.{Part}
 use Rattle.iw_queues.specs.Completions.{Outstanding, next_ticket, done_from}
 use Rattle.iw_queues.specs.Request.{payload, header_len}
 use Rattle.iw_queues.specs.Queue.{Queue, posted, part_from, next_part, part_sent, handed_from, IsBegun, IsWithinLimits}
-use Rattle.iw_queues.specs.Segments.{Numbers, first_numbers, numbers_after, numbers_after_all, numbers_behind, segment_of, write_segment, send_segment, request_segment, IsCut, AreSegments, AreSpelled}
+use Rattle.iw_queues.specs.Segments.{Numbers, first_numbers, numbers_after, numbers_after_all, numbers_beyond, segment_of, write_segment, send_segment, request_segment, IsCut, AreSegments, AreSpelled}
 use Rattle.iw_queues.specs.Laws.{HasSent, SendsInOrder}
 
 -- ---- a part in front of the others
@@ -46,7 +46,7 @@ part_with ticket message offset max last =
 abbrev pub GoesOn : Numbers → Outstanding → Request (List ℕ) → List (Request (List ℕ)) → ℕ → Part (Request (List ℕ)) → Type 0
 GoesOn numbers sent message messages offset part =
     let q = part_sent (record { sent = sent; unsent = message ∷ messages; offset = offset }) (Some part) in
-    (ss : List (Segment (List ℕ))) → AreSpelled (numbers_behind numbers part) q.offset q.unsent ss → AreSpelled numbers offset (message ∷ messages) (segment_of numbers part ∷ ss)
+    (ss : List (Segment (List ℕ))) → AreSpelled (numbers_beyond numbers part) q.offset q.unsent ss → AreSpelled numbers offset (message ∷ messages) (segment_of numbers part ∷ ss)
 
 pub goes_on_with : (numbers : Numbers) (sent : Outstanding) (message : Request (List ℕ)) (messages : List (Request (List ℕ))) (ticket offset max : ℕ) → 128 ≤ max → max ≤ 64512 → (last : Bool)
     → (((last ≡ true) × (length (payload message) - offset ≤ max - header_len message)) ⊎ ((last ≡ false) × (max - header_len message < length (payload message) - offset)))
@@ -77,18 +77,18 @@ goes_on_with numbers sent message messages ticket offset max low high true (inr 
 goes_on_with numbers sent message messages ticket offset max low high false (inl h) ss rest = cc
 
 counts_on_with : (numbers : Numbers) (sent : Outstanding) (message : Request (List ℕ)) (messages : List (Request (List ℕ))) (ticket offset max : ℕ) (last : Bool)
-    → numbers_after_all (numbers_behind numbers (part_with ticket message offset max last)) (part_sent (record { sent = sent; unsent = message ∷ messages; offset = offset }) (Some (part_with ticket message offset max last))).unsent
+    → numbers_after_all (numbers_beyond numbers (part_with ticket message offset max last)) (part_sent (record { sent = sent; unsent = message ∷ messages; offset = offset }) (Some (part_with ticket message offset max last))).unsent
     ≡ numbers_after_all numbers (message ∷ messages)
 counts_on_with numbers sent message messages ticket offset max true = refl
 counts_on_with numbers sent message messages ticket offset max false = refl
 
 part_goes_on : (ms : List (Request (List ℕ))) (gone : List (Segment (List ℕ))) (numbers : Numbers) (sent : Outstanding) (unsent : List (Request (List ℕ))) (offset max : ℕ) (shown : Part (Request (List ℕ)))
     → 128 ≤ max → max ≤ 64512 → next_part (record { sent = sent; unsent = unsent; offset = offset }) max ≡ Some shown → HasSent ms gone numbers (record { sent = sent; unsent = unsent; offset = offset })
-    → HasSent ms (gone ++ segment_of numbers shown ∷ []) (numbers_behind numbers shown) (part_sent (record { sent = sent; unsent = unsent; offset = offset }) (Some shown))
+    → HasSent ms (gone ++ segment_of numbers shown ∷ []) (numbers_beyond numbers shown) (part_sent (record { sent = sent; unsent = unsent; offset = offset }) (Some shown))
 part_goes_on ms gone numbers sent [] offset max shown low high e h = cc
 part_goes_on ms gone numbers sent (message ∷ messages) offset max shown low high e h =
     let is : part_from (next_ticket sent) message offset max ≡ shown = cc in
-    subst (λ part. HasSent ms (gone ++ segment_of numbers part ∷ []) (numbers_behind numbers part) (part_sent (record { sent = sent; unsent = message ∷ messages; offset = offset }) (Some part)))
+    subst (λ part. HasSent ms (gone ++ segment_of numbers part ∷ []) (numbers_beyond numbers part) (part_sent (record { sent = sent; unsent = message ∷ messages; offset = offset }) (Some part)))
     is
     (record {
       goes_on = λ rest spelled.
@@ -113,11 +113,11 @@ parted numbers offset (m ∷ ms) message ss begun s =
     let r = parted (numbers_after numbers m) 0 ms message s.1 (begun_anew ms) s.4 in
     (s.0 ++ r.0, r.1, s.2 ∙ ap (λ z. s.0 ++ z) r.2 ∙ sym (append_assoc s.0 r.0 r.1), (s.0, r.0, refl, s.3, r.3), r.4)
 
-with_behind : (numbers : Numbers) (ms : List (Request (List ℕ))) (message : Request (List ℕ)) (ss mine : List (Segment (List ℕ))) → AreSpelled numbers 0 ms ss → AreSegments (numbers_after_all numbers ms) message 0 mine
+with_past : (numbers : Numbers) (ms : List (Request (List ℕ))) (message : Request (List ℕ)) (ss mine : List (Segment (List ℕ))) → AreSpelled numbers 0 ms ss → AreSegments (numbers_after_all numbers ms) message 0 mine
     → AreSpelled numbers 0 (ms ++ message ∷ []) (ss ++ mine)
-with_behind numbers [] message ss mine s cut = (mine, [], ap (λ z. z ++ mine) s ∙ sym (append-nil mine), cut, refl)
-with_behind numbers (m ∷ ms) message ss mine s cut =
-    (s.0, s.1 ++ mine, ap (λ z. z ++ mine) s.2 ∙ append_assoc s.0 s.1 mine, s.3, with_behind (numbers_after numbers m) ms message s.1 mine s.4 cut)
+with_past numbers [] message ss mine s cut = (mine, [], ap (λ z. z ++ mine) s ∙ sym (append-nil mine), cut, refl)
+with_past numbers (m ∷ ms) message ss mine s cut =
+    (s.0, s.1 ++ mine, ap (λ z. z ++ mine) s.2 ∙ append_assoc s.0 s.1 mine, s.3, with_past (numbers_after numbers m) ms message s.1 mine s.4 cut)
 
 numbers_after_all-push : (numbers : Numbers) (ms : List (Request (List ℕ))) (message : Request (List ℕ)) → numbers_after_all numbers (ms ++ message ∷ []) ≡ numbers_after (numbers_after_all numbers ms) message
 numbers_after_all-push numbers [] message = refl
@@ -129,7 +129,7 @@ post_goes_on ms gone numbers q message limits h = record {
   goes_on = λ rest s.
       let r = parted numbers q.offset q.unsent message rest limits.begun s in
       let cut : AreSegments (numbers_after_all first_numbers ms) message 0 r.1 = subst (λ k. AreSegments k message 0 r.1) h.counted r.4 in
-      let all : AreSpelled first_numbers 0 (ms ++ message ∷ []) ((gone ++ r.0) ++ r.1) = with_behind first_numbers ms message (gone ++ r.0) r.1 (h.goes_on r.0 r.3) cut in
+      let all : AreSpelled first_numbers 0 (ms ++ message ∷ []) ((gone ++ r.0) ++ r.1) = with_past first_numbers ms message (gone ++ r.0) r.1 (h.goes_on r.0 r.3) cut in
       subst (AreSpelled first_numbers 0 (ms ++ message ∷ [])) (append_assoc gone r.0 r.1 ∙ ap (λ z. gone ++ z) (sym r.2)) all;
   counted = numbers_after_all-push numbers q.unsent message ∙ ap (λ k. numbers_after k message) h.counted ∙ sym (numbers_after_all-push first_numbers ms message);
 }

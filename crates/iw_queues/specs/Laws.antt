@@ -11,7 +11,7 @@ use Rattle.iw_queues.specs.declared.send_queue.Part.{Part}
 use Rattle.iw_queues.specs.Request.{payload, kind_of, header_len}
 use Rattle.iw_queues.specs.Completions.{Outstanding, IsAwaited, finished}
 use Rattle.iw_queues.specs.Queue.{Queue, nothing_posted, posted, next_part, part_sent, sent_with, done_in, oldest_in, handed_from, IsWithinLimits}
-use Rattle.iw_queues.specs.Segments.{Numbers, first_numbers, numbers_after_all, numbers_behind, segment_of, AreSegments, AreSpelled}
+use Rattle.iw_queues.specs.Segments.{Numbers, first_numbers, numbers_after_all, numbers_beyond, segment_of, AreSegments, AreSpelled}
 use Rattle.iw_queues.specs.Joined.{IsPrefixOf, payloads, joined, sends, Cell, count_writes, count_before, count_segments}
 
 -- joined, the parts of a message are its octets
@@ -44,7 +44,7 @@ pub record SendsInOrder : Type 0 where
   pub post : (ms : List (Request (List ℕ))) (sent : List (Segment (List ℕ))) (numbers : Numbers) (q : Queue) (message : Request (List ℕ)) → IsWithinLimits q → HasSent ms sent numbers q
       → HasSent (ms ++ message ∷ []) sent numbers (posted q message)
   pub part : (ms : List (Request (List ℕ))) (sent : List (Segment (List ℕ))) (numbers : Numbers) (q : Queue) (max : ℕ) (shown : Part (Request (List ℕ))) → 128 ≤ max → max ≤ 64512
-      → next_part q max ≡ Some shown → HasSent ms sent numbers q → HasSent ms (sent ++ segment_of numbers shown ∷ []) (numbers_behind numbers shown) (part_sent q (Some shown))
+      → next_part q max ≡ Some shown → HasSent ms sent numbers q → HasSent ms (sent ++ segment_of numbers shown ∷ []) (numbers_beyond numbers shown) (part_sent q (Some shown))
   pub finish : (ms : List (Request (List ℕ))) (sent : List (Segment (List ℕ))) (numbers : Numbers) (q : Queue) (ticket : ℕ) → HasSent ms sent numbers q
       → HasSent ms sent numbers (sent_with q (finished q.sent ticket))
   pub next : (ms : List (Request (List ℕ))) (sent : List (Segment (List ℕ))) (numbers : Numbers) (q : Queue) → HasSent ms sent numbers q → HasSent ms sent numbers (handed_from q (done_in q))

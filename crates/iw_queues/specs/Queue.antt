@@ -27,8 +27,8 @@ post_refusal q message =
     else None
 
 -- the ticket of the next message to be posted
-abbrev pub ticket_behind : Queue → ℕ
-ticket_behind q = (q.sent.first + (length q.sent.messages + length q.unsent)) % 2 ^ 64
+abbrev pub ticket_past : Queue → ℕ
+ticket_past q = (q.sent.first + (length q.sent.messages + length q.unsent)) % 2 ^ 64
 
 abbrev pub posted : Queue → Request (List ℕ) → Queue
 posted q message = record q { unsent = q.unsent ++ message ∷ [] }
@@ -73,14 +73,14 @@ abbrev pub oldest_in : Queue → Option Done
 oldest_in q = oldest_among q.sent.first q.sent.messages q.unsent
 
 -- what is left after the oldest message; of one that was not sent to its end nothing more is sent
-abbrev pub behind_oldest : ℕ → List Sent → List (Request (List ℕ)) → ℕ → Queue
-behind_oldest next [] unsent offset = record { sent = record { first = next; messages = [] }; unsent = drop 1 unsent; offset = 0 }
-behind_oldest next (m ∷ ms) unsent offset = record { sent = record { first = next; messages = ms }; unsent = unsent; offset = offset }
+abbrev pub past_oldest : ℕ → List Sent → List (Request (List ℕ)) → ℕ → Queue
+past_oldest next [] unsent offset = record { sent = record { first = next; messages = [] }; unsent = drop 1 unsent; offset = 0 }
+past_oldest next (m ∷ ms) unsent offset = record { sent = record { first = next; messages = ms }; unsent = unsent; offset = offset }
 
 -- what is left where this message was handed out
 abbrev pub handed_from : Queue → Option Done → Queue
 handed_from q None = q
-handed_from q (Some message) = behind_oldest ((q.sent.first + 1) % 2 ^ 64) q.sent.messages q.unsent q.offset
+handed_from q (Some message) = past_oldest ((q.sent.first + 1) % 2 ^ 64) q.sent.messages q.unsent q.offset
 
 -- ---- what is so at any time
 -- of a message that was begun and not sent to its end octets are left

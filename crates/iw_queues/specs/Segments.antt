@@ -99,5 +99,5 @@ abbrev pub segment_of : Numbers → Part (Request (List ℕ)) → Segment (List 
 segment_of numbers part = segment_with numbers part.message part.offset part.last (take part.n (drop part.offset (payload part.message)))
 
 -- the numbers after it
-abbrev pub numbers_behind : Numbers → Part (Request (List ℕ)) → Numbers
-numbers_behind numbers part = if part.last then numbers_after numbers part.message else numbers
+abbrev pub numbers_beyond : Numbers → Part (Request (List ℕ)) → Numbers
+numbers_beyond numbers part = if part.last then numbers_after numbers part.message else numbers

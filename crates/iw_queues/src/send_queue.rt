@@ -65,7 +65,7 @@ impl<A: Allocator> Model for SendQueue<A> {
 
 impl<A: Allocator> SendQueue<A> {
     ghost use Rattle.iw_queues.specs.Completions.{IsAwaited, finished};
-    ghost use Rattle.iw_queues.specs.Queue.{nothing_posted, post_refusal, ticket_behind, posted, IsWithinLimits};
+    ghost use Rattle.iw_queues.specs.Queue.{nothing_posted, post_refusal, ticket_past, posted, IsWithinLimits};
     ghost use Rattle.iw_queues.specs.Queue.{next_part, part_sent, sent_with};
     ghost use Rattle.iw_queues.specs.Queue.{done_in, oldest_in, handed_from};
     ghost use Rattle.iw_queues.specs.Shown.{shown};
@@ -115,7 +115,7 @@ impl<A: Allocator> SendQueue<A> {
         ensures back { IfErr result (λ e. e.1 ≡ message) }
         ensures err { OnErr result (self.new ≡ self.old) }
 
-        ensures ticket { IfOk result (λ ticket. ticket ≡ ticket_behind self.old) }
+        ensures ticket { IfOk result (λ ticket. ticket ≡ ticket_past self.old) }
         ensures ok { OnOk result (self.new ≡ posted self.old message) }
     {
         if let Some(refusal) = self.refusal(&message) {

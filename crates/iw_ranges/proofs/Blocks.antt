@@ -47,7 +47,7 @@ brings front back new at n m i long same apart more wrote =
                 ∙ ap (λ k. get_or back k 0) (sym place)
                 ∙ sym (get_or-append_right front back (at + n) (i + n) 0 long (omega arith))
                 ∙ sym (ap (λ b. cond b (get_or (front ++ back) (i + n) 0) (get_or (front ++ back) i 0)) on)
-            | inr behind ↦
+            | inr beyond ↦
                 let off : (leb at i && ltb i (at + m)) ≡ false = grind (arith, nat_tests) in
                 ap (λ b. cond b (get_or (take m back) (i - at) 0) (get_or front i 0)) off
                 ∙ sym (get_or_append_left front back 0 i (omega arith))
@@ -72,7 +72,7 @@ moves first before after at n m i small same was now apart room = elim (cases_lt
         now ∙ ap (λ b. cond b (get_or before (i + n) 0) (get_or before i 0)) on ∙ was (i + n) (omega arith)
         ∙ ap (λ b. cond b (get_or first (i + n + n) 0) (get_or first (i + n) 0)) done
         ∙ sym (ap (λ b. cond b (get_or first (i + n) 0) (get_or first i 0)) told)
-    | inr behind ↦
+    | inr beyond ↦
         let off : (leb at i && ltb i (at + m)) ≡ false = grind (arith, nat_tests) in
         let on : ltb i at ≡ ltb i (at + m) = grind (arith, nat_tests) in
         now ∙ ap (λ b. cond b (get_or before (i + n) 0) (get_or before i 0)) off ∙ was i (omega arith) ∙ ap (λ b. cond b (get_or first (i + n) 0) (get_or first i 0)) on

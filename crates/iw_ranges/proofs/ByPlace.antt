@@ -16,18 +16,18 @@ use Rattle.iw_ranges.proofs.Keeps.{taken_none, taken_some, not_copied}
 pub below : (a : Arrived) (p : ℕ) → p < a.floor → cell_at a p ≡ Gone
 below a p h = let t : nat_lt p a.floor ≡ true = grind (arith, nat_tests) in ap (λ b. cond b Gone (get_or a.cells (p - a.floor) Missing)) t
 
-pub behind : (a : Arrived) (p : ℕ) → a.floor ≤ p → cell_at a p ≡ get_or a.cells (p - a.floor) Missing
-behind a p h = let t : nat_lt p a.floor ≡ false = grind (arith, nat_tests) in ap (λ b. cond b Gone (get_or a.cells (p - a.floor) Missing)) t
+pub beyond : (a : Arrived) (p : ℕ) → a.floor ≤ p → cell_at a p ≡ get_or a.cells (p - a.floor) Missing
+beyond a p h = let t : nat_lt p a.floor ≡ false = grind (arith, nat_tests) in ap (λ b. cond b Gone (get_or a.cells (p - a.floor) Missing)) t
 
 past : (a : Arrived) (p : ℕ) → end_of a ≤ p → cell_at a p ≡ Missing
-past a p h = behind a p (omega arith) ∙ get_or_past a.cells (p - a.floor) Missing (omega arith)
+past a p h = beyond a p (omega arith) ∙ get_or_past a.cells (p - a.floor) Missing (omega arith)
 
 -- where the cells are those of f, those before the in-order point are Gone and those from `end` on Missing
 cell_at-drawn : (floor end : ℕ) (f : ℕ → Cell) (p : ℕ) → (p < floor → Gone ≡ f p) → (floor ≤ p → end ≤ p → Missing ≡ f p) → cell_at (drawn floor end f) p ≡ f p
 cell_at-drawn floor end f p low high =
     elim (cases_lt p floor) [
       | inl before ↦ below (drawn floor end f) p before ∙ low before
-      | inr from ↦ behind (drawn floor end f) p from ∙ elim (cases_lt p end) [
+      | inr from ↦ beyond (drawn floor end f) p from ∙ elim (cases_lt p end) [
         | inl inside ↦ get_or-map-range_with_len f floor (end - floor) (p - floor) p Missing (omega arith) (omega arith)
         | inr out ↦ get_or_past (map f (range_with_len floor (end - floor))) (p - floor) Missing (omega (arith, length-map-range_with_len f floor (end - floor))) ∙ high from out
       ]
@@ -115,6 +115,6 @@ gives_up_before a to p =
       ]
       | inr from ↦
           let t : nat_lt p to ≡ false = grind (arith, nat_tests) in
-          behind (advanced a to) p from ∙ get_or-drop (to - a.floor) a.cells (p - max a.floor to) Missing ∙ ap (λ k. get_or a.cells k Missing) (omega arith)
-          ∙ sym (ap (λ b. cond b Gone (cell_at a p)) t ∙ behind a p (omega arith))
+          beyond (advanced a to) p from ∙ get_or-drop (to - a.floor) a.cells (p - max a.floor to) Missing ∙ ap (λ k. get_or a.cells k Missing) (omega arith)
+          ∙ sym (ap (λ b. cond b Gone (cell_at a p)) t ∙ beyond a p (omega arith))
     ]

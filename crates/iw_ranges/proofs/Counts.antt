@@ -58,8 +58,8 @@ before_apart p s ss low real apart =
     let rest : in_spans p ss ≡ false = below_apart s.to p ss apart (omega arith) in
     grind (arith, nat_tests, rest)
 
-behind_first : (p : ℕ) (s : Span) (ss : List Span) → s.to ≤ p → in_spans p ss ≡ in_spans p (s ∷ ss)
-behind_first p s ss high = let out : in_span p s ≡ false = grind (arith, nat_tests) in sym (ap (λ b. b || in_spans p ss) out)
+past_first : (p : ℕ) (s : Span) (ss : List Span) → s.to ≤ p → in_spans p ss ≡ in_spans p (s ∷ ss)
+past_first p s ss high = let out : in_span p s ≡ false = grind (arith, nat_tests) in sym (ap (λ b. b || in_spans p ss) out)
 
 -- within a span and one place behind it nothing starts
 none_within : (s : Span) (ss : List Span) (a n : ℕ) → s.from < a → a + n ≤ s.to + 1 → starts_in (λ p. in_spans p (s ∷ ss)) a n ≡ 0
@@ -79,8 +79,8 @@ count_apart m n (s ∷ ss) apart within =
     ap (λ b. b && not (came (s.from - 1))) (inside_first s.from s ss (omega arith) real) ∙ ap not (before_apart (s.from - 1) s ss (omega arith) real apart.2) in
     let rest : starts_in came (s.from + 1) (s.to - s.from) ≡ 0 = none_within s ss (s.from + 1) (s.to - s.from) (omega arith) (omega arith) in
     let more : starts_in came (s.to + 1) (m + n - s.to) ≡ length ss =
-    sym (starts_ext (λ p. in_spans p ss) came (s.to + 1) (m + n - s.to) (λ p h. behind_first p s ss (omega arith)))
-    ∙ count_apart s.to (m + n - s.to) ss apart.2 (λ p t. omega (arith, within p (sym (behind_first p s ss (later p t)) ∙ t))) in
+    sym (starts_ext (λ p. in_spans p ss) came (s.to + 1) (m + n - s.to) (λ p h. past_first p s ss (omega arith)))
+    ∙ count_apart s.to (m + n - s.to) ss apart.2 (λ p t. omega (arith, within p (sym (past_first p s ss (later p t)) ∙ t))) in
     let cut = starts_split came (m + 1) (s.from - m - 1) (m + n - s.from + 1) n s.from (omega arith) (omega arith) in
     let one : starts_in came s.from (suc (m + n - s.from)) ≡ 1 + starts_in came (s.from + 1) (m + n - s.from) = ap {B = ℕ} (λ b. cond b 1 0 + starts_in came (s.from + 1) (m + n - s.from)) here in
     let same : starts_in came s.from (m + n - s.from + 1) ≡ starts_in came s.from (suc (m + n - s.from)) = ap (starts_in came s.from) (add-one (m + n - s.from)) in
@@ -99,8 +99,8 @@ count_runs floor n (s ∷ ss) order reached within =
     let last : s.to ≤ floor + n = bound s.to refl in
     let rest : starts_in came (floor + 1) (s.to - floor) ≡ 0 = none_within s ss (floor + 1) (s.to - floor) (omega (arith, z)) (omega (arith, reached)) in
     let more : starts_in came (s.to + 1) (floor + n - s.to) ≡ length ss =
-    sym (starts_ext (λ p. in_spans p ss) came (s.to + 1) (floor + n - s.to) (λ p h. behind_first p s ss (omega arith)))
-    ∙ count_apart s.to (floor + n - s.to) ss order.1 (λ p t. let high : s.to ≤ p = later p t in omega (arith, within p (sym (behind_first p s ss high) ∙ t), high)) in
+    sym (starts_ext (λ p. in_spans p ss) came (s.to + 1) (floor + n - s.to) (λ p h. past_first p s ss (omega arith)))
+    ∙ count_apart s.to (floor + n - s.to) ss order.1 (λ p t. let high : s.to ≤ p = later p t in omega (arith, within p (sym (past_first p s ss high) ∙ t), high)) in
     let cut = starts_split came (floor + 1) (s.to - floor) (floor + n - s.to) n (s.to + 1) (omega (arith, reached, last)) (omega (arith, reached)) in
     omega (arith, cut, rest, more)
   where
@@ -173,7 +173,7 @@ pub all_from : (f : Fields) → IsSound f → (place from to : ℕ) → from ≡
 all_from f ok place from to e all p low high =
     elim (cases_lt p (first_end f.spans)) [
       | inl before ↦ first_covers f.spans p ok.order before
-      | inr behind ↦ all p (omega arith) high
+      | inr beyond ↦ all p (omega arith) high
     ]
 
 -- one that ends behind the first missing place adds its places from there on

@@ -16,9 +16,9 @@ pub before_octets : (base : ℕ) (ss : List Span) (from : ℕ) (octets buffer : 
 unfolding octet_after
 before_octets base ss from octets buffer i low = grind (arith, nat_tests)
 
-pub behind_octets : (base : ℕ) (ss : List Span) (from : ℕ) (octets buffer : List ℕ) (i : ℕ) → from + length octets ≤ base + i → octet_after base ss from octets buffer i ≡ get_or buffer i 0
+pub past_octets : (base : ℕ) (ss : List Span) (from : ℕ) (octets buffer : List ℕ) (i : ℕ) → from + length octets ≤ base + i → octet_after base ss from octets buffer i ≡ get_or buffer i 0
 unfolding octet_after
-behind_octets base ss from octets buffer i high = grind (arith, nat_tests)
+past_octets base ss from octets buffer i high = grind (arith, nat_tests)
 
 pub in_the_spans : (base : ℕ) (ss : List Span) (from : ℕ) (octets buffer : List ℕ) (i : ℕ) → in_spans (base + i) ss ≡ true → octet_after base ss from octets buffer i ≡ get_or buffer i 0
 unfolding octet_after
@@ -71,7 +71,7 @@ fill_step base s ss next rest buffer written gap skip i order low g k w =
     (cases_lt (base + i) s.from))
     (λ (b : next + length rest ≤ base + i).
     let kept : get_or written i 0 ≡ get_or buffer i 0 = w ∙ grind (arith, nat_tests) in
-    behind_octets base ss (next + skip) (drop skip rest) written i (omega arith) ∙ kept ∙ sym (behind_octets base (s ∷ ss) next rest buffer i b))
+    past_octets base ss (next + skip) (drop skip rest) written i (omega arith) ∙ kept ∙ sym (past_octets base (s ∷ ss) next rest buffer i b))
     (cases_lt (base + i) (next + length rest)))
     (cases_lt (base + i) next)
 
@@ -105,7 +105,7 @@ pub fill_empty : (base : ℕ) (spans : List Span) (k next : ℕ) (rest buffer : 
 fill_empty base spans k next rest buffer i none low =
     elim (cases_lt (base + i) next) [
       | inl h ↦ before_octets base (drop k spans) next rest buffer i h ∙ grind (arith, nat_tests)
-      | inr h ↦ behind_octets base (drop k spans) next rest buffer i (omega arith) ∙ grind (arith, nat_tests)
+      | inr h ↦ past_octets base (drop k spans) next rest buffer i (omega arith) ∙ grind (arith, nat_tests)
     ]
 
 -- the spans before `from` hold none of the octets
@@ -130,7 +130,7 @@ pub fill_split : (base : ℕ) (ss : List Span) (from : ℕ) (octets front back o
     → front ≡ take inside octets → back ≡ drop inside octets
     → get_or grown i 0 ≡ cond (leb (from - base + inside) i && ltb i (from - base + inside + length back)) (get_or back (i - (from - base + inside)) 0) (get_or old i 0)
     → octet_after base ss from front grown i ≡ octet_after base ss from octets old i
-fill_split base ss from octets front back old grown inside i within low some behind ef eb is =
+fill_split base ss from octets front back old grown inside i within low some beyond ef eb is =
     ⊎_elim
     (λ (h : base + i < from).
     let kept : get_or grown i 0 ≡ get_or old i 0 = is ∙ grind (arith, nat_tests) in
@@ -147,16 +147,16 @@ fill_split base ss from octets front back old grown inside i within low some beh
           ∙ sym (in_octets base ss from octets old i h b out)
     ] refl)
     (λ (k : from + inside ≤ base + i).
-    let long : length old ≤ from - base + inside = behind (omega (arith, back_len)) in
+    let long : length old ≤ from - base + inside = beyond (omega (arith, back_len)) in
     let out : in_spans (base + i) ss ≡ false = not_in (base + i) (base + length old) ss (in_spans (base + i) ss) within (omega arith) refl in
     let put : get_or grown i 0 ≡ get_or back (i - (from - base + inside)) 0 = is ∙ grind (arith, nat_tests, back_len) in
-    behind_octets base ss from front grown i (omega (arith, front_len)) ∙ put
+    past_octets base ss from front grown i (omega (arith, front_len)) ∙ put
     ∙ ap (λ xs. get_or xs (i - (from - base + inside)) 0) eb ∙ get_or-drop inside octets (i - (from - base + inside)) 0 ∙ ap (λ n. get_or octets n 0) (omega arith)
     ∙ sym (in_octets base ss from octets old i h b out))
     (cases_lt (base + i) (from + inside)))
     (λ (b : from + length octets ≤ base + i).
     let kept : get_or grown i 0 ≡ get_or old i 0 = is ∙ grind (arith, nat_tests, back_len) in
-    behind_octets base ss from front grown i (omega (arith, front_len)) ∙ kept ∙ sym (behind_octets base ss from octets old i b))
+    past_octets base ss from front grown i (omega (arith, front_len)) ∙ kept ∙ sym (past_octets base ss from octets old i b))
     (cases_lt (base + i) (from + length octets)))
     (cases_lt (base + i) from)
   where
@@ -183,13 +183,13 @@ put_octets base ss from front grown filled n i lg lf room wrote =
     ap (λ ys. get_or ys i 0) (take_at filled (drop (length filled) grown) n lf) ∙ elim (cases_lt i n) [
       | inl inside ↦ wrote i inside
       | inr past ↦
-          get_or_past filled i 0 (omega arith) ∙ sym (get_or_past grown i 0 (omega arith)) ∙ sym (behind_octets base ss from front grown i (omega arith))
+          get_or_past filled i 0 (omega arith) ∙ sym (get_or_past grown i 0 (omega arith)) ∙ sym (past_octets base ss from front grown i (omega arith))
     ]
 
 -- octets that are put right behind the buffer
-pub behind_all : (base : ℕ) (ss : List Span) (from : ℕ) (octets buffer : List ℕ) (i : ℕ) → ((p : ℕ) → in_spans p ss ≡ true → p < base + length buffer) → from ≡ base + length buffer
+pub beyond_all : (base : ℕ) (ss : List Span) (from : ℕ) (octets buffer : List ℕ) (i : ℕ) → ((p : ℕ) → in_spans p ss ≡ true → p < base + length buffer) → from ≡ base + length buffer
     → get_or (buffer ++ octets) i 0 ≡ octet_after base ss from octets buffer i
-behind_all base ss from octets buffer i within e =
+beyond_all base ss from octets buffer i within e =
     elim (cases_lt i (length buffer)) [
       | inl inside ↦ get_or_append_left buffer octets 0 i inside ∙ sym (before_octets base ss from octets buffer i (omega arith))
       | inr past ↦ get_or-append_right buffer octets (length buffer) i 0 refl past ∙ elim (cases_lt i (length buffer + length octets)) [
@@ -198,6 +198,6 @@ behind_all base ss from octets buffer i within e =
             ∙ sym (in_octets base ss from octets buffer i (omega arith) (omega arith) (not_in (base + i) (base + length buffer) ss (in_spans (base + i) ss) within (omega arith) refl))
         | inr none ↦
             get_or_past octets (i - length buffer) 0 (omega arith) ∙ sym (get_or_past buffer i 0 past)
-            ∙ sym (behind_octets base ss from octets buffer i (omega arith))
+            ∙ sym (past_octets base ss from octets buffer i (omega arith))
       ]
     ]

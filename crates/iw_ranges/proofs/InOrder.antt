@@ -14,7 +14,7 @@ use Rattle.iw_ranges.proofs.Cells.{same_drawn}
 use Rattle.iw_ranges.proofs.Counts.{dropped_far}
 use Rattle.iw_ranges.proofs.Keeps.{taken_none, taken_some}
 use Rattle.iw_ranges.proofs.Moves.{cells_from}
-use Rattle.iw_ranges.proofs.ByPlace.{below, behind, not_dropped, cell_at-nothing, cell_at-taken_in, gives_up_before}
+use Rattle.iw_ranges.proofs.ByPlace.{below, beyond, not_dropped, cell_at-nothing, cell_at-taken_in, gives_up_before}
 
 -- ---- octets side by side
 held_at : (cells : List Cell) (i : ℕ) → i < length (held cells) → get_or cells i Missing ≡ Here (get_or (held cells) i 0)
@@ -59,7 +59,7 @@ held-short (Gone ∷ cells) = omega arith
 -- ---- what stands in order
 -- each place in order holds its octet
 pub octet_at : (a : Arrived) (p : ℕ) → a.floor ≤ p → p < a.floor + length (in_order a) → cell_at a p ≡ Here (get_or (in_order a) (p - a.floor) 0)
-octet_at a p low high = behind a p low ∙ held_at a.cells (p - a.floor) (omega arith)
+octet_at a p low high = beyond a p low ∙ held_at a.cells (p - a.floor) (omega arith)
 
 -- the octets in order are those of the places from the in-order point on
 pub stands : (a : Arrived) → map Here (in_order a) ≡ cells_between a a.floor (a.floor + length (in_order a))
@@ -84,7 +84,7 @@ pub ends : (a : Arrived) → IsHeld a → has_come a (a.floor + length (in_order
 ends a kept = ap (λ c. not (is_missing c)) (at ∙ stops a.cells (ap is_gone (sym at) ∙ kept (a.floor + length (in_order a)) (omega arith)))
   where
     at : cell_at a (a.floor + length (in_order a)) ≡ get_or a.cells (length (in_order a)) Missing
-    at = behind a (a.floor + length (in_order a)) (omega arith) ∙ ap (λ i. get_or a.cells i Missing) (omega arith)
+    at = beyond a (a.floor + length (in_order a)) (omega arith) ∙ ap (λ i. get_or a.cells i Missing) (omega arith)
 
 -- each place before the end of those in order came
 pub all_come : (a : Arrived) (to : ℕ) → to ≤ a.floor + length (in_order a) → (p : ℕ) → p < to → has_come a p ≡ true
@@ -143,7 +143,7 @@ takes a place octets = (held (drop (length (in_order a)) (taken_in a place octet
     each : (i : ℕ) → i < length (in_order a) → get_or (taken_in a place octets).cells i Missing ≡ Here (get_or (in_order a) i 0)
     each i lt =
         ap (λ k. get_or (taken_in a place octets).cells k Missing) (let e : i ≡ a.floor + i - (taken_in a place octets).floor = omega (arith, floor_takes a place octets) in e)
-        ∙ sym (behind (taken_in a place octets) (a.floor + i) (omega (arith, floor_takes a place octets)))
+        ∙ sym (beyond (taken_in a place octets) (a.floor + i) (omega (arith, floor_takes a place octets)))
         ∙ cell_at-taken_in a place octets (a.floor + i)
         ∙ ap (first_copy place octets (a.floor + i)) (octet_at a (a.floor + i) (omega arith) (omega arith))
         ∙ ap (λ k. Here (get_or (in_order a) k 0)) (let e : a.floor + i - a.floor ≡ i = omega arith in e)

@@ -58,9 +58,9 @@ add_before ss from to i d before lt reaches apart =
     (ap (λ ys. record { from = from; to = to } ∷ ys) step ∙ sym (merge_done from to (get_or ss i d) (drop (i + 1) ss) apart) ∙ ap (merge_span from to) (sym step))
     ∙ add_touched ss from to i d before lt reaches
 
-pub add_behind : (ss : List Span) (from to i : ℕ) → AllBefore ss from i → length ss ≤ i
+pub add_past : (ss : List Span) (from to i : ℕ) → AllBefore ss from i → length ss ≤ i
     → insert ss i (record { from = from; to = to }) ≡ add_span from to ss
-add_behind ss from to i before past =
+add_past ss from to i before past =
     let none : drop i ss ≡ [] = drop_all i ss past in
     ap (λ ys. take i ss ++ ys)
     (ap (λ ys. record { from = from; to = to } ∷ ys) none ∙ sym (merge_at_end from to) ∙ sym (add_at_end from to) ∙ ap (add_span from to) (sym none))
@@ -142,26 +142,26 @@ pub length_inserted : (ss all : List Span) (i : ℕ) (s : Span) → i ≤ length
 length_inserted ss all i s le is = omega (arith, ap length is, length-append (take i ss) (s ∷ drop i ss), length-take-le i ss le, length-drop i ss)
 
 -- ---- spans that are forgotten
-pub behind_none : (to : ℕ) → spans_past to [] ≡ []
+pub past_none : (to : ℕ) → spans_past to [] ≡ []
 unfolding spans_past
-behind_none to = refl
+past_none to = refl
 
-pub behind_more : (to : ℕ) (s : Span) (ss : List Span) → s.to ≤ to → spans_past to (s ∷ ss) ≡ spans_past to ss
+pub past_more : (to : ℕ) (s : Span) (ss : List Span) → s.to ≤ to → spans_past to (s ∷ ss) ≡ spans_past to ss
 unfolding spans_past
-behind_more to s ss h = grind (arith, nat_tests)
+past_more to s ss h = grind (arith, nat_tests)
 
-pub behind_done : (to : ℕ) (s : Span) (ss : List Span) → to < s.to → spans_past to (s ∷ ss) ≡ s ∷ ss
+pub past_done : (to : ℕ) (s : Span) (ss : List Span) → to < s.to → spans_past to (s ∷ ss) ≡ s ∷ ss
 unfolding spans_past
-behind_done to s ss h = grind (arith, nat_tests)
+past_done to s ss h = grind (arith, nat_tests)
 
 -- ---- whether there is one more
 abbrev pub AddsOne : Bool → ℕ → ℕ → List Span → ℕ → Type 0
 AddsOne r from to ss n = MatchBool r (length (add_span from to ss) ≡ n + 1) (length (add_span from to ss) ≤ n)
 
-pub apart_behind : (ss : List Span) (from to at m n : ℕ) → n ≡ length ss → IsFirstReaching ss from at → at ≡ m → m ≡ n → AddsOne (nat_eq at m) from to ss n
-apart_behind ss from to at m n e first past same =
+pub apart_past : (ss : List Span) (from to at m n : ℕ) → n ≡ length ss → IsFirstReaching ss from at → at ≡ m → m ≡ n → AddsOne (nat_eq at m) from to ss n
+apart_past ss from to at m n e first past same =
     let t : nat_eq at m ≡ true = grind (arith, nat_tests) in
-    let one = length_inserted ss (add_span from to ss) at (record { from = from; to = to }) first.within (add_behind ss from to at first.before (omega arith)) in
+    let one = length_inserted ss (add_span from to ss) at (record { from = from; to = to }) first.within (add_past ss from to at first.before (omega arith)) in
     subst (λ b. AddsOne b from to ss n) (sym t) (omega (arith, one))
 
 pub apart_at : (ss : List Span) (from to at : ℕ) (s : Span) (n : ℕ) → n ≡ length ss → IsFirstReaching ss from at → at < length ss → s ≡ get_or ss at s → AddsOne (nat_lt to s.from) from to ss n
@@ -178,14 +178,14 @@ apart_at ss from to at s n e first lt is =
 
 pub forget_one : (to : ℕ) (ss : List Span) (s : Span) → s ≡ get_or ss 0 s → s.to ≤ to → spans_past to ss ≡ spans_past to (drop 1 ss)
 forget_one to [] s is h = refl
-forget_one to (t ∷ ts) s is h = behind_more to t ts (subst (λ (x : Span). x.to ≤ to) is h)
+forget_one to (t ∷ ts) s is h = past_more to t ts (subst (λ (x : Span). x.to ≤ to) is h)
 
 pub forget_done : (to : ℕ) (ss : List Span) (s : Span) → s ≡ get_or ss 0 s → to < s.to → spans_past to ss ≡ ss
-forget_done to [] s is h = behind_none to
-forget_done to (t ∷ ts) s is h = behind_done to t ts (subst (λ (x : Span). to < x.to) is h)
+forget_done to [] s is h = past_none to
+forget_done to (t ∷ ts) s is h = past_done to t ts (subst (λ (x : Span). to < x.to) is h)
 
 pub forget_none : (to : ℕ) (ss : List Span) → length ss ≡ 0 → spans_past to ss ≡ ss
-forget_none to [] h = behind_none to
+forget_none to [] h = past_none to
 forget_none to (t ∷ ts) h = absurd (omega arith)
 
 pub few_more : (from to : ℕ) (ss : List Span) (m : ℕ) → m ≡ length ss → m ≤ 1024 → MatchBool (nat_lt 1024 m) (1025 < length (add_span from to ss)) (length (add_span from to ss) ≤ 1025)

@@ -128,7 +128,7 @@ cell_put f after ok place from octets part p low high some e cut puts = go (in_s
 
     fresh : in_spans p f.spans ≡ false → (v : Bool) → in_segment place (length octets) p ≡ v → cell_of after p ≡ first_copy place octets p Missing
     fresh h true t =
-        let behind : first_end f.spans ≤ p = elim (cases_lt p (first_end f.spans)) [ inl before ↦ absurd (let c = first_covers f.spans p ok.order before in cc) | inr behind ↦ behind ] in
+        let beyond : first_end f.spans ≤ p = elim (cases_lt p (first_end f.spans)) [ inl before ↦ absurd (let c = first_covers f.spans p ok.order before in cc) | inr beyond ↦ beyond ] in
         let low_end : from ≤ p = grind (arith, nat_tests) in
         let high_end : p < place + length octets = grind (arith, nat_tests) in
         let within : (leb from p && ltb p (place + length octets)) ≡ true = grind (arith, nat_tests) in

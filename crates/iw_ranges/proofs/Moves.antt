@@ -11,7 +11,7 @@ use Rattle.iw_ranges.specs.Spans.{in_span, in_spans, IsApart, IsFromStart, AreSp
 use Rattle.iw_ranges.specs.Arrived.{Cell, Missing, Here, Gone, Arrived, cell_at, has_come, advanced, given_up, released, cells_between, drawn, end_of, IsHere}
 use Rattle.iw_ranges.specs.Fields.{Fields, cell_of, arrived_in, IsSound}
 use Rattle.iw_ranges.specs.Parts.{parts_of}
-use Rattle.iw_ranges.proofs.Joins.{behind_none, behind_more, behind_done}
+use Rattle.iw_ranges.proofs.Joins.{past_none, past_more, past_done}
 use Rattle.iw_ranges.proofs.Adds.{in_add, add_spans, in_order_spans}
 use Rattle.iw_ranges.proofs.Cells.{cell_missing, cell_gone, cell_here, cell_is, come_via, come_reaches, top_reaches, end_is, same_drawn, holds}
 use Rattle.iw_ranges.proofs.Counts.{or_false, or_true}
@@ -21,30 +21,30 @@ spans_apart : (m : ℕ) (ss : List Span) → IsApart m ss → AreSpans ss
 spans_apart m [] apart = tt
 spans_apart m (s ∷ ss) apart = (apart.1, apart.2)
 
-pub behind_spans : (to : ℕ) (ss : List Span) → AreSpans ss → AreSpans (spans_past to ss)
-behind_spans to [] order = subst AreSpans (sym (behind_none to)) tt
-behind_spans to (s ∷ ss) order =
+pub past_spans : (to : ℕ) (ss : List Span) → AreSpans ss → AreSpans (spans_past to ss)
+past_spans to [] order = subst AreSpans (sym (past_none to)) tt
+past_spans to (s ∷ ss) order =
     elim (cases_lt to s.to) [
-      | inl more ↦ subst AreSpans (sym (behind_done to s ss more)) order
-      | inr passed ↦ subst AreSpans (sym (behind_more to s ss passed)) (behind_spans to ss (spans_apart s.to ss order.1))
+      | inl more ↦ subst AreSpans (sym (past_done to s ss more)) order
+      | inr passed ↦ subst AreSpans (sym (past_more to s ss passed)) (past_spans to ss (spans_apart s.to ss order.1))
     ]
 
-in_behind : (to : ℕ) (ss : List Span) (p : ℕ) → to ≤ p → in_spans p (spans_past to ss) ≡ in_spans p ss
-in_behind to [] p low = ap (in_spans p) (behind_none to)
-in_behind to (s ∷ ss) p low =
+in_past : (to : ℕ) (ss : List Span) (p : ℕ) → to ≤ p → in_spans p (spans_past to ss) ≡ in_spans p ss
+in_past to [] p low = ap (in_spans p) (past_none to)
+in_past to (s ∷ ss) p low =
     elim (cases_lt to s.to) [
-      | inl more ↦ ap (in_spans p) (behind_done to s ss more)
+      | inl more ↦ ap (in_spans p) (past_done to s ss more)
       | inr passed ↦
           let out : in_span p s ≡ false = grind (arith, nat_tests) in
-          ap (in_spans p) (behind_more to s ss passed) ∙ in_behind to ss p low ∙ sym (ap (λ b. b || in_spans p ss) out)
+          ap (in_spans p) (past_more to s ss passed) ∙ in_past to ss p low ∙ sym (ap (λ b. b || in_spans p ss) out)
     ]
 
-behind_in : (to : ℕ) (ss : List Span) (p : ℕ) → in_spans p (spans_past to ss) ≡ true → in_spans p ss ≡ true
-behind_in to [] p t = absurd (let e = ap (in_spans p) (behind_none to) in cc)
-behind_in to (s ∷ ss) p t =
+past_in : (to : ℕ) (ss : List Span) (p : ℕ) → in_spans p (spans_past to ss) ≡ true → in_spans p ss ≡ true
+past_in to [] p t = absurd (let e = ap (in_spans p) (past_none to) in cc)
+past_in to (s ∷ ss) p t =
     elim (cases_lt to s.to) [
-      | inl more ↦ sym (ap (in_spans p) (behind_done to s ss more)) ∙ t
-      | inr passed ↦ either (in_span p s) (in_spans p ss) (behind_in to ss p (sym (ap (in_spans p) (behind_more to s ss passed)) ∙ t))
+      | inl more ↦ sym (ap (in_spans p) (past_done to s ss more)) ∙ t
+      | inr passed ↦ either (in_span p s) (in_spans p ss) (past_in to ss p (sym (ap (in_spans p) (past_more to s ss passed)) ∙ t))
     ]
   where
     either : (x y : Bool) → y ≡ true → (x || y) ≡ true
@@ -68,20 +68,20 @@ cells_from f floor top to low high =
 pub record KeepsGone (to : ℕ) (old new : List Span) : Type 0 where
   pub order : AreSpans new
   pub came : (p : ℕ) → in_spans p new ≡ true → in_spans p old ≡ true
-  pub behind : (p : ℕ) → to ≤ p → in_spans p new ≡ in_spans p old
+  pub beyond : (p : ℕ) → to ≤ p → in_spans p new ≡ in_spans p old
 
 pub forgot : (to : ℕ) (old new : List Span) → AreSpans old → new ≡ spans_past to old → KeepsGone to old new
 forgot to old new order is = record {
-  order = subst AreSpans (sym is) (behind_spans to old order);
-  came = λ p t. behind_in to old p (sym (ap (in_spans p) is) ∙ t);
-  behind = λ p low. ap (in_spans p) is ∙ in_behind to old p low;
+  order = subst AreSpans (sym is) (past_spans to old order);
+  came = λ p t. past_in to old p (sym (ap (in_spans p) is) ∙ t);
+  beyond = λ p low. ap (in_spans p) is ∙ in_past to old p low;
 }
 
 untouched : (to : ℕ) (old : List Span) → AreSpans old → KeepsGone to old old
 untouched to old order = record {
   order = order;
   came = λ p t. t;
-  behind = λ p low. refl;
+  beyond = λ p low. refl;
 }
 
 -- the in-order point and, where octets before it were let go, the buffer
@@ -121,7 +121,7 @@ cell_moved f after to p moves low = go (in_spans p f.spans) (in_spans p f.gone) 
     spans_is = ap (in_spans p) moves.spans
 
     gone_is : in_spans p after.gone ≡ in_spans p f.gone
-    gone_is = moves.gone.behind p low
+    gone_is = moves.gone.beyond p low
 
     go : (v g : Bool) → in_spans p f.spans ≡ v → in_spans p f.gone ≡ g → cell_of after p ≡ cell_of f p
     go false g h k = cell_missing after p (spans_is ∙ h) ∙ sym (cell_missing f p h)
@@ -137,7 +137,7 @@ advanced_to f after ok to low high moves =
     ap (λ n. drawn n (after.base + length after.octets) (cell_of after)) moves.floor
     ∙ same_drawn to (after.base + length after.octets) (f.base + length f.octets) (cell_of after) (cell_of f)
     (omega (arith, ap length moves.octets, length-drop (after.base - f.base) f.octets, moves.low, moves.high, top_reaches f ok))
-    (λ p behind. cell_moved f after to p moves behind)
+    (λ p beyond. cell_moved f after to p moves beyond)
     ∙ ap (λ cells. let a : Arrived = record { floor = to; cells = cells } in a) (cells_from (cell_of f) f.floor (f.base + length f.octets) to low (omega (arith, top_reaches f ok)))
     ∙ ap (λ n. let a : Arrived = record { floor = n; cells = drop (to - f.floor) (arrived_in f).cells } in a) (omega arith)
 

@@ -43,7 +43,7 @@ pub payload_front : (octets : List ℕ) (head : UntaggedHead) (payload : List �
     IsFront 46 octets len → n ≡ len → (18 ≤ n) × IsFront 28 payload (n - 18)
 unfolding payload_of header_of
 payload_front octets head payload len n e front same =
-    let behind : length octets ≡ length payload + 18 = length-segment octets (Untagged head payload) (sym e) in
+    let beyond : length octets ≡ length payload + 18 = length-segment octets (Untagged head payload) (sym e) in
     let enough = front.enough in
     let within = front.within in
     (omega arith, record { enough = omega arith; within = omega arith })

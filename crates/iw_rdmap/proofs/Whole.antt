@@ -28,11 +28,11 @@ first_request_fault a b c d e =
     else None
 
 -- the word at the front of a payload
-word_front : (payload behind : List ℕ) → 4 ≤ length payload → word_fields (payload ++ behind) ≡ word_fields payload
-word_front payload behind h =
-    let first = get_or-append payload behind 0 0 (omega arith) in
-    let second = get_or-append payload behind 0 1 (omega arith) in
-    let third = get_or-append payload behind 0 2 (omega arith) in
+word_front : (payload beyond : List ℕ) → 4 ≤ length payload → word_fields (payload ++ beyond) ≡ word_fields payload
+word_front payload beyond h =
+    let first = get_or-append payload beyond 0 0 (omega arith) in
+    let second = get_or-append payload beyond 0 1 (omega arith) in
+    let third = get_or-append payload beyond 0 2 (omega arith) in
     let word : ℕ → ℕ → ℕ → TerminateWord = λ a b c. word_fields (a ∷ b ∷ c ∷ []) in
     λ i. word (first i) (second i) (third i)
 
@@ -49,16 +49,16 @@ too_long n b h =
     let over : nat_lt 28 n ≡ true = grind (arith, nat_tests) in
     ap (λ t. t || b) over
 
-untagged_front : (head : UntaggedHead) (payload behind : List ℕ) (n next unanswered : ℕ) (checked : Result UntaggedOperation Fault) →
+untagged_front : (head : UntaggedHead) (payload beyond : List ℕ) (n next unanswered : ℕ) (checked : Result UntaggedOperation Fault) →
     28 < n → 4 ≤ length payload →
-    judged_untagged head payload n next unanswered checked ≡ judged_untagged head (payload ++ behind) n next unanswered checked
-untagged_front head payload behind n next unanswered (Err fault) h k = refl
-untagged_front head payload behind n next unanswered (Ok (Send solicited invalidates)) h k = refl
-untagged_front head payload behind n next unanswered (Ok ReadRequest) h k =
+    judged_untagged head payload n next unanswered checked ≡ judged_untagged head (payload ++ beyond) n next unanswered checked
+untagged_front head payload beyond n next unanswered (Err fault) h k = refl
+untagged_front head payload beyond n next unanswered (Ok (Send solicited invalidates)) h k = refl
+untagged_front head payload beyond n next unanswered (Ok ReadRequest) h k =
     any_request (not (head.msn == next)) (nat_le 16 unanswered) (not (head.mo == 0)) (nat_lt 28 n || not head.last) (nat_lt n 28)
-    (heads.Request head (request_fields payload)) (heads.Request head (request_fields (payload ++ behind))) (too_long n (not head.last) h)
-untagged_front head payload behind n next unanswered (Ok Terminate) h k =
-    ap (λ word. fault_or (terminate_fault head n) (heads.Terminate head word)) (sym (word_front payload behind k))
+    (heads.Request head (request_fields payload)) (heads.Request head (request_fields (payload ++ beyond))) (too_long n (not head.last) h)
+untagged_front head payload beyond n next unanswered (Ok Terminate) h k =
+    ap (λ word. fault_or (terminate_fault head n) (heads.Terminate head word)) (sym (word_front payload beyond k))
 
 -- octets that are not all of a ULPDU are 46 or more
 front_long : (first : List ℕ) (b : ℕ) (bs : List ℕ) → IsFront 46 first (length (first ++ (b ∷ bs))) → 46 ≤ length first
@@ -67,8 +67,8 @@ front_long first b bs front =
     let total : length (first ++ (b ∷ bs)) ≡ length first + length (b ∷ bs) = length-append first (b ∷ bs) in
     omega arith
 
-pub front_judged : (first behind : List ℕ) (next unanswered : ℕ) → IsFront 46 first (length (first ++ behind)) →
-    judged first (length (first ++ behind)) next unanswered ≡ judged (first ++ behind) (length (first ++ behind)) next unanswered
+pub front_judged : (first beyond : List ℕ) (next unanswered : ℕ) → IsFront 46 first (length (first ++ beyond)) →
+    judged first (length (first ++ beyond)) next unanswered ≡ judged (first ++ beyond) (length (first ++ beyond)) next unanswered
 front_judged first [] next unanswered front = ap (λ xs. judged xs (length (first ++ [])) next unanswered) (sym (append-nil first))
 front_judged first (b ∷ bs) next unanswered front = go (is_tagged (get_or first 0 0)) refl
   where

@@ -18,8 +18,8 @@ use Rattle.iw_rdmap.specs.Terminate.{FitsFault, word_for, terminate_octets}
 
 -- a ULPDU's first octets, 46 of them or all, are judged as the whole ULPDU is
 abbrev pub FrontWillDo : Type 0
-FrontWillDo = (first behind : List ℕ) (next unanswered : ℕ) →
-    let ulpdu = first ++ behind in
+FrontWillDo = (first beyond : List ℕ) (next unanswered : ℕ) →
+    let ulpdu = first ++ beyond in
     IsFront 46 first (length ulpdu) → judged first (length ulpdu) next unanswered ≡ judged ulpdu (length ulpdu) next unanswered
 
 -- ---- all checks of a header in one list

@@ -29,23 +29,23 @@ limits-asked reads ticket request room holds = record {
 
     go : (reads : List Outstanding) → All IsFresh (drop 1 reads) → All IsFresh (drop 1 (reads ++ read ∷ []))
     go [] fresh = All-nil IsFresh
-    go (first ∷ behind) fresh = All-push IsFresh behind read fresh refl
+    go (first ∷ beyond) fresh = All-push IsFresh beyond read fresh refl
 
 pub limits-ended : (reads : List Outstanding) → HoldsLimits reads → HoldsLimits (drop 1 reads)
 limits-ended [] holds = holds
 limits-ended (read ∷ []) holds = record { few = omega arith; within = All-nil Within; in_order = All-nil IsFresh }
-limits-ended (read ∷ (next ∷ behind)) holds = record {
+limits-ended (read ∷ (next ∷ beyond)) holds = record {
   few = let few = holds.few in omega arith;
-  within = All-tail Within read (next ∷ behind) holds.within;
-  in_order = All-tail IsFresh next behind holds.in_order;
+  within = All-tail Within read (next ∷ beyond) holds.within;
+  in_order = All-tail IsFresh next beyond holds.in_order;
 }
 
 -- where the next part of the oldest response stands in its source the offsets do not wrap
 pub part_in_range : (unanswered : List Asked) (fetched : ℕ) (asked : Asked) → slice_get unanswered 0 ≡ Some asked → All (λ asked. IsInRange asked.request) unanswered → IsBegun unanswered fetched →
     0 < fetched → asked.request.source_to + fetched < 2 ^ 64
 part_in_range [] fetched asked is ranges begun some = absurd (none-some asked is)
-part_in_range (first ∷ behind) fetched asked is ranges begun some =
-    let range : IsInRange first.request = All-head (λ asked. IsInRange asked.request) first behind ranges in
+part_in_range (first ∷ beyond) fetched asked is ranges begun some =
+    let range : IsInRange first.request = All-head (λ asked. IsInRange asked.request) first beyond ranges in
     let less : fetched < first.request.size = begun some in
     let within : first.request.source_to + first.request.size ≤ 2 ^ 64 = range (omega arith) in
     subst (λ (asked : Asked). asked.request.source_to + fetched < 2 ^ 64) (same_Some first asked is) (omega arith)
@@ -53,5 +53,5 @@ part_in_range (first ∷ behind) fetched asked is ranges begun some =
 -- the header of the oldest request is whole
 pub header_whole : (unanswered : List Asked) (asked : Asked) → slice_get unanswered 0 ≡ Some asked → All (λ asked. length asked.header.items ≡ 18) unanswered → length asked.header.items ≡ 18
 header_whole [] asked is whole = absurd (none-some asked is)
-header_whole (first ∷ behind) asked is whole =
-    subst (λ (asked : Asked). length asked.header.items ≡ 18) (same_Some first asked is) (All-head (λ asked. length asked.header.items ≡ 18) first behind whole)
+header_whole (first ∷ beyond) asked is whole =
+    subst (λ (asked : Asked). length asked.header.items ≡ 18) (same_Some first asked is) (All-head (λ asked. length asked.header.items ≡ 18) first beyond whole)

@@ -42,15 +42,15 @@ left-next request offset max some =
 -- nothing of the oldest response was fetched
 all_left : (waiting : List Asked) (max : ℕ) → to_fetch_for waiting 0 max ≡ flat_map (λ (asked : Asked). response_parts asked.request max) waiting
 all_left [] max = refl
-all_left (asked ∷ behind) max =
-    ap (λ size. map (part_of_response asked.request) (parts_from 0 size (max - 14)) ++ flat_map (λ (later : Asked). response_parts later.request max) behind) (let e : asked.request.size - 0 ≡ asked.request.size = omega arith in e)
+all_left (asked ∷ beyond) max =
+    ap (λ size. map (part_of_response asked.request) (parts_from 0 size (max - 14)) ++ flat_map (λ (later : Asked). response_parts later.request max) beyond) (let e : asked.request.size - 0 ≡ asked.request.size = omega arith in e)
 
 -- what a part leaves to be fetched, by whether it is the last
-after_part : (asked : Asked) (behind : List Asked) (next fetched n max : ℕ) (last : Bool) →
-    (if last then [] else parts_left asked.request (fetched + n) max) ++ flat_map (λ (later : Asked). response_parts later.request max) behind
-    ≡ to_fetch (if last then record { next = next; unanswered = behind; fetched = 0 } else record { next = next; unanswered = asked ∷ behind; fetched = fetched + n }) max
-after_part asked behind next fetched n max true = sym (all_left behind max)
-after_part asked behind next fetched n max false = refl
+after_part : (asked : Asked) (beyond : List Asked) (next fetched n max : ℕ) (last : Bool) →
+    (if last then [] else parts_left asked.request (fetched + n) max) ++ flat_map (λ (later : Asked). response_parts later.request max) beyond
+    ≡ to_fetch (if last then record { next = next; unanswered = beyond; fetched = 0 } else record { next = next; unanswered = asked ∷ beyond; fetched = fetched + n }) max
+after_part asked beyond next fetched n max true = sym (all_left beyond max)
+after_part asked beyond next fetched n max false = refl
 
 pub first-fetched : (s : Requested) (max : ℕ) (part : ResponsePart) → 14 < max → response_part s max ≡ Some part → to_fetch s max ≡ part ∷ to_fetch (part_fetched s (Some part)) max
 first-fetched s max part some is = go s.unanswered is
@@ -58,26 +58,26 @@ first-fetched s max part some is = go s.unanswered is
     go : (waiting : List Asked) → part_for waiting s.fetched max ≡ Some part →
         to_fetch_for waiting s.fetched max ≡ part ∷ to_fetch (part_fetched (record { next = s.next; unanswered = waiting; fetched = s.fetched }) (Some part)) max
     go [] is = absurd (none-some part is)
-    go (asked ∷ behind) is =
+    go (asked ∷ beyond) is =
         let cut = part_at asked.request.size (max - 14) s.fetched in
-        let rest : List ResponsePart = flat_map (λ (later : Asked). response_parts later.request max) behind in
+        let rest : List ResponsePart = flat_map (λ (later : Asked). response_parts later.request max) beyond in
         ap (λ parts. parts ++ rest) (left-next asked.request s.fetched max some)
-        ∙ ap (λ rest. part_of_response asked.request cut ∷ rest) (after_part asked behind s.next s.fetched cut.n max cut.last)
-        ∙ ap (λ part. part ∷ to_fetch (part_fetched (record { next = s.next; unanswered = asked ∷ behind; fetched = s.fetched }) (Some part)) max) (same_Some _ part is)
+        ∙ ap (λ rest. part_of_response asked.request cut ∷ rest) (after_part asked beyond s.next s.fetched cut.n max cut.last)
+        ∙ ap (λ part. part ∷ to_fetch (part_fetched (record { next = s.next; unanswered = asked ∷ beyond; fetched = s.fetched }) (Some part)) max) (same_Some _ part is)
 
 pub last-taken : (s : Requested) (max : ℕ) (asked : Asked) → IsBegun s.unanswered s.fetched → to_fetch (taken_up s asked) max ≡ to_fetch s max ++ response_parts asked.request max
 last-taken s max asked begun = go s.unanswered begun
   where
     go : (waiting : List Asked) → IsBegun waiting s.fetched → to_fetch_for (waiting ++ asked ∷ []) s.fetched max ≡ to_fetch_for waiting s.fetched max ++ response_parts asked.request max
     go [] begun = ap (λ fetched. to_fetch_for (asked ∷ []) fetched max) begun ∙ all_left (asked ∷ []) max ∙ append-nil (response_parts asked.request max)
-    go (first ∷ behind) begun =
+    go (first ∷ beyond) begun =
         let all : Asked → List ResponsePart = λ later. response_parts later.request max in
-        ap (λ rest. parts_left first.request s.fetched max ++ rest) (flat_map-append all behind (asked ∷ []) ∙ ap (λ last. flat_map all behind ++ last) (append-nil (all asked)))
-        ∙ sym (append_assoc (parts_left first.request s.fetched max) (flat_map all behind) (all asked))
+        ap (λ rest. parts_left first.request s.fetched max ++ rest) (flat_map-append all beyond (asked ∷ []) ∙ ap (λ last. flat_map all beyond ++ last) (append-nil (all asked)))
+        ∙ sym (append_assoc (parts_left first.request s.fetched max) (flat_map all beyond) (all asked))
 
 pub all-done : (s : Requested) (max : ℕ) → response_part s max ≡ None → s.unanswered ≡ []
 all-done s max is = go s.unanswered is
   where
     go : (waiting : List Asked) → part_for waiting s.fetched max ≡ None → waiting ≡ []
     go [] is = refl
-    go (asked ∷ behind) is = absurd (none-some _ (sym is))
+    go (asked ∷ beyond) is = absurd (none-some _ (sym is))

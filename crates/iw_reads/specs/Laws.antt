@@ -32,8 +32,8 @@ parts_left request offset max = map (part_of_response request) (parts_from offse
 -- what is to be fetched for all requests, where a ULPDU may have `max` octets: the responses, one after the other
 abbrev pub to_fetch_for : List Asked → ℕ → ℕ → List ResponsePart
 to_fetch_for [] fetched max = []
-to_fetch_for (asked ∷ behind) fetched max =
-    parts_left asked.request fetched max ++ flat_map (λ later. response_parts later.request max) behind
+to_fetch_for (asked ∷ beyond) fetched max =
+    parts_left asked.request fetched max ++ flat_map (λ later. response_parts later.request max) beyond
 
 abbrev pub to_fetch : Requested → ℕ → List ResponsePart
 to_fetch s max = to_fetch_for s.unanswered s.fetched max

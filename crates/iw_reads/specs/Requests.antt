@@ -29,7 +29,7 @@ taken_up s asked = record s { next = (s.next + 1) % 2 ^ 32; unanswered = s.unans
 -- the part of a response that is next, where a ULPDU may have `max` octets
 abbrev pub part_for : List Asked → ℕ → ℕ → Option ResponsePart
 part_for [] fetched max = None
-part_for (asked ∷ behind) fetched max =
+part_for (asked ∷ beyond) fetched max =
     Some (part_of_response asked.request (part_at asked.request.size (max - TAGGED_HEADER) fetched))
 
 -- requests are answered in the order in which they came (RFC 5040 5.2.2)
@@ -56,7 +56,7 @@ oldest_headers s = option_map_or headers_of (slice_get s.unanswered 0) []
 -- of a response that was begun octets are left
 abbrev pub IsBegun : List Asked → ℕ → Type 0
 IsBegun [] fetched = fetched ≡ 0
-IsBegun (asked ∷ behind) fetched = 0 < fetched → fetched < asked.request.size
+IsBegun (asked ∷ beyond) fetched = 0 < fetched → fetched < asked.request.size
 
 pub record HoldsLimits (s : Requested) : Type 0 where
   pub few : length s.unanswered ≤ most_unanswered

@@ -65,7 +65,7 @@ const ROWS: [(&str, Ending); 76] = [
     ("a-tried-frame-is-judged-at-its-turn", Ending::Completed),
     ("a-tried-frame-changes-no-memory", Ending::Completed),
     ("a-frame-over-a-placed-one", Ending::Faulted),
-    ("a-placed-frame-behind-markers-that-agree", Ending::Faulted),
+    ("a-placed-frame-past-markers-that-agree", Ending::Faulted),
     ("the-low-bits-of-a-pointer", Ending::Completed),
     ("a-pointer-into-a-placed-frame", Ending::Completed),
     ("capture", Ending::Completed),

@@ -19,7 +19,7 @@ use Rattle.iw_schedules.specs.SendKind.{kind_word, is_solicited, invalidated_wor
 use Rattle.iw_schedules.specs.Rights.{rights_word}
 use Rattle.iw_schedules.specs.Options.{options_word}
 use Rattle.iw_schedules.specs.Words.{role_text, roles, role_word, call_text, call_words, call_word}
-use Rattle.iw_schedules.specs.Calls.{field, octet_number, long_number, size_number, times_at, step_call, one, posted, read_of, domain_at, register_at, deregister_at, invalidate_at, store_at, open_at, accept_at, reject_at, recv_at, send_at, write_at, read_at, steps_at, deliver_at, raw_at, mulpdu_at, break_at, behind, calls_at}
+use Rattle.iw_schedules.specs.Calls.{field, octet_number, long_number, size_number, times_at, step_call, one, posted, read_of, domain_at, register_at, deregister_at, invalidate_at, store_at, open_at, accept_at, reject_at, recv_at, send_at, write_at, read_at, steps_at, deliver_at, raw_at, mulpdu_at, break_at, beyond, calls_at}
 use Rattle.iw_schedules.specs.Grammar.{Word, IsOctetNumber, IsTimes, IsCall}
 use Rattle.iw_schedules.specs.Grammar.IsKind.{plain, solicited, invalidating, both as solicited_and_invalidating}
 use Rattle.iw_schedules.specs.Grammar.IsCall.{domain, register, deregister, invalidate, store, opening, accept, reject, recv, send, write, read, emit, emit_times, work, work_times, deliver, raw, mulpdu, breaking}
@@ -77,10 +77,10 @@ domain_is words calls e =
 pub register_is : (words : List Word) (calls : Calls) → register_at words ≡ Ok (calls, []) → IsCall (codes "register" ∷ words) calls
 unfolding register_at
 register_is words calls e =
-    reads octet_number words _ (calls, []) (λ ws. IsCall (codes "register" ∷ ws) calls) e (λ a pd behind_a is_a then_a.
-    reads long_number behind_a _ (calls, []) (λ ws. IsCall (codes "register" ∷ a ∷ ws) calls) then_a (λ b base behind_b is_b then_b.
-    reads rights_word behind_b _ (calls, []) (λ ws. IsCall (codes "register" ∷ a ∷ b ∷ ws) calls) then_b (λ c rights behind_c is_c then_c.
-    reads octets_word behind_c _ (calls, []) (λ ws. IsCall (codes "register" ∷ a ∷ b ∷ c ∷ ws) calls) then_c (λ d octets others is_d then_d.
+    reads octet_number words _ (calls, []) (λ ws. IsCall (codes "register" ∷ ws) calls) e (λ a pd past_a is_a then_a.
+    reads long_number past_a _ (calls, []) (λ ws. IsCall (codes "register" ∷ a ∷ ws) calls) then_a (λ b base past_b is_b then_b.
+    reads rights_word past_b _ (calls, []) (λ ws. IsCall (codes "register" ∷ a ∷ b ∷ ws) calls) then_b (λ c rights past_c is_c then_c.
+    reads octets_word past_c _ (calls, []) (λ ws. IsCall (codes "register" ∷ a ∷ b ∷ c ∷ ws) calls) then_c (λ d octets others is_d then_d.
     finishes (λ ws made. IsCall (codes "register" ∷ a ∷ b ∷ c ∷ d ∷ ws) made) calls (one (Register pd base rights octets)) others then_d (register (number_is 255 a pd is_a) (number_is (2 ^ 64 - 1) b base is_b) (rights_is c rights is_c) (octets_is d octets is_d))))))
 
 pub deregister_is : (words : List Word) (calls : Calls) → deregister_at words ≡ Ok (calls, []) → IsCall (codes "deregister" ∷ words) calls
@@ -98,19 +98,19 @@ invalidate_is words calls e =
 pub store_is : (words : List Word) (calls : Calls) → store_at words ≡ Ok (calls, []) → IsCall (codes "store" ∷ words) calls
 unfolding store_at
 store_is words calls e =
-    reads stag_word words _ (calls, []) (λ ws. IsCall (codes "store" ∷ ws) calls) e (λ a stag behind_a is_a then_a.
-    reads long_number behind_a _ (calls, []) (λ ws. IsCall (codes "store" ∷ a ∷ ws) calls) then_a (λ b to behind_b is_b then_b.
-    reads octets_word behind_b _ (calls, []) (λ ws. IsCall (codes "store" ∷ a ∷ b ∷ ws) calls) then_b (λ c octets others is_c then_c.
+    reads stag_word words _ (calls, []) (λ ws. IsCall (codes "store" ∷ ws) calls) e (λ a stag past_a is_a then_a.
+    reads long_number past_a _ (calls, []) (λ ws. IsCall (codes "store" ∷ a ∷ ws) calls) then_a (λ b to past_b is_b then_b.
+    reads octets_word past_b _ (calls, []) (λ ws. IsCall (codes "store" ∷ a ∷ b ∷ ws) calls) then_b (λ c octets others is_c then_c.
     finishes (λ ws made. IsCall (codes "store" ∷ a ∷ b ∷ c ∷ ws) made) calls (one (Store stag to octets)) others then_c (store (stag_is a stag is_a) (number_is (2 ^ 64 - 1) b to is_b) (octets_is c octets is_c)))))
 
 pub open_is : (words : List Word) (calls : Calls) → open_at words ≡ Ok (calls, []) → IsCall (codes "open" ∷ words) calls
 unfolding open_at
 open_is words calls e =
-    reads octet_number words _ (calls, []) (λ ws. IsCall (codes "open" ∷ ws) calls) e (λ a stream behind_a is_a then_a.
-    reads octet_number behind_a _ (calls, []) (λ ws. IsCall (codes "open" ∷ a ∷ ws) calls) then_a (λ b pd behind_b is_b then_b.
-    reads role_word behind_b _ (calls, []) (λ ws. IsCall (codes "open" ∷ a ∷ b ∷ ws) calls) then_b (λ c role behind_c is_c then_c.
-    reads options_word behind_c _ (calls, []) (λ ws. IsCall (codes "open" ∷ a ∷ b ∷ c ∷ ws) calls) then_c (λ d options behind_d is_d then_d.
-    reads private_word behind_d _ (calls, []) (λ ws. IsCall (codes "open" ∷ a ∷ b ∷ c ∷ d ∷ ws) calls) then_d (λ f private others is_f then_f.
+    reads octet_number words _ (calls, []) (λ ws. IsCall (codes "open" ∷ ws) calls) e (λ a stream past_a is_a then_a.
+    reads octet_number past_a _ (calls, []) (λ ws. IsCall (codes "open" ∷ a ∷ ws) calls) then_a (λ b pd past_b is_b then_b.
+    reads role_word past_b _ (calls, []) (λ ws. IsCall (codes "open" ∷ a ∷ b ∷ ws) calls) then_b (λ c role past_c is_c then_c.
+    reads options_word past_c _ (calls, []) (λ ws. IsCall (codes "open" ∷ a ∷ b ∷ c ∷ ws) calls) then_c (λ d options past_d is_d then_d.
+    reads private_word past_d _ (calls, []) (λ ws. IsCall (codes "open" ∷ a ∷ b ∷ c ∷ d ∷ ws) calls) then_d (λ f private others is_f then_f.
     finishes (λ ws made. IsCall (codes "open" ∷ a ∷ b ∷ c ∷ d ∷ f ∷ ws) made) calls (one (Open stream pd role options private)) others then_f
     (subst (λ w. IsCall (codes "open" ∷ a ∷ b ∷ w ∷ d ∷ f ∷ []) (one (Open stream pd role options private))) (sym (one_of_is role_text roles c role is_c))
     (opening (number_is 255 a stream is_a) (number_is 255 b pd is_b) (options_are d options is_d) (private_is f private is_f))))))))
@@ -118,76 +118,76 @@ open_is words calls e =
 pub accept_is : (words : List Word) (calls : Calls) → accept_at words ≡ Ok (calls, []) → IsCall (codes "accept" ∷ words) calls
 unfolding accept_at
 accept_is words calls e =
-    reads octet_number words _ (calls, []) (λ ws. IsCall (codes "accept" ∷ ws) calls) e (λ a stream behind_a is_a then_a.
-    reads private_word behind_a _ (calls, []) (λ ws. IsCall (codes "accept" ∷ a ∷ ws) calls) then_a (λ b private others is_b then_b.
+    reads octet_number words _ (calls, []) (λ ws. IsCall (codes "accept" ∷ ws) calls) e (λ a stream past_a is_a then_a.
+    reads private_word past_a _ (calls, []) (λ ws. IsCall (codes "accept" ∷ a ∷ ws) calls) then_a (λ b private others is_b then_b.
     finishes (λ ws made. IsCall (codes "accept" ∷ a ∷ b ∷ ws) made) calls (one (Stream stream (Accept private))) others then_b (accept (number_is 255 a stream is_a) (private_is b private is_b))))
 
 pub reject_is : (words : List Word) (calls : Calls) → reject_at words ≡ Ok (calls, []) → IsCall (codes "reject" ∷ words) calls
 unfolding reject_at
 reject_is words calls e =
-    reads octet_number words _ (calls, []) (λ ws. IsCall (codes "reject" ∷ ws) calls) e (λ a stream behind_a is_a then_a.
-    reads private_word behind_a _ (calls, []) (λ ws. IsCall (codes "reject" ∷ a ∷ ws) calls) then_a (λ b private others is_b then_b.
+    reads octet_number words _ (calls, []) (λ ws. IsCall (codes "reject" ∷ ws) calls) e (λ a stream past_a is_a then_a.
+    reads private_word past_a _ (calls, []) (λ ws. IsCall (codes "reject" ∷ a ∷ ws) calls) then_a (λ b private others is_b then_b.
     finishes (λ ws made. IsCall (codes "reject" ∷ a ∷ b ∷ ws) made) calls (one (Stream stream (Reject private))) others then_b (reject (number_is 255 a stream is_a) (private_is b private is_b))))
 
 pub recv_is : (words : List Word) (calls : Calls) → recv_at words ≡ Ok (calls, []) → IsCall (codes "recv" ∷ words) calls
 unfolding recv_at
 recv_is words calls e =
-    reads octet_number words _ (calls, []) (λ ws. IsCall (codes "recv" ∷ ws) calls) e (λ a stream behind_a is_a then_a.
-    reads (number_word MAX_WORD_OCTETS) behind_a _ (calls, []) (λ ws. IsCall (codes "recv" ∷ a ∷ ws) calls) then_a (λ b len others is_b then_b.
+    reads octet_number words _ (calls, []) (λ ws. IsCall (codes "recv" ∷ ws) calls) e (λ a stream past_a is_a then_a.
+    reads (number_word MAX_WORD_OCTETS) past_a _ (calls, []) (λ ws. IsCall (codes "recv" ∷ a ∷ ws) calls) then_a (λ b len others is_b then_b.
     finishes (λ ws made. IsCall (codes "recv" ∷ a ∷ b ∷ ws) made) calls (one (Stream stream (Recv len))) others then_b (recv (number_is 255 a stream is_a) (number_is MAX_WORD_OCTETS b len is_b))))
 
 pub send_is : (words : List Word) (calls : Calls) → send_at words ≡ Ok (calls, []) → IsCall (codes "send" ∷ words) calls
 unfolding send_at
 send_is words calls e =
-    reads octet_number words _ (calls, []) (λ ws. IsCall (codes "send" ∷ ws) calls) e (λ a stream behind_a is_a then_a.
-    reads kind_word behind_a _ (calls, []) (λ ws. IsCall (codes "send" ∷ a ∷ ws) calls) then_a (λ b kind behind_b is_b then_b.
-    reads (invalidated_word kind) behind_b _ (calls, []) (λ ws. IsCall (codes "send" ∷ a ∷ b ∷ ws) calls) then_b (λ c stag behind_c is_c then_c.
-    reads octets_word behind_c _ (calls, []) (λ ws. IsCall (codes "send" ∷ a ∷ b ∷ c ∷ ws) calls) then_c (λ d octets others is_d then_d.
+    reads octet_number words _ (calls, []) (λ ws. IsCall (codes "send" ∷ ws) calls) e (λ a stream past_a is_a then_a.
+    reads kind_word past_a _ (calls, []) (λ ws. IsCall (codes "send" ∷ a ∷ ws) calls) then_a (λ b kind past_b is_b then_b.
+    reads (invalidated_word kind) past_b _ (calls, []) (λ ws. IsCall (codes "send" ∷ a ∷ b ∷ ws) calls) then_b (λ c stag past_c is_c then_c.
+    reads octets_word past_c _ (calls, []) (λ ws. IsCall (codes "send" ∷ a ∷ b ∷ c ∷ ws) calls) then_c (λ d octets others is_d then_d.
     finishes (λ ws made. IsCall (codes "send" ∷ a ∷ b ∷ c ∷ d ∷ ws) made) calls (posted stream (requests.Message (messages.Send octets (is_solicited kind) stag))) others then_d
     (send (number_is 255 a stream is_a) (kind_is b c kind stag is_b is_c) (octets_is d octets is_d))))))
 
 pub write_is : (words : List Word) (calls : Calls) → write_at words ≡ Ok (calls, []) → IsCall (codes "write" ∷ words) calls
 unfolding write_at
 write_is words calls e =
-    reads octet_number words _ (calls, []) (λ ws. IsCall (codes "write" ∷ ws) calls) e (λ a stream behind_a is_a then_a.
-    reads stag_word behind_a _ (calls, []) (λ ws. IsCall (codes "write" ∷ a ∷ ws) calls) then_a (λ b stag behind_b is_b then_b.
-    reads long_number behind_b _ (calls, []) (λ ws. IsCall (codes "write" ∷ a ∷ b ∷ ws) calls) then_b (λ c to behind_c is_c then_c.
-    reads octets_word behind_c _ (calls, []) (λ ws. IsCall (codes "write" ∷ a ∷ b ∷ c ∷ ws) calls) then_c (λ d octets others is_d then_d.
+    reads octet_number words _ (calls, []) (λ ws. IsCall (codes "write" ∷ ws) calls) e (λ a stream past_a is_a then_a.
+    reads stag_word past_a _ (calls, []) (λ ws. IsCall (codes "write" ∷ a ∷ ws) calls) then_a (λ b stag past_b is_b then_b.
+    reads long_number past_b _ (calls, []) (λ ws. IsCall (codes "write" ∷ a ∷ b ∷ ws) calls) then_b (λ c to past_c is_c then_c.
+    reads octets_word past_c _ (calls, []) (λ ws. IsCall (codes "write" ∷ a ∷ b ∷ c ∷ ws) calls) then_c (λ d octets others is_d then_d.
     finishes (λ ws made. IsCall (codes "write" ∷ a ∷ b ∷ c ∷ d ∷ ws) made) calls (posted stream (requests.Message (messages.Write stag to octets))) others then_d (write (number_is 255 a stream is_a) (stag_is b stag is_b) (number_is (2 ^ 64 - 1) c to is_c) (octets_is d octets is_d))))))
 
 pub read_is : (words : List Word) (calls : Calls) → read_at words ≡ Ok (calls, []) → IsCall (codes "read" ∷ words) calls
 unfolding read_at
 read_is words calls e =
-    reads octet_number words _ (calls, []) (λ ws. IsCall (codes "read" ∷ ws) calls) e (λ a stream behind_a is_a then_a.
-    reads stag_word behind_a _ (calls, []) (λ ws. IsCall (codes "read" ∷ a ∷ ws) calls) then_a (λ b sink behind_b is_b then_b.
-    reads long_number behind_b _ (calls, []) (λ ws. IsCall (codes "read" ∷ a ∷ b ∷ ws) calls) then_b (λ c sink_to behind_c is_c then_c.
-    reads size_number behind_c _ (calls, []) (λ ws. IsCall (codes "read" ∷ a ∷ b ∷ c ∷ ws) calls) then_c (λ d size behind_d is_d then_d.
-    reads stag_word behind_d _ (calls, []) (λ ws. IsCall (codes "read" ∷ a ∷ b ∷ c ∷ d ∷ ws) calls) then_d (λ f source behind_f is_f then_f.
-    reads long_number behind_f _ (calls, []) (λ ws. IsCall (codes "read" ∷ a ∷ b ∷ c ∷ d ∷ f ∷ ws) calls) then_f (λ g source_to others is_g then_g.
+    reads octet_number words _ (calls, []) (λ ws. IsCall (codes "read" ∷ ws) calls) e (λ a stream past_a is_a then_a.
+    reads stag_word past_a _ (calls, []) (λ ws. IsCall (codes "read" ∷ a ∷ ws) calls) then_a (λ b sink past_b is_b then_b.
+    reads long_number past_b _ (calls, []) (λ ws. IsCall (codes "read" ∷ a ∷ b ∷ ws) calls) then_b (λ c sink_to past_c is_c then_c.
+    reads size_number past_c _ (calls, []) (λ ws. IsCall (codes "read" ∷ a ∷ b ∷ c ∷ ws) calls) then_c (λ d size past_d is_d then_d.
+    reads stag_word past_d _ (calls, []) (λ ws. IsCall (codes "read" ∷ a ∷ b ∷ c ∷ d ∷ ws) calls) then_d (λ f source past_f is_f then_f.
+    reads long_number past_f _ (calls, []) (λ ws. IsCall (codes "read" ∷ a ∷ b ∷ c ∷ d ∷ f ∷ ws) calls) then_f (λ g source_to others is_g then_g.
     finishes (λ ws made. IsCall (codes "read" ∷ a ∷ b ∷ c ∷ d ∷ f ∷ g ∷ ws) made) calls (posted stream (requests.Read (read_of sink sink_to size source source_to))) others then_g
     (read (number_is 255 a stream is_a) (stag_is b sink is_b) (number_is (2 ^ 64 - 1) c sink_to is_c) (number_is (2 ^ 32 - 1) d size is_d) (stag_is f source is_f) (number_is (2 ^ 64 - 1) g source_to is_g))))))))
 
 pub deliver_is : (words : List Word) (calls : Calls) → deliver_at words ≡ Ok (calls, []) → IsCall (codes "deliver" ∷ words) calls
 unfolding deliver_at
 deliver_is words calls e =
-    reads octet_number words _ (calls, []) (λ ws. IsCall (codes "deliver" ∷ ws) calls) e (λ a stream behind_a is_a then_a.
-    reads long_number behind_a _ (calls, []) (λ ws. IsCall (codes "deliver" ∷ a ∷ ws) calls) then_a (λ b from behind_b is_b then_b.
-    reads long_number behind_b _ (calls, []) (λ ws. IsCall (codes "deliver" ∷ a ∷ b ∷ ws) calls) then_b (λ c len others is_c then_c.
+    reads octet_number words _ (calls, []) (λ ws. IsCall (codes "deliver" ∷ ws) calls) e (λ a stream past_a is_a then_a.
+    reads long_number past_a _ (calls, []) (λ ws. IsCall (codes "deliver" ∷ a ∷ ws) calls) then_a (λ b from past_b is_b then_b.
+    reads long_number past_b _ (calls, []) (λ ws. IsCall (codes "deliver" ∷ a ∷ b ∷ ws) calls) then_b (λ c len others is_c then_c.
     finishes (λ ws made. IsCall (codes "deliver" ∷ a ∷ b ∷ c ∷ ws) made) calls (one (Stream stream (Deliver from len))) others then_c (deliver (number_is 255 a stream is_a) (number_is (2 ^ 64 - 1) b from is_b) (number_is (2 ^ 64 - 1) c len is_c)))))
 
 pub raw_is : (words : List Word) (calls : Calls) → raw_at words ≡ Ok (calls, []) → IsCall (codes "raw" ∷ words) calls
 unfolding raw_at
 raw_is words calls e =
-    reads octet_number words _ (calls, []) (λ ws. IsCall (codes "raw" ∷ ws) calls) e (λ a stream behind_a is_a then_a.
-    reads long_number behind_a _ (calls, []) (λ ws. IsCall (codes "raw" ∷ a ∷ ws) calls) then_a (λ b from behind_b is_b then_b.
-    reads octets_word behind_b _ (calls, []) (λ ws. IsCall (codes "raw" ∷ a ∷ b ∷ ws) calls) then_b (λ c octets others is_c then_c.
+    reads octet_number words _ (calls, []) (λ ws. IsCall (codes "raw" ∷ ws) calls) e (λ a stream past_a is_a then_a.
+    reads long_number past_a _ (calls, []) (λ ws. IsCall (codes "raw" ∷ a ∷ ws) calls) then_a (λ b from past_b is_b then_b.
+    reads octets_word past_b _ (calls, []) (λ ws. IsCall (codes "raw" ∷ a ∷ b ∷ ws) calls) then_b (λ c octets others is_c then_c.
     finishes (λ ws made. IsCall (codes "raw" ∷ a ∷ b ∷ c ∷ ws) made) calls (one (Stream stream (Raw from octets))) others then_c (raw (number_is 255 a stream is_a) (number_is (2 ^ 64 - 1) b from is_b) (octets_is c octets is_c)))))
 
 pub mulpdu_is : (words : List Word) (calls : Calls) → mulpdu_at words ≡ Ok (calls, []) → IsCall (codes "mulpdu" ∷ words) calls
 unfolding mulpdu_at
 mulpdu_is words calls e =
-    reads octet_number words _ (calls, []) (λ ws. IsCall (codes "mulpdu" ∷ ws) calls) e (λ a stream behind_a is_a then_a.
-    reads size_number behind_a _ (calls, []) (λ ws. IsCall (codes "mulpdu" ∷ a ∷ ws) calls) then_a (λ b size others is_b then_b.
+    reads octet_number words _ (calls, []) (λ ws. IsCall (codes "mulpdu" ∷ ws) calls) e (λ a stream past_a is_a then_a.
+    reads size_number past_a _ (calls, []) (λ ws. IsCall (codes "mulpdu" ∷ a ∷ ws) calls) then_a (λ b size others is_b then_b.
     finishes (λ ws made. IsCall (codes "mulpdu" ∷ a ∷ b ∷ ws) made) calls (one (Stream stream (Mulpdu size))) others then_b (mulpdu (number_is 255 a stream is_a) (number_is (2 ^ 32 - 1) b size is_b))))
 
 pub break_is : (words : List Word) (calls : Calls) → break_at words ≡ Ok (calls, []) → IsCall (codes "break" ∷ words) calls
@@ -214,11 +214,11 @@ steps_are : (step : Step) (name : Word) (words : List Word) (calls : Calls) → 
     → IsCall (name ∷ words) calls
 unfolding steps_at
 steps_are step name words calls e once often =
-    reads octet_number words _ (calls, []) (λ ws. IsCall (name ∷ ws) calls) e (λ a stream behind_a is_a then_a.
+    reads octet_number words _ (calls, []) (λ ws. IsCall (name ∷ ws) calls) e (λ a stream past_a is_a then_a.
     let number = number_is 255 a stream is_a in
-    let t = bind_ok (times_at behind_a) _ (calls, []) then_a in
+    let t = bind_ok (times_at past_a) _ (calls, []) then_a in
     let made = replicate t.0.0 (Stream stream (step_call step)) in
-    elim (times_told behind_a t.0 t.1) [
+    elim (times_told past_a t.0 t.1) [
       | inl none ↦
           let last = finishes (λ ws made. IsCall (name ∷ a ∷ ws) made) calls made t.0.1 t.2 (subst (λ n. IsCall (name ∷ a ∷ []) (replicate n (Stream stream (step_call step)))) none.2 (once a stream number)) in
           subst (λ ws. IsCall (name ∷ a ∷ ws) calls) (none.1 ∙ sym none.0) last
@@ -239,25 +239,25 @@ call_word_is : (word : Word) (call : CallWord) → call_word word ≡ Ok call �
 unfolding call_word
 call_word_is word call e = one_of_is call_text call_words word call e
 
-behind_is : (call : CallWord) (words : List Word) (calls : Calls) → behind call words ≡ Ok (calls, []) → IsCall (call_text call ∷ words) calls
-behind_is named.Domain words calls e = domain_is words calls e
-behind_is named.Register words calls e = register_is words calls e
-behind_is named.Deregister words calls e = deregister_is words calls e
-behind_is named.Invalidate words calls e = invalidate_is words calls e
-behind_is named.Store words calls e = store_is words calls e
-behind_is named.Open words calls e = open_is words calls e
-behind_is named.Accept words calls e = accept_is words calls e
-behind_is named.Reject words calls e = reject_is words calls e
-behind_is named.Recv words calls e = recv_is words calls e
-behind_is named.Send words calls e = send_is words calls e
-behind_is named.Write words calls e = write_is words calls e
-behind_is named.Read words calls e = read_is words calls e
-behind_is named.Emit words calls e = emit_is words calls e
-behind_is named.Work words calls e = work_is words calls e
-behind_is named.Deliver words calls e = deliver_is words calls e
-behind_is named.Raw words calls e = raw_is words calls e
-behind_is named.Mulpdu words calls e = mulpdu_is words calls e
-behind_is named.Break words calls e = break_is words calls e
+past_is : (call : CallWord) (words : List Word) (calls : Calls) → beyond call words ≡ Ok (calls, []) → IsCall (call_text call ∷ words) calls
+past_is named.Domain words calls e = domain_is words calls e
+past_is named.Register words calls e = register_is words calls e
+past_is named.Deregister words calls e = deregister_is words calls e
+past_is named.Invalidate words calls e = invalidate_is words calls e
+past_is named.Store words calls e = store_is words calls e
+past_is named.Open words calls e = open_is words calls e
+past_is named.Accept words calls e = accept_is words calls e
+past_is named.Reject words calls e = reject_is words calls e
+past_is named.Recv words calls e = recv_is words calls e
+past_is named.Send words calls e = send_is words calls e
+past_is named.Write words calls e = write_is words calls e
+past_is named.Read words calls e = read_is words calls e
+past_is named.Emit words calls e = emit_is words calls e
+past_is named.Work words calls e = work_is words calls e
+past_is named.Deliver words calls e = deliver_is words calls e
+past_is named.Raw words calls e = raw_is words calls e
+past_is named.Mulpdu words calls e = mulpdu_is words calls e
+past_is named.Break words calls e = break_is words calls e
 
 pub calls_are : (words : List Word) (calls : Calls) → calls_at words ≡ Ok (calls, []) → IsCall words calls
 unfolding calls_at
@@ -265,7 +265,7 @@ calls_are words calls e =
     let a = bind_ok (field call_word words) _ (calls, []) e in
     let f = field_is call_word words a.0 a.1 in
     let text = call_word_is f.word a.0.0 f.value in
-    subst (λ ws. IsCall ws calls) (cc (f.words_are, text)) (behind_is a.0.0 a.0.1 calls a.2)
+    subst (λ ws. IsCall ws calls) (cc (f.words_are, text)) (past_is a.0.0 a.0.1 calls a.2)
 
 role_again : (role : Role) → role_word (role_text role) ≡ Ok role
 role_again Preset = refl

@@ -116,9 +116,9 @@ stag_again word stag is =
 
 -- these parts around a separator make up the whole
 abbrev Joins : ℕ → List ℕ → List ℕ → Option (List ℕ) → Type 0
-Joins separator xs front behind = MatchOption behind (xs ≡ front) (λ rest. xs ≡ front ++ separator ∷ rest)
+Joins separator xs front beyond = MatchOption beyond (xs ≡ front) (λ rest. xs ≡ front ++ separator ∷ rest)
 
-joins_onto : (separator x : ℕ) (xs front : List ℕ) (behind : Option (List ℕ)) → Joins separator xs front behind → Joins separator (x ∷ xs) (x ∷ front) behind
+joins_onto : (separator x : ℕ) (xs front : List ℕ) (beyond : Option (List ℕ)) → Joins separator xs front beyond → Joins separator (x ∷ xs) (x ∷ front) beyond
 joins_onto separator x xs front None e = ap (λ ys. x ∷ ys) e
 joins_onto separator x xs front (Some rest) e = ap (λ ys. x ∷ ys) e
 
@@ -159,7 +159,7 @@ no_dash word false e lt = refl
 too_long : (word : Word) → 1 < length word → bytes_eq word (codes "-") ≡ false
 too_long word lt = no_dash word (bytes_eq word (codes "-")) refl lt
 
-octets_counted : (word front octets out : List ℕ) (n : ℕ) (behind : Option (List ℕ)) → Joins 42 word front behind → IsHex front octets → count_word behind ≡ Ok n
+octets_counted : (word front octets out : List ℕ) (n : ℕ) (beyond : Option (List ℕ)) → Joins 42 word front beyond → IsHex front octets → count_word beyond ≡ Ok n
     → n * length octets ≤ MAX_WORD_OCTETS → repeat n octets ≡ out → IsOctets word out
 octets_counted word front octets out n None joins hex counted few made =
     let one : 1 ≡ n = cc in

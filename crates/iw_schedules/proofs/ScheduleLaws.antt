@@ -84,8 +84,8 @@ begins [] A e = absurd cc
 begins [] B e = absurd cc
 begins (x ∷ xs) end e = begins_at x xs end (eqb x 32) refl e
 
-first_word : (word : Word) (others : List Word) (first : Word) (behind : List Word) → word ∷ others ≡ first ∷ behind → word ≡ first
-first_word word others first behind e = cc
+first_word : (word : Word) (others : List Word) (first : Word) (beyond : List Word) → word ∷ others ≡ first ∷ beyond → word ≡ first
+first_word word others first beyond e = cc
 
 is_spoken : (line : List ℕ) (events : Events) → IsLine line events → is_skipped line ≡ false
 is_spoken line events is = begins line is.end (first_word _ _ _ _ (sym (pieces-split 32 line) ∙ is.words_are))
@@ -198,9 +198,9 @@ and_then_err number n name (Err other) f e =
 record Faulty (number n : ℕ) (name : FaultName) (before : Events) (lines : List (List ℕ)) : Type 0 where
   good : List (List ℕ)
   bad : List ℕ
-  behind : List (List ℕ)
+  beyond : List (List ℕ)
   events : Events
-  lines_are : lines ≡ good ++ bad ∷ behind
+  lines_are : lines ≡ good ++ bad ∷ beyond
   number_is : number + length good ≡ n
   each : AreLines good events
   few : length (before ++ events) ≤ MAX_EVENTS
@@ -212,7 +212,7 @@ faulty_later number n name before mid line others (inl skip) later =
     record {
       good = line ∷ later.good;
       bad = later.bad;
-      behind = later.behind;
+      beyond = later.beyond;
       events = later.events;
       lines_are = ap (λ ls. line ∷ ls) later.lines_are;
       number_is = omega (arith, later.number_is);
@@ -225,7 +225,7 @@ faulty_later number n name before mid line others (inr told) later =
     record {
       good = line ∷ later.good;
       bad = later.bad;
-      behind = later.behind;
+      beyond = later.beyond;
       events = told.0 ++ later.events;
       lines_are = ap (λ ls. line ∷ ls) later.lines_are;
       number_is = omega (arith, later.number_is);
@@ -243,7 +243,7 @@ lines_fault number n name before (line ∷ lines) few e =
           record {
             good = [];
             bad = line;
-            behind = lines;
+            beyond = lines;
             events = [];
             lines_are = refl;
             number_is = omega (arith, here.0);
@@ -260,7 +260,7 @@ first_fault_is : (text : List ℕ) (number : ℕ) (name : FaultName) → schedul
 unfolding schedule_of
 first_fault_is text number name e =
     let f = lines_fault 1 number name [] (lines text) (omega arith) e in
-    record { good = f.good; bad = f.bad; behind = f.behind; events = f.events; lines_are = f.lines_are; number_is = omega (arith, f.number_is); each = f.each; few = f.few; fault = f.fault }
+    record { good = f.good; bad = f.bad; beyond = f.beyond; events = f.events; lines_are = f.lines_are; number_is = omega (arith, f.number_is); each = f.each; few = f.few; fault = f.fault }
 
 pub found : (text : List ℕ) {X : Type 0} (view : X → Events) (r : Result X ScheduleFault) → Reads view r (schedule_of text) → IfOk r (λ x. IsSchedule text (view x))
 found text view (Ok x) reads = schedule_is text (view x) reads

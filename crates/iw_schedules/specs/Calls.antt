@@ -185,30 +185,30 @@ break_at words = do
   Ok (one (Stream stream.0 Break), stream.1)
 
 -- what follows each word that names a call
-abbrev pub behind : CallWord → List (List ℕ) → Taken (List (Call (List ℕ)))
-behind named.Domain words = domain_at words
-behind named.Register words = register_at words
-behind named.Deregister words = deregister_at words
-behind named.Invalidate words = invalidate_at words
-behind named.Store words = store_at words
-behind named.Open words = open_at words
-behind named.Accept words = accept_at words
-behind named.Reject words = reject_at words
-behind named.Recv words = recv_at words
-behind named.Send words = send_at words
-behind named.Write words = write_at words
-behind named.Read words = read_at words
-behind named.Emit words = steps_at steps.Emit words
-behind named.Work words = steps_at steps.Work words
-behind named.Deliver words = deliver_at words
-behind named.Raw words = raw_at words
-behind named.Mulpdu words = mulpdu_at words
-behind named.Break words = break_at words
+abbrev pub beyond : CallWord → List (List ℕ) → Taken (List (Call (List ℕ)))
+beyond named.Domain words = domain_at words
+beyond named.Register words = register_at words
+beyond named.Deregister words = deregister_at words
+beyond named.Invalidate words = invalidate_at words
+beyond named.Store words = store_at words
+beyond named.Open words = open_at words
+beyond named.Accept words = accept_at words
+beyond named.Reject words = reject_at words
+beyond named.Recv words = recv_at words
+beyond named.Send words = send_at words
+beyond named.Write words = write_at words
+beyond named.Read words = read_at words
+beyond named.Emit words = steps_at steps.Emit words
+beyond named.Work words = steps_at steps.Work words
+beyond named.Deliver words = deliver_at words
+beyond named.Raw words = raw_at words
+beyond named.Mulpdu words = mulpdu_at words
+beyond named.Break words = break_at words
 
 unfoldable pub calls_at : List (List ℕ) → Taken (List (Call (List ℕ)))
 calls_at words = do
   name ← field call_word words
-  behind name.0 name.1
+  beyond name.0 name.1
 
 abbrev pub calls_of : Calls (List ℕ) → List (Call (List ℕ))
 calls_of (One call) = one call

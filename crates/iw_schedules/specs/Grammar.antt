@@ -142,9 +142,9 @@ pub record IsSchedule (text : List ℕ) (events : Events) : Type 0 where
 pub record IsFirstFault (text : List ℕ) (number : ℕ) (name : FaultName) : Type 0 where
   pub good : List (List ℕ)
   pub bad : List ℕ
-  pub behind : List (List ℕ)
+  pub beyond : List (List ℕ)
   pub events : Events
-  pub lines_are : lines text ≡ good ++ bad ∷ behind
+  pub lines_are : lines text ≡ good ++ bad ∷ beyond
   pub number_is : length good + 1 ≡ number
   pub each : AreLines good events
   pub few : length events ≤ MAX_EVENTS

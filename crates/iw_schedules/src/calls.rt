@@ -8,7 +8,7 @@ ghost use Rattle.iw_schedules.specs.Rights.{rights_word};
 ghost use Rattle.iw_schedules.specs.Options.{options_word};
 ghost use Rattle.iw_schedules.specs.Words.{role_word, call_word};
 ghost use Rattle.iw_schedules.specs.Calls.{calls_of, calls_at, step_call, steps_at};
-ghost use Rattle.iw_schedules.specs.Calls.{next_word, field, behind, octet_number, long_number, size_number, times_at};
+ghost use Rattle.iw_schedules.specs.Calls.{next_word, field, beyond, octet_number, long_number, size_number, times_at};
 ghost use Rattle.iw_schedules.specs.Calls.{domain_at, register_at, deregister_at, invalidate_at, store_at};
 ghost use Rattle.iw_schedules.specs.Calls.{open_at, accept_at, reject_at, mulpdu_at, break_at, deliver_at, raw_at};
 ghost use Rattle.iw_schedules.specs.Calls.{recv_at, send_at, write_at, read_at};
@@ -368,12 +368,12 @@ fn break_link<A: Allocator>(words: &mut Pieces<'_>) -> Result<Calls<Bytes<A>>, R
 }
 
 // The calls that the words after this one stand for.
-fn calls_behind<A: Allocator + Copy>(
+fn calls_past<A: Allocator + Copy>(
     alloc: A,
     call: CallWord,
     words: &mut Pieces<'_>,
 ) -> Result<Calls<Bytes<A>>, ReadError>
-    ensures { Gives (λ calls. (calls_of calls, words.new)) result (behind call words.old) }
+    ensures { Gives (λ calls. (calls_of calls, words.new)) result (beyond call words.old) }
 {
     match call {
         CallWord::Domain => domain(words),
@@ -412,5 +412,5 @@ pub(crate) fn read_calls<A: Allocator + Copy>(
     ensures { Gives (λ calls. (calls_of calls, words.new)) result (calls_at words.old) }
 {
     let call = call_in(words)?;
-    calls_behind(alloc, call, words)
+    calls_past(alloc, call, words)
 }

@@ -45,7 +45,7 @@ impl<'a> Pieces<'a> {
 pub(crate) fn split_at(text: &[u8], separator: u8) -> (&[u8], Option<&[u8]>)
     ensures front { result.0.now ≡ (split_at_first separator text.now).0 }
     ensures back { option_copied result.1 ≡ (split_at_first separator text.now).1 }
-    ensures len { length result.0.now + unwrap_or (option_map (λ behind. length behind.now + 1) result.1) 0
+    ensures len { length result.0.now + unwrap_or (option_map (λ beyond. length beyond.now + 1) result.1) 0
         ≡ length text.now }
 {
     match find(text, separator) {

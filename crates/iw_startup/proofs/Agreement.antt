@@ -52,25 +52,25 @@ pub has_read : (u : StartupState) (p : Progress) → IsReached u → progress u 
 has_read u p reached e other = record { within = reached.within; whole = told_whole u.side u.octets p e other }
 
 -- what was read is what was sent
-same_frame : (side : Side) (xs more : List ℕ) (fl : ℕ) (private behind : List ℕ) → length xs ≤ frame_end side xs → frame_end side xs ≤ length xs → length private ≤ 512
-    → xs ++ more ≡ written side fl private ++ behind → xs ≡ written side fl private
-same_frame side xs more fl private behind within whole few e =
+same_frame : (side : Side) (xs more : List ℕ) (fl : ℕ) (private beyond : List ℕ) → length xs ≤ frame_end side xs → frame_end side xs ≤ length xs → length private ≤ 512
+    → xs ++ more ≡ written side fl private ++ beyond → xs ≡ written side fl private
+same_frame side xs more fl private beyond within whole few e =
     sym (frame_part-whole side xs more within whole) ∙ ap (frame_part side) e
-    ∙ frame_part-whole side (written side fl private) behind (omega (arith, frame_end-written side fl private few)) (omega (arith, frame_end-written side fl private few))
+    ∙ frame_part-whole side (written side fl private) beyond (omega (arith, frame_end-written side fl private few)) (omega (arith, frame_end-written side fl private few))
 
-pub request_read : (v : StartupState) (reply : Option Reply) (asking : Config) (more behind : List ℕ) → v.side ≡ Responder reply → HasRead v → length asking.private.items ≤ 512
-    → v.octets ++ more ≡ own_frame asking Initiator ++ behind → v.octets ≡ own_frame asking Initiator
-request_read v reply asking more behind side h few e =
-    same_frame (Responder reply) v.octets more (flags asking.markers asking.crc false) asking.private.items behind
+pub request_read : (v : StartupState) (reply : Option Reply) (asking : Config) (more beyond : List ℕ) → v.side ≡ Responder reply → HasRead v → length asking.private.items ≤ 512
+    → v.octets ++ more ≡ own_frame asking Initiator ++ beyond → v.octets ≡ own_frame asking Initiator
+request_read v reply asking more beyond side h few e =
+    same_frame (Responder reply) v.octets more (flags asking.markers asking.crc false) asking.private.items beyond
     (subst (λ s. length v.octets ≤ frame_end s v.octets) side h.within) (subst (λ s. frame_end s v.octets ≤ length v.octets) side h.whole) few e
 
-pub reply_read : (w : StartupState) (answering : Config) (reply : Reply) (more behind : List ℕ) → w.side ≡ Initiator → HasRead w → length (private_in reply).items ≤ 512
-    → w.octets ++ more ≡ reply_frame answering reply ++ behind → w.octets ≡ reply_frame answering reply
-reply_read w answering (Accept private) more behind side h few e =
-    same_frame Initiator w.octets more (flags answering.markers answering.crc false) private.items behind
+pub reply_read : (w : StartupState) (answering : Config) (reply : Reply) (more beyond : List ℕ) → w.side ≡ Initiator → HasRead w → length (private_in reply).items ≤ 512
+    → w.octets ++ more ≡ reply_frame answering reply ++ beyond → w.octets ≡ reply_frame answering reply
+reply_read w answering (Accept private) more beyond side h few e =
+    same_frame Initiator w.octets more (flags answering.markers answering.crc false) private.items beyond
     (subst (λ s. length w.octets ≤ frame_end s w.octets) side h.within) (subst (λ s. frame_end s w.octets ≤ length w.octets) side h.whole) few e
-reply_read w answering (Reject private) more behind side h few e =
-    same_frame Initiator w.octets more (flags answering.markers answering.crc true) private.items behind
+reply_read w answering (Reject private) more beyond side h few e =
+    same_frame Initiator w.octets more (flags answering.markers answering.crc true) private.items beyond
     (subst (λ s. length w.octets ≤ frame_end s w.octets) side h.within) (subst (λ s. frame_end s w.octets ≤ length w.octets) side h.whole) few e
 
 -- an initiator that has read a rejection has not agreed

@@ -70,19 +70,19 @@ record IsTaken (side : Side) (config : Config) (pieces : List (List ℕ)) (frame
   pub after : pushed_all (begun side config) pieces ≡ record (begun side config) { octets = frame }
   pub used : used_all (begun side config) pieces ≡ length frame
 
-taken : (side : Side) (config : Config) (pieces : List (List ℕ)) (fl : ℕ) (private behind : List ℕ) → IsReached (begun side config) → length private ≤ 512 →
-    concat pieces ≡ written side fl private ++ behind → IsTaken side config pieces (written side fl private)
+taken : (side : Side) (config : Config) (pieces : List (List ℕ)) (fl : ℕ) (private beyond : List ℕ) → IsReached (begun side config) → length private ≤ 512 →
+    concat pieces ≡ written side fl private ++ beyond → IsTaken side config pieces (written side fl private)
 unfolding pushed used frame_part
-taken side config pieces fl private behind reached h carried =
+taken side config pieces fl private beyond reached h carried =
     let cut = same_at_once (begun side config) pieces reached in
     let there : 20 ≤ length (written side fl private) = omega (arith, length-written side fl private) in
-    let at_end : frame_end side (written side fl private ++ behind) ≡ length (written side fl private)
-    = frame_end-append side (written side fl private) behind there ∙ frame_end-written side fl private h in
-    let part : take (frame_end side (written side fl private ++ behind)) (written side fl private ++ behind) ≡ written side fl private
-    = take_at (written side fl private) behind (frame_end side (written side fl private ++ behind)) (sym at_end) in
+    let at_end : frame_end side (written side fl private ++ beyond) ≡ length (written side fl private)
+    = frame_end-append side (written side fl private) beyond there ∙ frame_end-written side fl private h in
+    let part : take (frame_end side (written side fl private ++ beyond)) (written side fl private ++ beyond) ≡ written side fl private
+    = take_at (written side fl private) beyond (frame_end side (written side fl private ++ beyond)) (sym at_end) in
     record {
       after = cut.after ∙ ap (λ (octets : List ℕ). pushed (begun side config) octets) carried ∙ ap (λ (octets : List ℕ). record (begun side config) { octets = octets }) part;
-      used = cut.used ∙ ap (λ (octets : List ℕ). used (begun side config) octets) carried ∙ omega (arith, at_end, length-append (written side fl private) behind);
+      used = cut.used ∙ ap (λ (octets : List ℕ). used (begun side config) octets) carried ∙ omega (arith, at_end, length-append (written side fl private) beyond);
     }
 
 read : (side : Side) (config : Config) (pieces : List (List ℕ)) (sender : StartupState) (fl : ℕ) (private : List ℕ) (told : Progress) → length private ≤ 512 →
@@ -147,10 +147,10 @@ requests_are_asked asking answering requests h carries =
 abbrev pub reply : Config → Bool → ArrayVec ℕ → List ℕ
 reply config rejected private = written Initiator (flags config.markers config.crc rejected) private.items
 
-reply_taken : (asking answering : Config) (rejected : Bool) (private : ArrayVec ℕ) (replies : List (List ℕ)) (behind : List ℕ) → length private.items ≤ 512 →
-    concat replies ≡ reply answering rejected private ++ behind → IsTaken Initiator asking replies (reply answering rejected private)
-reply_taken asking answering rejected private replies behind h carried =
-    taken Initiator asking replies (flags answering.markers answering.crc rejected) private.items behind (reached-initiator asking) h carried
+reply_taken : (asking answering : Config) (rejected : Bool) (private : ArrayVec ℕ) (replies : List (List ℕ)) (beyond : List ℕ) → length private.items ≤ 512 →
+    concat replies ≡ reply answering rejected private ++ beyond → IsTaken Initiator asking replies (reply answering rejected private)
+reply_taken asking answering rejected private replies beyond h carried =
+    taken Initiator asking replies (flags answering.markers answering.crc rejected) private.items beyond (reached-initiator asking) h carried
 
 -- the laws at a responder in this state
 abbrev Agrees : Config → Config → List (List ℕ) → ArrayVec ℕ → StartupState → Type 0

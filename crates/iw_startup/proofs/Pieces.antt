@@ -8,8 +8,8 @@ use Rattle.iw_startup.specs.Peer.{frame_end, frame_part}
 use Rattle.iw_startup.proofs.Ends.{frame_end-append, least_end, frame_end-frame_part}
 
 -- the frame ends behind what was taken, however many octets follow
-pub end_behind : (side : Side) (xs ys : List ℕ) → length xs ≤ frame_end side xs → length xs ≤ frame_end side (xs ++ ys)
-end_behind side xs ys within = elim (cases_lt (length xs) 20) [
+pub end_beyond : (side : Side) (xs ys : List ℕ) → length xs ≤ frame_end side xs → length xs ≤ frame_end side (xs ++ ys)
+end_beyond side xs ys within = elim (cases_lt (length xs) 20) [
   | inl short ↦ omega (arith, least_end side (xs ++ ys))
   | inr long ↦ omega (arith, frame_end-append side xs ys long)
 ]
@@ -30,7 +30,7 @@ pub frame_part-append : (side : Side) (xs ys : List ℕ) → length xs ≤ frame
 unfolding frame_part
 frame_part-append side xs ys within =
     let e : ℕ = frame_end side (xs ++ ys) in
-    let behind : length xs ≤ frame_end side (xs ++ ys) = end_behind side xs ys within in
+    let beyond : length xs ≤ frame_end side (xs ++ ys) = end_beyond side xs ys within in
     let split : frame_end side (xs ++ ys) ≡ length xs + (frame_end side (xs ++ ys) - length xs) = omega arith in
     ap (λ n. take n (xs ++ ys)) split ∙ take-append-add xs ys (e - length xs) ∙ ap (λ zs. xs ++ zs) (sym (take_min (e - length xs) ys))
 
@@ -41,7 +41,7 @@ pub used_in_steps : (side : Side) (xs ys : List ℕ) (first second : ℕ) → le
     first + second ≡ min (frame_end side (xs ++ ys) - length xs) (length ys)
 used_in_steps side xs ys first second within is next =
     let taken : first ≤ length ys = omega arith in
-    omega (arith, end_by_fixed side xs ys first is, length-append xs (take first ys), length-take-le first ys taken, length-drop first ys, least_end side (xs ++ ys), end_behind side xs ys within)
+    omega (arith, end_by_fixed side xs ys first is, length-append xs (take first ys), length-take-le first ys taken, length-drop first ys, least_end side (xs ++ ys), end_beyond side xs ys within)
 
 pub taken_in_steps : (side : Side) (xs ys : List ℕ) (first second : ℕ) → length xs ≤ frame_end side xs →
     first + second ≡ min (frame_end side (xs ++ ys) - length xs) (length ys) →

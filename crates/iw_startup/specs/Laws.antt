@@ -37,7 +37,7 @@ AnswersStay = (s : StartupState) (octets : List ℕ) → IsReached s → progres
 
 -- the pieces are the frame that this end sends, and whatever octets past it
 abbrev pub Carries : List (List ℕ) → StartupState → Type 0
-Carries pieces sender = (behind : List ℕ) × (concat pieces ≡ frame_of sender ++ behind)
+Carries pieces sender = (beyond : List ℕ) × (concat pieces ≡ frame_of sender ++ beyond)
 
 -- the sender's frame, brought by these pieces, was read whole: this is told, this private data shown, and nothing past the frame was used
 pub record IsRead (receiver : StartupState) (pieces : List (List ℕ)) (sender : StartupState) (private : List ℕ) (told : Progress) : Type 0 where

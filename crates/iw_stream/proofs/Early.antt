@@ -220,7 +220,7 @@ keeps_record s table frame o r running none landed k =
         unopened = λ e. absurd (true≢false (sym running ∙ e));
         unsent = k.started.unsent;
         alone = k.started.alone;
-        behind = k.started.behind;
+        beyond = k.started.beyond;
       };
       between = k.between;
       held = k.held;

@@ -23,7 +23,7 @@ use Rattle.iw_stream.specs.Frames.{Frame, IsNext, frame_at, frame_by}
 use Rattle.iw_stream.proofs.Landings.{length_ulpdu}
 
 pub stand : (a : Arrived) (base : ℕ) → base ≤ a.floor → IsHeld a → StandFrom a base (a.floor - base) (in_order a)
-stand a base behind kept =
+stand a base beyond kept =
     let from : a.floor ≡ base + (a.floor - base) = omega arith in
     let to : a.floor + length (in_order a) ≡ base + (a.floor - base) + length (in_order a) = omega arith in
     record { held = stands a ∙ (λ i. cells_between a (from i) (to i)); missing = ap (has_come a) (sym to) ∙ ends a kept }
@@ -97,23 +97,23 @@ is_next layout a base low b kept limits whole =
 
 pub next_read : (layout : Layout) (a : Arrived) (base start : ℕ) (result : Option Found) → base ≤ a.floor → IsBetween layout.markers (a.floor - base) → IsHeld a → IsWithinLimits a
     → start ≡ frame_start layout.markers (a.floor - base) → Read layout a base start result → IfSome result (λ found. IsNext layout a base found)
-next_read layout a base start None behind b kept limits is read = tt
-next_read layout a base start (Some found) behind b kept limits is read =
+next_read layout a base start None beyond b kept limits is read = tt
+next_read layout a base start (Some found) beyond b kept limits is read =
     subst (IsNext layout a base) (sym (read.0 ∙ ap (λ s. found_at a layout base s) is))
-    (is_next layout a base behind b kept limits (subst (λ s. IsWhole a layout.markers base s) is read.1))
+    (is_next layout a base beyond b kept limits (subst (λ s. IsWhole a layout.markers base s) is read.1))
 
 -- where nothing came from the place on at which the frame begins
 pub none_there : (layout : Layout) (a : Arrived) (base start missing : ℕ) → base ≤ a.floor → IsBetween layout.markers (a.floor - base) → start ≡ frame_start layout.markers (a.floor - base) → cell_at a missing ≡ Missing
     → missing ≤ base + start → frame_at layout a base start ≡ None
-none_there layout a base start missing behind b is gap early =
+none_there layout a base start missing beyond b is gap early =
     let m : Bool = layout.markers in
     let at : ℕ = a.floor - base in
     let found : Found = found_at a layout base (frame_start m at) in
     let low : a.floor ≤ missing = past gap in
-    let place : base + (missing - base) ≡ missing = omega (arith, low, behind) in
+    let place : base + (missing - base) ≡ missing = omega (arith, low, beyond) in
     let long : frame_start m at + 2 ≤ frame_end m (frame_start m at) (ulpdu_len found) = length_within m (frame_start m at) (ulpdu_len found) (begins m at b) in
     ap (frame_at layout a base) is
-    ∙ frame_lacking layout a base (frame_start m at) (missing - base, omega (arith, b.span, low, behind), omega (arith, early, long, behind, low, is), ap (has_come a) place ∙ ap (λ c. not (is_missing c)) gap)
+    ∙ frame_lacking layout a base (frame_start m at) (missing - base, omega (arith, b.span, low, beyond), omega (arith, early, long, beyond, low, is), ap (has_come a) place ∙ ap (λ c. not (is_missing c)) gap)
   where
     past : cell_at a missing ≡ Missing → a.floor ≤ missing
     past gap = elim (cases_lt missing a.floor) [
@@ -128,7 +128,7 @@ carried_by frame = record { mismatch = frame.mismatch; ulpdu = frame.ulpdu }
 pub first_here : (layout : Layout) (a : Arrived) (base : ℕ) (frame : Frame) → base ≤ a.floor → IsBetween layout.markers (a.floor - base) → IsHeld a
     → frame_at layout a base (frame_start layout.markers (a.floor - base)) ≡ Some frame
     → first_frame layout (a.floor - base) (in_order a) ≡ Some (carried_by frame, drop (frame_end layout.markers frame.start (length frame.ulpdu) - (a.floor - base)) (in_order a))
-first_here layout a base frame behind b kept e = go (is_whole a layout.markers base (frame_start layout.markers (a.floor - base))) refl e
+first_here layout a base frame beyond b kept e = go (is_whole a layout.markers base (frame_start layout.markers (a.floor - base))) refl e
   where
     go : (w : Bool) → is_whole a layout.markers base (frame_start layout.markers (a.floor - base)) ≡ w
         → (if w then Some (frame_by (found_at a layout base (frame_start layout.markers (a.floor - base)))) else None) ≡ Some frame
@@ -137,7 +137,7 @@ first_here layout a base frame behind b kept e = go (is_whole a layout.markers b
     go true whole h =
         let f : Found = found_at a layout base (frame_start layout.markers (a.floor - base)) in
         let same : frame_by f ≡ frame = cc in
-        frames_in_sequence.found.whole a layout base (a.floor - base) (in_order a) b (stand a base behind kept) ((tells_whole a layout.markers base (frame_start layout.markers (a.floor - base))).0 whole)
+        frames_in_sequence.found.whole a layout base (a.floor - base) (in_order a) b (stand a base beyond kept) ((tells_whole a layout.markers base (frame_start layout.markers (a.floor - base))).0 whole)
         ∙ ap (λ n. Some (carried_by (frame_by f), drop (frame_end layout.markers f.start n - (a.floor - base)) (in_order a))) (sym (length_ulpdu f))
         ∙ ap (λ x. Some (carried_by x, drop (frame_end layout.markers x.start (length x.ulpdu) - (a.floor - base)) (in_order a))) same
 
@@ -157,12 +157,12 @@ all_or_one f from (suc n) = go (f from) refl (all_or_one f (from + 1) n)
 
 pub none_here : (layout : Layout) (a : Arrived) (base : ℕ) → base ≤ a.floor → IsBetween layout.markers (a.floor - base) → IsHeld a
     → frame_at layout a base (frame_start layout.markers (a.floor - base)) ≡ None → first_frame layout (a.floor - base) (in_order a) ≡ None
-none_here layout a base behind b kept e =
+none_here layout a base beyond b kept e =
     let m : Bool = layout.markers in
     let start : ℕ = frame_start m (a.floor - base) in
     let low : ℕ = span_start m start in
     let end : ℕ = end_at (octet_in a base) m start in
     elim (all_or_one (λ p. has_come a (base + p)) low (end - low)) [
       | inl all ↦ absurd (none-some _ (sym e ∙ frame_whole layout a base start (λ p from to. all p from (omega (arith, from, to)))))
-      | inr one ↦ frames_in_sequence.found.lacking a layout base (a.floor - base) (in_order a) b (stand a base behind kept) (one.0, one.1, omega (arith, one.1, one.2), one.3)
+      | inr one ↦ frames_in_sequence.found.lacking a layout base (a.floor - base) (in_order a) b (stand a base beyond kept) (one.0, one.1, omega (arith, one.1, one.2), one.3)
     ]

@@ -18,7 +18,7 @@ none_flushed r limits none = go r.buffers none limits.turned
   where
     go : (buffers : List (List ℕ)) → slice_get buffers 0 ≡ None → r.turned ≤ length (get_or buffers 0 []) → flushed (record r { buffers = buffers }) ≡ record r { buffers = buffers }
     go [] is few = ap (λ n. record { buffers = []; due = r.due; turned = n }) (sym (none_left r.turned few))
-    go (buffer ∷ behind) is few = absurd (none-some _ (sym is))
+    go (buffer ∷ beyond) is few = absurd (none-some _ (sym is))
 
 -- no message is left
 pub given_back : (table : Table) (s : StreamState) → oldest_in s.queue ≡ None → HoldsLimits s.receiving

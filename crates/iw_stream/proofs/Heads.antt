@@ -28,8 +28,8 @@ pub record Behind (octets : List ℕ) (segment : Segment (List ℕ)) : Type 0 wh
   pub long : header_of segment ≤ length octets
   pub payload : payload_in segment ≡ drop (header_of segment) octets
 
-pub segment_behind : (octets : List ℕ) (segment : Segment (List ℕ)) → read_segment octets ≡ Some segment → Behind octets segment
-segment_behind octets segment e = go (is_tagged (get_or octets 0 0)) refl
+pub segment_past : (octets : List ℕ) (segment : Segment (List ℕ)) → read_segment octets ≡ Some segment → Behind octets segment
+segment_past octets segment e = go (is_tagged (get_or octets 0 0)) refl
   where
     go : (tagged : Bool) → is_tagged (get_or octets 0 0) ≡ tagged → Behind octets segment
     go true tagged = elim (cases_lt (length octets) 14) [
@@ -49,21 +49,21 @@ no_octets [] e = refl
 no_octets (x ∷ xs) e = absurd (omega arith)
 
 pub first_taken : (u : List ℕ) → IsFirst u (take 46 u)
-first_taken u = record { behind = drop 46 u; whole = sym (take-append-drop 46 u); enough = omega (arith, length-take 46 u) }
+first_taken u = record { beyond = drop 46 u; whole = sym (take-append-drop 46 u); enough = omega (arith, length-take 46 u) }
 
 -- they are all, or enough for a header
 all_first : (u first : List ℕ) → IsFirst u first → length u ≤ length first → u ≡ first
 all_first u first f few =
-    let long : length u ≡ length first + length f.behind = ap length f.whole ∙ length-append first f.behind in
-    f.whole ∙ ap (λ xs. first ++ xs) (no_octets f.behind (omega (arith, long, few))) ∙ append-nil first
+    let long : length u ≡ length first + length f.beyond = ap length f.whole ∙ length-append first f.beyond in
+    f.whole ∙ ap (λ xs. first ++ xs) (no_octets f.beyond (omega (arith, long, few))) ∙ append-nil first
 
 -- a header is judged by them as by all
 pub judged_front : (u first : List ℕ) (len next unanswered : ℕ) → IsFirst u first → len ≡ length u → judged first len next unanswered ≡ judged u (length u) next unanswered
 judged_front u first len next unanswered f same =
-    let all : length u ≡ length first + length f.behind = ap length f.whole ∙ length-append first f.behind in
-    let whole : length (first ++ f.behind) ≡ length u = sym (ap length f.whole) in
+    let all : length u ≡ length first + length f.beyond = ap length f.whole ∙ length-append first f.beyond in
+    let whole : length (first ++ f.beyond) ≡ length u = sym (ap length f.whole) in
     (λ i. judged first ((same ∙ sym whole) i) next unanswered)
-    ∙ front_judged first f.behind next unanswered (record { enough = omega (arith, f.enough, whole); within = omega (arith, whole, all) })
+    ∙ front_judged first f.beyond next unanswered (record { enough = omega (arith, f.enough, whole); within = omega (arith, whole, all) })
     ∙ (λ i. judged (sym f.whole i) (whole i) next unanswered)
 
 -- ---- the header as it came
@@ -80,8 +80,8 @@ header_first u first f = elim (cases_lt (length first) 46) [
   | inl few ↦ sym (ap header_in (all_first u first f (omega (arith, f.enough, few))))
   | inr enough ↦
       sym (ap header_in f.whole
-      ∙ ap (λ x. take (if is_tagged x then 14 else 18) (first ++ f.behind)) (front_octet first f.behind (omega arith))
-      ∙ take-append-le (if is_tagged (get_or first 0 0) then 14 else 18) first f.behind (omega (arith, size_few (is_tagged (get_or first 0 0)))))
+      ∙ ap (λ x. take (if is_tagged x then 14 else 18) (first ++ f.beyond)) (front_octet first f.beyond (omega arith))
+      ∙ take-append-le (if is_tagged (get_or first 0 0) then 14 else 18) first f.beyond (omega (arith, size_few (is_tagged (get_or first 0 0)))))
 ]
 
 -- ---- the first octets, piece by piece

@@ -49,7 +49,7 @@ use Rattle.iw_stream.specs.Frames.{EarlyRecord}
 use Rattle.iw_stream.specs.Kept.{HasBuffer, Stands, IsPlaced, NoneReachesOver, AreAwaited, Keeps}
 use Rattle.iw_stream.specs.Starting.{is_open, expecting, first_place_in, first_place_out}
 use Rattle.iw_stream.specs.Stream.{StreamState, ended, owes_frame}
-use Rattle.iw_stream.specs.Work.{place_behind, standing}
+use Rattle.iw_stream.specs.Work.{place_past, standing}
 use Rattle.iw_stream.proofs.Headers.{header_read, header_short, kept_buffer}
 use Rattle.iw_stream.proofs.Reading.{in_range}
 use Rattle.iw_stream.proofs.Landings.{Judges, judges, length_ulpdu}
@@ -71,7 +71,7 @@ keeps_taken s place octets k =
         unopened = λ e. (floor ∙ (k.started.unopened e).0, (k.started.unopened e).1, (k.started.unopened e).2);
         unsent = k.started.unsent;
         alone = k.started.alone;
-        behind = omega (arith, floor, k.started.behind);
+        beyond = omega (arith, floor, k.started.beyond);
       };
       between = subst (λ f. IsBetween (expecting s.start).markers (f - first_place_in s.start)) (sym floor) k.between;
       held = held_takes s.arrived place octets k.held;
@@ -115,10 +115,10 @@ keeps_delivered s place octets (Ok d) after ok err k = go (is_dropped s.arrived 
 
 -- ---- a frame that had its turn
 -- its end is the in-order point, whatever else it changes
-pub keeps_behind : (s : StreamState) (frame : PlacedFrame) (place : ℕ) (after : Arrived) (r : Receiving) (queue : Queue) (reads : List Outstanding) (asked : Requested) (left : List EarlyRecord) (base : ℕ) → is_open s.start ≡ true → Stands s frame
-    → place ≡ place_behind s frame → after ≡ advanced s.arrived place → left ≡ kept_from (place - base) s.early → queue.sent.first < 2 ^ 64 → AreAwaited queue.sent reads → Keeps s
+pub keeps_past : (s : StreamState) (frame : PlacedFrame) (place : ℕ) (after : Arrived) (r : Receiving) (queue : Queue) (reads : List Outstanding) (asked : Requested) (left : List EarlyRecord) (base : ℕ) → is_open s.start ≡ true → Stands s frame
+    → place ≡ place_past s frame → after ≡ advanced s.arrived place → left ≡ kept_from (place - base) s.early → queue.sent.first < 2 ^ 64 → AreAwaited queue.sent reads → Keeps s
     → Keeps (record s { receiving = r; arrived = after; front = None; early = left; queue = queue; reads = reads; asked = asked })
-keeps_behind s frame place after r queue reads asked left base running p there moved fewer first awaited k =
+keeps_past s frame place after r queue reads asked left base running p there moved fewer first awaited k =
     let floor : after.floor ≡ max s.arrived.floor place = ap (λ a. a.floor) moved ∙ floor_moves s.arrived place in
     let end : after.floor - first_place_in s.start ≡ frame_end (expecting s.start).markers frame.start frame.len = omega (arith, floor, there, p.on) in
     record {
@@ -126,7 +126,7 @@ keeps_behind s frame place after r queue reads asked left base running p there m
         unopened = λ e. absurd (true≢false (sym running ∙ e));
         unsent = k.started.unsent;
         alone = λ e. absurd (true≢false (sym running ∙ e));
-        behind = omega (arith, floor, k.started.behind);
+        beyond = omega (arith, floor, k.started.beyond);
       };
       between = subst (IsBetween (expecting s.start).markers) (sym end) p.next;
       held = subst IsHeld (sym moved) (held_moves s.arrived place k.held);
@@ -152,7 +152,7 @@ keeps_ended s ending over silent k = record {
     unopened = λ e. ((k.started.unopened e).0, (k.started.unopened e).1, silent e);
     unsent = k.started.unsent;
     alone = k.started.alone;
-    behind = k.started.behind;
+    beyond = k.started.beyond;
   };
   between = k.between;
   held = k.held;
@@ -181,7 +181,7 @@ pub placed_still : (s t : StreamState) (o : Option PlacedFrame) → s.start ≡ 
 placed_still s t None start arrived receiving p = tt
 placed_still s t (Some frame) start arrived receiving p =
     let at = p.stands in
-    let there : place_behind s frame ≡ place_behind t frame = ap (λ x. first_place_in x + frame_end (expecting x).markers frame.start frame.len) start in
+    let there : place_past s frame ≡ place_past t frame = ap (λ x. first_place_in x + frame_end (expecting x).markers frame.start frame.len) start in
     let floor : s.arrived.floor ≡ t.arrived.floor = ap (λ (a : Arrived). a.floor) arrived in record {
       stands = record {
         begins = at.begins ∙ (λ i. frame_start (expecting (start i)).markers ((arrived i).floor - first_place_in (start i)));
@@ -202,7 +202,7 @@ keeps_queue s queue first awaited k = record {
     unopened = k.started.unopened;
     unsent = k.started.unsent;
     alone = k.started.alone;
-    behind = k.started.behind;
+    beyond = k.started.beyond;
   };
   between = k.between;
   held = k.held;
@@ -232,7 +232,7 @@ keeps_flushed s r over k = record {
     unopened = k.started.unopened;
     unsent = k.started.unsent;
     alone = k.started.alone;
-    behind = k.started.behind;
+    beyond = k.started.beyond;
   };
   between = k.between;
   held = k.held;
@@ -248,8 +248,8 @@ keeps_flushed s r over k = record {
 }
 
 -- ---- a part that was sent
-pub aligned_behind : (layout : Layout) (at : ℕ) (u : List ℕ) → at % 4 ≡ 0 → (at + length (frame_octets layout at u)) % 4 ≡ 0
-aligned_behind layout at u aligned =
+pub aligned_past : (layout : Layout) (at : ℕ) (u : List ℕ) → at % 4 ≡ 0 → (at + length (frame_octets layout at u)) % 4 ≡ 0
+aligned_past layout at u aligned =
     let m : Bool = layout.markers in
     let end : ℕ = frame_end m at (length u) in
     let next = frames_follow.next m (frame_start m at) (length u) (starts m at aligned) in
@@ -279,7 +279,7 @@ keeps_sent s queue numbers n reads asked running low aligned first awaited k = r
     unopened = k.started.unopened;
     unsent = λ lt. absurd (omega (arith, low, lt));
     alone = λ e. absurd (true≢false (sym running ∙ e));
-    behind = k.started.behind;
+    beyond = k.started.beyond;
   };
   between = k.between;
   held = k.held;
@@ -408,7 +408,7 @@ keeps_judged s table found after x running n ok placing there over k =
         unopened = λ e. absurd (true≢false (sym running ∙ e));
         unsent = k.started.unsent;
         alone = k.started.alone;
-        behind = k.started.behind;
+        beyond = k.started.beyond;
       };
       between = k.between;
       held = k.held;

@@ -24,7 +24,7 @@ use Rattle.iw_rdmap.specs.Laws.{carries, carries_send}
 use Rattle.iw_rdmap.proofs.Listed.{listed-tagged, listed-untagged}
 use Rattle.iw_untagged.specs.Receiving.{Receiving, HasRoom, HoldsLimits, ahead_of, buffer_of}
 use Rattle.iw_stream.specs.Frames.{payload_of}
-use Rattle.iw_stream.proofs.Heads.{segment_behind}
+use Rattle.iw_stream.proofs.Heads.{segment_past}
 
 pub length_ulpdu : (f : Found) → length (ulpdu f) ≡ ulpdu_len f
 length_ulpdu f = length_data (octet_in f.arrived f.base) f.layout.markers (data_index f.layout.markers f.start + 2) (ulpdu_len f)
@@ -101,10 +101,10 @@ pub record HasPayload (u : List ℕ) (head : Head) : Type 0 where
   pub len : length (payload_of (read_segment u)) ≡ length u - header_octets head
 
 tagged_payload : (u : List ℕ) (head : TaggedHead) → IsTagged u head → payload_of (read_segment u) ≡ drop 14 u
-tagged_payload u head t = ap payload_of t.is ∙ (segment_behind u (Tagged head t.payload) t.is).payload
+tagged_payload u head t = ap payload_of t.is ∙ (segment_past u (Tagged head t.payload) t.is).payload
 
 untagged_payload : (u : List ℕ) (head : UntaggedHead) → IsUntagged u head → payload_of (read_segment u) ≡ drop 18 u
-untagged_payload u head t = ap payload_of t.is ∙ (segment_behind u (Untagged head t.payload) t.is).payload
+untagged_payload u head t = ap payload_of t.is ∙ (segment_past u (Untagged head t.payload) t.is).payload
 
 pub has_payload : (u : List ℕ) (unanswered : ℕ) (head : Head) → Judges u unanswered head → HasPayload u head
 has_payload u unanswered (heads.Write head) j = let p = tagged_payload u head j in record { payload = p; len = ap length p ∙ length-drop 14 u }

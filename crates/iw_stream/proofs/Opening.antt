@@ -99,7 +99,7 @@ keeps_nothing role config domain numbers receiving asked =
         unopened = λ e. (sym (none_read role config), refl, refl);
         unsent = λ lt. refl;
         alone = λ e. omega arith;
-        behind = omega (arith, none_read role config);
+        beyond = omega (arith, none_read role config);
       };
       between = subst (IsBetween (expecting start).markers) (let at : 0 ≡ 0 - first_place_in start = omega arith in at) (frames_follow.first (expecting start).markers);
       held = held_nothing;
@@ -135,7 +135,7 @@ answers s u reply is asked k =
         unopened = λ e. (rest.0 ∙ place, rest.1, rest.2);
         unsent = λ lt. none;
         alone = λ e. omega (arith, none);
-        behind = omega (arith, rest.0, place);
+        beyond = omega (arith, rest.0, place);
       };
       between = subst (IsBetween (expecting (Heard (answered u reply))).markers) (let at : 0 ≡ s.arrived.floor - length u.octets = omega (arith, rest.0, place) in at) (frames_follow.first (expecting (Heard (answered u reply))).markers);
       held = k.held;
@@ -178,7 +178,7 @@ hears s u octets is k =
         unopened = λ e. (omega (arith, floor, begin), rest.1, rest.2);
         unsent = λ lt. k.started.unsent (omega (arith, own, lt));
         alone = λ e. omega (arith, own, k.started.alone closed);
-        behind = omega (arith, floor, begin);
+        beyond = omega (arith, floor, begin);
       };
       between = subst (IsBetween (expecting (Heard (pushed u octets))).markers) (let at : 0 ≡ (advanced s.arrived n).floor - n = omega (arith, floor, begin) in at) (frames_follow.first (expecting (Heard (pushed u octets))).markers);
       held = held_moves s.arrived n k.held;

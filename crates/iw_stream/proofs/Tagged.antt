@@ -34,7 +34,7 @@ use Rattle.iw_stream.specs.Starting.{expecting, first_place_in}
 use Rattle.iw_stream.specs.Stream.{StreamState}
 use Rattle.iw_stream.specs.Work.{next_frame, after_judging, judged_step, table_judged}
 use Rattle.iw_stream.proofs.Fronts.{none_there, start_near}
-use Rattle.iw_stream.proofs.Heads.{segment_behind}
+use Rattle.iw_stream.proofs.Heads.{segment_past}
 use Rattle.iw_stream.proofs.Keeping.{IsPlacing}
 
 -- ---- the frame that is next
@@ -48,10 +48,10 @@ none_next s missing floor k gap f low =
     let m : Bool = (expecting s.start).markers in
     let base : ℕ = first_place_in s.start in
     let near = start_near m (s.arrived.floor - base) k.between in
-    none_there (expecting s.start) s.arrived base (frame_start m (s.arrived.floor - base)) missing k.started.behind k.between refl gap (omega (arith, low, f, near.0, k.started.behind))
+    none_there (expecting s.start) s.arrived base (frame_start m (s.arrived.floor - base)) missing k.started.beyond k.between refl gap (omega (arith, low, f, near.0, k.started.beyond))
 
 -- ---- it is told by the octets at the front
-pub tagged_front : (u front : List ℕ) (head : TaggedHead) → (behind : List ℕ) × (u ≡ front ++ behind) → Passes front head → Passes u head
+pub tagged_front : (u front : List ℕ) (head : TaggedHead) → (beyond : List ℕ) × (u ≡ front ++ beyond) → Passes front head → Passes u head
 tagged_front u front head f p = record {
   payload = p.payload ++ f.0;
   operation = p.operation;
@@ -59,7 +59,7 @@ tagged_front u front head f p = record {
   checked = p.checked;
 }
 
-pub header_front : (u front : List ℕ) → (behind : List ℕ) × (u ≡ front ++ behind) → is_tagged (get_or front 0 0) ≡ true → 14 ≤ length front → take 14 front ≡ header_in u
+pub header_front : (u front : List ℕ) → (beyond : List ℕ) × (u ≡ front ++ beyond) → is_tagged (get_or front 0 0) ≡ true → 14 ≤ length front → take 14 front ≡ header_in u
 header_front u front f tagged long =
     let same : is_tagged (get_or u 0 0) ≡ true = ap (λ xs. is_tagged (get_or xs 0 0)) f.1 ∙ ap is_tagged (get_or-append front f.0 0 0 (omega arith)) ∙ tagged in
     sym (take-append-le 14 front f.0 long) ∙ ap (take 14) (sym f.1) ∙ ap (λ b. take (if b then 14 else 18) u) (sym same)
@@ -68,7 +68,7 @@ pub tagged_there : (u : List ℕ) (head : TaggedHead) → Passes u head → Some
 tagged_there u head p = sym (ap tagged_in p.read ∙ ap (passed_by head) p.checked)
 
 pub tagged_long : (u : List ℕ) (head : TaggedHead) → Passes u head → 14 ≤ length u
-tagged_long u head p = (segment_behind u (Tagged head p.payload) p.read).long
+tagged_long u head p = (segment_past u (Tagged head p.payload) p.read).long
 
 pub tagged_first : (u : List ℕ) (head : TaggedHead) → Passes u head → is_tagged (get_or u 0 0) ≡ true
 tagged_first u head p = go (is_tagged (get_or u 0 0)) refl
@@ -81,7 +81,7 @@ tagged_first u head p = go (is_tagged (get_or u 0 0)) refl
     ]
 
 pub tagged_payload : (u : List ℕ) (head : TaggedHead) → Passes u head → payload_of (read_segment u) ≡ drop 14 u
-tagged_payload u head p = ap payload_of p.read ∙ (segment_behind u (Tagged head p.payload) p.read).payload
+tagged_payload u head p = ap payload_of p.read ∙ (segment_past u (Tagged head p.payload) p.read).payload
 
 -- ---- its verdict
 abbrev pub tagged_verdict : Bool → Table → ℕ → List Outstanding → TaggedHead → ℕ → Result Landing Fault

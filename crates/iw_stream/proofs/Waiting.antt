@@ -30,25 +30,25 @@ use Rattle.iw_stream.specs.Frames.{EarlyRecord, kept_by, placed_at, head_in, pay
 use Rattle.iw_stream.specs.Kept.{HasBuffer, Stands, IsPlaced, NoneReachesOver, IsTagged, HasHeader, KeepsHeader, Keeps}
 use Rattle.iw_stream.specs.Starting.{expecting, first_place_in}
 use Rattle.iw_stream.specs.Stream.{StreamState, ended}
-use Rattle.iw_stream.specs.Work.{scene, waiting, place_behind}
+use Rattle.iw_stream.specs.Work.{scene, waiting, place_past}
 use Rattle.iw_stream.proofs.Fronts.{start_near}
 
 -- ---- the in-order point moves on to the end of a frame there
 start_is : (s : StreamState) (frame : PlacedFrame) → Keeps s → Stands s frame → IsStart (expecting s.start).markers frame.start
 start_is s frame k at = subst (IsStart (expecting s.start).markers) (sym at.begins) (begins (expecting s.start).markers (s.arrived.floor - first_place_in s.start) k.between)
 
-passed_here : (s : StreamState) (frame : PlacedFrame) → Keeps s → Stands s frame → NoneReachesOver s frame → IsPassed (scene s) (place_behind s frame)
+passed_here : (s : StreamState) (frame : PlacedFrame) → Keeps s → Stands s frame → NoneReachesOver s frame → IsPassed (scene s) (place_past s frame)
 passed_here s frame k at over =
     let m : Bool = (expecting s.start).markers in
     let end : ℕ = frame_end m frame.start frame.len in
-    let there : place_behind s frame - first_place_in s.start ≡ end = omega arith in record {
+    let there : place_past s frame - first_place_in s.start ≡ end = omega arith in record {
       past = omega (arith, there, at.begins, length_within m frame.start frame.len (start_is s frame k at));
       between = subst (IsBetween m) (sym there) at.next;
       come = at.come;
       placed = λ r within placed before. omega (arith, there, over r within placed (omega (arith, there, before)));
     }
 
-pub passed : (s : StreamState) (frame : PlacedFrame) (layout : Layout) (base place : ℕ) → layout ≡ expecting s.start → base ≡ first_place_in s.start → place ≡ place_behind s frame → Keeps s → Stands s frame → NoneReachesOver s frame
+pub passed : (s : StreamState) (frame : PlacedFrame) (layout : Layout) (base place : ℕ) → layout ≡ expecting s.start → base ≡ first_place_in s.start → place ≡ place_past s frame → Keeps s → Stands s frame → NoneReachesOver s frame
     → IsPassed (scene_of layout base s.arrived s.early) place
 passed s frame layout base place laid from to k at over =
     subst (λ l. IsPassed (scene_of l base s.arrived s.early) place) (sym laid)
@@ -150,9 +150,9 @@ module _ (s : StreamState) (k : Keeps s) (kept : keeping.Keeps (scene s)) (apart
       )
     where
       last : (r : EarlyRecord) → Contains s.early r → (frame : PlacedFrame) → r.end ≡ frame_end (expecting s.start).markers frame.start frame.len → frame.start + 2 ≤ frame_end (expecting s.start).markers frame.start frame.len
-          → place_behind s frame ≤ s.arrived.floor + 2 ^ 18
+          → place_past s frame ≤ s.arrived.floor + 2 ^ 18
       last r within frame end long =
-          elim (cases_lt (s.arrived.floor + window) (place_behind s frame)) [
+          elim (cases_lt (s.arrived.floor + window) (place_past s frame)) [
             | inl far ↦
                 let to : ℕ = frame_end (expecting s.start).markers frame.start frame.len in
                 absurd (true≢false (sym (kept.whole r within (to - 1) (omega (arith, span_low true r.start, starts r within, end, long)) (omega (arith, end, long)))
@@ -163,7 +163,7 @@ module _ (s : StreamState) (k : Keeps s) (kept : keeping.Keeps (scene s)) (apart
           starts : (r : EarlyRecord) → Contains s.early r → r.start < r.end
           starts r (j, jl, jx) = omega (arith, apart.some j r jl, ap (λ (y : EarlyRecord). y.end) jx, ap (λ (y : EarlyRecord). y.start) jx)
 
-      come : (r : EarlyRecord) → Contains s.early r → (p : ℕ) → r.end ≡ frame_end (expecting s.start).markers frame.start frame.len → from_of r ≡ s.arrived.floor - first_place_in s.start → p < place_behind s frame → has_come s.arrived p ≡ true
+      come : (r : EarlyRecord) → Contains s.early r → (p : ℕ) → r.end ≡ frame_end (expecting s.start).markers frame.start frame.len → from_of r ≡ s.arrived.floor - first_place_in s.start → p < place_past s frame → has_come s.arrived p ≡ true
       come r within p end from lt =
           elim (cases_lt p s.arrived.floor) [
             | inl before ↦ ap (λ c. not (is_missing c)) (below s.arrived p before)

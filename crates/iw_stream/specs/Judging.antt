@@ -68,8 +68,8 @@ mismatch_fault MarkerMismatch = faults.MARKER_MISMATCH
 
 -- octets at the front of a ULPDU that its header can be judged by: 46 of them at least, or all
 pub record IsFirst (ulpdu first : List ℕ) : Type 0 where
-  pub behind : List ℕ
-  pub whole : ulpdu ≡ first ++ behind
+  pub beyond : List ℕ
+  pub whole : ulpdu ≡ first ++ beyond
   pub enough : min 46 (length ulpdu) ≤ length first
 
 -- what the header of a ULPDU says, or the first of its checks that fails

@@ -31,7 +31,7 @@ use Rattle.iw_stream.specs.Ending.{last_word}
 use Rattle.iw_stream.specs.Frames.{EarlyRecord, head_in, payload_len}
 use Rattle.iw_stream.specs.Starting.{is_open, expecting, first_place_in, first_place_out}
 use Rattle.iw_stream.specs.Stream.{StreamState, ended}
-use Rattle.iw_stream.specs.Work.{scene, place_behind}
+use Rattle.iw_stream.specs.Work.{scene, place_past}
 
 -- a Send's segment of n octets that was placed has its buffer, with room for it
 abbrev pub HasBuffer : Receiving → ℕ → Option (Segment (List ℕ)) → Type 0
@@ -51,9 +51,9 @@ pub record Stands (s : StreamState) (frame : PlacedFrame) : Type 0 where
   pub low : frame.start ≤ s.arrived.floor + 4
   pub whole : header_len frame.header.items ≤ length frame.header.items
   pub header : length frame.header.items ≤ frame.len
-  pub on : s.arrived.floor < place_behind s frame
-  pub near : place_behind s frame ≤ s.arrived.floor + 2 ^ 18
-  pub come : (p : ℕ) → p < place_behind s frame → has_come s.arrived p ≡ true
+  pub on : s.arrived.floor < place_past s frame
+  pub near : place_past s frame ≤ s.arrived.floor + 2 ^ 18
+  pub come : (p : ℕ) → p < place_past s frame → has_come s.arrived p ≡ true
   pub next : IsBetween (expecting s.start).markers (frame_end (expecting s.start).markers frame.start frame.len)
 
 -- and was placed
@@ -90,7 +90,7 @@ pub record IsStarted (s : StreamState) : Type 0 where
   pub unsent : s.sent < first_place_out s.start → s.sent ≡ 0
   pub alone : is_open s.start ≡ false → s.sent ≤ first_place_out s.start
   -- the peer's frames stand past its start-up frame
-  pub behind : first_place_in s.start ≤ s.arrived.floor
+  pub beyond : first_place_in s.start ≤ s.arrived.floor
 
 -- none of the Reads has this ticket
 abbrev pub AreOthers : ℕ → List Outstanding → Type 0

@@ -21,7 +21,7 @@ use Rattle.iw_queues.specs.declared.request.Request.TheVariants as requests
 use Rattle.iw_queues.specs.declared.send_queue.Part.{Part}
 use Rattle.iw_queues.specs.Queue.{Queue, nothing_posted, posted, next_part, part_sent}
 use Rattle.iw_queues.specs.Queue as queues
-use Rattle.iw_queues.specs.Segments.{Numbers, first_numbers, segment_of, numbers_behind}
+use Rattle.iw_queues.specs.Segments.{Numbers, first_numbers, segment_of, numbers_beyond}
 use Rattle.iw_rdmap.specs.Laws.{terminate_head}
 use Rattle.iw_reads.specs.declared.reads.Outstanding.{Outstanding}
 use Rattle.iw_reads.specs.declared.response.ResponsePart.{ResponsePart}
@@ -218,7 +218,7 @@ left_due table s (LastWord payload) = record s { sent = s.sent + length (frame_o
 left_due table s (Response part) = left_fetched s part (frame_fetched table s part)
 left_due table s (NextPart part) = record s {
   queue = part_sent s.queue (Some part);
-  numbers = numbers_behind s.numbers part;
+  numbers = numbers_beyond s.numbers part;
   sent = s.sent + length (frame_of_part s part);
   reads = reads_with s.reads part.ticket part.message;
 }

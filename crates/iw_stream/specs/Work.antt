@@ -163,24 +163,24 @@ after_hearing s progress.Agreed = hears s
 after_hearing s (progress.Faulted fault) = ends (hears s)
 
 -- the place past a frame
-abbrev pub place_behind : StreamState → PlacedFrame → ℕ
-place_behind s frame = first_place_in s.start + frame_end (expecting s.start).markers frame.start frame.len
+abbrev pub place_past : StreamState → PlacedFrame → ℕ
+place_past s frame = first_place_in s.start + frame_end (expecting s.start).markers frame.start frame.len
 
 -- a frame had its turn, the in-order point lies past it, and the records of frames that begin before that point go
-abbrev pub behind : StreamState → PlacedFrame → StreamState
-behind s frame = record s {
+abbrev pub beyond : StreamState → PlacedFrame → StreamState
+beyond s frame = record s {
   front = None;
-  arrived = advanced s.arrived (place_behind s frame);
+  arrived = advanced s.arrived (place_past s frame);
   early = kept_from (frame_end (expecting s.start).markers frame.start frame.len) s.early;
 }
 
 abbrev pub after_turn : StreamState → PlacedFrame → Result Turning Fault → StreamState
-after_turn s frame (Ok Passed) = record (behind s frame) {
+after_turn s frame (Ok Passed) = record (beyond s frame) {
   receiving = receiving_turned s.receiving frame;
   reads = reads_left s.reads frame;
 }
-after_turn s frame (Ok (Completed solicited invalidate)) = record (behind s frame) { receiving = finished s.receiving }
-after_turn s frame (Ok (Answered ticket)) = record (behind s frame) {
+after_turn s frame (Ok (Completed solicited invalidate)) = record (beyond s frame) { receiving = finished s.receiving }
+after_turn s frame (Ok (Answered ticket)) = record (beyond s frame) {
   reads = reads_left s.reads frame;
   queue = sent_with s.queue (completions.finished s.queue.sent ticket);
 }
@@ -192,7 +192,7 @@ lands s frame at = record s { front = Some (placed frame); receiving = receiving
 
 -- a Read Request has its turn at once
 abbrev pub takes_up : StreamState → PlacedFrame → ReadRequest → StreamState
-takes_up s frame request = record (behind s frame) { asked = taken_up s.asked (record { header = frame.header; request = request }) }
+takes_up s frame request = record (beyond s frame) { asked = taken_up s.asked (record { header = frame.header; request = request }) }
 
 -- a Terminate has its turn at once too, and is not answered
 abbrev pub after_judging : StreamState → Frame → Result Landing Fault → StreamState
@@ -200,7 +200,7 @@ after_judging s frame (Ok (Write at)) = lands s frame (Write at)
 after_judging s frame (Ok (Response at)) = lands s frame (Response at)
 after_judging s frame (Ok (Send msn mo len)) = lands s frame (Send msn mo len)
 after_judging s frame (Ok (Request request)) = takes_up s (placed frame) request
-after_judging s frame (Ok (Terminate fault)) = ends (behind s (placed frame))
+after_judging s frame (Ok (Terminate fault)) = ends (beyond s (placed frame))
 after_judging s frame (Err fault) = ends_by s (terminate_judged s.asked frame fault)
 
 -- a frame that was judged early, and not placed, leaves nothing but its record

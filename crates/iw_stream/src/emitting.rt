@@ -3,7 +3,7 @@ ghost use Rattle.iw_octets.specs.declared.segment.Segment.TheVariants.{Tagged, U
 ghost use Rattle.iw_octets.specs.Segment.{segment_octets};
 ghost use Rattle.iw_fpdu.specs.Frame.{frame_octets, max_sent};
 ghost use Rattle.iw_queues.specs.Request.{payload, header_len};
-ghost use Rattle.iw_queues.specs.Segments.{first_numbers, segment_of, numbers_behind};
+ghost use Rattle.iw_queues.specs.Segments.{first_numbers, segment_of, numbers_beyond};
 ghost use Rattle.iw_queues.specs.Shown.{shown_part};
 ghost use Rattle.iw_rdmap.specs.Laws.{terminate_head};
 ghost use Rattle.iw_stream.specs.Emitting.{numbers_of, write_head, send_head, request_head};
@@ -31,8 +31,8 @@ impl Numbers {
     }
 
     /// Those after a part that is sent: a message has its number until its last part.
-    pub(crate) fn behind<A: Allocator>(self, part: &Part<&Request<Bytes<A>>>) -> Numbers
-        ensures { numbers_of result ≡ numbers_behind (numbers_of self) (shown_part part.now) }
+    pub(crate) fn beyond<A: Allocator>(self, part: &Part<&Request<Bytes<A>>>) -> Numbers
+        ensures { numbers_of result ≡ numbers_beyond (numbers_of self) (shown_part part.now) }
     {
         let Numbers { send, read } = self;
         if !part.last {

@@ -275,7 +275,7 @@ pub(crate) fn frame_at<'a, A: Allocator>(
     base: u64,
     start: u64,
 ) -> Option<Fpdu<'a, A>>
-    requires behind { base ≤ arrived.now.arrived.floor }
+    requires beyond { base ≤ arrived.now.arrived.floor }
     requires between { IsBetween layout.markers (arrived.now.arrived.floor - base) }
     requires start { start ≡ frame_start layout.markers (arrived.now.arrived.floor - base) }
     requires held { IsHeld arrived.now.arrived }

@@ -140,7 +140,7 @@ pub(crate) fn first_octets<A: Allocator>(fpdu: &Fpdu<'_, A>) -> ArrayVec<u8, FIR
 #[inline(always)]
 pub(crate) fn front<'a, A: Allocator>(fpdu: &Fpdu<'a, A>) -> Option<&'a [u8]>
     requires { HoldsSpan fpdu.now }
-    ensures { IfSome result (λ front. (behind : List ℕ) × (ulpdu fpdu.now ≡ front.now ++ behind)) }
+    ensures { IfSome result (λ front. (beyond : List ℕ) × (ulpdu fpdu.now ≡ front.now ++ beyond)) }
 {
     fpdu.pieces(0).next()
 }
@@ -525,7 +525,7 @@ pub(crate) fn keep_tagged<A: Allocator>(
     start: u64,
 )
     requires start { start ≡ fpdu.now.start }
-    requires front { (behind : List ℕ) × (ulpdu fpdu.now ≡ front.now ++ behind) }
+    requires front { (beyond : List ℕ) × (ulpdu fpdu.now ≡ front.now ++ beyond) }
     requires tagged { is_tagged (slice_index front.now 0) ≡ true }
     requires long { 14 ≤ length front.now }
     ensures { kept.new ≡ Some (placed (frame_by fpdu.now)) }

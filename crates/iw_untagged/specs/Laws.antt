@@ -11,7 +11,7 @@ NumbersFollow = (due i : ℕ) → due < 2 ^ 32 → i < 2 ^ 32 → ahead_of due (
 pub record PlacesAt (r : Receiving) (msn mo : ℕ) (octets : List ℕ) : Type 0 where
   pub there : take (length octets) (drop mo (buffer_of (written r msn mo octets) msn)) ≡ octets
   pub before : take mo (buffer_of (written r msn mo octets) msn) ≡ take mo (buffer_of r msn)
-  pub behind : drop (mo + length octets) (buffer_of (written r msn mo octets) msn) ≡ drop (mo + length octets) (buffer_of r msn)
+  pub beyond : drop (mo + length octets) (buffer_of (written r msn mo octets) msn) ≡ drop (mo + length octets) (buffer_of r msn)
   pub as_long : length (buffer_of (written r msn mo octets) msn) ≡ length (buffer_of r msn)
   pub others : (i : ℕ) → i ≢ ahead_of r.due msn → slice_index_or (written r msn mo octets).buffers i [] ≡ slice_index_or r.buffers i []
   pub as_many : length (written r msn mo octets).buffers ≡ length r.buffers

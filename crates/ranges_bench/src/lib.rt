@@ -11,7 +11,7 @@ const WINDOW: usize = 131_072;
 
 const ISLANDS: u64 = 1_000;
 
-/// Where the islands of `behind_islands` begin.
+/// Where the islands of `past_islands` begin.
 const FAR: u64 = 200_000;
 
 fn started(alloc: Global) -> Result<Islands, NoMemory>
@@ -120,7 +120,7 @@ fn halves(alloc: Global, octets: &[u8], segment: usize) -> Result<u64, NoMemory>
 }
 
 /// Segments of one octet in order, while islands of one octet wait further on.
-fn behind_islands(alloc: Global, octets: &[u8], islands_too: bool) -> Result<u64, NoMemory> {
+fn past_islands(alloc: Global, octets: &[u8], islands_too: bool) -> Result<u64, NoMemory> {
     let mut islands = started(alloc)?;
     if islands_too {
         for i in 0..ISLANDS {
@@ -159,6 +159,6 @@ pub extern "C" fn ranges_halves(alloc: Global, octets: &[u8], segment: usize) ->
 }
 
 #[unsafe(no_mangle)]
-pub extern "C" fn ranges_behind_islands(alloc: Global, octets: &[u8], islands_too: bool) -> u64 {
-    behind_islands(alloc, octets, islands_too).unwrap_or(0)
+pub extern "C" fn ranges_past_islands(alloc: Global, octets: &[u8], islands_too: bool) -> u64 {
+    past_islands(alloc, octets, islands_too).unwrap_or(0)
 }

@@ -112,7 +112,7 @@ impl Receiving {
     }
 
     // Delivers octets from place 0 on, but for those of the first delivery, and tells how many deliveries they were.
-    fn take_behind(&mut self, end: &mut End, octets: &[u8]) -> Result<u64, Stop> {
+    fn take_beyond(&mut self, end: &mut End, octets: &[u8]) -> Result<u64, Stop> {
         let mut deliveries = 0u64;
         let mut place = 0u64;
         for piece in InPieces::new(octets, self.delivery.max(1)) {
@@ -431,7 +431,7 @@ impl Ends {
     /// deliveries they were. Where the load says so, each marker points somewhere else.
     pub(crate) fn take_window(&mut self, alloc: Global) -> Result<u64, Stop> {
         let mut end = End::new(alloc, self.load, Role::Preset)?;
-        self.receiving.take_behind(&mut end, self.wire.octets())
+        self.receiving.take_beyond(&mut end, self.wire.octets())
     }
 
     /// Lets each marker that was emitted point somewhere else.

@@ -230,7 +230,7 @@ impl<A: Allocator> Stream<A> {
         write_part(self.start.sending(), place, self.numbers, &part, out)?;
         let len = out.len() - before;
         let from = self.sent;
-        self.numbers = self.numbers.behind(&part);
+        self.numbers = self.numbers.beyond(&part);
         read_sent(&mut self.reads, part.ticket, part.message);
         self.queue.part_sent(self.mulpdu);
         self.sent += len as u64;

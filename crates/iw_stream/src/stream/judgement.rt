@@ -141,7 +141,7 @@ fn judge_early<A: Allocator, B: Allocator>(
 
 impl<A: Allocator> Stream<A> {
     ghost use Rattle.iw_stream.specs.Stream.{ended, ends};
-    ghost use Rattle.iw_stream.specs.Work.{Judge, Try, Rest, IsTry, waiting, takes_up, behind};
+    ghost use Rattle.iw_stream.specs.Work.{Judge, Try, Rest, IsTry, waiting, takes_up, beyond};
     ghost use Rattle.iw_stream.specs.Work.{next_frame, early_frame, frame_task, step_of, left_by, table_left};
     ghost use Rattle.iw_stream.specs.Kept.{Stands, NoneReachesOver};
 
@@ -283,7 +283,7 @@ impl<A: Allocator> Stream<A> {
         requires stands { Stands self.old frame }
         requires over { NoneReachesOver self.old frame }
         ensures step { result ≡ judged_step (Ok (Landing.Terminate fault)) }
-        ensures after { self.new ≡ ends (behind self.old frame) }
+        ensures after { self.new ≡ ends (beyond self.old frame) }
         ensures reach { self.new.arrived.floor ≤ self.old.arrived.floor + 2 ^ 18 }
         ensures within { IsWithinBuffer result }
     {

@@ -4,7 +4,7 @@ use Rattle.iw_octets.specs.Pieces.{joined}
 use Rattle.iw_fpdu.specs.Places.{data_place, data_index, place_after, frame_start}
 use Rattle.iw_fpdu.specs.Frame.{frame_size, pad_len, laid, bare_data, field_place}
 use Rattle.iw_fpdu.specs.Laying.{HasRoom, marker_before}
-use Rattle.iw_fpdu.proofs.Counted.{aligned_edge, behind_edge, after_high, at_most_after, four_behind, index_after, index_aligned}
+use Rattle.iw_fpdu.proofs.Counted.{aligned_edge, past_edge, after_high, at_most_after, four_past, index_after, index_aligned}
 use Rattle.iw_fpdu.proofs.Rooms.{room_whole, room_front, room_past}
 use Rattle.iw_fpdu.proofs.Written.{bare_written}
 use Rattle.iw_fpdu.proofs.write.put_among_markers.Goals as goal
@@ -30,8 +30,8 @@ put_all-requires g c =
     let start_is : start ≡ data_place m (data_index m at) = c.place_of-start.ensures.value ∙ ap (data_place m) c.index_of.ensures.value in
     let all : HasRoom m start at (frame_size len) _ _ = room_whole m start at len _ _ c.requires.aligned c.requires.place c.requires.short start_is c.requires.room in
     let first = c.put_length in
-    let behind = room_past all 2 first.new.self.start first.new.self.at (n + pad_len len + 4) (omega (arith, c.requires.len)) first.ensures.start first.ensures.place first.ensures.len first.ensures.capacity in
-    room_front behind n (omega arith)
+    let beyond = room_past all 2 first.new.self.start first.new.self.at (n + pad_len len + 4) (omega (arith, c.requires.len)) first.ensures.start first.ensures.place first.ensures.len first.ensures.capacity in
+    room_front beyond n (omega arith)
 
 pub put_pad-requires-clause-room : goal.put_pad-requires-clause-room
 put_pad-requires-clause-room g c =
@@ -43,9 +43,9 @@ put_pad-requires-clause-room g c =
     let start_is : start ≡ data_place m (data_index m at) = c.place_of-start.ensures.value ∙ ap (data_place m) c.index_of.ensures.value in
     let all : HasRoom m start at (frame_size len) _ _ = room_whole m start at len _ _ c.requires.aligned c.requires.place c.requires.short start_is c.requires.room in
     let first = c.put_length in
-    let behind = room_past all 2 first.new.self.start first.new.self.at (n + pad_len len + 4) (omega (arith, c.requires.len)) first.ensures.start first.ensures.place first.ensures.len first.ensures.capacity in
+    let beyond = room_past all 2 first.new.self.start first.new.self.at (n + pad_len len + 4) (omega (arith, c.requires.len)) first.ensures.start first.ensures.place first.ensures.len first.ensures.capacity in
     let second = c.put_all in
-    let later = room_past behind n second.new.self.start second.new.self.at (pad_len len + 4) (omega arith) second.ensures.start second.ensures.place second.ensures.len second.ensures.capacity in
+    let later = room_past beyond n second.new.self.start second.new.self.at (pad_len len + 4) (omega arith) second.ensures.start second.ensures.place second.ensures.len second.ensures.capacity in
     let index : data_index m second.new.self.at ≡ data_index m at + (2 + n) =
     ap (data_index m) second.ensures.place ∙ index_after m first.new.self.at n ∙ omega (arith, ap (data_index m) first.ensures.place ∙ index_after m at 2) in
     let pad : c.pad_of.result ≡ pad_len len = c.pad_of.ensures.value in
@@ -61,9 +61,9 @@ put_pad-requires-clause-aligned g c =
     let start_is : start ≡ data_place m (data_index m at) = c.place_of-start.ensures.value ∙ ap (data_place m) c.index_of.ensures.value in
     let all : HasRoom m start at (frame_size len) _ _ = room_whole m start at len _ _ c.requires.aligned c.requires.place c.requires.short start_is c.requires.room in
     let first = c.put_length in
-    let behind = room_past all 2 first.new.self.start first.new.self.at (n + pad_len len + 4) (omega (arith, c.requires.len)) first.ensures.start first.ensures.place first.ensures.len first.ensures.capacity in
+    let beyond = room_past all 2 first.new.self.start first.new.self.at (n + pad_len len + 4) (omega (arith, c.requires.len)) first.ensures.start first.ensures.place first.ensures.len first.ensures.capacity in
     let second = c.put_all in
-    let later = room_past behind n second.new.self.start second.new.self.at (pad_len len + 4) (omega arith) second.ensures.start second.ensures.place second.ensures.len second.ensures.capacity in
+    let later = room_past beyond n second.new.self.start second.new.self.at (pad_len len + 4) (omega arith) second.ensures.start second.ensures.place second.ensures.len second.ensures.capacity in
     let index : data_index m second.new.self.at ≡ data_index m at + (2 + n) =
     ap (data_index m) second.ensures.place ∙ index_after m first.new.self.at n ∙ omega (arith, ap (data_index m) first.ensures.place ∙ index_after m at 2) in
     let pad : c.pad_of.result ≡ pad_len len = c.pad_of.ensures.value in
@@ -79,9 +79,9 @@ put_marker-requires-clause-low g c =
     let start_is : start ≡ data_place m (data_index m at) = c.place_of-start.ensures.value ∙ ap (data_place m) c.index_of.ensures.value in
     let all : HasRoom m start at (frame_size len) _ _ = room_whole m start at len _ _ c.requires.aligned c.requires.place c.requires.short start_is c.requires.room in
     let first = c.put_length in
-    let behind = room_past all 2 first.new.self.start first.new.self.at (n + pad_len len + 4) (omega (arith, c.requires.len)) first.ensures.start first.ensures.place first.ensures.len first.ensures.capacity in
+    let beyond = room_past all 2 first.new.self.start first.new.self.at (n + pad_len len + 4) (omega (arith, c.requires.len)) first.ensures.start first.ensures.place first.ensures.len first.ensures.capacity in
     let second = c.put_all in
-    let later = room_past behind n second.new.self.start second.new.self.at (pad_len len + 4) (omega arith) second.ensures.start second.ensures.place second.ensures.len second.ensures.capacity in
+    let later = room_past beyond n second.new.self.start second.new.self.at (pad_len len + 4) (omega arith) second.ensures.start second.ensures.place second.ensures.len second.ensures.capacity in
     let index : data_index m second.new.self.at ≡ data_index m at + (2 + n) =
     ap (data_index m) second.ensures.place ∙ index_after m first.new.self.at n ∙ omega (arith, ap (data_index m) first.ensures.place ∙ index_after m at 2) in
     let pad : c.pad_of.result ≡ pad_len len = c.pad_of.ensures.value in
@@ -100,9 +100,9 @@ put_marker-requires-clause-edge g c =
     let start_is : start ≡ data_place m (data_index m at) = c.place_of-start.ensures.value ∙ ap (data_place m) c.index_of.ensures.value in
     let all : HasRoom m start at (frame_size len) _ _ = room_whole m start at len _ _ c.requires.aligned c.requires.place c.requires.short start_is c.requires.room in
     let first = c.put_length in
-    let behind = room_past all 2 first.new.self.start first.new.self.at (n + pad_len len + 4) (omega (arith, c.requires.len)) first.ensures.start first.ensures.place first.ensures.len first.ensures.capacity in
+    let beyond = room_past all 2 first.new.self.start first.new.self.at (n + pad_len len + 4) (omega (arith, c.requires.len)) first.ensures.start first.ensures.place first.ensures.len first.ensures.capacity in
     let second = c.put_all in
-    let later = room_past behind n second.new.self.start second.new.self.at (pad_len len + 4) (omega arith) second.ensures.start second.ensures.place second.ensures.len second.ensures.capacity in
+    let later = room_past beyond n second.new.self.start second.new.self.at (pad_len len + 4) (omega arith) second.ensures.start second.ensures.place second.ensures.len second.ensures.capacity in
     let index : data_index m second.new.self.at ≡ data_index m at + (2 + n) =
     ap (data_index m) second.ensures.place ∙ index_after m first.new.self.at n ∙ omega (arith, ap (data_index m) first.ensures.place ∙ index_after m at 2) in
     let pad : c.pad_of.result ≡ pad_len len = c.pad_of.ensures.value in
@@ -121,16 +121,16 @@ put_marker-requires-clause-near g c =
     let start_is : start ≡ data_place m (data_index m at) = c.place_of-start.ensures.value ∙ ap (data_place m) c.index_of.ensures.value in
     let all : HasRoom m start at (frame_size len) _ _ = room_whole m start at len _ _ c.requires.aligned c.requires.place c.requires.short start_is c.requires.room in
     let first = c.put_length in
-    let behind = room_past all 2 first.new.self.start first.new.self.at (n + pad_len len + 4) (omega (arith, c.requires.len)) first.ensures.start first.ensures.place first.ensures.len first.ensures.capacity in
+    let beyond = room_past all 2 first.new.self.start first.new.self.at (n + pad_len len + 4) (omega (arith, c.requires.len)) first.ensures.start first.ensures.place first.ensures.len first.ensures.capacity in
     let second = c.put_all in
-    let later = room_past behind n second.new.self.start second.new.self.at (pad_len len + 4) (omega arith) second.ensures.start second.ensures.place second.ensures.len second.ensures.capacity in
+    let later = room_past beyond n second.new.self.start second.new.self.at (pad_len len + 4) (omega arith) second.ensures.start second.ensures.place second.ensures.len second.ensures.capacity in
     let index : data_index m second.new.self.at ≡ data_index m at + (2 + n) =
     ap (data_index m) second.ensures.place ∙ index_after m first.new.self.at n ∙ omega (arith, ap (data_index m) first.ensures.place ∙ index_after m at 2) in
     let pad : c.pad_of.result ≡ pad_len len = c.pad_of.ensures.value in
     let third = c.put_pad in
     let field = room_past later c.pad_of.result third.new.self.start third.new.self.at 4 (omega (arith, pad)) third.ensures.start third.ensures.place third.ensures.len third.ensures.capacity in
     let p = third.new.self.at in
-    omega (arith, field.near, behind_edge m p field.edge, after_high m p 4 (omega arith))
+    omega (arith, field.near, past_edge m p field.edge, after_high m p 4 (omega arith))
 
 pub put_marker-requires-clause-room : goal.put_marker-requires-clause-room
 put_marker-requires-clause-room g c =
@@ -142,9 +142,9 @@ put_marker-requires-clause-room g c =
     let start_is : start ≡ data_place m (data_index m at) = c.place_of-start.ensures.value ∙ ap (data_place m) c.index_of.ensures.value in
     let all : HasRoom m start at (frame_size len) _ _ = room_whole m start at len _ _ c.requires.aligned c.requires.place c.requires.short start_is c.requires.room in
     let first = c.put_length in
-    let behind = room_past all 2 first.new.self.start first.new.self.at (n + pad_len len + 4) (omega (arith, c.requires.len)) first.ensures.start first.ensures.place first.ensures.len first.ensures.capacity in
+    let beyond = room_past all 2 first.new.self.start first.new.self.at (n + pad_len len + 4) (omega (arith, c.requires.len)) first.ensures.start first.ensures.place first.ensures.len first.ensures.capacity in
     let second = c.put_all in
-    let later = room_past behind n second.new.self.start second.new.self.at (pad_len len + 4) (omega arith) second.ensures.start second.ensures.place second.ensures.len second.ensures.capacity in
+    let later = room_past beyond n second.new.self.start second.new.self.at (pad_len len + 4) (omega arith) second.ensures.start second.ensures.place second.ensures.len second.ensures.capacity in
     let index : data_index m second.new.self.at ≡ data_index m at + (2 + n) =
     ap (data_index m) second.ensures.place ∙ index_after m first.new.self.at n ∙ omega (arith, ap (data_index m) first.ensures.place ∙ index_after m at 2) in
     let pad : c.pad_of.result ≡ pad_len len = c.pad_of.ensures.value in
@@ -163,9 +163,9 @@ returns-clause-room g c =
     let start_is : start ≡ data_place m (data_index m at) = c.place_of-start.ensures.value ∙ ap (data_place m) c.index_of.ensures.value in
     let all : HasRoom m start at (frame_size len) _ _ = room_whole m start at len _ _ c.requires.aligned c.requires.place c.requires.short start_is c.requires.room in
     let first = c.put_length in
-    let behind = room_past all 2 first.new.self.start first.new.self.at (n + pad_len len + 4) (omega (arith, c.requires.len)) first.ensures.start first.ensures.place first.ensures.len first.ensures.capacity in
+    let beyond = room_past all 2 first.new.self.start first.new.self.at (n + pad_len len + 4) (omega (arith, c.requires.len)) first.ensures.start first.ensures.place first.ensures.len first.ensures.capacity in
     let second = c.put_all in
-    let later = room_past behind n second.new.self.start second.new.self.at (pad_len len + 4) (omega arith) second.ensures.start second.ensures.place second.ensures.len second.ensures.capacity in
+    let later = room_past beyond n second.new.self.start second.new.self.at (pad_len len + 4) (omega arith) second.ensures.start second.ensures.place second.ensures.len second.ensures.capacity in
     let index : data_index m second.new.self.at ≡ data_index m at + (2 + n) =
     ap (data_index m) second.ensures.place ∙ index_after m first.new.self.at n ∙ omega (arith, ap (data_index m) first.ensures.place ∙ index_after m at 2) in
     let pad : c.pad_of.result ≡ pad_len len = c.pad_of.ensures.value in
@@ -173,8 +173,8 @@ returns-clause-room g c =
     let field = room_past later c.pad_of.result third.new.self.start third.new.self.at 4 (omega (arith, pad)) third.ensures.start third.ensures.place third.ensures.len third.ensures.capacity in
     let p = third.new.self.at in
     let last : data_index m p ≡ data_index m second.new.self.at + c.pad_of.result = ap (data_index m) third.ensures.place ∙ index_after m second.new.self.at c.pad_of.result in
-    let four = four_behind m p (omega (arith, last, index, pad, index_aligned m at c.requires.aligned, c.requires.len)) in
-    omega (arith, field.room, four, c.put_marker.ensures.place, c.put_marker.ensures.len, c.put_marker.ensures.capacity, behind_edge m p field.edge)
+    let four = four_past m p (omega (arith, last, index, pad, index_aligned m at c.requires.aligned, c.requires.len)) in
+    omega (arith, field.room, four, c.put_marker.ensures.place, c.put_marker.ensures.len, c.put_marker.ensures.capacity, past_edge m p field.edge)
 
 pub returns-clause-items : goal.returns-clause-items
 returns-clause-items g c =

@@ -6,7 +6,7 @@ use Rattle.iw_octets.proofs.FoldSteps.{block_step, last_step, moved_window}
 use Rattle.iw_octets.proofs.fold.folded.Goals as goal
 
 pub loop-block-preserved : goal.loop-block-preserved
-loop-block-preserved c = λ behind enough.
+loop-block-preserved c = λ beyond enough.
     let front = c.split_at.result.0.now in
     let k = c.loop-block.block in
     let piece = take (2048 * k + 2048 - 2048 * k) (drop (2048 * k) front) in
@@ -17,8 +17,8 @@ loop-block-preserved c = λ behind enough.
     let whole : length c.fold.new.window ≡ 2338 = c.fold.auto.window ∙ c.loop-block-test.array_long in
     let new : take 290 c.copy_within.new.self ≡ take 290 (drop (length piece) c.fold.new.window) =
     moved_window c.fold.new.window c.copy_within.new.self whole c.copy_within.ensures.after ∙ ap (λ n. take 290 (drop n c.fold.new.window)) (sym long) in
-    ap (λ w. remainder_with w behind) new
-    ∙ block_step c.args.remainder front (take 290 c.loop-block.window) piece (take 290 (drop (length piece) c.fold.new.window)) k is c.fold.ensures c.loop-block.invariant behind enough
+    ap (λ w. remainder_with w beyond) new
+    ∙ block_step c.args.remainder front (take 290 c.loop-block.window) piece (take 290 (drop (length piece) c.fold.new.window)) k is c.fold.ensures c.loop-block.invariant beyond enough
 
 pub returns : goal.returns
 returns c =
@@ -36,4 +36,4 @@ returns c =
     c.settled.ensures
     ∙ ap (λ n. remainder_with (take n (drop (length tail) c.fold-2.new.window)) back) size
     ∙ last_step c.args.remainder octets front back (take 290 c.loop-block.window) tail (take 290 (drop (length tail) c.fold-2.new.window)) k whole (take_rest front (2048 * k)) enough c.fold-2.ensures
-    (λ behind long. c.loop-block.invariant behind long ∙ ap (λ n. after_octets c.args.remainder (take (2048 * n) front ++ behind)) done)
+    (λ beyond long. c.loop-block.invariant beyond long ∙ ap (λ n. after_octets c.args.remainder (take (2048 * n) front ++ beyond)) done)

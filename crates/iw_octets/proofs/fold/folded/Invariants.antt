@@ -4,4 +4,4 @@ use Rattle.iw_octets.specs.Fold.{remainder_with}
 use Rattle.iw_octets.proofs.fold.folded.Given as goal
 
 abbrev pub invariant-loop-block : goal.invariant-loop-block
-invariant-loop-block l = (behind : List ℕ) → 290 ≤ length behind → remainder_with (take 290 l.window) behind ≡ after_octets l.remainder (take (2048 * l.block) l.front ++ behind)
+invariant-loop-block l = (beyond : List ℕ) → 290 ≤ length beyond → remainder_with (take 290 l.window) beyond ≡ after_octets l.remainder (take (2048 * l.block) l.front ++ beyond)

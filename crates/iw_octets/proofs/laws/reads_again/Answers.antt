@@ -10,5 +10,5 @@ returns c = record {
   request = read_request-spelled;
   word = read_word-spelled;
   segment = read_segment-spelled;
-  behind = read_segment-append;
+  beyond = read_segment-append;
 }

@@ -2,7 +2,7 @@ use Rattle.std.proofs.Common.{◌≡◌, ◌<◌, ◌≤◌, length, arith, ◌�
 use Rattle.std.specs.Prelude.{insert}
 use Rattle.std.proofs.lemmas.Grind.{common_steps}
 use Rattle.iw_ranges.specs.declared.spans.Span.{Span}
-use Rattle.iw_ranges.proofs.Joins.{add_touched, add_before, add_behind}
+use Rattle.iw_ranges.proofs.Joins.{add_touched, add_before, add_past}
 use Rattle.iw_ranges.proofs.spans.join.Goals as goal
 use Rattle.iw_ranges.proofs.spans.join.Goals.{else-low-len-via-then-low-len+else-index-to, else-low-len-via-else-low-len}
 
@@ -25,5 +25,5 @@ returns-clause-items g c =
           add_before ss c.args.from c.args.to c.args.low d c.requires.place.before inside (c.requires.place.reaches d inside) (subst (λ (s : Span). c.args.to < s.from) w.index.ensures apart)
       | else-low-len-via-else-low-len w ↦
           let past : length ss ≤ c.args.low = omega (arith, c.args.spans.now.ok.0) in
-          add_behind ss c.args.from c.args.to c.args.low c.requires.place.before past
+          add_past ss c.args.from c.args.to c.args.low c.requires.place.before past
     ]

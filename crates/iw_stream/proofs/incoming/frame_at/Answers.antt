@@ -9,11 +9,11 @@ use Rattle.iw_stream.proofs.incoming.frame_at.Goals as goal
 pub overflow_add-base : goal.overflow_add-base
 overflow_add-base g c =
     let at = c.args.arrived.now.arrived.floor - c.args.base in
-    omega (arith, c.requires.start, (start_near c.args.layout.markers at c.requires.between).1, c.requires.place, c.requires.behind)
+    omega (arith, c.requires.start, (start_near c.args.layout.markers at c.requires.between).1, c.requires.place, c.requires.beyond)
 
 pub returns-then-missing-base-clause-frame : goal.returns-then-missing-base-clause-frame
 returns-then-missing-base-clause-frame g c =
-    sym (none_there c.args.layout c.args.arrived.now.arrived c.args.base c.args.start c.missing.result c.requires.behind c.requires.between c.requires.start c.missing.ensures.missing c.if-missing-base.true)
+    sym (none_there c.args.layout c.args.arrived.now.arrived c.args.base c.args.start c.missing.result c.requires.beyond c.requires.between c.requires.start c.missing.ensures.missing c.if-missing-base.true)
 
 pub read-requires-clause-low : goal.read-requires-clause-low
 read-requires-clause-low g c =
@@ -28,7 +28,7 @@ read-requires-clause-start g c =
 pub read-requires-clause-length_kept : goal.read-requires-clause-length_kept
 read-requires-clause-length_kept g c = λ p from to.
     let at = c.args.arrived.now.arrived.floor - c.args.base in
-    subst (λ (a : Arrived). IsKept (cell_at a (c.args.base + p))) (sym c.islands.ensures) (kept_cell _ (c.requires.held (c.args.base + p) (omega (arith, from, c.requires.start, (start_near c.args.layout.markers at c.requires.between).0, c.requires.behind))))
+    subst (λ (a : Arrived). IsKept (cell_at a (c.args.base + p))) (sym c.islands.ensures) (kept_cell _ (c.requires.held (c.args.base + p) (omega (arith, from, c.requires.start, (start_near c.args.layout.markers at c.requires.between).0, c.requires.beyond))))
 
 pub returns-clause-frame : goal.returns-clause-frame
 returns-clause-frame g c =
@@ -36,4 +36,4 @@ returns-clause-frame g c =
 
 pub returns-clause-next : goal.returns-clause-next
 returns-clause-next g c =
-    next_read c.args.layout c.args.arrived.now.arrived c.args.base c.args.start c.read.result c.requires.behind c.requires.between c.requires.held c.floor.ensures.limits c.requires.start (subst (λ (a : Arrived). Read c.args.layout a c.args.base c.args.start c.read.result) c.islands.ensures c.read.ensures)
+    next_read c.args.layout c.args.arrived.now.arrived c.args.base c.args.start c.read.result c.requires.beyond c.requires.between c.requires.held c.floor.ensures.limits c.requires.start (subst (λ (a : Arrived). Read c.args.layout a c.args.base c.args.start c.read.result) c.islands.ensures c.read.ensures)

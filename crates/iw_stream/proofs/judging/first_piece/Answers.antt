@@ -5,7 +5,7 @@ use Rattle.iw_stream.proofs.judging.first_piece.Goals as goal
 pub returns : goal.returns
 returns g c =
     record {
-      behind = c.in_ok-first.ensures.0;
+      beyond = c.in_ok-first.ensures.0;
       whole = c.in_ok-first.ensures.1;
       enough = omega (arith, length_ulpdu c.args.fpdu.now, c.min.ensures, c.len.ensures.len, c.if-first-min.false);
     }

@@ -20,7 +20,7 @@ judge-requires g c =
     let u = ulpdu c.args.fpdu.now in
     let first = c.args.first.now in
     let f = c.requires.first in
-    let all = ap length f.whole ∙ length-append first f.behind in
+    let all = ap length f.whole ∙ length-append first f.beyond in
     let long = length_ulpdu c.args.fpdu.now in
     record { enough = omega (arith, f.enough, long, c.len.ensures.len); within = omega (arith, all, long, c.len.ensures.len) }
 

@@ -1,6 +1,6 @@
 use Rattle.std.proofs.Common.{◌≡◌, ◌<◌, ◌+◌, ◌-◌, ◌++◌, length, drop, ap, ◌∙◌, sym, arith}
 use Rattle.std.proofs.lemmas.List.{append-nil}
-use Rattle.iw_fpdu.proofs.Left.{left_in, left_all, left_behind, length_left, within_run, behind_run, next_run}
+use Rattle.iw_fpdu.proofs.Left.{left_in, left_all, left_past, length_left, within_run, past_run, next_run}
 use Rattle.iw_fpdu.proofs.pieces.PiecesIterator.next.Goals as goal
 
 pub split_at-requires : goal.split_at-requires
@@ -20,12 +20,12 @@ returns-then-self-clause-steps c =
 pub split_at-requires-2 : goal.split_at-requires-2
 split_at-requires-2 c =
     let a = c.self.inside in
-    omega (arith, c.self.invariant.reaches a.run (omega (arith, c.if-self.false)), behind_run a.run a.run (omega arith))
+    omega (arith, c.self.invariant.reaches a.run (omega (arith, c.if-self.false)), past_run a.run a.run (omega arith))
 
 pub split_at-requires-3 : goal.split_at-requires-3
 split_at-requires-3 c =
     let a = c.self.inside in
-    omega (arith, c.self.invariant.reaches a.run (omega (arith, c.if-self.false)), behind_run a.run a.run (omega arith), c.split_at-2.ensures.back_len)
+    omega (arith, c.self.invariant.reaches a.run (omega (arith, c.if-self.false)), past_run a.run a.run (omega arith), c.split_at-2.ensures.back_len)
 
 pub invariant_of-self-2 : goal.invariant_of-self-2
 invariant_of-self-2 c =
@@ -38,12 +38,12 @@ invariant_of-self-2 c =
 pub returns-clause-steps : goal.returns-clause-steps
 returns-clause-steps c =
     let a = c.self.inside in
-    let behind : c.split_at-3.result.1.now ≡ drop 4 (drop a.run a.rest.now) = c.split_at-3.ensures.back ∙ ap (drop 4) c.split_at-2.ensures.back in (
+    let beyond : c.split_at-3.result.1.now ≡ drop 4 (drop a.run a.rest.now) = c.split_at-3.ensures.back ∙ ap (drop 4) c.split_at-2.ensures.back in (
       omega (arith, c.split_at-2.ensures.front_len, c.self.invariant.begins (omega (arith, c.if-self-eq0.false))),
       sym c.self.view_is
-          ∙ left_behind a.rest.now a.run a.left (omega (arith, c.if-self.false)) (omega (arith, c.split_at-2.ensures.front_len, c.split_at-2.ensures.back_len))
+          ∙ left_past a.rest.now a.run a.left (omega (arith, c.if-self.false)) (omega (arith, c.split_at-2.ensures.front_len, c.split_at-2.ensures.back_len))
           ∙ ap (λ xs. xs ++ left_in (drop 4 (drop a.run a.rest.now)) 508 (a.left - a.run)) (sym c.split_at-2.ensures.front)
-          ∙ ap (λ xs. c.split_at-2.result.0.now ++ left_in xs 508 (a.left - a.run)) (sym behind),
+          ∙ ap (λ xs. c.split_at-2.result.0.now ++ left_in xs 508 (a.left - a.run)) (sym beyond),
     )
 
 pub returns-clause-goes : goal.returns-clause-goes

@@ -4,7 +4,7 @@ use Rattle.std.proofs.lemmas.Bool.Decides.{nat_tests}
 use Rattle.iw_fpdu.specs.Places.{data_place, data_index, in_marker, place_after}
 use Rattle.iw_fpdu.specs.Frame.{laid}
 use Rattle.iw_fpdu.specs.Laying.{marker_before}
-use Rattle.iw_fpdu.proofs.Counted.{behind_edge, data_no_marker, run_edge, after_run, after_marker, after_high, run_high, place_after_none, at_most_after}
+use Rattle.iw_fpdu.proofs.Counted.{past_edge, data_no_marker, run_edge, after_run, after_marker, after_high, run_high, place_after_none, at_most_after}
 use Rattle.iw_fpdu.proofs.Laid.{laid_turn, laid_none}
 use Rattle.iw_fpdu.proofs.writer.Writer.put.Goals as goal
 
@@ -15,7 +15,7 @@ pub put_marker-requires-clause-near : goal.put_marker-requires-clause-near
 put_marker-requires-clause-near g c =
     let room = c.loop-rest.invariant.0 in
     let some : 0 < length c.loop-rest.rest.now = grind (arith, nat_tests, c.loop-rest-test.ensures) in
-    omega (arith, room.near, behind_edge true c.loop-rest.self.at room.edge, after_high true c.loop-rest.self.at (length c.loop-rest.rest.now) some)
+    omega (arith, room.near, past_edge true c.loop-rest.self.at room.edge, after_high true c.loop-rest.self.at (length c.loop-rest.rest.now) some)
 
 pub put_marker-requires-clause-low : goal.put_marker-requires-clause-low
 put_marker-requires-clause-low g c =
@@ -45,7 +45,7 @@ append-requires g c =
     let some_n : 0 < n = c.run_at-run.ensures.some some in
     let after_b : place_after m b (length rest) ≡ place_after m at (length rest) = ap (λ x. place_after m x (length rest)) c.put_marker.ensures.place ∙ after_marker m at (length rest) some in
     let high : b + n ≤ place_after m b (length rest) = run_high m b n (length rest) some_n c.run_at-run.ensures.within c.run_at-run.ensures.run in
-    let low : at ≤ data_place m (data_index m at) = behind_edge m at had.edge in
+    let low : at ≤ data_place m (data_index m at) = past_edge m at had.edge in
     omega (arith, had.room, c.put_marker.ensures.len, after_b, high, low, c.put_marker.ensures.place, c.put_marker.ensures.capacity, c.split_at.ensures.front_len)
 
 pub overflow_add-self : goal.overflow_add-self
@@ -60,7 +60,7 @@ overflow_add-self g c =
     let some_n : 0 < n = c.run_at-run.ensures.some some in
     let after_b : place_after m b (length rest) ≡ place_after m at (length rest) = ap (λ x. place_after m x (length rest)) c.put_marker.ensures.place ∙ after_marker m at (length rest) some in
     let high : b + n ≤ place_after m b (length rest) = run_high m b n (length rest) some_n c.run_at-run.ensures.within c.run_at-run.ensures.run in
-    let low : at ≤ data_place m (data_index m at) = behind_edge m at had.edge in
+    let low : at ≤ data_place m (data_index m at) = past_edge m at had.edge in
     omega (arith, after_b, high, had.low)
 
 pub loop-rest-preserved : goal.loop-rest-preserved
@@ -75,7 +75,7 @@ loop-rest-preserved g c =
     let some_n : 0 < n = c.run_at-run.ensures.some some in
     let after_b : place_after m b (length rest) ≡ place_after m at (length rest) = ap (λ x. place_after m x (length rest)) c.put_marker.ensures.place ∙ after_marker m at (length rest) some in
     let high : b + n ≤ place_after m b (length rest) = run_high m b n (length rest) some_n c.run_at-run.ensures.within c.run_at-run.ensures.run in
-    let low : at ≤ data_place m (data_index m at) = behind_edge m at had.edge in
+    let low : at ≤ data_place m (data_index m at) = past_edge m at had.edge in
     let back_len : length c.split_at.result.1.now + n ≡ length rest = c.split_at.ensures.back_len in
     let end : place_after m (b + n) (length c.split_at.result.1.now) ≡ place_after m at (length rest) =
     after_run m b n (length rest) (length c.split_at.result.1.now) some_n (omega (arith, back_len)) c.run_at-run.ensures.run ∙ after_b in

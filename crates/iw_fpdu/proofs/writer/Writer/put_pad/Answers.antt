@@ -1,11 +1,11 @@
 use Rattle.std.proofs.Common.{◌≡◌, true, ◌++◌, replicate, ap, ◌∙◌, sym, arith}
-use Rattle.iw_fpdu.proofs.Written.{pad_behind, laid_pad, cut_pad}
+use Rattle.iw_fpdu.proofs.Written.{pad_past, laid_pad, cut_pad}
 use Rattle.iw_fpdu.proofs.writer.Writer.put_pad.Goals as goal
 
 pub append-requires : goal.append-requires
 append-requires g c =
     let room = c.requires.room in
-    omega (arith, room.room, pad_behind true c.args.self.now.at c.args.pad room.edge c.requires.few c.requires.aligned)
+    omega (arith, room.room, pad_past true c.args.self.now.at c.args.pad room.edge c.requires.few c.requires.aligned)
 
 pub returns-clause-items : goal.returns-clause-items
 returns-clause-items g c =
@@ -16,7 +16,7 @@ returns-clause-items g c =
 
 pub overflow_add-self : goal.overflow_add-self
 overflow_add-self g c =
-    omega (arith, c.requires.room.low, pad_behind true c.args.self.now.at c.args.pad c.requires.room.edge c.requires.few c.requires.aligned)
+    omega (arith, c.requires.room.low, pad_past true c.args.self.now.at c.args.pad c.requires.room.edge c.requires.few c.requires.aligned)
 
 pub returns-clause-place : goal.returns-clause-place
-returns-clause-place g c = omega (arith, pad_behind true c.args.self.now.at c.args.pad c.requires.room.edge c.requires.few c.requires.aligned)
+returns-clause-place g c = omega (arith, pad_past true c.args.self.now.at c.args.pad c.requires.room.edge c.requires.few c.requires.aligned)

@@ -5,7 +5,7 @@ use Rattle.iw_fpdu.specs.Frame.{frame_octets}
 use Rattle.iw_stream.specs.Fields.{state_of}
 use Rattle.iw_stream.specs.Starting.{is_open, first_place_out}
 use Rattle.iw_stream.specs.Stream.{StreamState}
-use Rattle.iw_stream.proofs.Keeping.{aligned_behind, keeps_sent}
+use Rattle.iw_stream.proofs.Keeping.{aligned_past, keeps_sent}
 use Rattle.iw_stream.proofs.stream.Stream.emit_fetched.Goals as goal
 
 pub invariant_of-self : goal.invariant_of-self
@@ -21,7 +21,7 @@ invariant_of-self g c = record {
       let long : length c.write_response.new.out.items ≡ length c.args.out.now.items + length frame = ap length c.in_ok-write_response.ensures.ok ∙ length-append c.args.out.now.items frame in
       let all : s.sent - first_place_out (state_of c.self.inside).start + (c.len.result - c.len-before.result) ≡ s.sent - first + length frame = omega (arith, long, c.len.ensures, c.len-before.ensures, at) in
       keeps_sent (state_of s) s.queue (state_of s).numbers (c.len.result - c.len-before.result) s.reads c.part_fetched.new.self running low
-      (ap (λ n. n % 4) all ∙ aligned_behind c.sending.result (s.sent - first) u (ap (λ n. (s.sent - n) % 4) at ∙ c.self.invariant.keeps.aligned))
+      (ap (λ n. n % 4) all ∙ aligned_past c.sending.result (s.sent - first) u (ap (λ n. (s.sent - n) % 4) at ∙ c.self.invariant.keeps.aligned))
       c.self.invariant.keeps.first c.self.invariant.keeps.awaited c.self.invariant.keeps;
   layout = c.self.invariant.layout;
   base = c.self.invariant.base;

@@ -9,7 +9,7 @@ use Rattle.iw_stream.specs.Ending.{last_word}
 use Rattle.iw_stream.specs.Fields.{state_of}
 use Rattle.iw_stream.specs.Starting.{is_open, first_place_out}
 use Rattle.iw_stream.specs.Stream.{StreamState}
-use Rattle.iw_stream.proofs.Keeping.{aligned_behind, keeps_over, keeps_sent, opened_last}
+use Rattle.iw_stream.proofs.Keeping.{aligned_past, keeps_over, keeps_sent, opened_last}
 use Rattle.iw_stream.proofs.stream.Stream.emit_last_word.Goals as goal
 
 pub invariant_of-self : goal.invariant_of-self
@@ -26,7 +26,7 @@ invariant_of-self g c = record {
       let all : s.sent - first_place_out (state_of c.self.inside).start + (c.len.result - c.len-before.result) ≡ s.sent - first + length frame = omega (arith, long, c.len.ensures, c.len-before.ensures, at) in
       keeps_over (record s { sent = s.sent + (c.len.result - c.len-before.result) }) (Over None) running refl
       (keeps_sent s s.queue s.numbers (c.len.result - c.len-before.result) s.reads s.asked running low
-      (ap (λ n. n % 4) all ∙ aligned_behind c.sending.result (s.sent - first) u (ap (λ n. (s.sent - n) % 4) at ∙ c.self.invariant.keeps.aligned))
+      (ap (λ n. n % 4) all ∙ aligned_past c.sending.result (s.sent - first) u (ap (λ n. (s.sent - n) % 4) at ∙ c.self.invariant.keeps.aligned))
       c.self.invariant.keeps.first c.self.invariant.keeps.awaited c.self.invariant.keeps);
   layout = c.self.invariant.layout;
   base = c.self.invariant.base;

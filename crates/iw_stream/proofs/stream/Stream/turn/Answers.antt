@@ -4,11 +4,11 @@ use Rattle.iw_fpdu.specs.Frame.{frame_end}
 use Rattle.iw_stream.specs.Fields.{state_of}
 use Rattle.iw_stream.specs.Starting.{is_open, first_place_in}
 use Rattle.iw_stream.specs.Stream.{StreamState, ended}
-use Rattle.iw_stream.specs.Work.{place_behind}
+use Rattle.iw_stream.specs.Work.{place_past}
 use Rattle.std.specs.Prelude.{IfSome}
 use Rattle.iw_stream.specs.Kept.{NoneReachesOver}
 use Rattle.iw_stream.proofs.Waiting.{passed}
-use Rattle.iw_stream.proofs.Keeping.{keeps_behind, placed_front, reaches}
+use Rattle.iw_stream.proofs.Keeping.{keeps_past, placed_front, reaches}
 use Rattle.iw_stream.proofs.stream.Stream.turn.Goals as goal
 
 pub invariant_of-self : goal.invariant_of-self
@@ -17,10 +17,10 @@ invariant_of-self g c = record {
       let s = state_of c.self.inside in
       let runs : ended (state_of c.self.inside) ≡ false = ap ended c.self.view_is ∙ c.requires.runs in
       let running : is_open (state_of c.self.inside).start ≡ true = ap (λ (t : StreamState). is_open t.start) c.self.view_is ∙ c.requires.open in
-      let there : c.first_place_in.result + c.end_of-end.result ≡ place_behind (state_of c.self.inside) c.in-Some.frame =
+      let there : c.first_place_in.result + c.end_of-end.result ≡ place_past (state_of c.self.inside) c.in-Some.frame =
       (λ i. c.first_place_in.ensures.place i + c.end_of-end.ensures i)
       ∙ ap (λ (l : Layout). first_place_in c.self.inside.start + frame_end l.markers c.in-Some.frame.start c.in-Some.frame.len) c.expecting.ensures in
-      keeps_behind s c.in-Some.frame (c.first_place_in.result + c.end_of-end.result) c.advance.new.self.arrived s.receiving s.queue s.reads s.asked c.advance.new.self.early c.self.inside.arrived.base
+      keeps_past s c.in-Some.frame (c.first_place_in.result + c.end_of-end.result) c.advance.new.self.arrived s.receiving s.queue s.reads s.asked c.advance.new.self.early c.self.inside.arrived.base
       running (placed_front s c.in-Some.frame runs c.in-Some.is c.self.invariant.keeps).stands there c.advance.ensures.arrived c.advance.ensures.early c.self.invariant.keeps.first (c.self.invariant.keeps.awaited runs) c.self.invariant.keeps;
   layout = c.advance.ensures.same.layout ∙ c.self.invariant.layout;
   base = c.advance.ensures.same.base ∙ c.self.invariant.base;
@@ -30,7 +30,7 @@ pub returns-clause-reach : goal.returns-clause-reach
 returns-clause-reach g c =
     let s = state_of c.self.inside in
     let p = placed_front (state_of c.self.inside) c.in-Some.frame (ap ended c.self.view_is ∙ c.requires.runs) c.in-Some.is c.self.invariant.keeps in
-    let there : c.first_place_in.result + c.end_of-end.result ≡ place_behind (state_of c.self.inside) c.in-Some.frame =
+    let there : c.first_place_in.result + c.end_of-end.result ≡ place_past (state_of c.self.inside) c.in-Some.frame =
     (λ i. c.first_place_in.ensures.place i + c.end_of-end.ensures i)
     ∙ ap (λ (l : Layout). first_place_in c.self.inside.start + frame_end l.markers c.in-Some.frame.start c.in-Some.frame.len) c.expecting.ensures in
     reaches s c.args.self.now c.advance.new.self.arrived (c.first_place_in.result + c.end_of-end.result) c.advance.ensures.arrived (omega (arith, there, p.stands.near)) c.self.view_is
@@ -39,7 +39,7 @@ pub advance-requires-clause-passed : goal.advance-requires-clause-passed
 advance-requires-clause-passed g c =
     let s = state_of c.self.inside in
     let runs : ended (state_of c.self.inside) ≡ false = ap ended c.self.view_is ∙ c.requires.runs in
-    let there : c.first_place_in.result + c.end_of-end.result ≡ place_behind (state_of c.self.inside) c.in-Some.frame =
+    let there : c.first_place_in.result + c.end_of-end.result ≡ place_past (state_of c.self.inside) c.in-Some.frame =
     (λ i. c.first_place_in.ensures.place i + c.end_of-end.ensures i)
     ∙ ap (λ (l : Layout). first_place_in c.self.inside.start + frame_end l.markers c.in-Some.frame.start c.in-Some.frame.len) c.expecting.ensures in
     passed s c.in-Some.frame c.self.inside.arrived.layout c.self.inside.arrived.base (c.first_place_in.result + c.end_of-end.result) c.self.invariant.layout c.self.invariant.base there c.self.invariant.keeps

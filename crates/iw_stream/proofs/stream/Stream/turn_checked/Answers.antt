@@ -4,7 +4,7 @@ use Rattle.iw_fpdu.specs.declared.layout.Layout.{Layout}
 use Rattle.iw_fpdu.specs.Frame.{frame_end}
 use Rattle.iw_stream.specs.Starting.{is_open, first_place_in}
 use Rattle.iw_stream.specs.Stream.{StreamState, ended}
-use Rattle.iw_stream.specs.Work.{place_behind}
+use Rattle.iw_stream.specs.Work.{place_past}
 use Rattle.iw_stream.specs.Kept.{AreAwaited}
 use Rattle.iw_queues.specs.Completions as completions
 use Rattle.iw_queues.specs.Queue.{Queue}
@@ -13,7 +13,7 @@ use Rattle.iw_stream.proofs.Reading.{awaited_answered, awaited_left, awaits_answ
 use Rattle.iw_stream.specs.Judging.{turn_of}
 use Rattle.iw_stream.specs.Stream.{over}
 use Rattle.iw_stream.specs.Work.{Turn, standing, waiting, after_turn, left_by}
-use Rattle.iw_stream.proofs.Keeping.{keeps_behind, reaches}
+use Rattle.iw_stream.proofs.Keeping.{keeps_past, reaches}
 use Rattle.iw_stream.proofs.Waiting.{kept_scene, passed, waiting_stands}
 use Rattle.iw_stream.proofs.stream.Stream.turn_checked.Goals as goal
 
@@ -22,10 +22,10 @@ invariant_of-self-in-Passed g c = record {
   keeps =
       let running : is_open (state_of c.self.inside).start ≡ true = ap (λ (t : StreamState). is_open t.start) c.self.view_is ∙ c.requires.open in
       let runs : ended (state_of c.self.inside) ≡ false = ap ended c.self.view_is ∙ c.requires.runs in
-      let there : c.first_place_in.result + c.end_of-end.result ≡ place_behind (state_of c.self.inside) c.args.frame =
+      let there : c.first_place_in.result + c.end_of-end.result ≡ place_past (state_of c.self.inside) c.args.frame =
       (λ i. c.first_place_in.ensures.place i + c.end_of-end.ensures i)
       ∙ ap (λ (l : Layout). first_place_in c.self.inside.start + frame_end l.markers c.args.frame.start c.args.frame.len) c.expecting.ensures in
-      keeps_behind (state_of c.self.inside) c.args.frame (c.first_place_in.result + c.end_of-end.result) c.advance.new.self.arrived c.turn_frame.new.receiving c.self.inside.queue c.turn_frame.new.reads c.self.inside.asked c.advance.new.self.early c.self.inside.arrived.base
+      keeps_past (state_of c.self.inside) c.args.frame (c.first_place_in.result + c.end_of-end.result) c.advance.new.self.arrived c.turn_frame.new.receiving c.self.inside.queue c.turn_frame.new.reads c.self.inside.asked c.advance.new.self.early c.self.inside.arrived.base
       running (waiting_stands (state_of c.self.inside) c.self.invariant.keeps runs (kept_scene (state_of c.self.inside) c.self.inside.arrived.layout c.self.inside.arrived.base c.self.invariant.layout c.self.invariant.base c.records.ensures.tracked.keeps) c.records.ensures.apart c.floor.ensures.limits c.args.frame (ap waiting c.self.view_is ∙ c.requires.waiting)).0.stands there c.advance.ensures.arrived c.advance.ensures.early c.self.invariant.keeps.first
       (subst (AreAwaited c.self.inside.queue.sent) (sym c.in-Ok.ensures.reads) (awaited_left c.self.inside.queue.sent c.self.inside.reads (payload_len c.args.frame) (head_in c.args.frame) (c.self.invariant.keeps.awaited runs))) c.self.invariant.keeps;
   layout = c.advance.ensures.same.layout ∙ c.self.invariant.layout;
@@ -37,10 +37,10 @@ invariant_of-self-in-Completed g c = record {
   keeps =
       let running : is_open (state_of c.self.inside).start ≡ true = ap (λ (t : StreamState). is_open t.start) c.self.view_is ∙ c.requires.open in
       let runs : ended (state_of c.self.inside) ≡ false = ap ended c.self.view_is ∙ c.requires.runs in
-      let there : c.first_place_in.result + c.end_of-end.result ≡ place_behind (state_of c.self.inside) c.args.frame =
+      let there : c.first_place_in.result + c.end_of-end.result ≡ place_past (state_of c.self.inside) c.args.frame =
       (λ i. c.first_place_in.ensures.place i + c.end_of-end.ensures i)
       ∙ ap (λ (l : Layout). first_place_in c.self.inside.start + frame_end l.markers c.args.frame.start c.args.frame.len) c.expecting.ensures in
-      keeps_behind (state_of c.self.inside) c.args.frame (c.first_place_in.result + c.end_of-end.result) c.advance.new.self.arrived c.finish-buffer.new.self c.self.inside.queue c.turn_frame.new.reads c.self.inside.asked c.advance.new.self.early c.self.inside.arrived.base
+      keeps_past (state_of c.self.inside) c.args.frame (c.first_place_in.result + c.end_of-end.result) c.advance.new.self.arrived c.finish-buffer.new.self c.self.inside.queue c.turn_frame.new.reads c.self.inside.asked c.advance.new.self.early c.self.inside.arrived.base
       running (waiting_stands (state_of c.self.inside) c.self.invariant.keeps runs (kept_scene (state_of c.self.inside) c.self.inside.arrived.layout c.self.inside.arrived.base c.self.invariant.layout c.self.invariant.base c.records.ensures.tracked.keeps) c.records.ensures.apart c.floor.ensures.limits c.args.frame (ap waiting c.self.view_is ∙ c.requires.waiting)).0.stands there c.advance.ensures.arrived c.advance.ensures.early c.self.invariant.keeps.first
       (subst (AreAwaited c.self.inside.queue.sent) (sym c.in-Ok.ensures.reads) (awaited_left c.self.inside.queue.sent c.self.inside.reads (payload_len c.args.frame) (head_in c.args.frame) (c.self.invariant.keeps.awaited runs))) c.self.invariant.keeps;
   layout = c.advance.ensures.same.layout ∙ c.self.invariant.layout;
@@ -52,7 +52,7 @@ returns-in-Passed-clause-reach g c =
     let s = state_of c.self.inside in
     let runs : ended (state_of c.self.inside) ≡ false = ap ended c.self.view_is ∙ c.requires.runs in
     let p = (waiting_stands (state_of c.self.inside) c.self.invariant.keeps runs (kept_scene (state_of c.self.inside) c.self.inside.arrived.layout c.self.inside.arrived.base c.self.invariant.layout c.self.invariant.base c.records.ensures.tracked.keeps) c.records.ensures.apart c.floor.ensures.limits c.args.frame (ap waiting c.self.view_is ∙ c.requires.waiting)).0 in
-    let there : c.first_place_in.result + c.end_of-end.result ≡ place_behind (state_of c.self.inside) c.args.frame =
+    let there : c.first_place_in.result + c.end_of-end.result ≡ place_past (state_of c.self.inside) c.args.frame =
     (λ i. c.first_place_in.ensures.place i + c.end_of-end.ensures i)
     ∙ ap (λ (l : Layout). first_place_in c.self.inside.start + frame_end l.markers c.args.frame.start c.args.frame.len) c.expecting.ensures in
     reaches s c.args.self.now c.advance.new.self.arrived (c.first_place_in.result + c.end_of-end.result) c.advance.ensures.arrived (omega (arith, there, p.stands.near)) c.self.view_is
@@ -62,7 +62,7 @@ returns-in-Completed-clause-reach g c =
     let s = state_of c.self.inside in
     let runs : ended (state_of c.self.inside) ≡ false = ap ended c.self.view_is ∙ c.requires.runs in
     let p = (waiting_stands (state_of c.self.inside) c.self.invariant.keeps runs (kept_scene (state_of c.self.inside) c.self.inside.arrived.layout c.self.inside.arrived.base c.self.invariant.layout c.self.invariant.base c.records.ensures.tracked.keeps) c.records.ensures.apart c.floor.ensures.limits c.args.frame (ap waiting c.self.view_is ∙ c.requires.waiting)).0 in
-    let there : c.first_place_in.result + c.end_of-end.result ≡ place_behind (state_of c.self.inside) c.args.frame =
+    let there : c.first_place_in.result + c.end_of-end.result ≡ place_past (state_of c.self.inside) c.args.frame =
     (λ i. c.first_place_in.ensures.place i + c.end_of-end.ensures i)
     ∙ ap (λ (l : Layout). first_place_in c.self.inside.start + frame_end l.markers c.args.frame.start c.args.frame.len) c.expecting.ensures in
     reaches s c.args.self.now c.advance.new.self.arrived (c.first_place_in.result + c.end_of-end.result) c.advance.ensures.arrived (omega (arith, there, p.stands.near)) c.self.view_is
@@ -78,10 +78,10 @@ invariant_of-self-in-Answered g c = record {
   keeps =
       let running : is_open (state_of c.self.inside).start ≡ true = ap (λ (t : StreamState). is_open t.start) c.self.view_is ∙ c.requires.open in
       let runs : ended (state_of c.self.inside) ≡ false = ap ended c.self.view_is ∙ c.requires.runs in
-      let there : c.first_place_in.result + c.end_of-end.result ≡ place_behind (state_of c.self.inside) c.args.frame =
+      let there : c.first_place_in.result + c.end_of-end.result ≡ place_past (state_of c.self.inside) c.args.frame =
       (λ i. c.first_place_in.ensures.place i + c.end_of-end.ensures i)
       ∙ ap (λ (l : Layout). first_place_in c.self.inside.start + frame_end l.markers c.args.frame.start c.args.frame.len) c.expecting.ensures in
-      keeps_behind (state_of c.self.inside) c.args.frame (c.first_place_in.result + c.end_of-end.result) c.advance.new.self.arrived c.turn_frame.new.receiving c.finish.new.self c.turn_frame.new.reads c.self.inside.asked c.advance.new.self.early c.self.inside.arrived.base
+      keeps_past (state_of c.self.inside) c.args.frame (c.first_place_in.result + c.end_of-end.result) c.advance.new.self.arrived c.turn_frame.new.receiving c.finish.new.self c.turn_frame.new.reads c.self.inside.asked c.advance.new.self.early c.self.inside.arrived.base
       running (waiting_stands (state_of c.self.inside) c.self.invariant.keeps runs (kept_scene (state_of c.self.inside) c.self.inside.arrived.layout c.self.inside.arrived.base c.self.invariant.layout c.self.invariant.base c.records.ensures.tracked.keeps) c.records.ensures.apart c.floor.ensures.limits c.args.frame (ap waiting c.self.view_is ∙ c.requires.waiting)).0.stands there c.advance.ensures.arrived c.advance.ensures.early
       (subst (λ (q : Queue). q.sent.first < 2 ^ 64) (sym c.finish.ensures) c.self.invariant.keeps.first)
       (subst (λ (q : Queue). AreAwaited q.sent c.turn_frame.new.reads) (sym c.finish.ensures)
@@ -97,7 +97,7 @@ returns-in-Answered-clause-reach g c =
     let s = state_of c.self.inside in
     let runs : ended (state_of c.self.inside) ≡ false = ap ended c.self.view_is ∙ c.requires.runs in
     let p = (waiting_stands (state_of c.self.inside) c.self.invariant.keeps runs (kept_scene (state_of c.self.inside) c.self.inside.arrived.layout c.self.inside.arrived.base c.self.invariant.layout c.self.invariant.base c.records.ensures.tracked.keeps) c.records.ensures.apart c.floor.ensures.limits c.args.frame (ap waiting c.self.view_is ∙ c.requires.waiting)).0 in
-    let there : c.first_place_in.result + c.end_of-end.result ≡ place_behind (state_of c.self.inside) c.args.frame =
+    let there : c.first_place_in.result + c.end_of-end.result ≡ place_past (state_of c.self.inside) c.args.frame =
     (λ i. c.first_place_in.ensures.place i + c.end_of-end.ensures i)
     ∙ ap (λ (l : Layout). first_place_in c.self.inside.start + frame_end l.markers c.args.frame.start c.args.frame.len) c.expecting.ensures in
     reaches s c.args.self.now c.advance.new.self.arrived (c.first_place_in.result + c.end_of-end.result) c.advance.ensures.arrived (omega (arith, there, p.stands.near)) c.self.view_is
@@ -105,7 +105,7 @@ returns-in-Answered-clause-reach g c =
 pub advance-requires-clause-passed : goal.advance-requires-clause-passed
 advance-requires-clause-passed g c =
     let runs : ended (state_of c.self.inside) ≡ false = ap ended c.self.view_is ∙ c.requires.runs in
-    let there : c.first_place_in.result + c.end_of-end.result ≡ place_behind (state_of c.self.inside) c.args.frame =
+    let there : c.first_place_in.result + c.end_of-end.result ≡ place_past (state_of c.self.inside) c.args.frame =
     (λ i. c.first_place_in.ensures.place i + c.end_of-end.ensures i)
     ∙ ap (λ (l : Layout). first_place_in c.self.inside.start + frame_end l.markers c.args.frame.start c.args.frame.len) c.expecting.ensures in
     let w = (waiting_stands (state_of c.self.inside) c.self.invariant.keeps runs (kept_scene (state_of c.self.inside) c.self.inside.arrived.layout c.self.inside.arrived.base c.self.invariant.layout c.self.invariant.base c.records.ensures.tracked.keeps) c.records.ensures.apart c.floor.ensures.limits c.args.frame (ap waiting c.self.view_is ∙ c.requires.waiting)) in
@@ -121,7 +121,7 @@ pub overflow_add-place : goal.overflow_add-place
 overflow_add-place g c =
     let runs : ended (state_of c.self.inside) ≡ false = ap ended c.self.view_is ∙ c.requires.runs in
     let w = (waiting_stands (state_of c.self.inside) c.self.invariant.keeps runs (kept_scene (state_of c.self.inside) c.self.inside.arrived.layout c.self.inside.arrived.base c.self.invariant.layout c.self.invariant.base c.records.ensures.tracked.keeps) c.records.ensures.apart c.floor.ensures.limits c.args.frame (ap waiting c.self.view_is ∙ c.requires.waiting)) in
-    let there : c.first_place_in.result + c.end_of-end.result ≡ place_behind (state_of c.self.inside) c.args.frame =
+    let there : c.first_place_in.result + c.end_of-end.result ≡ place_past (state_of c.self.inside) c.args.frame =
     (λ i. c.first_place_in.ensures.place i + c.end_of-end.ensures i)
     ∙ ap (λ (l : Layout). first_place_in c.self.inside.start + frame_end l.markers c.args.frame.start c.args.frame.len) c.expecting.ensures in
     omega (arith, there, w.0.stands.near, ap (λ (t : StreamState). t.arrived.floor) c.self.view_is, c.requires.place)
@@ -130,7 +130,7 @@ pub advance-requires-clause-near : goal.advance-requires-clause-near
 advance-requires-clause-near g c =
     let runs : ended (state_of c.self.inside) ≡ false = ap ended c.self.view_is ∙ c.requires.runs in
     let w = (waiting_stands (state_of c.self.inside) c.self.invariant.keeps runs (kept_scene (state_of c.self.inside) c.self.inside.arrived.layout c.self.inside.arrived.base c.self.invariant.layout c.self.invariant.base c.records.ensures.tracked.keeps) c.records.ensures.apart c.floor.ensures.limits c.args.frame (ap waiting c.self.view_is ∙ c.requires.waiting)) in
-    let there : c.first_place_in.result + c.end_of-end.result ≡ place_behind (state_of c.self.inside) c.args.frame =
+    let there : c.first_place_in.result + c.end_of-end.result ≡ place_past (state_of c.self.inside) c.args.frame =
     (λ i. c.first_place_in.ensures.place i + c.end_of-end.ensures i)
     ∙ ap (λ (l : Layout). first_place_in c.self.inside.start + frame_end l.markers c.args.frame.start c.args.frame.len) c.expecting.ensures in
     omega (arith, there, w.0.stands.near, ap (λ (t : StreamState). t.arrived.floor) c.self.view_is, c.requires.place)

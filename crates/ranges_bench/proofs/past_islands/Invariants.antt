@@ -1,5 +1,5 @@
 use Rattle.ranges_bench.specs.Whole.{IsWhole}
-use Rattle.ranges_bench.proofs.behind_islands.Given as goal
+use Rattle.ranges_bench.proofs.past_islands.Given as goal
 
 abbrev pub invariant-loop-i : goal.invariant-loop-i
 invariant-loop-i l = IsWhole l.islands.arrived

@@ -1,5 +1,0 @@
-use Rattle.iw_laws.proofs.Refused.{refuses_behind_end}
-use Rattle.iw_laws.proofs.wrong_runs.refuses_behind_end.Goals as goal
-
-pub returns : goal.returns
-returns c = refuses_behind_end
