@@ -26,11 +26,11 @@ is_request (Send head) = false
 is_request (Request head request) = true
 is_request (Terminate head word) = false
 
--- what is placed before the segments in front of it have come: its payload goes to the place of a region that its header names (RFC 5041 5.3,
--- RFC 5040 5.5); a Send waits for its turn
+-- what is placed before the segments in front of it have come: its header names the place of its payload, in a region or in a receive buffer
+-- (RFC 5041 5.3, RFC 5040 5.5)
 abbrev pub is_early : Head → Bool
 is_early (Write head) = true
 is_early (Response head) = true
-is_early (Send head) = false
+is_early (Send head) = true
 is_early (Request head request) = false
 is_early (Terminate head word) = false

@@ -43,13 +43,13 @@ impl Head {
 
 /// Whether the segment is placed before those in front of it have come (RFC 5041 5.3, RFC 5040 5.5).
 ///
-/// Exactly the parts of Writes and Read Responses are: their headers name a place of a region. Sends wait for their turn, as
-/// do Read Requests and Terminates, which have no place to go to.
+/// Exactly the parts of Writes, Read Responses and Sends are: their headers name a place, of a region or of a receive
+/// buffer. Read Requests and Terminates, which have no place to go to, wait for their turn.
 pub fn early(head: &Head) -> bool
     ensures { result ≡ is_early head.now }
 {
     match head {
-        Head::Write(_) | Head::Response(_) => true,
-        Head::Send(_) | Head::Request(..) | Head::Terminate(..) => false,
+        Head::Write(_) | Head::Response(_) | Head::Send(_) => true,
+        Head::Request(..) | Head::Terminate(..) => false,
     }
 }
