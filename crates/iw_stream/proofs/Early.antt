@@ -2,12 +2,10 @@
 use Rattle.std.proofs.Common.{◌≡◌, ℕ, ◌+◌, ◌-◌, Bool, true, false, cond, if◌then◌else◌, List, [], ◌∷◌, length, Option, Some, None, Ok, Err, refl, sym, ap, ◌∙◌, subst, arith, inl, inr}
 use Rattle.std.specs.Prelude.{Result, IfOk, IfSome, OnOk, is_some}
 use Rattle.std.specs.Option.{option_map, option_map_or, option_or}
-use Rattle.std.proofs.lemmas.Bool.{true≢false, false≢true}
+use Rattle.std.proofs.lemmas.Bool.{true≢false}
 use Rattle.std.proofs.lemmas.Option.{none-some, same_Some}
 use Rattle.arrayvec.specs.ArrayVec.{ArrayVec}
 use Rattle.iw_octets.specs.declared.fault.Fault.{Fault}
-use Rattle.iw_octets.specs.declared.head.TaggedHead.{TaggedHead}
-use Rattle.iw_octets.specs.declared.segment.Segment.TheVariants.{Tagged}
 use Rattle.iw_octets.specs.Segment.{read_segment}
 use Rattle.iw_memory.specs.Table.{Table}
 use Rattle.iw_ranges.specs.Arrived.{IsWithinLimits}
@@ -17,15 +15,12 @@ use Rattle.iw_fpdu.specs.Places.{frame_start}
 use Rattle.iw_fpdu.specs.Reading.{end_at}
 use Rattle.iw_fpdu.specs.Found.{Found, octet_in}
 use Rattle.iw_fpdu.specs.Laws.{found_at}
-use Rattle.iw_rdmap.specs.declared.head.Head.{Head}
-use Rattle.iw_rdmap.specs.declared.head.Head.TheVariants as heads
-use Rattle.iw_rdmap.specs.Head.{is_early}
 use Rattle.iw_locate.specs.declared.frame.Frame as located
 use Rattle.iw_locate.specs.declared.judged.State.{State}
 use Rattle.iw_locate.specs.declared.judged.State.TheVariants.{Tried, Placed}
 use Rattle.iw_locate.specs.Records as records
 use Rattle.iw_locate.specs.Records.{AreApart, added}
-use Rattle.iw_locate.specs.Free.{scene_of, front_of}
+use Rattle.iw_locate.specs.Free.{scene_of, front_of, point_of}
 use Rattle.iw_locate.specs.Next.{IsFrontWhole}
 use Rattle.iw_locate.specs.Lowest.{overlaps_placed, early_place}
 use Rattle.iw_locate.specs.Keeping as keeping
@@ -33,17 +28,19 @@ use Rattle.iw_locate.specs.Keeping.{IsFrontUnplaced}
 use Rattle.iw_locate.proofs.Holds.{adds_one}
 use Rattle.iw_untagged.specs.Receiving.{Receiving}
 use Rattle.iw_stream.specs.declared.judging.Landing.{Landing}
-use Rattle.iw_stream.specs.Frames.{Frame, EarlyRecord, IsNext, frame_at, frame_by, header_in, kept_by, placed, placed_at, record_tried, state_tried}
+use Rattle.iw_stream.specs.Frames.{Frame, EarlyRecord, IsNext, frame_at, frame_by, kept_by, payload_of, placed, placed_at, record_tried, state_tried}
 use Rattle.iw_stream.specs.Incoming.{Coming, IsSameScene, frame_in, scene_in}
 use Rattle.iw_stream.specs.Judging.{Standing, early_verdict, judged_head, landing_in, may_be_early, receiving_tried, table_tried, verdict}
-use Rattle.iw_stream.specs.Kept.{HasHeader, IsPlaced, IsTagged, Keeps, KeepsHeader, NoneReachesOver}
+use Rattle.iw_stream.specs.Kept.{IsPlaced, Keeps, KeepsBuffer, KeepsHeader, NoneReachesOver}
 use Rattle.iw_stream.specs.Starting.{is_open, expecting, first_place_in}
 use Rattle.iw_stream.specs.Stream.{StreamState}
 use Rattle.iw_stream.specs.Work.{Task, Turn, Clash, Judge, Try, Rest, after_trying, clashes, early_frame, frame_task, front_task, left_by, next_frame, scene, standing, step_of, table_left, tried_step, waiting}
 use Rattle.iw_stream.proofs.Arriving.{placed_there}
 use Rattle.iw_stream.proofs.Fronts.{frame_whole}
-use Rattle.iw_stream.proofs.Headers.{header_read, header_short}
-use Rattle.iw_stream.proofs.Landings.{Judges, judges, length_ulpdu}
+use Rattle.iw_stream.proofs.Buffers.{StaysThere, stays_same, stays_so}
+use Rattle.iw_stream.proofs.Headers.{header_short, kept_buffer}
+use Rattle.iw_stream.proofs.Keeping.{IsJudged, IsPlacing, early_placing, frame_judged, judged_whole, segment_placed, segment_stays}
+use Rattle.iw_stream.proofs.Landings.{length_ulpdu}
 use Rattle.iw_stream.proofs.Tagged.{next_is}
 use Rattle.iw_stream.proofs.Tasks.{task_tries}
 use Rattle.iw_stream.proofs.Waiting.{clear_over}
@@ -182,38 +179,45 @@ pub memory_tried : (table m : Table) (s : StreamState) (frame : Frame) (o : Opti
     → m ≡ table_left table s (option_map_or Try (early_frame s) Rest)
 memory_tried table m s frame o found landed left = left ∙ ap (table_tried table frame) landed ∙ ap (λ o. table_left table s (option_map_or Try o Rest)) (sym found)
 
--- ---- of one that was placed early the whole header of a tagged segment is kept
-has_header : (u : List ℕ) (head : TaggedHead) (payload : List ℕ) → read_segment u ≡ Some (Tagged head payload) → HasHeader (length u) (header_in u)
-has_header u head payload is =
-    let h = header_read u (Tagged head payload) is in
-    record { whole = omega (arith, h.len, h.whole); within = header_short u; tagged = subst IsTagged (sym h.read) tt }
+-- ---- one that was placed early passed every check
+landed : (r : Result Landing Fault) (x : Landing) → landing_in r ≡ Some x → r ≡ Ok x
+landed (Ok y) x e = ap Ok (same_Some _ _ e)
+landed (Err fault) x e = absurd (none-some _ e)
 
-tagged_header : (u : List ℕ) (unanswered : ℕ) (head : Head) → Judges u unanswered head → is_early head ≡ true → HasHeader (length u) (header_in u)
-tagged_header u unanswered (heads.Write head) j e = has_header u head j.payload j.is
-tagged_header u unanswered (heads.Response head) j e = has_header u head j.payload j.is
-tagged_header u unanswered (heads.Send head) j e = absurd (false≢true e)
-tagged_header u unanswered (heads.Request head request) j e = absurd (false≢true e)
-tagged_header u unanswered (heads.Terminate head word) j e = absurd (false≢true e)
-
-early_header : (at : Standing) (frame : Frame) (x : Landing) → early_verdict at frame ≡ Some x → HasHeader (length frame.ulpdu) (header_in frame.ulpdu)
-early_header at frame x e = go (judged_head at frame.ulpdu) refl e
+early_judged : (at : Standing) (frame : Frame) (x : Landing) → early_verdict at frame ≡ Some x → IsJudged at frame.ulpdu x × IsPlacing x
+early_judged at frame x e = go (may_be_early (judged_head at frame.ulpdu)) refl e
   where
-    on : (head : Head) → judged_head at frame.ulpdu ≡ Ok head → (b : Bool) → is_early head ≡ b → (if b then landing_in (verdict at frame) else None) ≡ Some x → HasHeader (length frame.ulpdu) (header_in frame.ulpdu)
-    on head is true may h = tagged_header frame.ulpdu (length at.asked.unanswered) head (judges frame.ulpdu at.asked.next (length at.asked.unanswered) head is) may
-    on head is false may h = absurd (none-some _ h)
+    go : (b : Bool) → may_be_early (judged_head at frame.ulpdu) ≡ b → (if b then landing_in (verdict at frame) else None) ≡ Some x → IsJudged at frame.ulpdu x × IsPlacing x
+    go false is h = absurd (none-some _ h)
+    go true is h =
+        let j = frame_judged at frame x (landed (verdict at frame) x h) in
+        (j, early_placing at j.head (length (payload_of (read_segment frame.ulpdu))) x (ap may_be_early (sym j.is) ∙ is) j.placed)
 
-    go : (r : Result Head Fault) → judged_head at frame.ulpdu ≡ r → (if may_be_early r then landing_in (verdict at frame) else None) ≡ Some x → HasHeader (length frame.ulpdu) (header_in frame.ulpdu)
-    go (Err fault) is h = absurd (none-some _ h)
-    go (Ok head) is h = on head is (is_early head) refl h
-
+-- its header is kept, and a Send's has its buffer
 tried_header : (at : Standing) (frame : Frame) (o : Option Landing) → o ≡ early_verdict at frame → KeepsHeader (record_tried frame o) (state_tried frame o)
 tried_header at frame None is = tt
-tried_header at frame (Some x) is = early_header at frame x (sym is)
+tried_header at frame (Some x) is =
+    let j = (early_judged at frame x (sym is)).0 in
+    record { whole = judged_whole frame.ulpdu (length at.asked.unanswered) j.head j.judged; within = header_short frame.ulpdu }
+
+tried_buffer : (at : Standing) (frame : Frame) (point : ℕ) (o : Option Landing) → o ≡ early_verdict at frame → KeepsBuffer (receiving_tried at.receiving frame o) point (record_tried frame o) (state_tried frame o)
+tried_buffer at frame point None is = tt
+tried_buffer at frame point (Some x) is =
+    let (j, placing) = early_judged at frame x (sym is) in
+    inl (kept_buffer (receiving_tried at.receiving frame (Some x)) frame.ulpdu (segment_placed at frame.ulpdu (length at.asked.unanswered) j.head x j.judged j.placed placing))
+
+-- and no buffer goes
+tried_stays : (at : Standing) (frame : Frame) (o : Option Landing) → o ≡ early_verdict at frame → StaysThere at.receiving (receiving_tried at.receiving frame o)
+tried_stays at frame None is = stays_same at.receiving at.receiving refl
+tried_stays at frame (Some x) is =
+    let j = (early_judged at frame x (sym is)).0 in
+    segment_stays at frame.ulpdu (length at.asked.unanswered) j.head x j.judged j.placed
 
 -- the record of the frame is added
-keeps_record : (s : StreamState) (table : Table) (frame : Frame) (o : Option Landing) (r : Receiving) → is_open s.start ≡ true → waiting s ≡ None → o ≡ early_verdict (standing table s) frame → Keeps s
+keeps_record : (s : StreamState) (table : Table) (frame : Frame) (o : Option Landing) (r : Receiving) → is_open s.start ≡ true → waiting s ≡ None → o ≡ early_verdict (standing table s) frame
+    → r ≡ receiving_tried s.receiving frame o → Keeps s
     → Keeps (record s { early = added s.early (record_tried frame o); receiving = r })
-keeps_record s table frame o r running none landed k =
+keeps_record s table frame o r running none landed left k =
     let front : s.front ≡ None = (none_of s.front _ none).0 in
     record {
       started = record {
@@ -233,16 +237,21 @@ keeps_record s table frame o r running none landed k =
         | inl old ↦ k.headed x old
         | inr new ↦ subst (λ (y : EarlyRecord). KeepsHeader y y.state) new (tried_header (standing table s) frame o landed)
       ];
+      buffered = λ e x within. subst (λ t. KeepsBuffer t (point_of (scene s)) x x.state) (sym left) (elim ((adds_one s.early (record_tried frame o) x).0 within) [
+        | inl old ↦ stays_so s.receiving (receiving_tried s.receiving frame o) (point_of (scene s)) (point_of (scene s)) s.early (tried_stays (standing table s) frame o landed) (omega arith) x old (k.buffered e x old)
+        | inr new ↦ subst (λ (y : EarlyRecord). KeepsBuffer (receiving_tried s.receiving frame o) (point_of (scene s)) y y.state) new (tried_buffer (standing table s) frame (point_of (scene s)) o landed)
+      ]);
       unopened = λ e. absurd (true≢false (sym running ∙ e));
       first = k.first;
       awaited = k.awaited;
     }
 
 pub keeps_tried : (s : StreamState) (table : Table) (now after : Coming) (r : Receiving) (start : ℕ) (o : Option Landing) → is_open s.start ≡ true → waiting s ≡ None → IsFound s now start
-    → o ≡ early_verdict (standing table s) (frame_in now start) → after.arrived ≡ now.arrived → after.early ≡ added now.early (record_tried (frame_in now start) o) → Keeps s
+    → o ≡ early_verdict (standing table s) (frame_in now start) → after.arrived ≡ now.arrived → after.early ≡ added now.early (record_tried (frame_in now start) o)
+    → r ≡ receiving_tried s.receiving (frame_in now start) o → Keeps s
     → Keeps (record s { arrived = after.arrived; early = after.early; receiving = r })
-keeps_tried s table now after r start o running none w landed arrived early k =
+keeps_tried s table now after r start o running none w landed arrived early left k =
     let come : after.arrived ≡ s.arrived = arrived ∙ w.arrived in
     let kept : after.early ≡ added s.early (record_tried (frame_in now start) o) = early ∙ ap (λ rs. added rs (record_tried (frame_in now start) o)) w.early in
     subst (λ a. Keeps (record s { arrived = a; early = after.early; receiving = r })) (sym come)
-    (subst (λ rs. Keeps (record s { early = rs; receiving = r })) (sym kept) (keeps_record s table (frame_in now start) o r running none landed k))
+    (subst (λ rs. Keeps (record s { early = rs; receiving = r })) (sym kept) (keeps_record s table (frame_in now start) o r running none landed left k))

@@ -1,18 +1,16 @@
 -- What a stream keeps of its fields stays so from call to call.
-use Rattle.std.proofs.Common.{◌≡◌, ℕ, ◌+◌, ◌-◌, ◌<◌, ◌≤◌, ◌%◌, ◌^◌, Bool, true, false, max, nat_le, nat_lt, if◌then◌else◌, List, [], length, Option, Some, None, Ok, Err, refl, sym, ap, ◌∙◌, subst, arith}
+use Rattle.std.proofs.Common.{◌≡◌, ℕ, ◌+◌, ◌-◌, ◌<◌, ◌≤◌, ◌%◌, ◌^◌, Bool, true, false, max, nat_lt, if◌then◌else◌, List, length, Option, Some, None, Ok, Err, refl, sym, ap, ◌∙◌, subst, arith}
 use Rattle.std.specs.Prelude.{Result, OnOk, OnErr, IfSome, IsSome, not, ◌&&◌}
 use Rattle.std.specs.Option.{option_map_or}
 use Rattle.iw_fpdu.specs.declared.fpdu.Mismatch.{Mismatch}
 use Rattle.std.proofs.lemmas.Bool.{false≢true, true≢false}
 use Rattle.std.proofs.lemmas.Bool.Decides.{nat_tests}
-use Rattle.std.proofs.lemmas.List.{get_or-set_same, length-set}
 use Rattle.iw_octets.specs.declared.fault.Fault.{Fault}
-use Rattle.iw_octets.specs.declared.fault.TheConstants.Fault as faults
-use Rattle.iw_octets.specs.Octets.{splice}
+use Rattle.iw_octets.specs.declared.segment.Segment.{Segment}
 use Rattle.iw_octets.specs.declared.segment.Segment.TheVariants.{Tagged, Untagged}
 use Rattle.iw_octets.specs.Segment.{read_segment}
 use Rattle.iw_memory.specs.Table.{Table}
-use Rattle.iw_ranges.specs.Arrived.{Arrived, delivered, taken_in, advanced, cell_at, has_come, first_copy, is_missing, is_dropped, Cell, Missing, Here, Gone}
+use Rattle.iw_ranges.specs.Arrived.{Arrived, delivered, taken_in, advanced, cell_at, has_come, first_copy, is_missing, is_dropped, window, Cell, Missing, Here, Gone}
 use Rattle.iw_ranges.specs.InOrder.{IsHeld}
 use Rattle.iw_ranges.proofs.ByPlace.{cell_at-taken_in}
 use Rattle.iw_ranges.proofs.InOrder.{floor_moves, floor_takes, held_moves, held_takes}
@@ -26,30 +24,32 @@ use Rattle.iw_fpdu.proofs.Sequences.{length_written}
 use Rattle.iw_rdmap.specs.Terminate.{header_len}
 use Rattle.iw_rdmap.specs.declared.head.Head.{Head}
 use Rattle.iw_rdmap.specs.declared.head.Head.TheVariants as heads
+use Rattle.iw_rdmap.specs.Head.{is_early}
 use Rattle.iw_reads.specs.declared.reads.Outstanding.{Outstanding}
 use Rattle.iw_reads.specs.Requests.{Requested}
 use Rattle.iw_reads.specs.Source.{IsInRange}
 use Rattle.iw_octets.specs.declared.payload.ReadRequest.{ReadRequest}
 use Rattle.iw_queues.specs.Queue.{Queue}
 use Rattle.iw_queues.specs.Segments.{Numbers}
-use Rattle.iw_untagged.specs.Receiving.{Receiving, ahead_of, buffer_of, buffer_fault, written}
-use Rattle.iw_untagged.proofs.Splices.{length-splice}
+use Rattle.iw_untagged.specs.Receiving.{Receiving, finished, with_buffer, written}
 use Rattle.iw_stream.specs.declared.judging.Landing.{Landing}
 use Rattle.iw_stream.specs.declared.judging.Landing.TheVariants as landings
 use Rattle.iw_stream.specs.declared.judging.PlacedFrame.{PlacedFrame}
-use Rattle.iw_stream.specs.Frames.{IsNext, frame_by, header_in, payload_of, placed, head_in, payload_len}
-use Rattle.iw_stream.specs.Judging.{Standing, mismatch_fault, fault_or, fault_told, judged_head, place_verdict, head_verdict, segment_verdict, verdict, receiving_landed}
+use Rattle.iw_stream.specs.Frames.{Frame, IsNext, frame_by, header_in, payload_of, placed, head_in, payload_len}
+use Rattle.iw_stream.specs.Judging.{Standing, mismatch_fault, fault_or, fault_told, judged_head, place_verdict, head_verdict, segment_verdict, verdict, receiving_landed, receiving_turned, turned_by}
 use Rattle.iw_stream.specs.declared.ending.Ending.{Ending}
 use Rattle.iw_stream.specs.declared.ending.Ending.TheVariants.{Runs, Over, Broken}
-use Rattle.iw_stream.specs.Ending.{has_ended, is_broken, last_word}
+use Rattle.iw_stream.specs.Ending.{has_ended, is_broken, last_word, with_last_word}
 use Rattle.std.specs.List.{Contains}
-use Rattle.iw_locate.specs.Records.{kept_from}
+use Rattle.iw_locate.specs.Records.{from_of, kept_from}
+use Rattle.iw_locate.specs.Free.{point_of}
 use Rattle.iw_locate.proofs.Holds.{keeps_from}
 use Rattle.iw_stream.specs.Frames.{EarlyRecord}
-use Rattle.iw_stream.specs.Kept.{HasBuffer, Stands, IsPlaced, NoneReachesOver, AreAwaited, Keeps}
-use Rattle.iw_stream.specs.Starting.{is_open, expecting, first_place_in, first_place_out}
-use Rattle.iw_stream.specs.Stream.{StreamState, ended, owes_frame}
-use Rattle.iw_stream.specs.Work.{place_past, standing}
+use Rattle.iw_stream.specs.Kept.{HasBuffer, HasRoomInTurn, KeepsBuffer, Stands, IsPlaced, NoneReachesOver, AreAwaited, Keeps}
+use Rattle.iw_stream.specs.Starting.{StartState, is_open, expecting, first_place_in, first_place_out}
+use Rattle.iw_stream.specs.Stream.{StreamState, ended, is_silent, over, owes_frame}
+use Rattle.iw_stream.specs.Work.{place_past, scene, standing}
+use Rattle.iw_stream.proofs.Buffers.{StaysSo, StaysThere, buffer_written, finishes_so, has_room, room_still, stays_posted, stays_same, stays_so, stays_turned, stays_written}
 use Rattle.iw_stream.proofs.Headers.{header_read, header_short, kept_buffer}
 use Rattle.iw_stream.proofs.Reading.{in_range}
 use Rattle.iw_stream.proofs.Landings.{Judges, judges, length_ulpdu}
@@ -81,6 +81,7 @@ keeps_taken s place octets k =
       is_placed = λ e. go s.front (k.is_placed e);
       clear = k.clear;
       headed = k.headed;
+      buffered = λ e x within. subst (λ f. KeepsBuffer s.receiving (f - first_place_in s.start) x x.state) (sym floor) (k.buffered e x within);
       unopened = k.unopened;
       first = k.first;
       awaited = k.awaited;
@@ -101,7 +102,7 @@ keeps_taken s place octets k =
             come = λ q lt. come_takes s.arrived place octets q (at.come q lt);
             next = at.next;
           };
-          buffer = p.buffer;
+          room = p.room;
         }
 
 pub keeps_delivered : {D E : Type 0} (s : StreamState) (place : ℕ) (octets : List ℕ) (result : Result D E) (after : Arrived) → OnOk result (after ≡ delivered s.arrived place octets) → OnErr result (after ≡ s.arrived) → Keeps s
@@ -116,9 +117,10 @@ keeps_delivered s place octets (Ok d) after ok err k = go (is_dropped s.arrived 
 -- ---- a frame that had its turn
 -- its end is the in-order point, whatever else it changes
 pub keeps_past : (s : StreamState) (frame : PlacedFrame) (place : ℕ) (after : Arrived) (r : Receiving) (queue : Queue) (reads : List Outstanding) (asked : Requested) (left : List EarlyRecord) (base : ℕ) → is_open s.start ≡ true → Stands s frame
-    → place ≡ place_past s frame → after ≡ advanced s.arrived place → left ≡ kept_from (place - base) s.early → queue.sent.first < 2 ^ 64 → AreAwaited queue.sent reads → Keeps s
+    → place ≡ place_past s frame → after ≡ advanced s.arrived place → left ≡ kept_from (place - base) s.early
+    → StaysSo s.receiving r (point_of (scene s)) (frame_end (expecting s.start).markers frame.start frame.len) s.early → queue.sent.first < 2 ^ 64 → AreAwaited queue.sent reads → Keeps s
     → Keeps (record s { receiving = r; arrived = after; front = None; early = left; queue = queue; reads = reads; asked = asked })
-keeps_past s frame place after r queue reads asked left base running p there moved fewer first awaited k =
+keeps_past s frame place after r queue reads asked left base running p there moved fewer so first awaited k =
     let floor : after.floor ≡ max s.arrived.floor place = ap (λ a. a.floor) moved ∙ floor_moves s.arrived place in
     let end : after.floor - first_place_in s.start ≡ frame_end (expecting s.start).markers frame.start frame.len = omega (arith, floor, there, p.on) in
     record {
@@ -136,10 +138,33 @@ keeps_past s frame place after r queue reads asked left base running p there mov
       is_placed = λ e. tt;
       clear = λ e. tt;
       headed = λ x within. k.headed x ((keeps_from (place - base) s.early x).0 (subst (λ (rs : List EarlyRecord). Contains rs x) fewer within)).0;
+      buffered = λ e x within.
+          let old = ((keeps_from (place - base) s.early x).0 (subst (λ (rs : List EarlyRecord). Contains rs x) fewer within)).0 in
+          subst (λ p. KeepsBuffer r p x x.state) (sym end) (so x old (k.buffered e x old));
       unopened = λ e. absurd (true≢false (sym running ∙ e));
       first = first;
       awaited = λ e. awaited;
     }
+
+-- which takes no buffer away, but where a message is handed out the oldest
+turned_stays : (r : Receiving) (n : ℕ) (o : Option (Segment (List ℕ))) → StaysThere r (turned_by r n o)
+turned_stays r n None = stays_same r r refl
+turned_stays r n (Some (Tagged head payload)) = stays_same r r refl
+turned_stays r n (Some (Untagged head payload)) = stays_turned r n
+
+pub frame_stays : (r t : Receiving) (frame : PlacedFrame) → t ≡ receiving_turned r frame → StaysThere r t
+frame_stays r t frame is = subst (StaysThere r) (sym is) (turned_stays r (payload_len frame) (head_in frame))
+
+pub turn_stays : (s : StreamState) (frame : PlacedFrame) (r : Receiving) → StaysThere s.receiving r → Keeps s → Stands s frame
+    → StaysSo s.receiving r (point_of (scene s)) (frame_end (expecting s.start).markers frame.start frame.len) s.early
+turn_stays s frame r w k p = stays_so s.receiving r (point_of (scene s)) (frame_end (expecting s.start).markers frame.start frame.len) s.early w (omega (arith, p.on, k.started.beyond))
+
+pub turn_finishes : (s : StreamState) (frame : PlacedFrame) (r t : Receiving) → StaysThere s.receiving r → t ≡ finished r → s.receiving.due < 2 ^ 32
+    → ((x : EarlyRecord) → Contains s.early x → (point_of (scene s) ≤ from_of x) × (from_of x ≤ point_of (scene s) + window)) → Keeps s → Stands s frame
+    → StaysSo s.receiving t (point_of (scene s)) (frame_end (expecting s.start).markers frame.start frame.len) s.early
+turn_finishes s frame r t w is low near k p =
+    let end : ℕ = frame_end (expecting s.start).markers frame.start frame.len in
+    subst (λ z. StaysSo s.receiving z (point_of (scene s)) end s.early) (sym is) (finishes_so s.receiving r (point_of (scene s)) end s.early w low (omega (arith, p.on, k.started.beyond)) near)
 
 pub placed_front : (s : StreamState) (frame : PlacedFrame) → ended s ≡ false → s.front ≡ Some frame → Keeps s → IsPlaced s frame
 placed_front s frame runs is k = subst (λ o. IfSome o (IsPlaced s)) is (k.is_placed runs)
@@ -162,6 +187,7 @@ keeps_ended s ending over silent k = record {
   is_placed = λ e. absurd (true≢false (sym over ∙ e));
   clear = λ e. absurd (true≢false (sym over ∙ e));
   headed = k.headed;
+  buffered = λ e. absurd (true≢false (sym over ∙ e));
   unopened = k.unopened;
   first = k.first;
   awaited = λ e. absurd (true≢false (sym over ∙ e));
@@ -170,6 +196,17 @@ keeps_ended s ending over silent k = record {
 -- an open stream ends with a Terminate or without one
 pub keeps_over : (s : StreamState) (ending : Ending) → is_open s.start ≡ true → has_ended ending ≡ true → Keeps s → Keeps (record s { ending = ending })
 keeps_over s ending running over k = keeps_ended s ending over (λ e. absurd (true≢false (sym running ∙ e))) k
+
+-- an open stream ends by a fault
+over_ended : (start : StartState) (arrived : Arrived) (payload : List ℕ) → has_ended (over start arrived payload) ≡ true
+over_ended start arrived payload = go (is_silent start arrived)
+  where
+    go : (b : Bool) → has_ended (if b then Over None else with_last_word payload) ≡ true
+    go true = refl
+    go false = refl
+
+pub keeps_faulted : (s : StreamState) (payload : List ℕ) (ending : Ending) → is_open s.start ≡ true → ending ≡ over s.start s.arrived payload → Keeps s → Keeps (record s { ending = ending })
+keeps_faulted s payload ending running is k = keeps_over s ending running (ap has_ended is ∙ over_ended s.start s.arrived payload) k
 
 -- ---- how far the in-order point moves
 pub reaches : (s t : StreamState) (after : Arrived) (to : ℕ) → after ≡ advanced s.arrived to → to ≤ s.arrived.floor + 2 ^ 18 → s ≡ t → after.floor ≤ t.arrived.floor + 2 ^ 18
@@ -193,7 +230,7 @@ placed_still s t (Some frame) start arrived receiving p =
         come = λ q lt. subst (λ a. has_come a q ≡ true) arrived (at.come q (omega (arith, there, lt)));
         next = subst (λ x. IsBetween (expecting x).markers (frame_end (expecting x).markers frame.start frame.len)) start at.next;
       };
-      buffer = subst (λ r. HasBuffer r (payload_len frame) (head_in frame)) receiving p.buffer;
+      room = subst (λ r. HasRoomInTurn r (payload_len frame) (head_in frame)) receiving p.room;
     }
 
 pub keeps_queue : (s : StreamState) (queue : Queue) → queue.sent.first < 2 ^ 64 → (ended s ≡ false → AreAwaited queue.sent s.reads) → Keeps s → Keeps (record s { queue = queue })
@@ -212,6 +249,7 @@ keeps_queue s queue first awaited k = record {
   is_placed = λ e. placed_still s (record s { queue = queue }) s.front refl refl refl (k.is_placed e);
   clear = k.clear;
   headed = k.headed;
+  buffered = k.buffered;
   unopened = k.unopened;
   first = first;
   awaited = awaited;
@@ -242,10 +280,49 @@ keeps_flushed s r over k = record {
   is_placed = λ e. absurd (true≢false (sym over ∙ e));
   clear = λ e. absurd (true≢false (sym over ∙ e));
   headed = k.headed;
+  buffered = λ e. absurd (true≢false (sym over ∙ e));
   unopened = k.unopened;
   first = k.first;
   awaited = k.awaited;
 }
+
+-- a buffer is posted
+stays_by : {T E : Type 0} (r t : Receiving) (buffer : List ℕ) (result : Result T E) → OnOk result (t ≡ with_buffer r buffer) → OnErr result (t ≡ r) → StaysThere r t
+stays_by r t buffer (Ok x) ok err = subst (StaysThere r) (sym ok) (stays_posted r buffer)
+stays_by r t buffer (Err e) ok err = stays_same r t err
+
+keeps_buffers : (s : StreamState) (r : Receiving) → StaysThere s.receiving r → Keeps s → Keeps (record s { receiving = r })
+keeps_buffers s r w k = record {
+  started = record {
+    unopened = k.started.unopened;
+    unsent = k.started.unsent;
+    alone = k.started.alone;
+    beyond = k.started.beyond;
+  };
+  between = k.between;
+  held = k.held;
+  aligned = k.aligned;
+  enough = k.enough;
+  few = k.few;
+  is_placed = λ e. go s.front (k.is_placed e);
+  clear = k.clear;
+  headed = k.headed;
+  buffered = λ e x within. stays_so s.receiving r (point_of (scene s)) (point_of (scene s)) s.early w (omega arith) x within (k.buffered e x within);
+  unopened = k.unopened;
+  first = k.first;
+  awaited = k.awaited;
+}
+  where
+    go : (o : Option PlacedFrame) → IfSome o (IsPlaced s) → IfSome o (IsPlaced (record s { receiving = r }))
+    go None p = tt
+    go (Some frame) p =
+        let at = p.stands in record {
+          stands = record { begins = at.begins; low = at.low; whole = at.whole; header = at.header; on = at.on; near = at.near; come = at.come; next = at.next };
+          room = room_still s.receiving r (payload_len frame) (head_in frame) w p.room;
+        }
+
+pub keeps_posted : {T E : Type 0} (s : StreamState) (r : Receiving) (buffer : List ℕ) (result : Result T E) → OnOk result (r ≡ with_buffer s.receiving buffer) → OnErr result (r ≡ s.receiving) → Keeps s → Keeps (record s { receiving = r })
+keeps_posted s r buffer result ok err k = keeps_buffers s r (stays_by s.receiving r buffer result ok err) k
 
 -- ---- a part that was sent
 pub aligned_past : (layout : Layout) (at : ℕ) (u : List ℕ) → at % 4 ≡ 0 → (at + length (frame_octets layout at u)) % 4 ≡ 0
@@ -289,38 +366,13 @@ keeps_sent s queue numbers n reads asked running low aligned first awaited k = r
   is_placed = λ e. placed_still s (record s { queue = queue; numbers = numbers; sent = s.sent + n; reads = reads; asked = asked }) s.front refl refl refl (k.is_placed e);
   clear = k.clear;
   headed = k.headed;
+  buffered = k.buffered;
   unopened = k.unopened;
   first = first;
   awaited = awaited;
 }
 
 -- ---- a segment in its buffer
-buffer_there : (r : Receiving) (msn mo n : ℕ) → buffer_fault r msn mo n ≡ None → (ahead_of r.due msn < length r.buffers) × (mo + n ≤ length (buffer_of r msn))
-buffer_there r msn mo n e = go (nat_le 256 (ahead_of r.due msn)) (nat_le (length r.buffers) (ahead_of r.due msn)) (nat_lt (length (buffer_of r msn)) (mo + n)) refl refl e
-  where
-    go : (a b d : Bool) → nat_le (length r.buffers) (ahead_of r.due msn) ≡ b → nat_lt (length (buffer_of r msn)) (mo + n) ≡ d
-        → (if a then Some faults.UNTAGGED_MSN_RANGE else if b then Some faults.UNTAGGED_NO_BUFFER else if d then Some faults.UNTAGGED_TOO_LONG else None) ≡ None
-        → (ahead_of r.due msn < length r.buffers) × (mo + n ≤ length (buffer_of r msn))
-    go true b d is_b is_d h = absurd (let no : ⊥ = cc in no)
-    go false true d is_b is_d h = absurd (let no : ⊥ = cc in no)
-    go false false true is_b is_d h = absurd (let no : ⊥ = cc in no)
-    go false false false is_b is_d h = (reached (length r.buffers) (ahead_of r.due msn) is_b, fits (length (buffer_of r msn)) (mo + n) is_d)
-      where
-        reached : (x y : ℕ) → nat_le x y ≡ false → y < x
-        reached x y t = grind (arith, nat_tests)
-
-        fits : (x y : ℕ) → nat_lt x y ≡ false → y ≤ x
-        fits x y t = grind (arith, nat_tests)
-
--- it still has room once the segment was written
-buffer_written : (r : Receiving) (msn mo : ℕ) (octets : List ℕ) → buffer_fault r msn mo (length octets) ≡ None
-    → (ahead_of r.due msn < length (written r msn mo octets).buffers) × (mo + length octets ≤ length (buffer_of (written r msn mo octets) msn))
-buffer_written r msn mo octets e =
-    let there = buffer_there r msn mo (length octets) e in
-    let new : List ℕ = splice (buffer_of r msn) mo octets in
-    let same : buffer_of (written r msn mo octets) msn ≡ new = get_or-set_same r.buffers (ahead_of r.due msn) new [] there.0 in
-    (omega (arith, length-set r.buffers (ahead_of r.due msn) new, there.0), omega (arith, ap length same, length-splice (buffer_of r msn) mo octets there.1, there.1))
-
 passes : {A : Type 0} (o : Option Fault) (x y : A) → fault_or o x ≡ Ok y → (o ≡ None) × (x ≡ y)
 passes None x y e = (refl, let w = e in cc)
 passes (Some fault) x y e = absurd (let no : ⊥ = cc in no)
@@ -334,7 +386,7 @@ IsPlacing (landings.Request request) = ⊥
 IsPlacing (landings.Terminate fault) = ⊥
 
 -- a Send's segment that was placed has its buffer
-segment_placed : (at : Standing) (u : List ℕ) (unanswered : ℕ) (head : Head) (x : Landing) → Judges u unanswered head → place_verdict at head (length (payload_of (read_segment u))) ≡ Ok x → IsPlacing x
+pub segment_placed : (at : Standing) (u : List ℕ) (unanswered : ℕ) (head : Head) (x : Landing) → Judges u unanswered head → place_verdict at head (length (payload_of (read_segment u))) ≡ Ok x → IsPlacing x
     → HasBuffer (receiving_landed at.receiving (payload_of (read_segment u)) x) (length (payload_of (read_segment u))) (read_segment u)
 segment_placed at u unanswered (heads.Write head) x j e p = subst (λ o. HasBuffer (receiving_landed at.receiving (payload_of o) x) (length (payload_of o)) o) (sym j.is) tt
 segment_placed at u unanswered (heads.Response head) x j e p = subst (λ o. HasBuffer (receiving_landed at.receiving (payload_of o) x) (length (payload_of o)) o) (sym j.is) tt
@@ -346,9 +398,23 @@ segment_placed at u unanswered (heads.Send head) x j e p =
 segment_placed at u unanswered (heads.Request head request) x j e p = absurd (subst IsPlacing (sym (passes _ _ _ e).1) p)
 segment_placed at u unanswered (heads.Terminate head word) x j e p = absurd (subst IsPlacing (let same : x ≡ landings.Terminate (fault_told word) = cc in same) p)
 
+-- and no buffer goes by a placement
+pub segment_stays : (at : Standing) (u : List ℕ) (unanswered : ℕ) (head : Head) (x : Landing) → Judges u unanswered head → place_verdict at head (length (payload_of (read_segment u))) ≡ Ok x
+    → StaysThere at.receiving (receiving_landed at.receiving (payload_of (read_segment u)) x)
+segment_stays at u unanswered (heads.Write head) x j e = subst (λ y. StaysThere at.receiving (receiving_landed at.receiving (payload_of (read_segment u)) y)) (passes _ _ _ e).1 (stays_same at.receiving at.receiving refl)
+segment_stays at u unanswered (heads.Response head) x j e = subst (λ y. StaysThere at.receiving (receiving_landed at.receiving (payload_of (read_segment u)) y)) (passes _ _ _ e).1 (stays_same at.receiving at.receiving refl)
+segment_stays at u unanswered (heads.Send head) x j e =
+    let parts = passes _ _ _ e in
+    subst (λ y. StaysThere at.receiving (receiving_landed at.receiving (payload_of (read_segment u)) y)) parts.1 (stays_written at.receiving head.msn head.mo (payload_of (read_segment u)) parts.0)
+segment_stays at u unanswered (heads.Request head request) x j e =
+    subst (λ y. StaysThere at.receiving (receiving_landed at.receiving (payload_of (read_segment u)) y)) (passes _ _ _ e).1 (stays_same at.receiving at.receiving refl)
+segment_stays at u unanswered (heads.Terminate head word) x j e =
+    subst (λ y. StaysThere at.receiving (receiving_landed at.receiving (payload_of (read_segment u)) y)) (let same : landings.Terminate (fault_told word) ≡ x = cc in same) (stays_same at.receiving at.receiving refl)
+
 -- ---- a frame that passed its checks
 pub record IsJudged (at : Standing) (u : List ℕ) (x : Landing) : Type 0 where
   pub head : Head
+  pub is : judged_head at u ≡ Ok head
   pub judged : Judges u (length at.asked.unanswered) head
   pub placed : place_verdict at head (length (payload_of (read_segment u))) ≡ Ok x
 
@@ -357,17 +423,17 @@ ulpdu_judged at u x e = go (judged_head at u) refl e
   where
     go : (r : Result Head Fault) → judged_head at u ≡ r → head_verdict at r (length (payload_of (read_segment u))) ≡ Ok x → IsJudged at u x
     go (Err fault) is h = absurd (let no : ⊥ = cc in no)
-    go (Ok head) is h = record { head = head; judged = judges u at.asked.next (length at.asked.unanswered) head is; placed = h }
+    go (Ok head) is h = record { head = head; is = is; judged = judges u at.asked.next (length at.asked.unanswered) head is; placed = h }
 
-pub frame_judged : (at : Standing) (found : Found) (x : Landing) → verdict at (frame_by found) ≡ Ok x → IsJudged at (ulpdu found) x
-frame_judged at found x e = go (frame_by found).mismatch e
+pub frame_judged : (at : Standing) (frame : Frame) (x : Landing) → verdict at frame ≡ Ok x → IsJudged at frame.ulpdu x
+frame_judged at frame x e = go frame.mismatch e
   where
-    go : (wrong : Option Mismatch) → option_map_or (λ m. Err (mismatch_fault m)) wrong (segment_verdict at (ulpdu found)) ≡ Ok x → IsJudged at (ulpdu found) x
-    go None h = ulpdu_judged at (ulpdu found) x h
+    go : (wrong : Option Mismatch) → option_map_or (λ m. Err (mismatch_fault m)) wrong (segment_verdict at frame.ulpdu) ≡ Ok x → IsJudged at frame.ulpdu x
+    go None h = ulpdu_judged at frame.ulpdu x h
     go (Some m) h = absurd (let no : ⊥ = cc in no)
 
 -- its header is whole
-judged_whole : (u : List ℕ) (unanswered : ℕ) (head : Head) → Judges u unanswered head → header_len (header_in u) ≤ length (header_in u)
+pub judged_whole : (u : List ℕ) (unanswered : ℕ) (head : Head) → Judges u unanswered head → header_len (header_in u) ≤ length (header_in u)
 judged_whole u unanswered (heads.Write head) j = let h = header_read u (Tagged head j.payload) j.is in omega (arith, h.len, h.whole)
 judged_whole u unanswered (heads.Response head) j = let h = header_read u (Tagged head j.payload) j.is in omega (arith, h.len, h.whole)
 judged_whole u unanswered (heads.Send head) j = let h = header_read u (Untagged head j.payload) j.is in omega (arith, h.len, h.whole)
@@ -375,7 +441,7 @@ judged_whole u unanswered (heads.Request head request) j = let h = header_read u
 judged_whole u unanswered (heads.Terminate head word) j = let h = header_read u (Untagged head j.payload) j.is in omega (arith, h.len, h.whole)
 
 pub whole_judged : (at : Standing) (found : Found) (x : Landing) → verdict at (frame_by found) ≡ Ok x → header_len (header_in (ulpdu found)) ≤ length (header_in (ulpdu found))
-whole_judged at found x e = let j = frame_judged at found x e in judged_whole (ulpdu found) (length at.asked.unanswered) j.head j.judged
+whole_judged at found x e = let j = frame_judged at (frame_by found) x e in judged_whole (ulpdu found) (length at.asked.unanswered) j.head j.judged
 
 -- a frame that is whole stands at the in-order point
 pub stands_next : (s : StreamState) (found : Found) → IsNext (expecting s.start) s.arrived (first_place_in s.start) found → header_len (header_in (ulpdu found)) ≤ length (header_in (ulpdu found)) → Stands s (placed (frame_by found))
@@ -401,8 +467,9 @@ pub keeps_judged : (s : StreamState) (table : Table) (found : Found) (after : Re
     → Keeps (record s { front = Some (placed (frame_by found)); receiving = after })
 keeps_judged s table found after x running n ok placing there over k =
     let at : Standing = standing table s in
-    let sound = frame_judged at found x ok in
+    let sound = frame_judged at (frame_by found) x ok in
     let has = stands_next s found n (whole_judged at found x ok) in
+    let stays = subst (StaysThere s.receiving) (sym there) (segment_stays at (ulpdu found) (length s.asked.unanswered) sound.head x sound.judged sound.placed) in
     record {
       started = record {
         unopened = λ e. absurd (true≢false (sym running ∙ e));
@@ -417,15 +484,25 @@ keeps_judged s table found after x running n ok placing there over k =
       few = k.few;
       is_placed = λ e. record {
         stands = record { begins = has.begins; low = has.low; whole = has.whole; header = has.header; on = has.on; near = has.near; come = has.come; next = has.next };
-        buffer = subst (λ r. HasBuffer r (payload_len (placed (frame_by found))) (head_in (placed (frame_by found)))) (sym there)
-            (kept_buffer (receiving_landed s.receiving (payload_of (read_segment (ulpdu found))) x) (ulpdu found) (segment_placed at (ulpdu found) (length s.asked.unanswered) sound.head x sound.judged sound.placed placing));
+        room = subst (λ r. HasRoomInTurn r (payload_len (placed (frame_by found))) (head_in (placed (frame_by found)))) (sym there)
+            (has_room (receiving_landed s.receiving (payload_of (read_segment (ulpdu found))) x) (payload_len (placed (frame_by found))) (head_in (placed (frame_by found)))
+            (kept_buffer (receiving_landed s.receiving (payload_of (read_segment (ulpdu found))) x) (ulpdu found) (segment_placed at (ulpdu found) (length s.asked.unanswered) sound.head x sound.judged sound.placed placing)));
       };
       clear = λ e. over;
       headed = k.headed;
+      buffered = λ e y within. stays_so s.receiving after (point_of (scene s)) (point_of (scene s)) s.early stays (omega arith) y within (k.buffered e y within);
       unopened = k.unopened;
       first = k.first;
       awaited = k.awaited;
     }
+
+-- what may be judged before its turn is placed, where it passes
+pub early_placing : (at : Standing) (head : Head) (n : ℕ) (x : Landing) → is_early head ≡ true → place_verdict at head n ≡ Ok x → IsPlacing x
+early_placing at (heads.Write head) n x early e = subst IsPlacing (passes _ _ _ e).1 tt
+early_placing at (heads.Response head) n x early e = subst IsPlacing (passes _ _ _ e).1 tt
+early_placing at (heads.Send head) n x early e = subst IsPlacing (passes _ _ _ e).1 tt
+early_placing at (heads.Request head request) n x early e = absurd (false≢true early)
+early_placing at (heads.Terminate head word) n x early e = absurd (false≢true early)
 
 -- one more request may wait where one was judged, and its source has a range
 pub record MayTake (asked : Requested) (u : List ℕ) (request : ReadRequest) : Type 0 where
@@ -434,7 +511,7 @@ pub record MayTake (asked : Requested) (u : List ℕ) (request : ReadRequest) : 
   pub range : IsInRange request
 
 pub may_take : (at : Standing) (found : Found) (request : ReadRequest) → verdict at (frame_by found) ≡ Ok (landings.Request request) → MayTake at.asked (ulpdu found) request
-may_take at found request e = let j = frame_judged at found (landings.Request request) e in go j.head j.judged j.placed
+may_take at found request e = let j = frame_judged at (frame_by found) (landings.Request request) e in go j.head j.judged j.placed
   where
     go : (head : Head) → Judges (ulpdu found) (length at.asked.unanswered) head → place_verdict at head (length (payload_of (read_segment (ulpdu found)))) ≡ Ok (landings.Request request) → MayTake at.asked (ulpdu found) request
     go (heads.Write head) j h = absurd (let w = (passes _ _ _ h).1 in let no : ⊥ = cc in no)

@@ -1,5 +1,5 @@
 -- A ULPDU whose header passed its checks: which segment it is, and where its payload goes.
-use Rattle.std.proofs.Common.{◌≡◌, ℕ, ◌+◌, ◌-◌, ◌<◌, ◌≤◌, ◌%◌, ◌^◌, Bool, true, false, not, nat_lt, nat_le, if◌then◌else◌, List, [], length, drop, get_or, Option, Some, None, Ok, Err, refl, sym, ap, ◌∙◌, subst, arith, length-drop}
+use Rattle.std.proofs.Common.{◌≡◌, ℕ, ◌+◌, ◌-◌, ◌<◌, Bool, true, false, not, nat_lt, nat_le, if◌then◌else◌, List, length, drop, Option, Some, None, Ok, Err, refl, sym, ap, ◌∙◌, subst, arith, length-drop}
 use Rattle.std.specs.Prelude.{◌==◌}
 use Rattle.std.proofs.lemmas.Bool.Decides.{nat_tests}
 use Rattle.iw_octets.specs.declared.fault.Fault.{Fault}
@@ -22,7 +22,6 @@ use Rattle.iw_rdmap.specs.Judging.{judged, judged_segment, request_fault, termin
 use Rattle.iw_rdmap.specs.Judging as judging
 use Rattle.iw_rdmap.specs.Laws.{carries, carries_send}
 use Rattle.iw_rdmap.proofs.Listed.{listed-tagged, listed-untagged}
-use Rattle.iw_untagged.specs.Receiving.{Receiving, HasRoom, HoldsLimits, ahead_of, buffer_of}
 use Rattle.iw_stream.specs.Frames.{payload_of}
 use Rattle.iw_stream.proofs.Heads.{segment_past}
 
@@ -112,13 +111,3 @@ has_payload u unanswered (heads.Response head) j = let p = tagged_payload u head
 has_payload u unanswered (heads.Send head) j = let p = untagged_payload u head j in record { payload = p; len = ap length p ∙ length-drop 18 u }
 has_payload u unanswered (heads.Request head request) j = let p = untagged_payload u head j.0 in record { payload = p; len = ap length p ∙ length-drop 18 u }
 has_payload u unanswered (heads.Terminate head word) j = let p = untagged_payload u head j in record { payload = p; len = ap length p ∙ length-drop 18 u }
-
--- ---- its turn
--- the message that is due has the oldest buffer
-due_ahead : (due : ℕ) → due < 2 ^ 32 → ahead_of due due ≡ 0
-due_ahead due low = ap (λ n. n % 2 ^ 32) (let e : due + (2 ^ 32 - due) ≡ 2 ^ 32 = omega arith in e)
-
-pub room_due : (r : Receiving) (head : UntaggedHead) (n : ℕ) → HoldsLimits r → (ahead_of r.due head.msn < length r.buffers) × (head.mo + n ≤ length (buffer_of r head.msn)) → head.msn ≡ r.due → HasRoom r (head.mo + n)
-room_due r head n limits has is =
-    let first : ahead_of r.due head.msn ≡ 0 = ap (ahead_of r.due) is ∙ due_ahead r.due limits.due in
-    record { posted = omega (arith, has.0); room = subst (λ i. head.mo + n ≤ length (get_or r.buffers i [])) first has.1 }

@@ -1,5 +1,6 @@
 pub mod Heads
 pub mod Headers
+pub mod Buffers
 pub mod Landings
 pub mod Tagged
 pub mod Fronts

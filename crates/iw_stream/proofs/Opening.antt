@@ -1,5 +1,5 @@
 -- What a stream keeps of its start-up.
-use Rattle.std.proofs.Common.{◌≡◌, ℕ, ◌-◌, ◌<◌, ◌%◌, Bool, true, false, max, List, [], ◌∷◌, length, Option, Some, None, refl, sym, ap, ◌∙◌, subst, arith}
+use Rattle.std.proofs.Common.{◌≡◌, ℕ, ◌-◌, ◌<◌, ◌%◌, Bool, true, false, max, List, [], ◌∷◌, Contains, length, Option, Some, None, refl, sym, ap, ◌∙◌, subst, arith}
 use Rattle.std.specs.Prelude.{IfSome, is_some}
 use Rattle.std.specs.Option.{option_map_or}
 use Rattle.std.proofs.lemmas.Bool.{true≢false, false≢true}
@@ -109,6 +109,7 @@ keeps_nothing role config domain numbers receiving asked =
       is_placed = λ e. tt;
       clear = λ e. tt;
       headed = λ r within. absurd (omega (arith, within.1));
+      buffered = λ e r within. absurd (omega (arith, within.1));
       unopened = λ e. refl;
       first = omega arith;
       awaited = λ e. tt;
@@ -118,6 +119,10 @@ pub keeps_fresh : (role : Role) (config : Config) (domain : ℕ) (start : StartS
     → start ≡ start_at_first role config → queue ≡ nothing_posted → reads ≡ [] → arrived ≡ nothing → early ≡ [] → Keeps (fresh domain start queue numbers receiving reads asked arrived early)
 keeps_fresh role config domain start queue numbers receiving reads asked arrived early first posted read none unjudged =
     subst Keeps (λ i. fresh domain (sym first i) (sym posted i) numbers receiving (sym read i) asked (sym none i) (sym unjudged i)) (keeps_nothing role config domain numbers receiving asked)
+
+none_in : (xs : List EarlyRecord) → xs ≡ [] → (x : EarlyRecord) → Contains xs x → ⊥
+none_in [] e x within = omega (arith, within.1)
+none_in (y ∷ xs) e x within = absurd (cc e)
 
 -- ---- an answer
 none_placed : (s t : StreamState) → s.front ≡ None → IfSome s.front (IsPlaced t)
@@ -145,6 +150,7 @@ answers s u reply is asked k =
       is_placed = λ e. none_placed s (record s { start = Heard (answered u reply) }) rest.1;
       clear = λ e. subst (λ o. IfSome o (NoneReachesOver (record s { start = Heard (answered u reply) }))) (sym rest.1) tt;
       headed = k.headed;
+      buffered = λ e r within. absurd (none_in s.early (k.unopened closed) r within);
       unopened = λ e. k.unopened closed;
       first = k.first;
       awaited = k.awaited;
@@ -188,6 +194,7 @@ hears s u octets is k =
       is_placed = λ e. none_placed s (record s { start = Heard (pushed u octets); arrived = advanced s.arrived n }) rest.1;
       clear = λ e. subst (λ o. IfSome o (NoneReachesOver (record s { start = Heard (pushed u octets); arrived = advanced s.arrived n }))) (sym rest.1) tt;
       headed = k.headed;
+      buffered = λ e r within. absurd (none_in s.early (k.unopened closed) r within);
       unopened = λ e. k.unopened closed;
       first = k.first;
       awaited = k.awaited;

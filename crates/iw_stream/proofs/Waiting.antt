@@ -1,13 +1,11 @@
 -- A frame that was placed before its turn, once it stands at the in-order point; and that no placed frame reaches over one there.
-use Rattle.std.proofs.Common.{◌≡◌, ℕ, suc, ◌+◌, ◌-◌, ◌<◌, ◌≤◌, ◌^◌, ◌==◌, Bool, true, false, if◌then◌else◌, List, [], ◌∷◌, get_or, Option, Some, None, Contains, refl, sym, ap, ◌∙◌, subst, arith, inl, inr}
+use Rattle.std.proofs.Common.{◌≡◌, ◌⊎◌, ℕ, suc, ◌+◌, ◌-◌, ◌<◌, ◌≤◌, ◌^◌, ◌==◌, Bool, true, false, if◌then◌else◌, List, [], ◌∷◌, length, get_or, Option, Some, None, Contains, refl, sym, ap, ◌∙◌, subst, arith, inl, inr}
 use Rattle.std.specs.Prelude.{not, IfSome}
 use Rattle.std.specs.Option.{option_or}
 use Rattle.std.proofs.lemmas.List.{get_or_default}
 use Rattle.std.proofs.lemmas.Bool.{cases_lt, cases_Bool, true≢false}
 use Rattle.std.proofs.lemmas.Bool.Decides.{nat_tests}
 use Rattle.arrayvec.specs.ArrayVec.{ArrayVec}
-use Rattle.iw_octets.specs.declared.segment.Segment.{Segment}
-use Rattle.iw_octets.specs.declared.segment.Segment.TheVariants.{Tagged, Untagged}
 use Rattle.iw_ranges.specs.Arrived.{IsWithinLimits, window, has_come, is_missing}
 use Rattle.iw_ranges.proofs.ByPlace.{below}
 use Rattle.iw_fpdu.specs.declared.layout.Layout.{Layout}
@@ -19,18 +17,18 @@ use Rattle.iw_fpdu.proofs.Octets.{span_low, length_within}
 use Rattle.iw_locate.specs.declared.judged.State.{State}
 use Rattle.iw_locate.specs.declared.judged.State.TheVariants.{Tried, Placed}
 use Rattle.iw_locate.specs.Records.{from_of, AreApart}
-use Rattle.iw_locate.specs.Free.{scene_of, front_of}
+use Rattle.iw_locate.specs.Free.{scene_of, front_of, point_of}
 use Rattle.iw_locate.specs.Lowest.{overlaps_placed}
 use Rattle.iw_locate.specs.Keeping as keeping
 use Rattle.iw_locate.specs.Keeping.{IsPassed}
 use Rattle.iw_locate.proofs.Telling.{overlaps_are_told}
-use Rattle.iw_untagged.specs.Receiving.{Receiving}
 use Rattle.iw_stream.specs.declared.judging.PlacedFrame.{PlacedFrame}
 use Rattle.iw_stream.specs.Frames.{EarlyRecord, kept_by, placed_at, head_in, payload_len}
-use Rattle.iw_stream.specs.Kept.{HasBuffer, Stands, IsPlaced, NoneReachesOver, IsTagged, HasHeader, KeepsHeader, Keeps}
+use Rattle.iw_stream.specs.Kept.{HasBuffer, WasHandedOut, Stands, IsPlaced, NoneReachesOver, HasHeader, KeepsHeader, KeepsBuffer, Keeps}
 use Rattle.iw_stream.specs.Starting.{expecting, first_place_in}
 use Rattle.iw_stream.specs.Stream.{StreamState, ended}
 use Rattle.iw_stream.specs.Work.{scene, waiting, place_past}
+use Rattle.iw_stream.proofs.Buffers.{turn_room}
 use Rattle.iw_stream.proofs.Fronts.{start_near}
 
 -- ---- the in-order point moves on to the end of a frame there
@@ -98,17 +96,26 @@ under rs apart point r x (i, il, ir) (j, jl, jx) at low before =
       ]
     ]
 
-has_buffer : (r : Receiving) (n : ℕ) (o : Option (Segment (List ℕ))) → IsTagged o → HasBuffer r n o
-has_buffer r n None t = absurd t
-has_buffer r n (Some (Tagged head payload)) t = tt
-has_buffer r n (Some (Untagged head payload)) t = absurd t
-
 none_in : (xs : List EarlyRecord) → xs ≡ [] → (x : EarlyRecord) → Contains xs x → ⊥
 none_in [] e x (k, lt, is) = omega (arith, lt)
 none_in (y ∷ xs) e x within = absurd (cc e)
 
 -- ---- it stands there as one that was placed there does
 module _ (s : StreamState) (k : Keeps s) (kept : keeping.Keeps (scene s)) (apart : AreApart s.early) (limits : IsWithinLimits s.arrived) where
+  -- each record's frame begins at the in-order point or past it, in the window
+  pub records_near : (x : EarlyRecord) → Contains s.early x → (point_of (scene s) ≤ from_of x) × (from_of x ≤ point_of (scene s) + window)
+  records_near x within = (
+    kept.records x within,
+    elim (cases_lt (point_of (scene s) + window) (from_of x)) [
+      | inl far ↦
+          absurd (true≢false (sym (kept.whole x within (from_of x) (omega arith) (some x within)) ∙ ap (λ c. not (is_missing c)) (limits.octets (first_place_in s.start + from_of x) (omega (arith, far, kept.based)))))
+      | inr fits ↦ fits
+    ],
+  )
+    where
+      some : (x : EarlyRecord) → Contains s.early x → from_of x < x.end
+      some x (j, jl, jx) = omega (arith, apart.some j x jl, ap (λ (y : EarlyRecord). y.end) jx, ap (λ (y : EarlyRecord). y.start) jx, span_low true x.start)
+
   m : Bool
   m = (expecting s.start).markers
 
@@ -121,8 +128,8 @@ module _ (s : StreamState) (k : Keeps s) (kept : keeping.Keeps (scene s)) (apart
   span_point : (expecting s.start).markers ≡ true → span_start true (front_of (scene s)) ≡ s.arrived.floor - first_place_in s.start
   span_point e = ap (λ b. span_start b (front_of (scene s))) (sym e) ∙ k.between.span
 
-  pub waiting_placed : (frame : PlacedFrame) → placed_at s.early (front_of (scene s)) ≡ Some frame → IsPlaced s frame × NoneReachesOver s frame
-  waiting_placed frame e =
+  pub waiting_placed : ended s ≡ false → (frame : PlacedFrame) → placed_at s.early (front_of (scene s)) ≡ Some frame → IsPlaced s frame × NoneReachesOver s frame
+  waiting_placed runs frame e =
       let w = shown s.early (front_of (scene s)) frame e in
       let e_m = marked w.r w.within in
       let begins_ : frame.start ≡ front_of (scene s) = sym w.start_ ∙ w.at in
@@ -144,7 +151,9 @@ module _ (s : StreamState) (k : Keeps s) (kept : keeping.Keeps (scene s)) (apart
             come = λ p lt. come w.r w.within p end from lt;
             next = frames_follow.next (expecting s.start).markers frame.start frame.len start;
           };
-          buffer = has_buffer s.receiving (payload_len frame) (head_in frame) header.tagged;
+          room = turn_room s.receiving (point_of (scene s)) (from_of w.r) (payload_len frame) (head_in frame) (kept.records w.r w.within)
+              (subst (λ n. HasBuffer s.receiving (n - length frame.header.items) (head_in frame) ⊎ WasHandedOut s.receiving (point_of (scene s)) (from_of w.r) (head_in frame)) w.len
+              (subst (KeepsBuffer s.receiving (point_of (scene s)) w.r) w.state (k.buffered runs w.r w.within)));
         },
         λ x within placed before. omega (arith, end, under s.early apart (s.arrived.floor - first_place_in s.start) w.r x w.within within from (kept.records x within) (omega (arith, before, end))),
       )
@@ -191,5 +200,5 @@ pub waiting_stands : (s : StreamState) → Keeps s → ended s ≡ false → kee
 waiting_stands s k runs kept apart limits frame e = go s.front (k.is_placed runs) (k.clear runs) e
   where
     go : (o : Option PlacedFrame) → IfSome o (IsPlaced s) → IfSome o (NoneReachesOver s) → option_or o (placed_at s.early (front_of (scene s))) ≡ Some frame → IsPlaced s frame × NoneReachesOver s frame
-    go None p over h = waiting_placed s k kept apart limits frame h
+    go None p over h = waiting_placed s k kept apart limits runs frame h
     go (Some f) p over h = let same : f ≡ frame = cc in (subst (IsPlaced s) same p, subst (NoneReachesOver s) same over)

@@ -1,8 +1,8 @@
 -- What a stream keeps of its fields, and the limits that callers may rely on.
-use Rattle.std.specs.Prelude.{◌≡◌, ◌≢◌, ℕ, ◌+◌, ◌<◌, ◌≤◌, ◌%◌, ◌-◌, ◌^◌, true, false, List, [], ◌∷◌, length, Option, Some, None, IfSome}
+use Rattle.std.specs.Prelude.{◌≡◌, ◌≢◌, ◌⊎◌, ℕ, ◌+◌, ◌<◌, ◌≤◌, ◌%◌, ◌-◌, ◌^◌, true, false, List, [], ◌∷◌, length, Option, Some, None, IfSome}
 use Rattle.iw_octets.specs.declared.segment.Segment.{Segment}
 use Rattle.iw_octets.specs.declared.segment.Segment.TheVariants.{Tagged, Untagged}
-use Rattle.iw_ranges.specs.Arrived.{IsWithinLimits, has_come}
+use Rattle.iw_ranges.specs.Arrived.{IsWithinLimits, has_come, window}
 use Rattle.iw_ranges.specs.InOrder.{IsHeld}
 use Rattle.iw_fpdu.specs.Frame.{frame_end}
 use Rattle.iw_fpdu.specs.Laws.{IsBetween}
@@ -13,8 +13,8 @@ use Rattle.iw_locate.specs.declared.judged.State.{State}
 use Rattle.iw_locate.specs.declared.judged.State.TheVariants as states
 use Rattle.iw_locate.specs.Records as records
 use Rattle.iw_locate.specs.Records.{from_of, max_records}
-use Rattle.iw_locate.specs.Free.{front_of}
-use Rattle.iw_untagged.specs.Receiving.{Receiving, HoldsLimits, ahead_of, buffer_of}
+use Rattle.iw_locate.specs.Free.{front_of, point_of}
+use Rattle.iw_untagged.specs.Receiving.{Receiving, HasRoom, HoldsLimits, ahead_of, buffer_of}
 use Rattle.iw_queues.specs.Completions as completions
 use Rattle.iw_queues.specs.Completions.{IsAwaited}
 use Rattle.iw_queues.specs.Queue as queues
@@ -33,11 +33,24 @@ use Rattle.iw_stream.specs.Starting.{is_open, expecting, first_place_in, first_p
 use Rattle.iw_stream.specs.Stream.{StreamState, ended}
 use Rattle.iw_stream.specs.Work.{scene, place_past}
 
--- a Send's segment of n octets that was placed has its buffer, with room for it
+-- a segment of n octets that was placed: a Send's has its buffer, with room for it
 abbrev pub HasBuffer : Receiving → ℕ → Option (Segment (List ℕ)) → Type 0
 HasBuffer r n None = ⊥
 HasBuffer r n (Some (Tagged head payload)) = Unit {0}
 HasBuffer r n (Some (Untagged head payload)) = (ahead_of r.due head.msn < length r.buffers) × (head.mo + n ≤ length (buffer_of r head.msn))
+
+-- at its turn: where a Send's message is the one that is due, the oldest buffer has room for the segment
+abbrev pub HasRoomInTurn : Receiving → ℕ → Option (Segment (List ℕ)) → Type 0
+HasRoomInTurn r n None = ⊥
+HasRoomInTurn r n (Some (Tagged head payload)) = Unit {0}
+HasRoomInTurn r n (Some (Untagged head payload)) = ahead_of r.due head.msn ≡ 0 → HasRoom r (head.mo + n)
+
+-- a Send's message was handed out since the segment was placed: its number lies behind the one that is due. Each turn moves that on by one at most, and the
+-- in-order point by one at least, so that it doesn't come round to the message before the frame, whose span begins at `place`, has its turn.
+abbrev pub WasHandedOut : Receiving → ℕ → ℕ → Option (Segment (List ℕ)) → Type 0
+WasHandedOut r point place None = ⊥
+WasHandedOut r point place (Some (Tagged head payload)) = ⊥
+WasHandedOut r point place (Some (Untagged head payload)) = 2 ^ 32 - ahead_of r.due head.msn + place ≤ point + window
 
 -- a Send that is complete has its buffer
 abbrev pub IsPosted : Turning → Receiving → Type 0
@@ -59,7 +72,7 @@ pub record Stands (s : StreamState) (frame : PlacedFrame) : Type 0 where
 -- and was placed
 pub record IsPlaced (s : StreamState) (frame : PlacedFrame) : Type 0 where
   pub stands : Stands s frame
-  pub buffer : HasBuffer s.receiving (payload_len frame) (head_in frame)
+  pub room : HasRoomInTurn s.receiving (payload_len frame) (head_in frame)
 
 -- no frame that was placed early reaches over the end of this one
 abbrev pub NoneReachesOver : StreamState → PlacedFrame → Type 0
@@ -67,20 +80,26 @@ NoneReachesOver s frame =
     let end = frame_end (expecting s.start).markers frame.start frame.len in
     (r : EarlyRecord) → Contains s.early r → records.IsPlaced r.state → from_of r < end → r.end ≤ end
 
--- of a frame that was placed early the whole header of a tagged segment is kept
+-- a segment of a Write or a Read Response
 abbrev pub IsTagged : Option (Segment (List ℕ)) → Type 0
 IsTagged None = ⊥
 IsTagged (Some (Tagged head payload)) = Unit {0}
 IsTagged (Some (Untagged head payload)) = ⊥
 
+-- of a frame that was placed early the whole header is kept
 pub record HasHeader (len : ℕ) (header : List ℕ) : Type 0 where
   pub whole : header_len header ≤ length header
   pub within : length header ≤ len
-  pub tagged : IsTagged (read_segment header)
 
 abbrev pub KeepsHeader : EarlyRecord → State (ArrayVec ℕ) → Type 0
 KeepsHeader r states.Tried = Unit {0}
 KeepsHeader r (states.Placed header) = HasHeader r.length header.items
+
+-- and a Send's has its buffer, until its message is handed out
+abbrev pub KeepsBuffer : Receiving → ℕ → EarlyRecord → State (ArrayVec ℕ) → Type 0
+KeepsBuffer r point x states.Tried = Unit {0}
+KeepsBuffer r point x (states.Placed header) =
+    HasBuffer r (x.length - length header.items) (read_segment header.items) ⊎ WasHandedOut r point (from_of x) (read_segment header.items)
 
 -- how far the start-up has come
 pub record IsStarted (s : StreamState) : Type 0 where
@@ -112,6 +131,7 @@ pub record Keeps (s : StreamState) : Type 0 where
   pub is_placed : ended s ≡ false → IfSome s.front (IsPlaced s)
   pub clear : ended s ≡ false → IfSome s.front (NoneReachesOver s)
   pub headed : (r : EarlyRecord) → Contains s.early r → KeepsHeader r r.state
+  pub buffered : ended s ≡ false → (r : EarlyRecord) → Contains s.early r → KeepsBuffer s.receiving (point_of (scene s)) r r.state
   pub unopened : is_open s.start ≡ false → s.early ≡ []
   pub first : s.queue.sent.first < 2 ^ 64
   pub awaited : ended s ≡ false → AreAwaited s.queue.sent s.reads

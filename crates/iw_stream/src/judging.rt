@@ -391,8 +391,8 @@ pub(crate) fn land_frame<A: Allocator, B: Allocator>(
     }
 }
 
-/// Judges a whole frame before its turn, and places its payload where it may be placed then and passes every check. Where it is
-/// not placed, nothing changes.
+/// Judges a whole frame before its turn. That of a Write, a Read Response or a Send which passes every check is placed, in the
+/// region or the receive buffer that its header names; any other changes nothing.
 pub(crate) fn land_early<A: Allocator, B: Allocator>(
     fpdu: &Fpdu<'_, A>,
     domain: u8,

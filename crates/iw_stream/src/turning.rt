@@ -8,7 +8,7 @@ ghost use Rattle.iw_stream.specs.Frames.{placed, head_in, payload_len};
 ghost use Rattle.iw_stream.specs.Judging.{answered, answering_by, is_response, tagged_turn, tagged_left};
 ghost use Rattle.iw_stream.specs.Judging.{send_turning, invalidate_fault, send_turn, table_turned};
 ghost use Rattle.iw_stream.specs.Judging.{segment_turn, receiving_turned, reads_left};
-ghost use Rattle.iw_stream.specs.Kept.{HasBuffer, IsPosted};
+ghost use Rattle.iw_stream.specs.Kept.{HasRoomInTurn, IsPosted};
 
 use crate::judging::{PlacedFrame, Turning};
 use iw_memory::{InvalidateDeny, Memory};
@@ -168,7 +168,7 @@ pub(crate) fn turn_frame<A: Allocator, B: Allocator>(
     receiving: &mut RecvQueue<A>,
 ) -> Result<Turning, Fault>
     requires header { length frame.now.header.items ≤ frame.now.len }
-    requires placed { HasBuffer receiving.old (payload_len frame.now) (head_in frame.now) }
+    requires room { HasRoomInTurn receiving.old (payload_len frame.now) (head_in frame.now) }
     ensures turn { result ≡ segment_turn memory.old domain receiving.old reads.old (payload_len frame.now) (head_in frame.now) }
     ensures receiving { OnOk result (receiving.new ≡ receiving_turned receiving.old frame.now) }
     ensures reads { OnOk result (reads.new ≡ reads_left reads.old frame.now) }

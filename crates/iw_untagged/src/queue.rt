@@ -132,9 +132,10 @@ impl<A: Allocator> RecvQueue<A> {
     }
 
     /// Writes the payload of a segment, `n` octets in pieces, into the buffer of the message `msn`, from the message's
-    /// octet `mo` on. Segments may come in any order. It takes no memory. An `Err` changes nothing, and is the first
-    /// that applies: the number is out of range (256 or more ahead of the one that is due), no buffer is posted for it,
-    /// or the octets would not all lie in the buffer, also where there are none (RFC 5041 7.1).
+    /// octet `mo` on. Segments may be placed in any order, also before their turns, and those of a later message before
+    /// those of the one that is due. It takes no memory. An `Err` changes nothing, and is the first that applies: the
+    /// number is out of range (256 or more ahead of the one that is due), no buffer is posted for it, or the octets would
+    /// not all lie in the buffer, also where there are none (RFC 5041 7.1).
     pub fn place<'a, I: Iterator<Item = &'a [u8]>>(
         &mut self,
         msn: u32,

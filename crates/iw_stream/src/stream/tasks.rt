@@ -23,8 +23,9 @@ impl<A: Allocator> Stream<A> {
     /// are judged. A region that a Send invalidates goes out of use in the step that completes the Send.
     ///
     /// Where the frame at the in-order point is not whole and the peer sends markers, a later frame that they tell of is judged
-    /// before its turn (RFC 5044 4.3): one of a Write or a Read Response that passes its checks is placed, and any other is left
-    /// as it is.
+    /// before its turn (RFC 5044 4.3): one of a Write, a Read Response or a Send that passes its checks is placed then, a Send's
+    /// in its receive buffer ([`Step::Buffered`]), and any other is left as it is ([`Step::Tried`]). A Send is complete once all
+    /// its frames, and all before them, had their turns.
     ///
     /// An `Err` is want of memory for the record of such a frame, and changes nothing.
     ///
@@ -37,7 +38,7 @@ impl<A: Allocator> Stream<A> {
         ensures after { OnOk result (self.new ≡ worked memory.old self.old) }
         ensures memory { OnOk result (memory.new ≡ table_worked memory.old self.old) }
         ensures err { OnErr result ((self.new ≡ self.old) × (memory.new ≡ memory.old)) }
-        // It comes only where a frame is judged early.
+        // It comes only where a frame is judged before its turn, whether or not it may be placed then.
         ensures want { OnErr result (IsTry (task self.old)) }
         // The in-order point moves on by no more than may have come, and a message lies in its buffer.
         ensures reach { self.new.arrived.floor ≤ self.old.arrived.floor + 2 ^ 18 }

@@ -137,6 +137,7 @@ impl<A: Allocator> Stream<A> {
         // Its contract has what is so of the records.
         let _ = self.arrived.records();
         let _ = self.arrived.floor();
+        self.receiving.limits();
         let end = self.start.expecting().end_of(frame.start, frame.len);
         let place = self.start.first_place_in() + end;
         let turning = match turn_frame(

@@ -1,4 +1,4 @@
-use Rattle.std.proofs.Common.{◌≡◌, ◌≤◌, ◌^◌, None, sym, ap, ◌∙◌, subst, arith}
+use Rattle.std.proofs.Common.{sym, ap, ◌∙◌, subst, arith}
 use Rattle.iw_locate.specs.Lowest.{early_place}
 use Rattle.iw_locate.specs.Keeping.{IsFrontUnplaced}
 use Rattle.iw_locate.proofs.Starting.{kept_can_locate}

@@ -1,8 +1,7 @@
-use Rattle.std.proofs.Common.{◌≡◌, ◌+◌, ◌<◌, ◌≤◌, ◌^◌, length, Option, true, sym, ap, ◌∙◌, subst, arith}
+use Rattle.std.proofs.Common.{◌+◌, ◌<◌, ◌≤◌, ◌^◌, sym, ap, ◌∙◌, subst, arith}
 use Rattle.std.specs.Prelude.{IfSome}
 use Rattle.iw_locate.specs.declared.frame.Frame.{Frame}
-use Rattle.iw_locate.specs.Records.{max_records}
-use Rattle.iw_locate.specs.Next.{IsNext, IsFrontWhole}
+use Rattle.iw_locate.specs.Next.{IsFrontWhole}
 use Rattle.iw_locate.specs.Lowest.{early_place}
 use Rattle.iw_locate.specs.Keeping.{IsFrontUnplaced}
 use Rattle.iw_locate.proofs.Starting.{kept_can_locate}

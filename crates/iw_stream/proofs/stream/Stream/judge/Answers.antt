@@ -4,7 +4,6 @@ use Rattle.std.specs.Option.{option_map_or}
 use Rattle.iw_fpdu.specs.Found.{ulpdu}
 use Rattle.iw_octets.specs.Segment.{read_segment}
 use Rattle.iw_rdmap.proofs.Tags.{Passes, passes}
-use Rattle.iw_stream.specs.declared.answer.Step.TheVariants as steps
 use Rattle.iw_stream.specs.Fields.{state_of}
 use Rattle.iw_stream.specs.Frames.{IsNext, placed, frame_by, payload_of}
 use Rattle.iw_stream.specs.Judging.{landing_of, verdict}
@@ -13,7 +12,7 @@ use Rattle.iw_stream.specs.Starting.{is_open, expecting, first_place_in}
 use Rattle.iw_stream.specs.Stream.{StreamState}
 use Rattle.iw_stream.specs.Work.{Judge, Rest, standing, next_frame, step_of, left_by, table_left, judged_step, after_judging, table_judged}
 use Rattle.iw_stream.proofs.Keeping.{keeps_judged}
-use Rattle.iw_stream.proofs.Tagged.{is_placing, leaves_receiving, next_is, none_next, step_placed, stream_placed, table_placed, tagged_first, tagged_front, tagged_long, tagged_there}
+use Rattle.iw_stream.proofs.Tagged.{is_placing, leaves_receiving, next_is, none_next, stream_placed, table_placed, tagged_first, tagged_front, tagged_long, tagged_there}
 use Rattle.iw_stream.proofs.stream.Stream.judge.Goals as goal
 
 pub returns-then-missing-floor-clause-whole : goal.returns-then-missing-floor-clause-whole

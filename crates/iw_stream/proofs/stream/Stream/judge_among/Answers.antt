@@ -2,10 +2,12 @@ use Rattle.std.proofs.Common.{◌≡◌, Some, ◌∙◌, ap, subst}
 use Rattle.iw_stream.specs.Fields.{state_of}
 use Rattle.iw_stream.specs.Frames.{Frame, frame_by, placed}
 use Rattle.iw_stream.specs.Kept.{NoneReachesOver}
+use Rattle.iw_stream.specs.Starting.{is_open}
 use Rattle.iw_stream.specs.Stream.{StreamState, ends_by}
 use Rattle.iw_stream.specs.Terminating.{terminate_judged}
 use Rattle.iw_stream.specs.Work.{clash_fault, step_of, left_by, next_frame, table_left}
 use Rattle.iw_stream.proofs.Early.{IsSeen, none_over, seen, task_clashes, task_judges}
+use Rattle.iw_stream.proofs.Keeping.{keeps_faulted}
 use Rattle.iw_stream.proofs.Waiting.{kept_scene}
 use Rattle.iw_stream.proofs.stream.Stream.judge_among.Given as given
 use Rattle.iw_stream.proofs.stream.Stream.judge_among.Goals as goal
@@ -23,6 +25,15 @@ clear g c =
     subst (λ t. IsSeen t c.in-Some.fpdu c.overlaps_placed.result) c.self.view_is
     (seen (state_of c.self.inside) c.expecting-layout.result c.first_place_in-base.result c.floor.result c.start_of-start.result c.end.result c.in-Some.fpdu c.overlaps_placed.result
     c.expecting-layout.ensures c.first_place_in-base.ensures.place c.floor.ensures.floor c.start_of-start.ensures c.in-Some.ensures.frame c.in-Some.ensures.next c.end.ensures c.overlaps_placed.ensures)
+
+pub invariant_of-self : goal.invariant_of-self
+invariant_of-self g c = record {
+  keeps =
+      let s = state_of c.self.inside in
+      keeps_faulted s (terminate_judged s.asked (frame_by c.in-Some.fpdu) clash_fault) c.end_judged-self-inside.result (ap (λ (t : StreamState). is_open t.start) c.self.view_is ∙ c.requires.open) c.end_judged-self-inside.ensures c.self.invariant.keeps;
+  layout = c.self.invariant.layout;
+  base = c.self.invariant.base;
+}
 
 pub returns-then-overlaps_placed-clause-step : goal.returns-then-overlaps_placed-clause-step
 returns-then-overlaps_placed-clause-step g c =

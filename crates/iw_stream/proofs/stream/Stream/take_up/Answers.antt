@@ -1,4 +1,4 @@
-use Rattle.std.proofs.Common.{◌≡◌, ◌+◌, false, true, ap, sym, ◌∙◌, subst, arith}
+use Rattle.std.proofs.Common.{◌≡◌, ◌+◌, false, true, ap, sym, ◌∙◌, subst, arith, refl}
 use Rattle.iw_fpdu.specs.declared.layout.Layout.{Layout}
 use Rattle.iw_fpdu.specs.Frame.{frame_end}
 use Rattle.iw_stream.specs.Fields.{state_of}
@@ -7,7 +7,8 @@ use Rattle.iw_stream.specs.Starting.{is_open, first_place_in}
 use Rattle.iw_stream.specs.Stream.{StreamState, ended}
 use Rattle.iw_stream.specs.Work.{place_past}
 use Rattle.iw_stream.proofs.Waiting.{passed}
-use Rattle.iw_stream.proofs.Keeping.{keeps_past, reaches}
+use Rattle.iw_stream.proofs.Keeping.{keeps_past, reaches, turn_stays}
+use Rattle.iw_stream.proofs.Buffers.{stays_same}
 use Rattle.iw_stream.proofs.stream.Stream.take_up.Goals as goal
 
 pub invariant_of-self : goal.invariant_of-self
@@ -22,6 +23,7 @@ invariant_of-self g c = record {
       (λ i. c.first_place_in.ensures.place i + c.end_of-end.ensures i)
       ∙ ap (λ (l : Layout). first_place_in c.self.inside.start + frame_end l.markers c.args.frame.start c.args.frame.len) c.expecting.ensures in
       keeps_past s frame (c.first_place_in.result + c.end_of-end.result) c.advance.new.self.arrived s.receiving s.queue s.reads c.take.new.self c.advance.new.self.early c.self.inside.arrived.base running stands there c.advance.ensures.arrived c.advance.ensures.early
+      (turn_stays s frame s.receiving (stays_same s.receiving s.receiving refl) c.self.invariant.keeps stands)
       c.self.invariant.keeps.first (c.self.invariant.keeps.awaited runs) c.self.invariant.keeps;
   layout = c.advance.ensures.same.layout ∙ c.self.invariant.layout;
   base = c.advance.ensures.same.base ∙ c.self.invariant.base;

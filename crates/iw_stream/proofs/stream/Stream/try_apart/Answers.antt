@@ -31,7 +31,7 @@ invariant_of-self-2 g c = record {
   keeps =
       keeps_tried (state_of c.self.inside) c.args.memory.now c.ready.new.self c.judge_early.new.arrived c.judge_early.new.receiving c.in-Some.frame.start c.judge_early.result
       (ap (λ (t : StreamState). is_open t.start) c.self.view_is ∙ c.requires.open) (ap waiting c.self.view_is ∙ c.requires.waiting) (found g c) c.judge_early.ensures.landed c.judge_early.ensures.arrived c.judge_early.ensures.early
-      c.self.invariant.keeps;
+      c.judge_early.ensures.receiving c.self.invariant.keeps;
   layout = c.judge_early.ensures.same.layout ∙ (found g c).layout;
   base = c.judge_early.ensures.same.base ∙ (found g c).base;
 }

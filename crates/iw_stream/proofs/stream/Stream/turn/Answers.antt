@@ -1,4 +1,4 @@
-use Rattle.std.proofs.Common.{◌≡◌, ◌+◌, false, true, ap, ◌∙◌, subst, arith}
+use Rattle.std.proofs.Common.{◌≡◌, ◌+◌, false, true, ap, ◌∙◌, subst, arith, refl}
 use Rattle.iw_fpdu.specs.declared.layout.Layout.{Layout}
 use Rattle.iw_fpdu.specs.Frame.{frame_end}
 use Rattle.iw_stream.specs.Fields.{state_of}
@@ -8,7 +8,8 @@ use Rattle.iw_stream.specs.Work.{place_past}
 use Rattle.std.specs.Prelude.{IfSome}
 use Rattle.iw_stream.specs.Kept.{NoneReachesOver}
 use Rattle.iw_stream.proofs.Waiting.{passed}
-use Rattle.iw_stream.proofs.Keeping.{keeps_past, placed_front, reaches}
+use Rattle.iw_stream.proofs.Keeping.{keeps_past, placed_front, reaches, turn_stays}
+use Rattle.iw_stream.proofs.Buffers.{stays_same}
 use Rattle.iw_stream.proofs.stream.Stream.turn.Goals as goal
 
 pub invariant_of-self : goal.invariant_of-self
@@ -21,7 +22,8 @@ invariant_of-self g c = record {
       (λ i. c.first_place_in.ensures.place i + c.end_of-end.ensures i)
       ∙ ap (λ (l : Layout). first_place_in c.self.inside.start + frame_end l.markers c.in-Some.frame.start c.in-Some.frame.len) c.expecting.ensures in
       keeps_past s c.in-Some.frame (c.first_place_in.result + c.end_of-end.result) c.advance.new.self.arrived s.receiving s.queue s.reads s.asked c.advance.new.self.early c.self.inside.arrived.base
-      running (placed_front s c.in-Some.frame runs c.in-Some.is c.self.invariant.keeps).stands there c.advance.ensures.arrived c.advance.ensures.early c.self.invariant.keeps.first (c.self.invariant.keeps.awaited runs) c.self.invariant.keeps;
+      running (placed_front s c.in-Some.frame runs c.in-Some.is c.self.invariant.keeps).stands there c.advance.ensures.arrived c.advance.ensures.early
+      (turn_stays s c.in-Some.frame s.receiving (stays_same s.receiving s.receiving refl) c.self.invariant.keeps (placed_front s c.in-Some.frame runs c.in-Some.is c.self.invariant.keeps).stands) c.self.invariant.keeps.first (c.self.invariant.keeps.awaited runs) c.self.invariant.keeps;
   layout = c.advance.ensures.same.layout ∙ c.self.invariant.layout;
   base = c.advance.ensures.same.base ∙ c.self.invariant.base;
 }

@@ -1,4 +1,4 @@
-use Rattle.std.proofs.Common.{◌≡◌, ◌+◌, ◌<◌, ◌^◌, [], false, true, Some, Ok, ap, sym, ◌∙◌, subst, arith}
+use Rattle.std.proofs.Common.{◌≡◌, ◌+◌, ◌<◌, ◌^◌, [], false, true, Some, Ok, ap, sym, ◌∙◌, subst, arith, refl}
 use Rattle.iw_fpdu.specs.declared.layout.Layout.{Layout}
 use Rattle.iw_fpdu.specs.Frame.{frame_end}
 use Rattle.iw_octets.specs.declared.segment.Segment.TheVariants.{Tagged}
@@ -10,7 +10,8 @@ use Rattle.iw_stream.specs.Kept.{NoneReachesOver, AreAwaited}
 use Rattle.iw_stream.specs.Starting.{is_open, first_place_in}
 use Rattle.iw_stream.specs.Stream.{StreamState, ended}
 use Rattle.iw_stream.specs.Work.{place_past}
-use Rattle.iw_stream.proofs.Keeping.{keeps_past, placed_front, reaches}
+use Rattle.iw_stream.proofs.Keeping.{keeps_past, placed_front, reaches, turn_stays}
+use Rattle.iw_stream.proofs.Buffers.{stays_same}
 use Rattle.std.specs.Prelude.{IfSome}
 use Rattle.iw_stream.proofs.Waiting.{passed}
 use Rattle.iw_stream.proofs.Reading.{awaited_answered, awaited_left}
@@ -27,7 +28,8 @@ invariant_of-self-in-Ok-None g c = record {
       (λ i. c.first_place_in.ensures.place i + c.end_of-end.ensures i)
       ∙ ap (λ (l : Layout). first_place_in c.self.inside.start + frame_end l.markers c.in-Some.frame.start c.in-Some.frame.len) c.expecting.ensures in
       keeps_past s c.in-Some.frame (c.first_place_in.result + c.end_of-end.result) c.advance.new.self.arrived s.receiving s.queue c.turn_reads.new.reads s.asked c.advance.new.self.early c.self.inside.arrived.base
-      running (placed_front s c.in-Some.frame runs c.in-Some.is c.self.invariant.keeps).stands there c.advance.ensures.arrived c.advance.ensures.early c.self.invariant.keeps.first
+      running (placed_front s c.in-Some.frame runs c.in-Some.is c.self.invariant.keeps).stands there c.advance.ensures.arrived c.advance.ensures.early
+      (turn_stays s c.in-Some.frame s.receiving (stays_same s.receiving s.receiving refl) c.self.invariant.keeps (placed_front s c.in-Some.frame runs c.in-Some.is c.self.invariant.keeps).stands) c.self.invariant.keeps.first
       (subst (AreAwaited s.queue.sent) (sym c.in-Ok-None.ensures.ok) (awaited_left s.queue.sent s.reads c.payload_len.result (Some (Tagged head [])) (c.self.invariant.keeps.awaited runs))) c.self.invariant.keeps;
   layout = c.advance.ensures.same.layout ∙ c.self.invariant.layout;
   base = c.advance.ensures.same.base ∙ c.self.invariant.base;
@@ -45,6 +47,7 @@ invariant_of-self-in-Ok-Some g c = record {
       ∙ ap (λ (l : Layout). first_place_in c.self.inside.start + frame_end l.markers c.in-Some.frame.start c.in-Some.frame.len) c.expecting.ensures in
       keeps_past s c.in-Some.frame (c.first_place_in.result + c.end_of-end.result) c.advance-in-Ok-Some.new.self.arrived s.receiving c.finish.new.self c.turn_reads.new.reads s.asked c.advance-in-Ok-Some.new.self.early c.self.inside.arrived.base
       running (placed_front s c.in-Some.frame runs c.in-Some.is c.self.invariant.keeps).stands there c.advance-in-Ok-Some.ensures.arrived c.advance-in-Ok-Some.ensures.early
+      (turn_stays s c.in-Some.frame s.receiving (stays_same s.receiving s.receiving refl) c.self.invariant.keeps (placed_front s c.in-Some.frame runs c.in-Some.is c.self.invariant.keeps).stands)
       (subst (λ (q : Queue). q.sent.first < 2 ^ 64) (sym c.finish.ensures) c.self.invariant.keeps.first)
       (subst (λ (q : Queue). AreAwaited q.sent c.turn_reads.new.reads) (sym c.finish.ensures)
       (subst (AreAwaited (completions.finished s.queue.sent c.in-Ok-Some.ticket)) (sym c.in-Ok-Some.ensures.ok)

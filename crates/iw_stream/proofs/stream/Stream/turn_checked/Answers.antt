@@ -13,8 +13,8 @@ use Rattle.iw_stream.proofs.Reading.{awaited_answered, awaited_left, awaits_answ
 use Rattle.iw_stream.specs.Judging.{turn_of}
 use Rattle.iw_stream.specs.Stream.{over}
 use Rattle.iw_stream.specs.Work.{Turn, standing, waiting, after_turn, left_by}
-use Rattle.iw_stream.proofs.Keeping.{keeps_past, reaches}
-use Rattle.iw_stream.proofs.Waiting.{kept_scene, passed, waiting_stands}
+use Rattle.iw_stream.proofs.Keeping.{frame_stays, keeps_past, reaches, turn_finishes, turn_stays}
+use Rattle.iw_stream.proofs.Waiting.{kept_scene, passed, records_near, waiting_stands}
 use Rattle.iw_stream.proofs.stream.Stream.turn_checked.Goals as goal
 
 pub invariant_of-self-in-Passed : goal.invariant_of-self-in-Passed
@@ -26,7 +26,8 @@ invariant_of-self-in-Passed g c = record {
       (λ i. c.first_place_in.ensures.place i + c.end_of-end.ensures i)
       ∙ ap (λ (l : Layout). first_place_in c.self.inside.start + frame_end l.markers c.args.frame.start c.args.frame.len) c.expecting.ensures in
       keeps_past (state_of c.self.inside) c.args.frame (c.first_place_in.result + c.end_of-end.result) c.advance.new.self.arrived c.turn_frame.new.receiving c.self.inside.queue c.turn_frame.new.reads c.self.inside.asked c.advance.new.self.early c.self.inside.arrived.base
-      running (waiting_stands (state_of c.self.inside) c.self.invariant.keeps runs (kept_scene (state_of c.self.inside) c.self.inside.arrived.layout c.self.inside.arrived.base c.self.invariant.layout c.self.invariant.base c.records.ensures.tracked.keeps) c.records.ensures.apart c.floor.ensures.limits c.args.frame (ap waiting c.self.view_is ∙ c.requires.waiting)).0.stands there c.advance.ensures.arrived c.advance.ensures.early c.self.invariant.keeps.first
+      running (waiting_stands (state_of c.self.inside) c.self.invariant.keeps runs (kept_scene (state_of c.self.inside) c.self.inside.arrived.layout c.self.inside.arrived.base c.self.invariant.layout c.self.invariant.base c.records.ensures.tracked.keeps) c.records.ensures.apart c.floor.ensures.limits c.args.frame (ap waiting c.self.view_is ∙ c.requires.waiting)).0.stands there c.advance.ensures.arrived c.advance.ensures.early
+      (turn_stays (state_of c.self.inside) c.args.frame c.turn_frame.new.receiving (frame_stays (state_of c.self.inside).receiving c.turn_frame.new.receiving c.args.frame c.in-Ok.ensures.receiving) c.self.invariant.keeps (waiting_stands (state_of c.self.inside) c.self.invariant.keeps runs (kept_scene (state_of c.self.inside) c.self.inside.arrived.layout c.self.inside.arrived.base c.self.invariant.layout c.self.invariant.base c.records.ensures.tracked.keeps) c.records.ensures.apart c.floor.ensures.limits c.args.frame (ap waiting c.self.view_is ∙ c.requires.waiting)).0.stands) c.self.invariant.keeps.first
       (subst (AreAwaited c.self.inside.queue.sent) (sym c.in-Ok.ensures.reads) (awaited_left c.self.inside.queue.sent c.self.inside.reads (payload_len c.args.frame) (head_in c.args.frame) (c.self.invariant.keeps.awaited runs))) c.self.invariant.keeps;
   layout = c.advance.ensures.same.layout ∙ c.self.invariant.layout;
   base = c.advance.ensures.same.base ∙ c.self.invariant.base;
@@ -41,7 +42,9 @@ invariant_of-self-in-Completed g c = record {
       (λ i. c.first_place_in.ensures.place i + c.end_of-end.ensures i)
       ∙ ap (λ (l : Layout). first_place_in c.self.inside.start + frame_end l.markers c.args.frame.start c.args.frame.len) c.expecting.ensures in
       keeps_past (state_of c.self.inside) c.args.frame (c.first_place_in.result + c.end_of-end.result) c.advance.new.self.arrived c.finish-buffer.new.self c.self.inside.queue c.turn_frame.new.reads c.self.inside.asked c.advance.new.self.early c.self.inside.arrived.base
-      running (waiting_stands (state_of c.self.inside) c.self.invariant.keeps runs (kept_scene (state_of c.self.inside) c.self.inside.arrived.layout c.self.inside.arrived.base c.self.invariant.layout c.self.invariant.base c.records.ensures.tracked.keeps) c.records.ensures.apart c.floor.ensures.limits c.args.frame (ap waiting c.self.view_is ∙ c.requires.waiting)).0.stands there c.advance.ensures.arrived c.advance.ensures.early c.self.invariant.keeps.first
+      running (waiting_stands (state_of c.self.inside) c.self.invariant.keeps runs (kept_scene (state_of c.self.inside) c.self.inside.arrived.layout c.self.inside.arrived.base c.self.invariant.layout c.self.invariant.base c.records.ensures.tracked.keeps) c.records.ensures.apart c.floor.ensures.limits c.args.frame (ap waiting c.self.view_is ∙ c.requires.waiting)).0.stands there c.advance.ensures.arrived c.advance.ensures.early
+      (turn_finishes (state_of c.self.inside) c.args.frame c.turn_frame.new.receiving c.finish-buffer.new.self (frame_stays (state_of c.self.inside).receiving c.turn_frame.new.receiving c.args.frame c.in-Ok.ensures.receiving) c.finish-buffer.ensures.after c.limits.ensures.due
+      (records_near (state_of c.self.inside) c.self.invariant.keeps (kept_scene (state_of c.self.inside) c.self.inside.arrived.layout c.self.inside.arrived.base c.self.invariant.layout c.self.invariant.base c.records.ensures.tracked.keeps) c.records.ensures.apart c.floor.ensures.limits) c.self.invariant.keeps (waiting_stands (state_of c.self.inside) c.self.invariant.keeps runs (kept_scene (state_of c.self.inside) c.self.inside.arrived.layout c.self.inside.arrived.base c.self.invariant.layout c.self.invariant.base c.records.ensures.tracked.keeps) c.records.ensures.apart c.floor.ensures.limits c.args.frame (ap waiting c.self.view_is ∙ c.requires.waiting)).0.stands) c.self.invariant.keeps.first
       (subst (AreAwaited c.self.inside.queue.sent) (sym c.in-Ok.ensures.reads) (awaited_left c.self.inside.queue.sent c.self.inside.reads (payload_len c.args.frame) (head_in c.args.frame) (c.self.invariant.keeps.awaited runs))) c.self.invariant.keeps;
   layout = c.advance.ensures.same.layout ∙ c.self.invariant.layout;
   base = c.advance.ensures.same.base ∙ c.self.invariant.base;
@@ -83,6 +86,7 @@ invariant_of-self-in-Answered g c = record {
       ∙ ap (λ (l : Layout). first_place_in c.self.inside.start + frame_end l.markers c.args.frame.start c.args.frame.len) c.expecting.ensures in
       keeps_past (state_of c.self.inside) c.args.frame (c.first_place_in.result + c.end_of-end.result) c.advance.new.self.arrived c.turn_frame.new.receiving c.finish.new.self c.turn_frame.new.reads c.self.inside.asked c.advance.new.self.early c.self.inside.arrived.base
       running (waiting_stands (state_of c.self.inside) c.self.invariant.keeps runs (kept_scene (state_of c.self.inside) c.self.inside.arrived.layout c.self.inside.arrived.base c.self.invariant.layout c.self.invariant.base c.records.ensures.tracked.keeps) c.records.ensures.apart c.floor.ensures.limits c.args.frame (ap waiting c.self.view_is ∙ c.requires.waiting)).0.stands there c.advance.ensures.arrived c.advance.ensures.early
+      (turn_stays (state_of c.self.inside) c.args.frame c.turn_frame.new.receiving (frame_stays (state_of c.self.inside).receiving c.turn_frame.new.receiving c.args.frame c.in-Ok.ensures.receiving) c.self.invariant.keeps (waiting_stands (state_of c.self.inside) c.self.invariant.keeps runs (kept_scene (state_of c.self.inside) c.self.inside.arrived.layout c.self.inside.arrived.base c.self.invariant.layout c.self.invariant.base c.records.ensures.tracked.keeps) c.records.ensures.apart c.floor.ensures.limits c.args.frame (ap waiting c.self.view_is ∙ c.requires.waiting)).0.stands)
       (subst (λ (q : Queue). q.sent.first < 2 ^ 64) (sym c.finish.ensures) c.self.invariant.keeps.first)
       (subst (λ (q : Queue). AreAwaited q.sent c.turn_frame.new.reads) (sym c.finish.ensures)
       (subst (AreAwaited (completions.finished c.self.inside.queue.sent c.in-Answered.ticket)) (sym c.in-Ok.ensures.reads)
@@ -141,11 +145,11 @@ turn_frame-requires-clause-header g c =
     let w = (waiting_stands (state_of c.self.inside) c.self.invariant.keeps runs (kept_scene (state_of c.self.inside) c.self.inside.arrived.layout c.self.inside.arrived.base c.self.invariant.layout c.self.invariant.base c.records.ensures.tracked.keeps) c.records.ensures.apart c.floor.ensures.limits c.args.frame (ap waiting c.self.view_is ∙ c.requires.waiting)) in
     w.0.stands.header
 
-pub turn_frame-requires-clause-placed : goal.turn_frame-requires-clause-placed
-turn_frame-requires-clause-placed g c =
+pub turn_frame-requires-clause-room : goal.turn_frame-requires-clause-room
+turn_frame-requires-clause-room g c =
     let runs : ended (state_of c.self.inside) ≡ false = ap ended c.self.view_is ∙ c.requires.runs in
     let w = (waiting_stands (state_of c.self.inside) c.self.invariant.keeps runs (kept_scene (state_of c.self.inside) c.self.inside.arrived.layout c.self.inside.arrived.base c.self.invariant.layout c.self.invariant.base c.records.ensures.tracked.keeps) c.records.ensures.apart c.floor.ensures.limits c.args.frame (ap waiting c.self.view_is ∙ c.requires.waiting)) in
-    w.0.buffer
+    w.0.room
 
 pub terminate_turned-requires-clause-whole : goal.terminate_turned-requires-clause-whole
 terminate_turned-requires-clause-whole g c =
