@@ -1,8 +1,8 @@
 -- Where what came is what the other end sent: the segments that had their turn are the first of those that were sent.
-use Rattle.std.proofs.Common.{◌≡◌, ℕ, ◌+◌, ◌-◌, ◌≤◌, List, [], ◌∷◌, ◌++◌, length, map, Option, Some, None, Bool, true, false, cond, refl, sym, ap, ◌∙◌, subst, arith, append_assoc, length-append, get_or, ◌<◌}
+use Rattle.std.proofs.Common.{◌≡◌, ℕ, ◌+◌, ◌-◌, ◌%◌, ◌^◌, ◌≤◌, List, [], ◌∷◌, ◌++◌, length, map, take, Option, Some, None, Bool, true, false, cond, refl, sym, ap, ◌∙◌, subst, arith, append_assoc, length-append, get_or, ◌<◌}
 use Rattle.std.specs.Prelude.{All, is_some, nat_eq}
 use Rattle.std.specs.Option.{option_map}
-use Rattle.std.proofs.lemmas.List.{append-nil, map-append, length-map, append_cancel_left}
+use Rattle.std.proofs.lemmas.List.{append-nil, map-append, append_cancel_left}
 use Rattle.std.proofs.lemmas.List.Elements.{All-cons}
 use Rattle.std.proofs.lemmas.Option.{same_Some}
 use Rattle.std.proofs.lemmas.Bool.{true≢false}
@@ -40,12 +40,15 @@ use Rattle.iw_stream.specs.Frames.{EarlyRecord, placed}
 use Rattle.iw_stream.proofs.Fronts.{carried_by}
 use Rattle.iw_laws.specs.Turns.{Located, located, located_of, past_last}
 use Rattle.iw_laws.proofs.Located.{frames_at, located_first, past_last-push}
+use Rattle.std.proofs.Math.Seq.{take-append_seam}
 use Rattle.iw_laws.proofs.FirstSent.{read_intact}
 use Rattle.iw_laws.proofs.EarlySent.{scene_sent, early_fits}
 use Rattle.iw_laws.proofs.Judged.{Adds, segments_early}
 use Rattle.iw_laws.proofs.Nexts.{Front, fore, place_past, standing, segment_in, segment_at}
 use Rattle.iw_laws.proofs.Tracks.{Track, first_is, front_is, split_is, ends_there}
-use Rattle.iw_laws.proofs.Joins.{told, count_waiting, count-append}
+use Rattle.iw_laws.proofs.Joins.{told, begun, count_waiting, count-append}
+use Rattle.iw_laws.proofs.Numbered.{Numbered, are_numbered}
+use Rattle.iw_laws.proofs.Fills.{Fills}
 use Rattle.iw_laws.specs.Sends.{farewells}
 use Rattle.iw_laws.specs.Rules.{FitsPosted, FitsOptional}
 use Rattle.iw_octets.specs.Stag.{FitsStag, stag_of}
@@ -66,7 +69,8 @@ use Rattle.std.proofs.lemmas.Bool.Decides.{nat_tests}
 use Rattle.iw_laws.proofs.Lists.{Each}
 use Rattle.iw_laws.proofs.Sending.{IsSendable}
 use Rattle.iw_laws.proofs.Owns.{Emits, out_of}
-use Rattle.iw_laws.proofs.Heard.{IsHeard, Bare, Clear, reaches}
+use Rattle.iw_laws.proofs.Heard.{IsHeard, Bare, Clear}
+use Rattle.iw_laws.proofs.Reached.{reaches}
 
 -- ---- frames that were written
 
@@ -387,14 +391,73 @@ goes_on s t e first later is =
           (subst (AreSpelled first_numbers 0 (posts_in w.items)) (plain-append e.segments w.later ∙ ap (λ z. z ++ plain w.later) mine ∙ append_assoc (plain first) (plain later) (plain w.later)) (plain_spelled first_numbers w.items (e.segments ++ w.later) w.merged));
     }
 
+-- what is left out of the segments is none of a Send
+begun-plain : (sofar : List ℕ) (ss : List (Segment Octets)) → begun sofar (plain ss) ≡ begun sofar ss
+unfolding plain
+begun-plain sofar [] = refl
+begun-plain sofar (Tagged head payload ∷ ss) = go (nat_eq (opcode_of head.control) 2) (begun-plain sofar ss)
+  where
+    go : (b : Bool) → begun sofar (plain ss) ≡ begun sofar ss → begun sofar (cond b (plain ss) (Tagged head payload ∷ plain ss)) ≡ begun sofar ss
+    go true e = e
+    go false e = e
+begun-plain sofar (Untagged head payload ∷ ss) = by (λ z. begun-plain z ss) (nat_eq head.queue 2) refl
+  where
+    go : ((z : List ℕ) → begun z (plain ss) ≡ begun z ss) → (mine last : Bool)
+        → cond mine (cond last (begun [] (plain ss)) (begun (sofar ++ payload) (plain ss))) (begun sofar (plain ss)) ≡ cond mine (cond last (begun [] ss) (begun (sofar ++ payload) ss)) (begun sofar ss)
+    go same true true = same []
+    go same true false = same (sofar ++ payload)
+    go same false last = same sofar
+
+    by : ((z : List ℕ) → begun z (plain ss) ≡ begun z ss) → (b : Bool) → nat_eq head.queue 2 ≡ b → begun sofar (cond b (plain ss) (Untagged head payload ∷ plain ss)) ≡ begun sofar (Untagged head payload ∷ ss)
+    by same false e = go same (nat_eq head.queue 0) head.last
+    by same true e =
+        let other : nat_eq head.queue 0 ≡ false = grind (arith, nat_tests) in
+        same sofar ∙ ap (λ mine. cond mine (cond head.last (begun [] ss) (begun (sofar ++ payload) ss)) (begun sofar ss)) (sym other)
+
+-- so the Sends among all are numbered as those among the others are
+numbered_plain : (ss later : List (Segment Octets)) → Numbered (plain ss ++ later) → Numbered ss
+unfolding plain
+numbered_plain ss later k a b head payload is queue =
+    let mine : nat_eq head.queue 2 ≡ false = grind (arith, nat_tests) in
+    let parts : plain ss ++ later ≡ plain a ++ Untagged head payload ∷ (plain b ++ later) =
+    ap (λ z. z ++ later) (ap plain is ∙ plain-append a (Untagged head payload ∷ b) ∙ ap (λ c. plain a ++ cond c (plain b) (Untagged head payload ∷ plain b)) mine) ∙ append_assoc (plain a) (Untagged head payload ∷ plain b) later in
+    let w = k (plain a) (plain b ++ later) head payload parts queue in
+    (w.0 ∙ ap (λ z. (1 + length z) % 2 ^ 32) (joined-plain [] a), w.1 ∙ ap length (begun-plain [] a))
+
+-- what was received are the Sends that the segments complete
+received_are : (c : Connected) (t : Tale) (d : Connected) (u : Tale) (e : Emits c.stream t) (k : Track d.stream u) → IsHeard c t d u (out_of c.stream t e) k → IsOf u.story.came t.sent → Fills d.stream u → u.received ≡ map told (joined [] k.segments)
+received_are c t d u e k (Bare bare none) of fills =
+    let firsts : k.segments ≡ [] = no_segments k.segments (sym k.carried ∙ ap (map segment_in) bare.frames) in
+    nothing u.received (omega (arith, k.joins.completed_are, ap (λ z. length (joined [] z)) firsts)) ∙ ap (λ z. map told (joined [] z)) (sym firsts)
+  where
+    nothing : {A : Type 0} (xs : List A) → length xs ≡ 0 → xs ≡ []
+    nothing [] e = refl
+    nothing (x ∷ xs) e = absurd (omega (arith, e))
+received_are c t d u e k (Clear is) of fills =
+    let out : List (Segment Octets) = out_of c.stream t e in
+    let us : List Octets = map segment_octets out in
+    let all : List (Segment Octets) = map reread out in
+    let g = goes_on c.stream t e all [] (sym (append-nil all)) in
+    let x = delivered c t d u e k (Clear is) of in
+    let turns : u.story.turns ≡ length k.segments = omega (arith, k.turns, same_count k.frames k.segments k.carried) in
+    let o = fills us all (all_short out e.good) (sym (read_intact us) ∙ read_again out e.good) (numbered_plain all g.later (are_numbered first_numbers t.posted (plain all ++ g.later) g.spelled refl))
+    (subst (λ z. IsOf u.story.came (z ++ sequence (expecting d.stream.start) 0 us)) k.begins.octets (subst (IsOf u.story.came) is of)) in
+    o.received_are ∙ ap (λ z. map told (joined [] z)) ((λ i. take (turns i) (x.1 i)) ∙ take-append_seam k.segments x.0)
+  where
+    same_count : (fs : List Carried) (xs : List (Segment Octets)) → map segment_in fs ≡ map Some xs → length fs ≡ length xs
+    same_count [] [] e = refl
+    same_count [] (x ∷ xs) e = absurd (omega (arith, ap length e))
+    same_count (f ∷ fs) [] e = absurd (omega (arith, ap length e))
+    same_count (f ∷ fs) (x ∷ xs) e = let tail : map segment_in fs ≡ map Some xs = cc e in omega (arith, same_count fs xs tail)
+
 -- what was received is a prefix of the Sends posted
-pub received_prefix : (c : Connected) (t : Tale) (d : Connected) (u : Tale) (e : Emits c.stream t) (k : Track d.stream u) → IsHeard c t d u (out_of c.stream t e) k → IsOf u.story.came t.sent → IsPrefixOf u.received (words.sends t.posted)
-received_prefix c t d u e k heard of =
+pub received_prefix : (c : Connected) (t : Tale) (d : Connected) (u : Tale) (e : Emits c.stream t) (k : Track d.stream u) → IsHeard c t d u (out_of c.stream t e) k → IsOf u.story.came t.sent → Fills d.stream u → IsPrefixOf u.received (words.sends t.posted)
+received_prefix c t d u e k heard of fills =
     let x = delivered c t d u e k heard of in
     let g = goes_on c.stream t e k.segments x.0 x.1 in
     let p = spelled_in_order first_numbers t.posted (plain k.segments) g.later g.spelled in (
       map told p.0,
-      ap (λ z. z ++ map told p.0) (k.joins.received_are ∙ ap (map told) (sym (joined-plain [] k.segments)))
+      ap (λ z. z ++ map told p.0) (received_are c t d u e k heard of fills ∙ ap (map told) (sym (joined-plain [] k.segments)))
           ∙ sym (map-append told (joined [] (plain k.segments)) p.0) ∙ ap (map told) p.1 ∙ sends_whole t.posted e.fit,
     )
 
@@ -436,7 +499,7 @@ writes_covered c t d u e k heard of cell =
     let x = delivered c t d u e k heard of in
     let g = goes_on c.stream t e k.segments x.0 x.1 in
     let covered : IsCovered cell t.posted (plain k.segments) = spelled_covered first_numbers t.posted (plain k.segments) g.later g.spelled cell in
-    let few : length u.received ≡ length (joined [] (plain k.segments)) = ap length k.joins.received_are ∙ length-map (joined [] k.segments) told ∙ ap length (sym (joined-plain [] k.segments)) in
+    let few : length u.received ≡ length (joined [] (plain k.segments)) = k.joins.completed_are ∙ ap length (sym (joined-plain [] k.segments)) in
     record {
       before = λ n lt. omega (arith, covered.before n (omega (arith, lt, few)), k.early.written_are cell, k.joins.counted cell, count-plain cell k.segments);
       most = most c t d u e k heard of cell;

@@ -34,8 +34,8 @@ use Rattle.iw_events.specs.declared.act.StreamAct.{StreamAct}
 use Rattle.iw_laws.specs.Words.{Octets, deed, acts, stream_acts, ended, OnSome, OnStream, of_stream}
 use Rattle.iw_laws.specs.Turns.{Story, in_order_point, scene, next_frame, early_frame, seen_tried, seen_turned, IsJudged, IsEarly, HasTurn, TurnsSeen, TurnsStream, Turns, story_of, standing}
 use Rattle.iw_laws.specs.Rest.{HasRest, Over, AwaitsFrame, AwaitsAnswer, NoFrame, IdleSeen, IdleStream, IdleOnlyAtRest}
-use Rattle.iw_laws.specs.Early.{NoneIsFree, IsForRegion, CanBePlaced, IsJudgedEarly, LeavesRecord, EarlySeen, EarlyStream, JudgesEarly, TurnsPlaced, SecondSeen, SecondStream, ChecksOnce}
-use Rattle.iw_laws.proofs.Seeing.{InRegion, early_lands}
+use Rattle.iw_laws.specs.Early.{NoneIsFree, HasPlace, CanBePlaced, IsJudgedEarly, LeavesRecord, EarlySeen, EarlyStream, JudgesEarly, TurnsPlaced, SecondSeen, SecondStream, ChecksOnce}
+use Rattle.iw_laws.proofs.Seeing.{early_lands}
 
 -- ---- where there is nothing to do
 
@@ -71,9 +71,9 @@ rests over t (NoFrame now none early) runs o m = none_free t m early
 
 -- ---- before its turn
 
--- a frame that passes its checks, and whose payload goes to a region, may be placed before its turn
-early_of : (s : Standing) (frame : Frame) (at : Landing) → verdict s frame ≡ Ok at → IsForRegion at → early_verdict s frame ≡ Some at
-early_of s frame at e region = go (judged_head s frame.ulpdu) refl
+-- a frame that passes its checks, and whose payload has a place to go to, may be placed before its turn
+early_of : (s : Standing) (frame : Frame) (at : Landing) → verdict s frame ≡ Ok at → HasPlace at → early_verdict s frame ≡ Some at
+early_of s frame at e place = go (judged_head s frame.ulpdu) refl
   where
     n : ℕ
     n = length (payload_of (segment_in frame))
@@ -82,10 +82,10 @@ early_of s frame at e region = go (judged_head s frame.ulpdu) refl
     whole : (h : Result Head Fault) → judged_head s frame.ulpdu ≡ h → option_map_or (λ m. Err (mismatch_fault m)) frame.mismatch (head_verdict s h n) ≡ Ok at
     whole h is = ap (λ r. option_map_or (λ m. Err (mismatch_fault m)) frame.mismatch (head_verdict s r n)) (sym is) ∙ e
 
-    not_so : (m : Option Mismatch) (f : Option Fault) (x : Landing) → (IsForRegion x → ⊥) → option_map_or (λ w. Err (mismatch_fault w)) m (fault_or f x) ≡ Ok at → ⊥
+    not_so : (m : Option Mismatch) (f : Option Fault) (x : Landing) → (HasPlace x → ⊥) → option_map_or (λ w. Err (mismatch_fault w)) m (fault_or f x) ≡ Ok at → ⊥
     not_so (Some wrong) f x other h = cc
     not_so None (Some fault) x other h = cc
-    not_so None None x other h = other (subst IsForRegion (let same : at ≡ x = cc (sym h) in same) region)
+    not_so None None x other h = other (subst HasPlace (let same : at ≡ x = cc (sym h) in same) place)
 
     faulty : (m : Option Mismatch) (f : Fault) → option_map_or (λ w. Err (mismatch_fault w)) m (Err f) ≡ Ok at → ⊥
     faulty (Some wrong) f h = cc
@@ -95,30 +95,23 @@ early_of s frame at e region = go (judged_head s frame.ulpdu) refl
     go (Err fault) is = absurd (faulty frame.mismatch fault (whole (Err fault) is))
     go (Ok (heads.Write head)) is = ap landing_in e
     go (Ok (heads.Response head)) is = ap landing_in e
-    go (Ok (heads.Send head)) is = absurd (not_so frame.mismatch _ _ (λ z. z) (whole (Ok (heads.Send head)) is))
+    go (Ok (heads.Send head)) is = ap landing_in e
     go (Ok (heads.Request head request)) is = absurd (not_so frame.mismatch _ _ (λ z. z) (whole (Ok (heads.Request head request)) is))
     go (Ok (heads.Terminate head word)) is = absurd (not_so frame.mismatch None _ (λ z. z) (whole (Ok (heads.Terminate head word)) is))
-
-for_region : (at : Landing) → InRegion at → IsForRegion at
-for_region (landing.Write at) h = h
-for_region (landing.Response at) h = h
-for_region (landing.Send msn mo len) h = h
-for_region (landing.Request request) h = h
-for_region (landing.Terminate fault) h = h
 
 not_placed : (s : Standing) (frame : Frame) → (CanBePlaced s frame → ⊥) → early_verdict s frame ≡ None
 not_placed s frame none = go (early_verdict s frame) refl
   where
     go : (o : Option Landing) → early_verdict s frame ≡ o → o ≡ None
     go None e = refl
-    go (Some at) e = let w = early_lands s frame at e in absurd (none (at, w.0, for_region at w.1))
+    go (Some at) e = let w = early_lands s frame at e in absurd (none (at, w.0, w.1))
 
 judged_early : (t : Story) (s : Standing) (step : Seen Octets) → IsEarly t s step → IsJudgedEarly t s step
 judged_early t s step w = record {
   frame = w.frame;
   no_next = w.no_next;
   lowest = w.is_early;
-  placed = λ at e region. w.answer ∙ ap (seen_tried (first_place_in t.start) w.frame) (early_of s w.frame at e region);
+  placed = λ at e place. w.answer ∙ ap (seen_tried (first_place_in t.start) w.frame) (early_of s w.frame at e place);
   left = λ none. w.answer ∙ ap (seen_tried (first_place_in t.start) w.frame) (not_placed s w.frame none);
 }
 
@@ -146,7 +139,8 @@ early_seen : (over : Bool) (t : Story) (s : Standing) (before : List (StreamAct 
 early_seen over t s before seen.Idle i w = rests over t i.reason
 early_seen over t s before (seen.Placed right stag to octets) i w =
     λ none. elim w.1 [ inl judged ↦ absurd (next_whole t s (seen.Placed right stag to octets) judged none) | inr early ↦ judged_early t s (seen.Placed right stag to octets) early ]
-early_seen over t s before (seen.Buffered msn mo len) i w = λ none. absurd (next_whole t s (seen.Buffered msn mo len) w.1 none)
+early_seen over t s before (seen.Buffered msn mo len) i w =
+    λ none. elim w.1 [ inl judged ↦ absurd (next_whole t s (seen.Buffered msn mo len) judged none) | inr early ↦ judged_early t s (seen.Buffered msn mo len) early ]
 early_seen over t s before (seen.Tried place) i w = (judged_early t s (seen.Tried place) w.1, leaves t s place w.1)
 early_seen over t s before (seen.Done kind) i w = tt
 early_seen over t s before (seen.Flushed kind) i w = tt
@@ -186,7 +180,8 @@ not_early t s step w was frame next = absurd (none-some _ (sym w.no_next ∙ nex
 second_seen : (over : Bool) (t : Story) (s : Standing) (step : Seen Octets) → TurnsSeen over t s step → SecondSeen t s step
 second_seen over t s (seen.Placed right stag to octets) w =
     elim w.1 [ inl judged ↦ not_judged t s (seen.Placed right stag to octets) judged | inr early ↦ not_early t s (seen.Placed right stag to octets) early ]
-second_seen over t s (seen.Buffered msn mo len) w = not_judged t s (seen.Buffered msn mo len) w.1
+second_seen over t s (seen.Buffered msn mo len) w =
+    elim w.1 [ inl judged ↦ not_judged t s (seen.Buffered msn mo len) judged | inr early ↦ not_early t s (seen.Buffered msn mo len) early ]
 second_seen over t s (seen.Requested size stag to) w = not_judged t s (seen.Requested size stag to) w.1
 second_seen over t s (seen.Tried place) w = not_early t s (seen.Tried place) w.1
 second_seen over t s seen.Passed w = alone t s seen.Passed w.1

@@ -1,5 +1,5 @@
 -- Ends that understand each other: behind the start-up frame that an end has read stand the frames that the other has sent, laid out as it expects them.
-use Rattle.std.proofs.Common.{◌≡◌, ℕ, ◌≤◌, List, [], ◌++◌, length, map, Option, Some, None, Bool, true, false, refl, sym, ap, ◌∙◌, subst, arith, append_assoc, length-append, inl, inr, ◌⊎◌}
+use Rattle.std.proofs.Common.{◌≡◌, ℕ, ◌≤◌, List, [], ◌++◌, length, map, Option, Some, None, Bool, true, false, refl, sym, ap, ◌∙◌, subst, arith, length-append, inl, inr, ◌⊎◌}
 use Rattle.std.specs.Prelude.{is_some, IsTrue}
 use Rattle.std.specs.Option.{option_map_or}
 use Rattle.std.proofs.lemmas.Bool.{false≢true}
@@ -7,7 +7,6 @@ use Rattle.arrayvec.specs.ArrayVec.{ArrayVec}
 use Rattle.iw_octets.specs.declared.segment.Segment.{Segment}
 use Rattle.iw_octets.specs.Segment.{segment_octets}
 use Rattle.iw_ranges.specs.InOrder.{IsOf}
-use Rattle.iw_ranges.proofs.InOrder.{of_prefix}
 use Rattle.iw_fpdu.specs.declared.layout.Layout.{Layout}
 use Rattle.iw_fpdu.specs.Sequence.{sequence}
 use Rattle.iw_startup.specs.declared.config.Config.{Config}
@@ -30,22 +29,8 @@ use Rattle.iw_laws.proofs.States.{Connected}
 use Rattle.iw_laws.specs.Safe.{Fits}
 use Rattle.iw_laws.proofs.Tales.{Tale}
 use Rattle.iw_laws.proofs.Tracks.{OnStart, start_octets, Track, IsBare}
+use Rattle.iw_laws.proofs.Reached.{reaches}
 use Rattle.iw_laws.proofs.Owns.{Own, out_of, IsFramed, Unspoken, Spoken, IsStartOf, StartsAs, IsSmall, role_of}
-
--- ---- what came, and what was sent
-
--- what was sent is what came in order, and more
-pub record Reaches (s : StreamState) (u : Tale) (k : Track s u) (sent : Octets) : Type 0 where
-  pub rest : Octets
-  pub is : sent ≡ k.intro ++ (k.before ++ (inbox s ++ rest))
-
-pub reaches : (s : StreamState) (u : Tale) (k : Track s u) (sent : Octets) → IsOf u.story.came sent → Reaches s u k sent
-reaches s u k sent of =
-    let p = of_prefix u.story.came sent k.from_start of in
-    record {
-      rest = p.0;
-      is = sym p.1 ∙ ap (λ z. z ++ p.0) k.came ∙ append_assoc k.intro (k.before ++ inbox s) p.0 ∙ ap (λ z. k.intro ++ z) (append_assoc k.before (inbox s) p.0);
-    }
 
 -- a stream that begins with start-up frames, by their exchange
 pub record Exchanges (start : StartState) (u : StartupState) : Type 0 where

@@ -1,11 +1,9 @@
--- What the segments that had their turn come to, whoever sent them: the Sends that were received, and the octets that were placed.
-use Rattle.std.proofs.Common.{◌≡◌, ℕ, zero, suc, ◌+◌, ◌≤◌, List, [], ◌∷◌, ◌++◌, length, take, drop, map, Option, Some, None, Bool, true, false, cond, refl, sym, ap, ◌∙◌, subst, arith, append_assoc, length-append, length-take}
-use Rattle.std.specs.Prelude.{slice_get, slice_set, slice_index_or, nat_eq}
+-- What the segments that had their turn come to, whoever sent them: how many Sends were received, and the octets that were placed.
+use Rattle.std.proofs.Common.{◌≡◌, ℕ, ◌+◌, List, [], ◌∷◌, ◌++◌, length, Option, Some, None, Bool, true, false, cond, refl, sym, ap, ◌∙◌, subst, arith, append_assoc, length-append}
+use Rattle.std.specs.Prelude.{nat_eq}
 use Rattle.std.specs.Option.{option_map}
-use Rattle.std.proofs.lemmas.List.{append-nil, map-append, take_at}
-use Rattle.std.proofs.lemmas.Bool.Decides.{nat_tests}
+use Rattle.std.proofs.lemmas.List.{append-nil}
 use Rattle.std.proofs.lemmas.Bool.{false≢true, true≢false}
-use Rattle.std.proofs.lemmas.Option.{none-some}
 use Rattle.iw_octets.specs.declared.head.TaggedHead.{TaggedHead}
 use Rattle.iw_octets.specs.declared.head.UntaggedHead.{UntaggedHead}
 use Rattle.iw_queues.specs.declared.request.Request.{Request}
@@ -15,7 +13,6 @@ use Rattle.iw_octets.specs.declared.segment.Segment.{Segment}
 use Rattle.iw_octets.specs.declared.segment.Segment.TheVariants.{Tagged, Untagged}
 use Rattle.iw_octets.specs.declared.payload.ReadRequest.{ReadRequest}
 use Rattle.iw_octets.specs.Payload.{request_fields}
-use Rattle.iw_octets.specs.Octets.{splice}
 use Rattle.iw_octets.specs.declared.operation.UntaggedOperation.{UntaggedOperation}
 use Rattle.iw_octets.specs.declared.operation.UntaggedOperation.TheVariants as operations
 use Rattle.iw_octets.specs.Stag.{stag_of}
@@ -28,7 +25,6 @@ use Rattle.std.proofs.lemmas.List.Concat.{flat_map-append}
 use Rattle.iw_memory.specs.declared.rights.Right.TheVariants as rights
 use Rattle.iw_laws.specs.Words.{Octets, Sent, Placing, written_by, written, sunk_by, sunk, as_write}
 use Rattle.iw_untagged.specs.Receiving as receiving
-use Rattle.iw_laws.proofs.Checks.{HasBuffer, turned_first, index_of}
 
 -- the octets of the Send that was begun and is not complete, these having come before
 abbrev pub begun : List ℕ → List (Segment Octets) → List ℕ
@@ -154,78 +150,11 @@ sunk-push c ps p =
     ap (count_writes c) (flat_map-append (λ (q : Placing). sunk_by q.right (as_write q)) ps (p ∷ []) ∙ ap (λ z. sunk ps ++ z) (append-nil (sunk_by p.right (as_write p))))
     ∙ count_writes-append c (sunk ps) (sunk_by p.right (as_write p))
 
--- ---- what stands in the oldest buffer
-
--- the octets of the message that is due that had their turn
-pub record Begun (r : Receiving) (segments : List (Segment Octets)) : Type 0 where
-  pub octets : take r.turned (oldest r) ≡ begun [] segments
-  pub count : r.turned ≡ length (begun [] segments)
-
--- a Send's segment that was placed: where its turn is not refused, its octets stand behind them
-pub record Fills (r : Receiving) (head : UntaggedHead) (payload : Octets) (segments : List (Segment Octets)) : Type 0 where
-  pub queue : head.queue ≡ 0
-  pub count : r.turned ≡ length (begun [] segments)
-  pub octets : turn_fault r head.msn head.mo ≡ None → take (r.turned + length payload) (oldest r) ≡ begun [] segments ++ payload
-
-abbrev pub Waits : Receiving → List (Segment Octets) → Option (Segment Octets) → Type 0
-Waits r segments None = ⊥
-Waits r segments (Some (Tagged head payload)) = Begun r segments
-Waits r segments (Some (Untagged head payload)) = Fills r head payload segments
-
-nothing_taken : (m : ℕ) → take {A = ℕ} m [] ≡ []
-nothing_taken zero = refl
-nothing_taken (suc m) = refl
-
--- a new buffer changes nothing of what stands in the oldest
-more_stands : (bs : List (List ℕ)) (new : List ℕ) (m : ℕ) (xs : List ℕ) → m ≡ length xs → take m (slice_index_or bs 0 []) ≡ xs → take m (slice_index_or (bs ++ new ∷ []) 0 []) ≡ xs
-more_stands (b ∷ bs) new m xs size e = e
-more_stands [] new m xs size e =
-    let none : xs ≡ [] = sym e ∙ nothing_taken m in
-    ap (λ k. take k new) (size ∙ ap length none) ∙ sym none
-
-begun_more : (r : Receiving) (segments : List (Segment Octets)) (new : List ℕ) → Begun r segments → Begun (with_buffer r new) segments
-begun_more r segments new b = record { octets = more_stands r.buffers new r.turned (begun [] segments) b.count b.octets; count = b.count }
-
-pub waits_more : (r : Receiving) (segments : List (Segment Octets)) (o : Option (Segment Octets)) (new : List ℕ) → Waits r segments o → Waits (with_buffer r new) segments o
-waits_more r segments None new w = w
-waits_more r segments (Some (Tagged head payload)) new w = begun_more r segments new w
-waits_more r segments (Some (Untagged head payload)) new w = record {
-  queue = w.queue;
-  count = w.count;
-  octets = λ e.
-      more_stands r.buffers new (r.turned + length payload) (begun [] segments ++ payload) (omega (arith, w.count, length-append (begun [] segments) payload)) (w.octets e);
-}
-
--- octets that were written behind those that had their turn
-take-splice : (old new : List ℕ) (at : ℕ) → at ≤ length old → take (at + length new) (splice old at new) ≡ take at old ++ new
-take-splice old new at fits = take_at (take at old ++ new) (drop (at + length new) old) (at + length new) (omega (arith, length-append (take at old) new, length-take at old))
-
-set_first : (bs : List (List ℕ)) (i : ℕ) (new buffer : List ℕ) → i ≡ 0 → slice_get bs i ≡ Some buffer → slice_index_or (slice_set bs i new) 0 [] ≡ new
-set_first bs i new buffer zero_is there = ap (λ k. slice_index_or (slice_set bs k new) 0 []) zero_is ∙ go bs (ap (slice_get bs) (sym zero_is) ∙ there)
-  where
-    go : (bs : List (List ℕ)) → slice_get bs 0 ≡ Some buffer → slice_index_or (slice_set bs 0 new) 0 [] ≡ new
-    go [] e = absurd (none-some _ e)
-    go (b ∷ bs) e = refl
-
-turned_at : (r : Receiving) (msn mo : ℕ) → turn_fault r msn mo ≡ None → mo ≡ r.turned
-turned_at r msn mo e = grind (arith, nat_tests)
-
--- a Send's segment is written into its buffer
-fills : (r : Receiving) (head : UntaggedHead) (payload : Octets) (segments : List (Segment Octets)) → head.queue ≡ 0 → HasBuffer r.buffers (ahead_of r.due head.msn) (head.mo + length payload) → Begun r segments
-    → Fills (receiving.written r head.msn head.mo payload) head payload segments
-fills r head payload segments queue b begins = record {
-  queue = queue;
-  count = begins.count;
-  octets = λ e.
-      let first : ahead_of r.due head.msn ≡ 0 = turned_first r head.msn head.mo e in
-      let at : head.mo ≡ r.turned = turned_at r head.msn head.mo e in
-      let old : buffer_of r head.msn ≡ oldest r = ap (λ i. slice_index_or r.buffers i []) first in
-      let same : oldest r ≡ b.buffer = sym old ∙ index_of r.buffers (ahead_of r.due head.msn) b.buffer b.is in
-      let long : r.turned ≤ length (oldest r) = omega (arith, b.room, at, ap length same) in
-      ap (take (r.turned + length payload)) (set_first r.buffers (ahead_of r.due head.msn) (splice (buffer_of r head.msn) head.mo payload) b.buffer first b.is ∙ (λ i. splice (old i) (at i) payload))
-      ∙ take-splice (oldest r) payload r.turned long
-      ∙ ap (λ z. z ++ payload) begins.octets;
-}
+-- an untagged segment that was placed is a Send's
+abbrev pub Waits : Option (Segment Octets) → Type 0
+Waits None = ⊥
+Waits (Some (Tagged head payload)) = Unit {0}
+Waits (Some (Untagged head payload)) = head.queue ≡ 0
 
 -- ---- what had its turn, in all
 
@@ -241,9 +170,9 @@ sunk_waiting c true None = 0
 sunk_waiting c true (Some segment) = count_responses c (segment ∷ [])
 
 pub record Joins (segments : List (Segment Octets)) (r : Receiving) (placed ended : Bool) (o : Option (Segment Octets)) (received : List Sent) (placements : List Placing) : Type 0 where
-  pub received_are : received ≡ map told (joined [] segments)
-  pub begins : ended ≡ false → placed ≡ false → Begun r segments
-  pub waits : ended ≡ false → placed ≡ true → Waits r segments o
+  pub completed_are : length received ≡ length (joined [] segments)
+  pub begun_are : ended ≡ false → r.turned ≡ length (begun [] segments)
+  pub waits : ended ≡ false → placed ≡ true → Waits o
   pub counted : (c : Cell) → count_writes c (written placements) ≡ count_segments c segments + count_waiting c placed o
   pub sunk_are : (c : Cell) → count_writes c (sunk placements) ≡ count_responses c segments + sunk_waiting c placed o
 
@@ -267,9 +196,9 @@ joins_same segments r placed ended o received placements j =
 pub joins_buffer : (segments : List (Segment Octets)) (r : Receiving) (placed ended : Bool) (o : Option (Segment Octets)) (received : List Sent) (placements : List Placing) (new : List ℕ)
     → Joins segments r placed ended o received placements → Joins segments (with_buffer r new) placed ended o received placements
 joins_buffer segments r placed ended o received placements new j = record {
-  received_are = j.received_are;
-  begins = λ e p. begun_more r segments new (j.begins e p);
-  waits = λ e p. waits_more r segments o new (j.waits e p);
+  completed_are = j.completed_are;
+  begun_are = j.begun_are;
+  waits = j.waits;
   counted = j.counted;
   sunk_are = j.sunk_are;
 }
@@ -278,9 +207,9 @@ joins_buffer segments r placed ended o received placements new j = record {
 pub joins_front : (segments : List (Segment Octets)) (r : Receiving) (placed ended : Bool) (o o' : Option (Segment Octets)) (received : List Sent) (placements : List Placing)
     → (placed ≡ true → o' ≡ o) → Joins segments r placed ended o received placements → Joins segments r placed ended o' received placements
 joins_front segments r placed ended o o' received placements same j = record {
-  received_are = j.received_are;
-  begins = j.begins;
-  waits = λ e p. subst (Waits r segments) (sym (same p)) (j.waits e p);
+  completed_are = j.completed_are;
+  begun_are = j.begun_are;
+  waits = λ e p. subst Waits (sym (same p)) (j.waits e p);
   counted = λ c. j.counted c ∙ ap (λ n. count_segments c segments + n) (go c placed same);
   sunk_are = λ c. j.sunk_are c ∙ ap (λ n. count_responses c segments + n) (sinks c placed same);
 }
@@ -297,8 +226,8 @@ joins_front segments r placed ended o o' received placements same j = record {
 pub joins_end : (segments : List (Segment Octets)) (r : Receiving) (placed ended : Bool) (o : Option (Segment Octets)) (received : List Sent) (placements : List Placing)
     → Joins segments r placed ended o received placements → Joins segments r placed true o received placements
 joins_end segments r placed ended o received placements j = record {
-  received_are = j.received_are;
-  begins = λ e. absurd (true≢false e);
+  completed_are = j.completed_are;
+  begun_are = λ e. absurd (true≢false e);
   waits = λ e. absurd (true≢false e);
   counted = j.counted;
   sunk_are = j.sunk_are;
@@ -311,9 +240,9 @@ pub joins_write : (segments : List (Segment Octets)) (r : Receiving) (head : Tag
 joins_write segments r head payload received placements op j =
     let p : Placing = record { right = rights.Write; stag = head.stag; to = head.to; octets = payload } in
     record {
-      received_are = j.received_are;
-      begins = λ e p. absurd (true≢false p);
-      waits = λ e p. j.begins refl refl;
+      completed_are = j.completed_are;
+      begun_are = j.begun_are;
+      waits = λ e p. tt;
       counted = λ c.
           let one : count_segments c (Tagged head payload ∷ []) ≡ count_in c head.stag head.to payload + 0 = ap (λ n. cond (nat_eq n 0) (count_in c head.stag head.to payload) 0 + 0) op in
           omega (arith, written-push c placements p, j.counted c, one);
@@ -329,9 +258,9 @@ pub joins_response : (segments : List (Segment Octets)) (r : Receiving) (head : 
 joins_response segments r head payload received placements op j =
     let p : Placing = record { right = rights.Sink; stag = head.stag; to = head.to; octets = payload } in
     record {
-      received_are = j.received_are;
-      begins = λ e p. absurd (true≢false p);
-      waits = λ e p. j.begins refl refl;
+      completed_are = j.completed_are;
+      begun_are = j.begun_are;
+      waits = λ e p. tt;
       counted = λ c.
           let none : count_segments c (Tagged head payload ∷ []) ≡ 0 = ap (λ n. cond (nat_eq n 0) (count_in c head.stag head.to payload) 0 + 0) op in
           omega (arith, written-push c placements p, j.counted c, none);
@@ -342,25 +271,28 @@ joins_response segments r head payload received placements op j =
 
 -- a Send's segment is placed
 pub joins_send : (segments : List (Segment Octets)) (r : Receiving) (head : UntaggedHead) (payload : Octets) (received : List Sent) (placements : List Placing) → head.queue ≡ 0
-    → HasBuffer r.buffers (ahead_of r.due head.msn) (head.mo + length payload) → Joins segments r false false (Some (Untagged head payload)) received placements
-    → Joins segments (receiving.written r head.msn head.mo payload) true false (Some (Untagged head payload)) received placements
-joins_send segments r head payload received placements queue b j = record {
-  received_are = j.received_are;
-  begins = λ e p. absurd (true≢false p);
-  waits = λ e p. fills r head payload segments queue b (j.begins refl refl);
+    → Joins segments r false false (Some (Untagged head payload)) received placements → Joins segments r true false (Some (Untagged head payload)) received placements
+joins_send segments r head payload received placements queue j = record {
+  completed_are = j.completed_are;
+  begun_are = j.begun_are;
+  waits = λ e p. queue;
   counted = j.counted;
   sunk_are = j.sunk_are;
 }
+
+-- what is written into a buffer
+pub joins_written : (segments : List (Segment Octets)) (r : Receiving) (msn mo : ℕ) (octets : Octets) (placed ended : Bool) (o : Option (Segment Octets)) (received : List Sent) (placements : List Placing)
+    → Joins segments r placed ended o received placements → Joins segments (receiving.written r msn mo octets) placed ended o received placements
+joins_written segments r msn mo octets placed ended o received placements j = record { completed_are = j.completed_are; begun_are = j.begun_are; waits = j.waits; counted = j.counted; sunk_are = j.sunk_are }
 
 -- a Write's segment has its turn
 pub joins_tagged : (segments : List (Segment Octets)) (r : Receiving) (head : TaggedHead) (payload : Octets) (o' : Option (Segment Octets)) (received : List Sent) (placements : List Placing)
     → Joins segments r true false (Some (Tagged head payload)) received placements → Joins (segments ++ Tagged head payload ∷ []) r false false o' received placements
 joins_tagged segments r head payload o' received placements j =
-    let b = j.waits refl refl in
     let same : begun [] (segments ++ Tagged head payload ∷ []) ≡ begun [] segments = begun-append [] segments (Tagged head payload ∷ []) in
     record {
-      received_are = j.received_are ∙ ap (map told) (sym (append-nil (joined [] segments)) ∙ sym (joined-append [] segments (Tagged head payload ∷ [])));
-      begins = λ e p. record { octets = b.octets ∙ sym same; count = b.count ∙ ap length (sym same) };
+      completed_are = j.completed_are ∙ ap length (sym (append-nil (joined [] segments)) ∙ sym (joined-append [] segments (Tagged head payload ∷ [])));
+      begun_are = λ e. j.begun_are e ∙ ap length (sym same);
       waits = λ e p. absurd (false≢true p);
       counted = λ c. omega (arith, j.counted c, count-append c segments (Tagged head payload ∷ []));
       sunk_are = λ c. omega (arith, j.sunk_are c, responses-append c segments (Tagged head payload ∷ []));
@@ -370,14 +302,13 @@ joins_tagged segments r head payload o' received placements j =
 pub joins_other : (segments : List (Segment Octets)) (r : Receiving) (head : UntaggedHead) (payload : Octets) (o' : Option (Segment Octets)) (received : List Sent) (placements : List Placing) → nat_eq head.queue 0 ≡ false
     → Joins segments r false false (Some (Untagged head payload)) received placements → Joins (segments ++ Untagged head payload ∷ []) r false false o' received placements
 joins_other segments r head payload o' received placements queue j =
-    let b = j.begins refl refl in
     let same : begun [] (segments ++ Untagged head payload ∷ []) ≡ begun [] segments =
     begun-append [] segments (Untagged head payload ∷ []) ∙ ap (λ mine. cond mine (cond head.last [] (begun [] segments ++ payload)) (begun [] segments)) queue in
     record {
-      received_are = j.received_are
-          ∙ ap (map told) (sym (append-nil (joined [] segments))
+      completed_are = j.completed_are
+          ∙ ap length (sym (append-nil (joined [] segments))
           ∙ ap (λ mine. joined [] segments ++ cond mine (cond head.last (completed head (begun [] segments ++ payload) ∷ []) []) []) (sym queue) ∙ sym (joined-append [] segments (Untagged head payload ∷ [])));
-      begins = λ e p. record { octets = b.octets ∙ sym same; count = b.count ∙ ap length (sym same) };
+      begun_are = λ e. j.begun_are e ∙ ap length (sym same);
       waits = λ e p. absurd (false≢true p);
       counted = λ c. omega (arith, j.counted c, count-append c segments (Untagged head payload ∷ []));
       sunk_are = λ c. omega (arith, j.sunk_are c, responses-append c segments (Untagged head payload ∷ []));
@@ -387,19 +318,19 @@ joins_other segments r head payload o' received placements queue j =
 pub joins_over : (segments : List (Segment Octets)) (r r' : Receiving) (placed : Bool) (o : Option (Segment Octets)) (received : List Sent) (placements : List Placing)
     → Joins segments r placed true o received placements → Joins segments r' placed true o received placements
 joins_over segments r r' placed o received placements j = record {
-  received_are = j.received_are;
-  begins = λ e. absurd (true≢false e);
+  completed_are = j.completed_are;
+  begun_are = λ e. absurd (true≢false e);
   waits = λ e. absurd (true≢false e);
   counted = j.counted;
   sunk_are = j.sunk_are;
 }
 
 -- the octets of a Send's segment behind those that came before
-begun_next : (segments : List (Segment Octets)) (head : UntaggedHead) (payload : Octets) → head.queue ≡ 0 → begun [] (segments ++ Untagged head payload ∷ []) ≡ cond head.last [] (begun [] segments ++ payload)
+pub begun_next : (segments : List (Segment Octets)) (head : UntaggedHead) (payload : Octets) → head.queue ≡ 0 → begun [] (segments ++ Untagged head payload ∷ []) ≡ cond head.last [] (begun [] segments ++ payload)
 begun_next segments head payload queue =
     begun-append [] segments (Untagged head payload ∷ []) ∙ ap (λ n. cond (nat_eq n 0) (cond head.last [] (begun [] segments ++ payload)) (begun [] segments)) queue
 
-joined_next : (segments : List (Segment Octets)) (head : UntaggedHead) (payload : Octets) → head.queue ≡ 0
+pub joined_next : (segments : List (Segment Octets)) (head : UntaggedHead) (payload : Octets) → head.queue ≡ 0
     → joined [] (segments ++ Untagged head payload ∷ []) ≡ joined [] segments ++ cond head.last (completed head (begun [] segments ++ payload) ∷ []) []
 joined_next segments head payload queue =
     joined-append [] segments (Untagged head payload ∷ [])
@@ -407,23 +338,40 @@ joined_next segments head payload queue =
 
 -- a Send's segment that is not its last has its turn
 pub joins_part : (segments : List (Segment Octets)) (r : Receiving) (head : UntaggedHead) (payload : Octets) (o' : Option (Segment Octets)) (received : List Sent) (placements : List Placing)
-    → turn_fault r head.msn head.mo ≡ None → head.last ≡ false → Joins segments r true false (Some (Untagged head payload)) received placements
+    → head.last ≡ false → Joins segments r true false (Some (Untagged head payload)) received placements
     → Joins (segments ++ Untagged head payload ∷ []) (turned r (length payload)) false false o' received placements
-joins_part segments r head payload o' received placements turn last j =
-    let w = j.waits refl refl in
-    let next : begun [] (segments ++ Untagged head payload ∷ []) ≡ begun [] segments ++ payload = begun_next segments head payload w.queue ∙ ap (λ b. cond b [] (begun [] segments ++ payload)) last in
+joins_part segments r head payload o' received placements last j =
+    let queue : head.queue ≡ 0 = j.waits refl refl in
+    let next : begun [] (segments ++ Untagged head payload ∷ []) ≡ begun [] segments ++ payload = begun_next segments head payload queue ∙ ap (λ b. cond b [] (begun [] segments ++ payload)) last in
+    let joined_is : joined [] (segments ++ Untagged head payload ∷ []) ≡ joined [] segments =
+    joined_next segments head payload queue ∙ ap (λ b. joined [] segments ++ cond b (completed head (begun [] segments ++ payload) ∷ []) []) last ∙ append-nil (joined [] segments) in
     record {
-      received_are = j.received_are
-          ∙ ap (map told) (sym (append-nil (joined [] segments))
-          ∙ ap (λ b. joined [] segments ++ cond b (completed head (begun [] segments ++ payload) ∷ []) []) (sym last)
-          ∙ sym (joined_next segments head payload w.queue));
-      begins = λ e p. record { octets = w.octets turn ∙ sym next; count = omega (arith, w.count, ap length next, length-append (begun [] segments) payload) };
+      completed_are = j.completed_are ∙ ap length (sym joined_is);
+      begun_are = λ e. omega (arith, j.begun_are refl, ap length next, length-append (begun [] segments) payload);
       waits = λ e p. absurd (false≢true p);
       counted = λ c. omega (arith, j.counted c, count-append c segments (Untagged head payload ∷ []));
       sunk_are = λ c. omega (arith, j.sunk_are c, responses-append c segments (Untagged head payload ∷ []));
     }
 
--- what a last segment says of the Send that it completes
+-- a Send's last segment has its turn: the Send is received
+pub joins_last : (segments : List (Segment Octets)) (r : Receiving) (head : UntaggedHead) (payload : Octets) (o' : Option (Segment Octets)) (received : List Sent) (new : Sent) (placements : List Placing)
+    → head.last ≡ true → Joins segments r true false (Some (Untagged head payload)) received placements
+    → Joins (segments ++ Untagged head payload ∷ []) (finished r) false false o' (received ++ new ∷ []) placements
+joins_last segments r head payload o' received new placements last j =
+    let queue : head.queue ≡ 0 = j.waits refl refl in
+    let next : begun [] (segments ++ Untagged head payload ∷ []) ≡ [] = begun_next segments head payload queue ∙ ap (λ b. cond b [] (begun [] segments ++ payload)) last in
+    let one : List Whole = completed head (begun [] segments ++ payload) ∷ [] in
+    let joined_is : joined [] (segments ++ Untagged head payload ∷ []) ≡ joined [] segments ++ one = joined_next segments head payload queue ∙ ap (λ b. joined [] segments ++ cond b one []) last in
+    record {
+      completed_are = omega (arith, j.completed_are, ap length joined_is, length-append (joined [] segments) one, length-append received (new ∷ []));
+      begun_are = λ e. ap length (sym next);
+      waits = λ e p. absurd (false≢true p);
+      counted = λ c. omega (arith, j.counted c, count-append c segments (Untagged head payload ∷ []));
+      sunk_are = λ c. omega (arith, j.sunk_are c, responses-append c segments (Untagged head payload ∷ []));
+    }
+
+-- ---- what a last segment says of the Send that it completes
+
 same_solicited : (o : Option UntaggedOperation) → judging.is_solicited o ≡ is_solicited o
 same_solicited None = refl
 same_solicited (Some operations.ReadRequest) = refl
@@ -437,24 +385,9 @@ same_stag (Some (operations.Send solicited true)) tail = refl
 same_stag (Some (operations.Send solicited false)) tail = refl
 same_stag (Some operations.Terminate) tail = refl
 
--- a Send's last segment has its turn: the Send is received
-pub joins_last : (segments : List (Segment Octets)) (r : Receiving) (head : UntaggedHead) (payload : Octets) (o' : Option (Segment Octets)) (received : List Sent) (placements : List Placing)
-    → turn_fault r head.msn head.mo ≡ None → head.last ≡ true → Joins segments r true false (Some (Untagged head payload)) received placements
-    → Joins (segments ++ Untagged head payload ∷ []) (finished r) false false o'
-    (received ++ record { octets = take (r.turned + length payload) (oldest r); solicited = judging.is_solicited (untagged_operation (opcode_of head.control)); invalidate = stag_to_invalidate head } ∷ []) placements
-joins_last segments r head payload o' received placements turn last j =
-    let w = j.waits refl refl in
+-- what is received is the Send that its last segment completes
+pub completed_told : (head : UntaggedHead) (octets : Octets)
+    → record { octets = octets; solicited = judging.is_solicited (untagged_operation (opcode_of head.control)); invalidate = stag_to_invalidate head } ≡ told (completed head octets)
+completed_told head octets =
     let operation : Option UntaggedOperation = untagged_operation (opcode_of head.control) in
-    let new : Sent = record { octets = take (r.turned + length payload) (oldest r); solicited = judging.is_solicited operation; invalidate = stag_to_invalidate head } in
-    let next : begun [] (segments ++ Untagged head payload ∷ []) ≡ [] = begun_next segments head payload w.queue ∙ ap (λ b. cond b [] (begun [] segments ++ payload)) last in
-    let same : new ≡ told (completed head (begun [] segments ++ payload)) = λ i. record { octets = w.octets turn i; solicited = same_solicited operation i; invalidate = same_stag operation head.tail i } in
-    record {
-      received_are = (λ i. j.received_are i ++ same i ∷ [])
-          ∙ sym (map-append told (joined [] segments) (completed head (begun [] segments ++ payload) ∷ []))
-          ∙ ap (map told) (ap (λ b. joined [] segments ++ cond b (completed head (begun [] segments ++ payload) ∷ []) []) (sym last)
-          ∙ sym (joined_next segments head payload w.queue));
-      begins = λ e p. record { octets = sym next; count = ap length (sym next) };
-      waits = λ e p. absurd (false≢true p);
-      counted = λ c. omega (arith, j.counted c, count-append c segments (Untagged head payload ∷ []));
-      sunk_are = λ c. omega (arith, j.sunk_are c, responses-append c segments (Untagged head payload ∷ []));
-    }
+    λ i. record { octets = octets; solicited = same_solicited operation i; invalidate = same_stag operation head.tail i }

@@ -93,16 +93,16 @@ kept_apart place (x ∷ rs) apart = go (nat_le place (from_of x)) refl (kept_apa
 abbrev pub frame_in : View → ℕ → Frame
 frame_in v start = frame_by (found_at v.arrived v.layout v.base start)
 
--- a tagged segment of a Write or of a response
-abbrev pub IsForRegion : Option (Segment Octets) → Type 0
-IsForRegion None = ⊥
-IsForRegion (Some (Tagged head payload)) = (opcode_of head.control ≡ 0) ⊎ (opcode_of head.control ≡ 2)
-IsForRegion (Some (Untagged head payload)) = ⊥
+-- a segment of a Write, of a response or of a Send
+abbrev pub IsPlaceable : Option (Segment Octets) → Type 0
+IsPlaceable None = ⊥
+IsPlaceable (Some (Tagged head payload)) = (opcode_of head.control ≡ 0) ⊎ (opcode_of head.control ≡ 2)
+IsPlaceable (Some (Untagged head payload)) = head.queue ≡ 0
 
 -- of a frame that was placed its header is kept
 abbrev pub IsKeptOf : Frame → State (ArrayVec ℕ) → Type 0
 IsKeptOf frame Tried = Unit {0}
-IsKeptOf frame (Placed header) = (header ≡ (placed frame).header) × IsForRegion (segment_in frame)
+IsKeptOf frame (Placed header) = (header ≡ (placed frame).header) × IsPlaceable (segment_in frame)
 
 pub record Stands (v : View) (r : EarlyRecord) : Type 0 where
   pub marked : v.layout.markers ≡ true
@@ -242,9 +242,9 @@ open_at v frame low e = go v.layout.markers (nat_lt (length v.records) max_recor
         free : (place : ℕ) → lowest_free v ≡ Some place → IsFree v place
         free place l = (told place (lowest_free v) l (lowest_is_told v low)).0
 
-pub judges_one : {A : Type 0} (v : View) (frame : Frame) (at : Option A) → IsOpenAt v frame → (IsPlaced (state_tried frame at) → IsForRegion (segment_in frame)) → AreJudged v
+pub judges_one : {A : Type 0} (v : View) (frame : Frame) (at : Option A) → IsOpenAt v frame → (IsPlaced (state_tried frame at) → IsPlaceable (segment_in frame)) → AreJudged v
     → AreJudged (scene_of v.layout v.base v.arrived (added v.records (record_tried frame at)))
-judges_one {A} v frame at o tagged k =
+judges_one {A} v frame at o placeable k =
     let r : EarlyRecord = record_tried frame at in
     let start : IsStart v.layout.markers r.start = o.free.open_.start in
     let start_on : IsStart true r.start = subst (λ m. IsStart m r.start) o.marked start in
@@ -263,14 +263,14 @@ judges_one {A} v frame at o tagged k =
           whole = o.free.open_.whole;
           len = len;
           end = refl;
-          kept = kept at tagged;
+          kept = kept at placeable;
         })
       ];
     }
   where
-    kept : (at : Option A) → (IsPlaced (state_tried frame at) → IsForRegion (segment_in frame)) → IsKeptOf (frame_in v frame.start) (state_tried frame at)
+    kept : (at : Option A) → (IsPlaced (state_tried frame at) → IsPlaceable (segment_in frame)) → IsKeptOf (frame_in v frame.start) (state_tried frame at)
     kept None t = tt
-    kept (Some x) t = (ap (λ f. (placed f).header) o.is, subst (λ f. IsForRegion (segment_in f)) o.is (t tt))
+    kept (Some x) t = (ap (λ f. (placed f).header) o.is, subst (λ f. IsPlaceable (segment_in f)) o.is (t tt))
 
 -- its segment counts, where it was placed
 pub one_counts : (v : View) (frame : Frame) (state : State (ArrayVec ℕ)) (count : List (Segment Octets) → ℕ) → Adds count → IsOpenAt v frame
@@ -303,7 +303,7 @@ pub record IsFirstRecord (v : View) (f : PlacedFrame) : Type 0 where
   pub state : first.state ≡ Placed f.header
   pub is : f ≡ placed (frame_in v (front_of v))
   pub whole : IsWhole v.arrived v.layout.markers v.base (front_of v)
-  pub tagged : IsForRegion (segment_in (frame_in v (front_of v)))
+  pub placeable : IsPlaceable (segment_in (frame_in v (front_of v)))
   pub left : kept_from (frame_end v.layout.markers f.start f.len) v.records ≡ others
   pub later : (r : EarlyRecord) → Contains others r → frame_end v.layout.markers f.start f.len ≤ from_of r
 
@@ -357,7 +357,7 @@ first_record v f between k e = go v.records refl e
               state = s ∙ ap (λ (x : PlacedFrame). Placed x.header) same;
               is = found ∙ ap (λ n. placed (frame_in v n)) a;
               whole = subst (IsWhole v.arrived v.layout.markers v.base) a stands.whole;
-              tagged = subst (λ n. IsForRegion (segment_in (frame_in v n))) a w.1;
+              placeable = subst (λ n. IsPlaceable (segment_in (frame_in v n))) a w.1;
               left = ap (λ n. kept_from n v.records) end ∙ ap (kept_from r.end) is ∙ drops r.end first_end;
               later = λ x within. omega (arith, end, (later_one x within).1);
             }

@@ -134,7 +134,7 @@ heard past w k x n honest =
 prefix_of : (past : List (Entry Octets)) (w : State) → BothSeen past w → (x : End) (n : ℕ) → IsHonest n past → IsPrefixOf (received (stream_acts n (acts (other x) past))) (sends (posted (stream_acts n (acts x past))))
 prefix_of past w k x n honest =
     let p = k.pairs x n in
-    received_prefix (connected_at (end_of x w) n) (tale n (acts x past)) (connected_at (end_of (other x) w) n) (tale n (acts (other x) past)) p.own.emits p.own_peer.track (heard past w k x n honest) (p.out (honest.calm (other x)))
+    received_prefix (connected_at (end_of x w) n) (tale n (acts x past)) (connected_at (end_of (other x) w) n) (tale n (acts (other x) past)) p.own.emits p.own_peer.track (heard past w k x n honest) (p.out (honest.calm (other x))) p.own_peer.fills
 
 pub in_order : (trace : List (Entry Octets)) → Follows start trace → InOrder trace
 in_order trace follows past future is x n honest = prefix_of past (state_after start past) (seen_at past future trace follows is) x n honest
@@ -745,7 +745,8 @@ end_seen o c done table step rule own = told step (sees table c.stream (sound c.
     told (seen.Placed right stag to octets) (inl h) = runs h.0.runs.running
     told (seen.Placed right stag to octets) (inr h) = runs h.0.runs.running
     told (seen.Tried place) h = runs h.runs.running
-    told (seen.Buffered msn mo len) h = runs h.0.runs.running
+    told (seen.Buffered msn mo len) (inl h) = runs h.0.runs.running
+    told (seen.Buffered msn mo len) (inr h) = runs h.0.runs.running
     told (seen.Requested size stag to) h = runs h.0.runs.running
     told seen.Passed h = runs h.0.runs.running
     told (seen.Received octets solicited invalidate) h = runs h.0.runs.running

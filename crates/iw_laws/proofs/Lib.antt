@@ -7,6 +7,9 @@ pub mod Judged
 pub mod Checks
 pub mod Lists
 pub mod Joins
+pub mod Buffers
+pub mod Numbered
+pub mod Filled
 pub mod Sending
 pub mod Located
 pub mod FirstSent
@@ -14,9 +17,11 @@ pub mod EarlySent
 pub mod Counts
 pub mod Merges
 pub mod Tracks
+pub mod Reached
 pub mod Paid
 pub mod Spent
 pub mod Onces
+pub mod Fills
 pub mod Answers
 pub mod Owns
 pub mod Messages

@@ -304,11 +304,11 @@ records_more s frame none e =
 -- ---- each act
 
 -- the peer's start-up frame is awaited: the stream is not open
-not_heard : (s : StreamState) (outcome : Progress) → Hears s outcome → is_open s.start ≡ false
+pub not_heard : (s : StreamState) (outcome : Progress) → Hears s outcome → is_open s.start ≡ false
 not_heard s outcome h = ap is_open h.is
 
 -- nor is it where the user may answer
-not_answered : (s : StreamState) → may_answer s ≡ true → is_open s.start ≡ false
+pub not_answered : (s : StreamState) → may_answer s ≡ true → is_open s.start ≡ false
 not_answered s e =
     let w = may s e in
     ap is_open w.is ∙ ap is_some (unanswered_not_agreed w.startup (unanswered w.startup w.asked))
@@ -344,8 +344,12 @@ once_after table s t (Work (seen.Placed right stag to octets)) spans rule k o = 
   | inr (judged, w) ↦
       places_early table s (after_act s (Work (seen.Placed right stag to octets))) t k spans (seen.Placed right stag to octets) w.frame (states.Placed (placed w.frame).header) judged w.is_early tt refl refl (none_kept s judged.none) (records_more s w.frame judged.none w.is_early) o
 ]
-once_after table s t (Work (seen.Buffered msn mo len)) spans rule k o =
-    places_there s (after_act s (Work (seen.Buffered msn mo len))) t k spans (Untagged rule.1.head rule.1.payload) rule.1.fronts refl refl refl (λ r within. within) o
+once_after table s t (Work (seen.Buffered msn mo len)) spans rule k o = elim rule [
+  | inl (judged, w) ↦
+      places_there s (after_act s (Work (seen.Buffered msn mo len))) t k spans (Untagged w.head w.payload) w.fronts refl refl refl (records_stay s (Untagged w.head w.payload) w.fronts) o
+  | inr (judged, w) ↦
+      places_early table s (after_act s (Work (seen.Buffered msn mo len))) t k spans (seen.Buffered msn mo len) w.frame (states.Placed (placed w.frame).header) judged w.is_early tt refl refl (none_kept s judged.none) (records_more s w.frame judged.none w.is_early) o
+]
 once_after table s t (Work (seen.Tried place)) spans rule k o =
     still_once s (after_act s (Work (seen.Tried place))) spans refl refl refl (with_record s (after_act s (Work (seen.Tried place))) (record_of rule.frame states.Tried) (ap (λ z. option_map_or (λ f. added s.early (record_of f states.Tried)) z s.early) rule.is_early)) o
 once_after table s t (Work (seen.Requested size stag to)) spans rule k o =

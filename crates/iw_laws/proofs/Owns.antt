@@ -1,11 +1,12 @@
 -- What the state of a stream has in common with what its acts say, and that changes stay within what was allowed.
 use Rattle.std.proofs.Common.{◌≡◌, ℕ, zero, suc, take, length-drop, ◌+◌, ◌-◌, ◌%◌, ◌^◌, ◌<◌, ◌≤◌, List, [], ◌∷◌, ◌++◌, length, drop, map, replicate, Option, Some, None, Bool, true, false, cond, refl, sym, ap, ◌∙◌, subst, arith, length-append, append_assoc, length-take, inl, inr, ◌⊎◌, Ok, Err, add-one}
-use Rattle.std.specs.Prelude.{slice_get, slice_set, slice_index_or, nat_lt, nat_eq, is_some, ◌&&◌}
+use Rattle.std.specs.Prelude.{slice_get, slice_index_or, nat_lt, nat_eq, is_some, ◌&&◌}
 use Rattle.std.proofs.lemmas.List.{append-nil, map-append, length-map, take-append-le, length-replicate, length_push}
 use Rattle.std.proofs.lemmas.Option.{none-some}
 use Rattle.std.proofs.lemmas.Bool.Decides.{nat_tests}
 use Rattle.std.proofs.lemmas.Bool.{true≢false, false≢true}
 use Rattle.iw_octets.specs.declared.head.TaggedHead.{TaggedHead}
+use Rattle.iw_octets.specs.declared.head.UntaggedHead.{UntaggedHead}
 use Rattle.iw_octets.specs.declared.payload.ReadRequest.{ReadRequest}
 use Rattle.iw_octets.specs.declared.stag.Stag.{Stag}
 use Rattle.iw_octets.specs.Payload.{FitsRequest, request_octets, read_request}
@@ -61,7 +62,7 @@ use Rattle.iw_fpdu.specs.Frame.{frame_octets}
 use Rattle.iw_fpdu.specs.Sequence.{sequence, place_past}
 use Rattle.iw_fpdu.proofs.Sequences.{sequences_join, place_is}
 use Rattle.iw_fpdu.proofs.Follows.{frames_follow}
-use Rattle.iw_untagged.specs.Receiving.{Receiving, ahead_of}
+use Rattle.iw_untagged.specs.Receiving.{Receiving, ahead_of, buffer_fault, written}
 use Rattle.iw_queues.specs.declared.request.Kind.{Kind}
 use Rattle.iw_queues.specs.declared.request.Request.{Request}
 use Rattle.iw_queues.specs.declared.completions.Done.{Done}
@@ -108,10 +109,11 @@ use Rattle.iw_laws.proofs.States.{Connected, connected_after}
 use Rattle.iw_laws.specs.Safe.{InBuffer}
 use Rattle.iw_laws.specs.Words.{OnSome}
 use Rattle.iw_laws.proofs.Nexts.{Front, fore, segment_at, turned_by, standing}
-use Rattle.iw_laws.proofs.Told.{Told, SeesSend, Hears, GivesUp, fault_front, left_frame, after_shown, after_act, told, left_told, asked_front, reads_front, finishes_read, with_finished}
+use Rattle.iw_laws.proofs.Told.{Told, judged_payload, payload_there, payload_early, Hears, GivesUp, fault_front, left_frame, after_shown, after_act, told, left_told, asked_front, reads_front, finishes_read, with_finished}
 use Rattle.iw_laws.proofs.Tales.{Tale, tale_after}
 use Rattle.iw_laws.proofs.Paid.{IsPaid, paying}
 use Rattle.iw_laws.proofs.Onces.{Onces, once_after}
+use Rattle.iw_laws.proofs.Fills.{Fills, fill_after}
 use Rattle.iw_laws.proofs.Tracks.{Track, by_ended, shown_stays, sound, silent_is, next_whole, next_none, next_reads_are, was_placed_is, tracking, MayAnswer, may, accepting, refusing, unanswered}
 use Rattle.iw_laws.proofs.Lists.{Each, each-push, each-first, each-last}
 use Rattle.iw_laws.proofs.Counts.{marks, length-marks, count_reads-kinds, map-take, take-all, count_done-append, read_mark, message_at, Hands, Counts, Handing, handing_of, same_handing, one_handed, same_counts, posted_counts, part_counts, handed_counts, answered_counts, part_ticket, hands, one_for, count_last, count_last-append, last_of, plain_part, whole_of}
@@ -218,6 +220,7 @@ pub record Own (o : Opening) (c : Connected) (t : Tale) : Type 0 where
   pub ended : ended c.stream ≡ t.ended
   pub paid : IsPaid c.stream t.acts
   pub once : Onces c.stream t.spans
+  pub fills : Fills c.stream t
 
 -- the fields that an emission leaves
 pub record LeavesHeard (s s' : StreamState) : Type 0 where
@@ -295,19 +298,16 @@ emission_sent table s Nothing rule = omega arith
 next_due : (d n : ℕ) → d ≡ (1 + n) % 2 ^ 32 → (d + 1) % 2 ^ 32 ≡ (1 + (n + 1)) % 2 ^ 32
 next_due d n e = omega arith
 
--- the buffer that a Send's segment was written into keeps its length
-kept_lengths : (r : Receiving) (msn mo len : ℕ) (s : StreamState) → s.receiving ≡ r → SeesSend s msn mo len
-    → map length (slice_set r.buffers (ahead_of r.due msn) (splice (slice_index_or r.buffers (ahead_of r.due msn) []) mo (payload_of (segment_at (fore s))))) ≡ map length r.buffers
-kept_lengths r msn mo len s same p =
-    let b : HasBuffer r.buffers (ahead_of r.due p.head.msn) (p.head.mo + length p.payload) =
-    subst (λ (z : Receiving). HasBuffer z.buffers (ahead_of z.due p.head.msn) (p.head.mo + length p.payload)) same (checked_buffer s.receiving p.head (length p.payload) p.checked) in
-    let i : ℕ = ahead_of r.due p.head.msn in
-    let carried : segment_at (fore s) ≡ Some (Untagged p.head p.payload) = ap segment_at p.fronts.whole ∙ p.fronts.carries in
+-- the buffer that octets are written into keeps its length
+kept_lengths : (r : Receiving) (head : UntaggedHead) (payload octets : Octets) (msn mo : ℕ) → buffer_fault r head.msn head.mo (length payload) ≡ None → msn ≡ head.msn → mo ≡ head.mo → octets ≡ payload
+    → map length (written r msn mo octets).buffers ≡ map length r.buffers
+kept_lengths r head payload octets msn mo checked msn_is mo_is same =
+    let b : HasBuffer r.buffers (ahead_of r.due head.msn) (head.mo + length payload) = checked_buffer r head (length payload) checked in
+    let i : ℕ = ahead_of r.due head.msn in
     let old : slice_index_or r.buffers i [] ≡ b.buffer = index_of r.buffers i b.buffer b.is in
-    let size : length (splice (slice_index_or r.buffers i []) p.head.mo p.payload) ≡ length b.buffer =
-    ap (λ z. length (splice z p.head.mo p.payload)) old ∙ length-splice b.buffer p.payload p.head.mo b.room in
-    (λ k. map length (slice_set r.buffers (ahead_of r.due (p.msn_is k)) (splice (slice_index_or r.buffers (ahead_of r.due (p.msn_is k)) []) (p.mo_is k) (payload_of (carried k)))))
-    ∙ same_lengths r.buffers i (splice (slice_index_or r.buffers i []) p.head.mo p.payload) b.buffer b.is size
+    let size : length (splice (slice_index_or r.buffers i []) head.mo payload) ≡ length b.buffer =
+    ap (λ z. length (splice z head.mo payload)) old ∙ length-splice b.buffer payload head.mo b.room in
+    (λ k. map length (written r (msn_is k) (mo_is k) (same k)).buffers) ∙ same_lengths r.buffers i (splice (slice_index_or r.buffers i []) head.mo payload) b.buffer b.is size
 
 one_less : (bs : List (List ℕ)) → map length (drop 1 bs) ≡ drop 1 (map length bs)
 one_less [] = refl
@@ -345,7 +345,9 @@ lengths_are table s (Work (seen.Closed fault)) rule = refl
 lengths_are table s (Work (seen.Done kind)) rule = refl
 lengths_are table s (Work (seen.Placed right stag to octets)) rule = refl
 lengths_are table s (Work (seen.Tried place)) rule = refl
-lengths_are table s (Work (seen.Buffered msn mo len)) rule = kept_lengths s.receiving msn mo len s refl rule.1
+lengths_are table s (Work (seen.Buffered msn mo len)) (inl (j, w)) = kept_lengths s.receiving w.head w.payload (judged_payload s) msn mo w.checked w.msn_is w.mo_is (payload_there s (Untagged w.head w.payload) w.fronts)
+lengths_are table s (Work (seen.Buffered msn mo len)) (inr (j, w)) =
+    kept_lengths s.receiving w.head w.payload (judged_payload s) msn mo w.checked w.msn_is w.mo_is (payload_early s w.frame (Untagged w.head w.payload) j.none w.is_early w.carries)
 lengths_are table s (Work (seen.Requested size stag to)) rule = refl
 lengths_are table s (Work seen.Passed) rule = ap (map length) (turned_lengths s.receiving (segment_at (fore s)))
 lengths_are table s (Work (seen.Received octets solicited invalidate)) rule = one_less s.receiving.buffers
@@ -1780,6 +1782,7 @@ owning o table c t act given own =
       ended = ended_is table c.stream act rule ∙ ap (λ b. ended_after b act) own.ended;
       paid = paying table c.stream t act rule own.track t.acts (ended_is table c.stream act rule) own.paid;
       once = once_after table c.stream t act t.spans rule own.track own.once;
+      fills = fill_after table c.stream t act rule own.due (ended_is table c.stream act rule) own.track own.fills;
     } in
     subst (λ z. Own o (record { stream = z; wire = c.wire ++ sent_by act }) (tale_after t act)) (sym (left_told table c.stream act k given)) next
 
@@ -1789,22 +1792,27 @@ WithinTale table domain t act =
     OnSome (λ p. Allows table domain p.stag p.to (length p.octets) p.right) (deed act).placing
     × OnSome (λ b. InBuffer t.buffers ((1 + length t.received) % 2 ^ 32) b.msn b.mo b.len) (deed act).buffering
 
+-- octets that pass the checks lie in the buffer that their number names
+in_buffer : (opening : Opening) (c : Connected) (t : Tale) (head : UntaggedHead) (payload : Octets) (msn mo len : ℕ) → buffer_fault c.stream.receiving head.msn head.mo (length payload) ≡ None → msn ≡ head.msn → mo ≡ head.mo → len ≡ length payload
+    → Own opening c t → Unit {0} × InBuffer t.buffers ((1 + length t.received) % 2 ^ 32) msn mo len
+in_buffer opening c t head payload msn mo len checked msn_is mo_is len_is o =
+    let r : Receiving = c.stream.receiving in
+    let b = checked_buffer r head (length payload) checked in
+    let i : ℕ = ahead_of r.due head.msn in (
+      tt,
+      (
+        length b.buffer,
+        (λ k. slice_get (sym o.lengths k) (ahead_of (sym o.due k) (msn_is k))) ∙ length_of r.buffers i b.buffer b.is,
+        omega (arith, b.room, mo_is, len_is),
+      ),
+    )
+
 pub within : (opening : Opening) (table : Table) (c : Connected) (t : Tale) (act : StreamAct Octets) → Told table c.stream act → Own opening c t → WithinTale table c.stream.domain t act
 within opening table c t (Work (seen.Placed right stag to octets)) (inl rule) o = (allows table c.stream.domain stag to (length octets) right rule.1.admitted, tt)
 within opening table c t (Work (seen.Placed right stag to octets)) (inr rule) o = (allows table c.stream.domain stag to (length octets) right rule.1.admitted, tt)
 within opening table c t (Work (seen.Tried place)) rule o = (tt, tt)
-within opening table c t (Work (seen.Buffered msn mo len)) rule o =
-    let p = rule.1 in
-    let r : Receiving = c.stream.receiving in
-    let b = checked_buffer r p.head (length p.payload) p.checked in
-    let i : ℕ = ahead_of r.due p.head.msn in (
-      tt,
-      (
-        length b.buffer,
-        (λ k. slice_get (sym o.lengths k) (ahead_of (sym o.due k) (p.msn_is k))) ∙ length_of r.buffers i b.buffer b.is,
-        omega (arith, b.room, p.mo_is, p.len_is),
-      ),
-    )
+within opening table c t (Work (seen.Buffered msn mo len)) (inl (j, w)) o = in_buffer opening c t w.head w.payload msn mo len w.checked w.msn_is w.mo_is w.len_is o
+within opening table c t (Work (seen.Buffered msn mo len)) (inr (j, w)) o = in_buffer opening c t w.head w.payload msn mo len w.checked w.msn_is w.mo_is w.len_is o
 within opening table c t (Work (seen.Done kind)) rule o = (tt, tt)
 within opening table c t (Work (seen.Requested size stag to)) rule o = (tt, tt)
 within opening table c t (Work seen.Passed) rule o = (tt, tt)

@@ -232,9 +232,15 @@ paying table s t act rule k n over p = by act rule (over_still s (after_act s ac
         (early_few s t w.frame (states.Placed (placed_of w.frame).header) w.is_early (let one : length (listed (segment_in w.frame)) ≡ 1 = ap (λ o. length (listed o)) w.carries in omega (arith, one)) k)) p
     by (Work (seen.Tried place)) j still over =
         pays s (after_act s (Work (seen.Tried place))) n still (subst (λ z. charge z ≤ charge s + 131072) (sym (left_tried s place j.frame j.is_early)) (early_few s t j.frame states.Tried j.is_early (omega arith) k)) p
-    by (Work (seen.Buffered msn mo len)) rule still over =
-        let w = rule.1 in
-        pays s (after_act s (Work (seen.Buffered msn mo len))) n still (placed_few s (after_act s (Work (seen.Buffered msn mo len))) (Untagged w.head w.payload) w.fronts refl refl refl refl) p
+    by (Work (seen.Buffered msn mo len)) (inl (j, w)) still over =
+        let s' : StreamState = after_act s (Work (seen.Buffered msn mo len)) in
+        pays s s' n still (placed_few s s' (Untagged w.head w.payload) w.fronts refl refl refl (ap (λ (z : StreamState). z.early) (left_there s false (Untagged w.head w.payload) w.fronts))) p
+    by (Work (seen.Buffered msn mo len)) (inr (j, w)) still over =
+        let s' : StreamState = after_act s (Work (seen.Buffered msn mo len)) in
+        let left = left_early table s (seen.Buffered msn mo len) w.frame j w.is_early in
+        pays s s' n still
+        (subst (λ z. charge z ≤ charge s + 131072) (sym left)
+        (early_few s t w.frame (states.Placed (placed_of w.frame).header) w.is_early (let one : length (listed (segment_in w.frame)) ≡ 1 = ap (λ o. length (listed o)) w.carries in omega (arith, one)) k)) p
     by (Work (seen.Requested size stag to)) rule still over =
         let w = rule.1 in
         let s' : StreamState = after_act s (Work (seen.Requested size stag to)) in

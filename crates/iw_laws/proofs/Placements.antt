@@ -51,7 +51,8 @@ of_early t s step placing w = on (early_verdict s w.frame) refl w.answer
 placed_seen : (over : Bool) (t : Story) (s : Standing) (step : Seen Octets) → TurnsSeen over t s step → PlacedSeen t s step
 placed_seen over t s (seen.Placed right stag to octets) (reads, inl judged) = of_judged t s (seen.Placed right stag to octets) ((λ fault e. cc), (λ place e. cc)) judged
 placed_seen over t s (seen.Placed right stag to octets) (reads, inr early) = of_early t s (seen.Placed right stag to octets) ((λ fault e. cc), (λ place e. cc)) early
-placed_seen over t s (seen.Buffered msn mo len) w = of_judged t s (seen.Buffered msn mo len) ((λ fault e. cc), (λ place e. cc)) w.1
+placed_seen over t s (seen.Buffered msn mo len) (reads, inl judged) = of_judged t s (seen.Buffered msn mo len) ((λ fault e. cc), (λ place e. cc)) judged
+placed_seen over t s (seen.Buffered msn mo len) (reads, inr early) = of_early t s (seen.Buffered msn mo len) ((λ fault e. cc), (λ place e. cc)) early
 placed_seen over t s (seen.Requested size stag to) w = tt
 placed_seen over t s (seen.Tried place) w = tt
 placed_seen over t s seen.Passed w = tt

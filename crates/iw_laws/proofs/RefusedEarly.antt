@@ -1,16 +1,18 @@
 -- The wrong runs of frames that are placed before their turn, or once, break their laws.
-use Rattle.std.proofs.Common.{◌≡◌, ℕ, ◌+◌, ◌<◌, List, [], ◌∷◌, ◌++◌, map, take, drop, replicate, Some, true, false, Ok, refl, sym, ap, ◌∙◌, subst, arith, inl, inr}
+use Rattle.std.proofs.Common.{◌≡◌, ℕ, ◌+◌, ◌<◌, List, [], ◌∷◌, ◌++◌, map, take, drop, replicate, Some, None, true, false, Ok, refl, sym, ap, ◌∙◌, subst, arith, inl, inr}
 use Rattle.std.specs.Prelude.{slice_get, ◌||◌, is_some}
 use Rattle.std.specs.List.{Contains, list_all, range_with_len}
-use Rattle.std.specs.Option.{option_map, option_or}
+use Rattle.std.specs.Option.{option_map, option_map_or, option_or}
 use Rattle.std.proofs.lemmas.List.{append-nil}
 use Rattle.std.proofs.lemmas.Option.{same_Some}
 use Rattle.iw_octets.specs.declared.fault.TheConstants.Fault as faults
-use Rattle.iw_octets.specs.Head.{read_tagged}
+use Rattle.iw_octets.specs.Head.{read_tagged, read_untagged}
 use Rattle.iw_octets.specs.Segment.{read_segment}
 use Rattle.iw_ranges.specs.Arrived.{Arrived, taken_in, advanced, held, in_order, has_come}
 use Rattle.iw_fpdu.specs.Places.{data_place, data_index, in_marker, place_after, span_start, frame_start}
 use Rattle.iw_fpdu.specs.Frame.{frame_octets, laid, octet_at, marker_value}
+use Rattle.iw_fpdu.specs.declared.layout.Layout.{Layout}
+use Rattle.iw_fpdu.specs.Reading.{data_at, mismatch_at, markers_agree, crc_agrees}
 use Rattle.iw_fpdu.specs.Found.{is_whole}
 use Rattle.iw_fpdu.specs.Sequence.{intact}
 use Rattle.iw_fpdu.proofs.Came.{tells_whole}
@@ -19,10 +21,14 @@ use Rattle.iw_fpdu.proofs.Follows.{frames_follow}
 use Rattle.iw_fpdu.proofs.Sequences.{written_is_first}
 use Rattle.iw_fpdu.proofs.Written.{frame_is}
 use Rattle.iw_locate.specs.Free.{Scene, scene_of, IsFree, front_of}
+use Rattle.iw_locate.specs.declared.judged.State.TheVariants.{Tried}
+use Rattle.iw_locate.specs.Records.{added}
+use Rattle.iw_stream.specs.declared.judging.Landing.TheVariants as landing
 use Rattle.iw_stream.specs.declared.judging.Turning.TheVariants as turning
 use Rattle.arrayvec.specs.ArrayVec.{ArrayVec}
-use Rattle.iw_stream.specs.Frames.{Frame, EarlyRecord, standing_at, placed, placed_at}
-use Rattle.iw_stream.specs.Judging.{Standing, turn_of}
+use Rattle.iw_stream.specs.Frames.{Frame, EarlyRecord, standing_at, placed, placed_at, record_of}
+use Rattle.iw_untagged.specs.Receiving.{nothing_received, with_buffer, buffer_fault}
+use Rattle.iw_stream.specs.Judging.{Standing, verdict, fault_or, turn_of}
 use Rattle.iw_stream.specs.Starting.{AtOnce, plain, expecting, first_place_in}
 use Rattle.iw_events.specs.declared.call.End.TheVariants.{B}
 use Rattle.iw_events.specs.declared.act.Seen.TheVariants as seen
@@ -30,8 +36,9 @@ use Rattle.iw_laws.specs.Words.{Octets, acts, stream_acts, openings, opening_of,
 use Rattle.iw_laws.specs.Turns.{Story, Located, story, story_of, was_placed, standing, next_frame, frames_in, located_of, judged_frame, early_frame, seen_turned}
 use Rattle.iw_laws.specs.Turns as turns
 use Rattle.iw_laws.specs.Once.{Span, NoneOverlap, judged_span, spans_placed, span_of}
-use Rattle.iw_laws.specs.WrongRuns.{b, works, write_frame}
-use Rattle.iw_laws.specs.EarlyRuns.{idles_while_free, checks_again, places_twice, RefusesIdleWhileFree, RefusesSecondCheck, RefusesSecondPlacement}
+use Rattle.iw_laws.specs.WrongRuns.{b, works, write_frame, send_frame}
+use Rattle.iw_laws.specs.EarlyRuns.{idles_while_free, tries_send, checks_again, places_twice, RefusesIdleWhileFree, RefusesTriedSend, RefusesSecondCheck, RefusesSecondPlacement}
+use Rattle.iw_laws.proofs.Judged.{frame_in, open_at}
 use Rattle.iw_laws.proofs.Located.{located_first}
 
 -- ---- the frame of the Write
@@ -163,3 +170,55 @@ refuses_idle_while_free h =
       | inl none ↦ none 516 (subst (λ (v : Scene (ArrayVec ℕ)). IsFree v 516) (sym scene_there) free_there)
       | inr full ↦ omega (arith, full)
     ]
+
+-- ---- a Send is left, though its buffer is posted
+
+layout_marked : Layout
+layout_marked = record { markers = true; crc = false }
+
+send_came : Arrived
+send_came = taken_in (record { floor = 0; cells = [] }) 512 ((0 ∷ 0 ∷ 0 ∷ 0 ∷ []) ++ send_frame)
+
+send_ulpdu : Octets
+send_ulpdu = (0x41 ∷ 0x43 ∷ []) ++ replicate 11 0 ++ (1 ∷ 0 ∷ 0 ∷ 0 ∷ 0 ∷ 0x68 ∷ [])
+
+the_send : Frame
+the_send = record { start = 516; mismatch = None; ulpdu = send_ulpdu }
+
+send_scene : turns.scene (story_of 0 (acts B (take 4 tries_send))) ≡ scene_of {T = ArrayVec ℕ} layout_marked 0 send_came []
+unfolding send_came layout_marked acts stream_acts openings story taken_in advanced
+send_scene = refl
+
+send_read : frame_in (scene_of {T = ArrayVec ℕ} layout_marked 0 send_came []) 516 ≡ the_send
+unfolding the_send send_ulpdu send_came layout_marked taken_in data_at mismatch_at markers_agree crc_agrees marker_value span_start place_after data_place data_index
+send_read = refl
+
+send_lands : (s : Standing) → s.receiving ≡ with_buffer nothing_received (0 ∷ []) → verdict s the_send ≡ Ok (landing.Send 1 0 1)
+unfolding the_send send_ulpdu read_segment read_untagged
+send_lands s posted = ap (λ r. fault_or (buffer_fault r 1 0 1) (landing.Send 1 0 1)) posted
+
+-- one record begins where the other does
+one_start : (r x : EarlyRecord) → added [] r ≡ added [] x → r.start ≡ x.start
+one_start r x e = ap first_start e
+  where
+    first_start : List EarlyRecord → ℕ
+    first_start [] = 0
+    first_start (y ∷ ys) = y.start
+
+pub refuses_tried_send : RefusesTriedSend
+unfolding acts stream_acts openings story
+refuses_tried_send h =
+    let t : Story = story_of 0 (acts B (take 4 tries_send)) in
+    let s : Standing = standing 0 (acts B (take 4 tries_send)) in
+    let r = h (take 4 tries_send) (b (works (seen.Tried 516))) [] refl in
+    let j = r.0 in
+    let left = r.1 in
+    let same : j.frame.start ≡ left.frame.start =
+    one_start (record_of j.frame Tried) (record_of left.frame Tried)
+    (ap (λ o. option_map_or (λ f. added t.early (record_of f Tried)) o t.early) (sym j.lowest) ∙ ap (λ (z : Story). z.early) left.story) in
+    let start : j.frame.start ≡ 516 = omega (arith, same, left.at) in
+    let o = open_at (turns.scene t) j.frame (omega arith) j.lowest in
+    let frame : j.frame ≡ the_send = o.is ∙ (λ i. frame_in (send_scene i) (start i)) ∙ send_read in
+    let lands : verdict s j.frame ≡ Ok (landing.Send 1 0 1) = ap (verdict s) frame ∙ send_lands s refl in
+    let wrong : seen.Tried 516 ≡ seen.Buffered 1 0 1 = j.placed (landing.Send 1 0 1) lands tt in
+    cc wrong

@@ -48,6 +48,7 @@ use Rattle.iw_stream.specs.Work.{Task, HandOut, GiveUp, GiveBack, Hear, Turn, Cl
 use Rattle.iw_events.specs.declared.act.StreamAct.{StreamAct}
 use Rattle.iw_events.specs.declared.act.StreamAct.TheVariants.{Recv, Post, Emit, Deliver, Raw, Mulpdu, Accept, Reject, Work, Break}
 use Rattle.iw_events.specs.Events.{stream_call_of}
+use Rattle.iw_laws.specs.Early.{HasPlace}
 use Rattle.iw_laws.specs.Words.{Octets, sent_by, table_seen}
 use Rattle.iw_laws.specs.Rules.{seen_of, shown_of, needs_peer, WireRule}
 
@@ -230,38 +231,30 @@ lands_as at frame = whole frame.mismatch
     whole (Some wrong) = tt
     whole None = of_segment (segment_in frame) refl
 
--- a place in a region
-abbrev pub InRegion : Landing → Type 0
-InRegion (landing.Write p) = Unit {0}
-InRegion (landing.Response p) = Unit {0}
-InRegion (landing.Send msn mo len) = ⊥
-InRegion (landing.Request request) = ⊥
-InRegion (landing.Terminate fault) = ⊥
-
--- a frame that is placed before its turn passed all its checks, and goes into a region
-pub early_lands : (at : Standing) (frame : Frame) (x : Landing) → early_verdict at frame ≡ Some x → (verdict at frame ≡ Ok x) × InRegion x
+-- a frame that is placed before its turn passed all its checks, and has a place to go to
+pub early_lands : (at : Standing) (frame : Frame) (x : Landing) → early_verdict at frame ≡ Some x → (verdict at frame ≡ Ok x) × HasPlace x
 early_lands at frame x e = go (judged_head at frame.ulpdu) refl e
   where
     n : ℕ
     n = length (payload_of (segment_in frame))
 
-    by : (m : Option Mismatch) (f : Option Fault) (y : Landing) → InRegion y → (r : Result Landing Fault) → r ≡ option_map_or (λ w. Err (mismatch_fault w)) m (fault_or f y) → landing_in r ≡ Some x → (r ≡ Ok x) × InRegion x
-    by (Some wrong) f y in_region r is h = absurd (none-some _ (sym (ap landing_in is) ∙ h))
-    by None (Some fault) y in_region r is h = absurd (none-some _ (sym (ap landing_in is) ∙ h))
-    by None None y in_region r is h =
+    by : (m : Option Mismatch) (f : Option Fault) (y : Landing) → HasPlace y → (r : Result Landing Fault) → r ≡ option_map_or (λ w. Err (mismatch_fault w)) m (fault_or f y) → landing_in r ≡ Some x → (r ≡ Ok x) × HasPlace x
+    by (Some wrong) f y has r is h = absurd (none-some _ (sym (ap landing_in is) ∙ h))
+    by None (Some fault) y has r is h = absurd (none-some _ (sym (ap landing_in is) ∙ h))
+    by None None y has r is h =
         let same : y ≡ x = same_Some _ _ (sym (ap landing_in is) ∙ h) in
-        (is ∙ ap Ok same, subst InRegion same in_region)
+        (is ∙ ap Ok same, subst HasPlace same has)
 
     whole : (head : Head) → judged_head at frame.ulpdu ≡ Ok head → verdict at frame ≡ option_map_or (λ w. Err (mismatch_fault w)) frame.mismatch (head_verdict at (Ok head) n)
     whole head is = ap (λ r. option_map_or (λ w. Err (mismatch_fault w)) frame.mismatch (head_verdict at r n)) is
 
-    go : (h : Result Head Fault) → judged_head at frame.ulpdu ≡ h → cond (may_be_early h) (landing_in (verdict at frame)) None ≡ Some x → (verdict at frame ≡ Ok x) × InRegion x
+    go : (h : Result Head Fault) → judged_head at frame.ulpdu ≡ h → cond (may_be_early h) (landing_in (verdict at frame)) None ≡ Some x → (verdict at frame ≡ Ok x) × HasPlace x
     go (Err fault) is h = absurd (none-some _ h)
     go (Ok (heads.Write head)) is h =
         by frame.mismatch (placing_fault at.table at.domain head n rights.Write) (landing.Write (place_in head n)) tt (verdict at frame) (whole (heads.Write head) is) h
     go (Ok (heads.Response head)) is h =
         by frame.mismatch (or_else (sink_fault at.reads head n) (placing_fault at.table at.domain head n rights.Sink)) (landing.Response (place_in head n)) tt (verdict at frame) (whole (heads.Response head) is) h
-    go (Ok (heads.Send head)) is h = absurd (none-some _ h)
+    go (Ok (heads.Send head)) is h = by frame.mismatch (buffer_fault at.receiving head.msn head.mo n) (landing.Send head.msn head.mo n) tt (verdict at frame) (whole (heads.Send head) is) h
     go (Ok (heads.Request head request)) is h = absurd (none-some _ h)
     go (Ok (heads.Terminate head word)) is h = absurd (none-some _ h)
 

@@ -71,7 +71,8 @@ use Rattle.iw_laws.specs.Turns.{asked_in, seen_judged, seen_tried, seen_turned, 
 use Rattle.iw_laws.specs.Rules.{StreamRule, seen_of, shown_of}
 use Rattle.iw_laws.proofs.States.{stream_after}
 use Rattle.iw_laws.proofs.Nexts.{fore, place_past, segment_in, segment_at, turned_by, past_front, standing, Sound, none_first_here, first_is_here, past_is}
-use Rattle.iw_laws.proofs.Seeing.{LandsTagged, LandsRequest, LandsAs, InRegion, lands_as, early_lands, stands}
+use Rattle.iw_laws.specs.Early.{HasPlace}
+use Rattle.iw_laws.proofs.Seeing.{LandsTagged, LandsRequest, LandsAs, lands_as, early_lands, stands}
 
 -- ---- what an act leaves of a stream, by what is seen of it
 
@@ -94,6 +95,10 @@ early_with s state = option_map_or (λ f. added s.early (record_of f (state f)))
 -- the frame at the in-order point is placed, or that one
 abbrev pub places : StreamState → StreamState
 places s = record s { front = kept_of s; early = cond (is_some (fore s)) s.early (early_with s (λ f. states.Placed (placed f).header)) }
+
+-- the octets that the frame carries that is judged next: the one there, or else that one
+abbrev pub judged_payload : StreamState → Octets
+judged_payload s = option_map_or (λ f. payload_of (frames.segment_in f)) (option_or (option_map (λ x. standing s x.0) (fore s)) (early_frame s)) []
 
 -- the Reads that are outstanding, behind the frame at the in-order point
 abbrev pub reads_front : StreamState → List Outstanding
@@ -143,7 +148,7 @@ after_seen s (seen.Closed fault) = ends (hears s)
 after_seen s (seen.Placed right stag to octets) = places s
 after_seen s (seen.Tried place) = record s { early = early_with s (λ f. states.Tried) }
 after_seen s (seen.Requested size stag to) = record s { front = None; arrived = past_front s; early = early_left s; asked = asked_front s }
-after_seen s (seen.Buffered msn mo len) = record s { front = kept_of s; receiving = written s.receiving msn mo (payload_of (segment_at (fore s))) }
+after_seen s (seen.Buffered msn mo len) = record (places s) { receiving = written s.receiving msn mo (judged_payload s) }
 after_seen s seen.Passed = record s {
   front = None;
   receiving = turned_by s.receiving (segment_at (fore s));
@@ -222,6 +227,15 @@ pub record Fronts (s : StreamState) (was_placed : Bool) (segment : Segment Octet
   pub carries : segment_in frame ≡ Some segment
   pub clear : was_placed ≡ false → clashes s (standing s frame) ≡ false
 
+-- whose octets are those of the frame that is judged
+pub payload_there : (s : StreamState) (segment : Segment Octets) → Fronts s false segment → judged_payload s ≡ payload_of (Some segment)
+payload_there s segment w =
+    ap (λ o. option_map_or (λ f. payload_of (frames.segment_in f)) (option_or (option_map (λ (x : Carried × Octets). standing s x.0) o) (early_frame s)) []) w.whole ∙ ap payload_of w.carries
+
+pub payload_early : (s : StreamState) (frame : Frame) (segment : Segment Octets) → fore s ≡ None → early_frame s ≡ Some frame → frames.segment_in frame ≡ Some segment → judged_payload s ≡ payload_of (Some segment)
+payload_early s frame segment none found carries =
+    (λ i. option_map_or (λ f. payload_of (frames.segment_in f)) (option_or (option_map (λ (x : Carried × Octets). standing s x.0) (none i)) (found i)) []) ∙ ap payload_of carries
+
 -- by which right a segment is placed
 abbrev pub IsPlacedBy : TaggedHead → Right → Type 0
 IsPlacedBy head right = ((right ≡ rights.Write) × (opcode_of head.control ≡ 0)) ⊎ ((right ≡ rights.Sink) × (opcode_of head.control ≡ 2))
@@ -290,6 +304,19 @@ pub record SeesSend (s : StreamState) (msn mo len : ℕ) : Type 0 where
   pub mo_is : mo ≡ head.mo
   pub len_is : len ≡ length payload
 
+-- one that was placed before its turn
+pub record SeesEarlySend (s : StreamState) (msn mo len : ℕ) : Type 0 where
+  pub frame : Frame
+  pub is_early : early_frame s ≡ Some frame
+  pub head : UntaggedHead
+  pub payload : Octets
+  pub carries : frames.segment_in frame ≡ Some (Untagged head payload)
+  pub queue : head.queue ≡ 0
+  pub checked : buffer_fault s.receiving head.msn head.mo (length payload) ≡ None
+  pub msn_is : msn ≡ head.msn
+  pub mo_is : mo ≡ head.mo
+  pub len_is : len ≡ length payload
+
 -- the segment is not the last of a Send
 abbrev pub IsPassing : StreamState → Segment Octets → Type 0
 IsPassing s (Tagged head payload) = is_response head ≡ true → response_turn_fault s.reads head (length payload) ≡ None
@@ -331,7 +358,9 @@ Sees table s (seen.Placed right stag to octets) =
     ⊎ (JudgedEarly table s (seen.Placed right stag to octets) × SeesEarly table s right stag to octets)
 Sees table s (seen.Tried place) = JudgedEarly table s (seen.Tried place)
 Sees table s (seen.Requested size stag to) = Judged table s (seen.Requested size stag to) × SeesRequest s size stag to
-Sees table s (seen.Buffered msn mo len) = Judged table s (seen.Buffered msn mo len) × SeesSend s msn mo len
+Sees table s (seen.Buffered msn mo len) =
+    (Judged table s (seen.Buffered msn mo len) × SeesSend s msn mo len)
+    ⊎ (JudgedEarly table s (seen.Buffered msn mo len) × SeesEarlySend s msn mo len)
 Sees table s seen.Passed = Turned table s seen.Passed × Passes s
 Sees table s (seen.Received octets solicited invalidate) = Turned table s (seen.Received octets solicited invalidate) × SeesReceive s octets solicited invalidate
 Sees table s (seen.Terminated fault) = Judged table s (seen.Terminated fault) × SeesTerminate s
@@ -424,6 +453,12 @@ module _ (table : Table) (s : StreamState) (k : Sound s) (runs : IsRunning s) wh
     placed_so : record s { front = Some (placed frame) } ≡ places s
     placed_so = λ i. record s { front = keeps i; early = cond (is_some (sym (first_is_here s frame k is_next).whole i)) s.early (early_with s (λ f. states.Placed (placed f).header)) }
 
+    payload_here : payload_of (frames.segment_in frame) ≡ judged_payload s
+    payload_here =
+        let first = first_is_here s frame k is_next in
+        ap (λ z. payload_of (frames.segment_in z)) first.is
+        ∙ ap (λ o. option_map_or (λ f. payload_of (frames.segment_in f)) (option_or (option_map (λ (x : Carried × Octets). standing s x.0) o) (early_frame s)) []) (sym first.whole)
+
     -- it does not
     module _ (clear : clashes s frame ≡ false) where
       answer : {r : Result Landing Fault} → verdict (work.standing table s) frame ≡ r → r ≡ by_front
@@ -435,11 +470,11 @@ module _ (table : Table) (s : StreamState) (k : Sound s) (runs : IsRunning s) wh
       lands_by (Ok (landing.Write p)) e w = (tagged clear 0 rights.Write p w (inl (refl, refl)) (ap (seen_judged frame) (answer e)), placed_so)
       lands_by (Ok (landing.Response p)) e w = (tagged clear 2 rights.Sink p w (inr (refl, refl)) (ap (seen_judged frame) (answer e)), placed_so)
       lands_by (Ok (landing.Send msn mo len)) e w = (
-        (
+        inl (
           judged (seen.Buffered msn mo len) (ap (seen_judged frame) (answer e)),
           record { head = w.head; payload = w.payload; fronts = fronts clear (Untagged w.head w.payload) w.carries; queue = w.queue; checked = w.checked; msn_is = w.msn_is; mo_is = w.mo_is; len_is = w.len_is },
         ),
-        (λ i. record s { front = keeps i; receiving = written s.receiving msn mo (payload_of (segment_at (sym (first_is_here s frame k is_next).whole i))) }),
+        (λ i. record (placed_so i) { receiving = written s.receiving msn mo (payload_here i) }),
       )
       lands_by (Ok (landing.Request request)) e w = (
         (
@@ -513,22 +548,33 @@ module _ (table : Table) (s : StreamState) (k : Sound s) (runs : IsRunning s) wh
         ) in
         subst (λ z. Sees table s (seen.Placed right p.stag p.to z)) (sym whole) sees
 
+    payload_tried : payload_of (frames.segment_in frame) ≡ judged_payload s
+    payload_tried =
+        let none : fore s ≡ None = none_first_here s k no_next in
+        λ i. option_map_or (λ f. payload_of (frames.segment_in f)) (option_or (option_map (λ (x : Carried × Octets). standing s x.0) (sym none i)) (sym is_early i)) []
+
     abbrev TriesIn : Option Landing → Type 0
     TriesIn o = Given table s (seen_of (table_tried table frame o) private (tried_step at_place o)) (after_trying s frame o)
 
-    in_region : (x : Landing) → InRegion x → early_verdict (work.standing table s) frame ≡ Some x → LandsAs (work.standing table s) frame (Ok x) → TriesIn (Some x)
-    in_region (landing.Write p) t e w = (tagged_early 0 rights.Write p w (inl (refl, refl)) (ap (seen_tried (first_place_in s.start) frame) (sym e)), left_placed)
-    in_region (landing.Response p) t e w = (tagged_early 2 rights.Sink p w (inr (refl, refl)) (ap (seen_tried (first_place_in s.start) frame) (sym e)), left_placed)
-    in_region (landing.Send msn mo len) t e w = absurd t
-    in_region (landing.Request request) t e w = absurd t
-    in_region (landing.Terminate fault) t e w = absurd t
+    in_place : (x : Landing) → HasPlace x → early_verdict (work.standing table s) frame ≡ Some x → LandsAs (work.standing table s) frame (Ok x) → TriesIn (Some x)
+    in_place (landing.Write p) t e w = (tagged_early 0 rights.Write p w (inl (refl, refl)) (ap (seen_tried (first_place_in s.start) frame) (sym e)), left_placed)
+    in_place (landing.Response p) t e w = (tagged_early 2 rights.Sink p w (inr (refl, refl)) (ap (seen_tried (first_place_in s.start) frame) (sym e)), left_placed)
+    in_place (landing.Send msn mo len) t e w = (
+      inr (
+        judged_early (seen.Buffered msn mo len) (ap (seen_tried (first_place_in s.start) frame) (sym e)),
+        record { frame = frame; is_early = is_early; head = w.head; payload = w.payload; carries = w.carries; queue = w.queue; checked = w.checked; msn_is = w.msn_is; mo_is = w.mo_is; len_is = w.len_is },
+      ),
+      (λ i. record (left_placed i) { receiving = written s.receiving msn mo (payload_tried i) }),
+    )
+    in_place (landing.Request request) t e w = absurd t
+    in_place (landing.Terminate fault) t e w = absurd t
 
     tried : TriesIn (early_verdict (work.standing table s) frame)
     tried = go (early_verdict (work.standing table s) frame) refl
       where
         go : (o : Option Landing) → early_verdict (work.standing table s) frame ≡ o → TriesIn o
         go None e = (judged_early (seen.Tried at_place) (ap (seen_tried (first_place_in s.start) frame) (sym e)), (λ i. record s { early = with_this (λ f. states.Tried) i }))
-        go (Some x) e = let l = early_lands (work.standing table s) frame x e in in_region x l.1 e (subst (LandsAs (work.standing table s) frame) l.0 (lands_as (work.standing table s) frame))
+        go (Some x) e = let l = early_lands (work.standing table s) frame x e in in_place x l.1 e (subst (LandsAs (work.standing table s) frame) l.0 (lands_as (work.standing table s) frame))
 
   -- a frame that was placed has its turn
   module _ (frame : Carried) (rest : Octets) (whole : fore s ≡ Some (frame, rest)) (segment : Segment Octets) (carries : segment_in frame ≡ Some segment) (kept : waiting s ≡ Some (placed (standing s frame))) (private : Octets) where

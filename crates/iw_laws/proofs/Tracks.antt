@@ -90,15 +90,14 @@ use Rattle.iw_laws.proofs.Located.{frames_at, located_are, located_first, locate
 use Rattle.iw_endpoint.specs.Endpoint.{unasked}
 use Rattle.iw_endpoint.specs.Isolation.{answer_or}
 use Rattle.iw_laws.proofs.Nexts.{Front, fore, place_in, standing, segment_in, segment_at, place_past, past_front, past_is, first_is_here, IsFirstHere, turned_by, IsFore, Sound}
-use Rattle.iw_laws.proofs.Judged.{View, AreJudged, IsForRegion, IsFirstRecord, Adds, frame_in, first_record, judges_one, more_come, moves_to, none_goes, none_in, none_judged, same_segments, one_counts, open_at, segments_early}
+use Rattle.iw_laws.proofs.Judged.{View, AreJudged, IsPlaceable, IsFirstRecord, Adds, frame_in, first_record, judges_one, more_come, moves_to, none_goes, none_in, none_judged, same_segments, one_counts, open_at, segments_early}
 use Rattle.iw_laws.proofs.Judged as judged
 use Rattle.iw_locate.proofs.Honest.{of_earlier}
 use Rattle.iw_laws.proofs.EarlySent.{AreSent, scene_sent, none_sent, fewer_sent, one_more_sent}
 use Rattle.iw_laws.proofs.Told as told_of
-use Rattle.iw_laws.proofs.Told.{Fronts, IsPlacedBy, JudgedEarly, SeesEarly, SeesPlaced, SeesRequest, SeesTerminate, SeesSend, IsPassing, SeesReceive, Hears, Told, kept_of, nothing_waits, early_left, fault_front, left_frame, after_act, reads_front}
+use Rattle.iw_laws.proofs.Told.{Fronts, IsPlacedBy, JudgedEarly, SeesEarly, SeesPlaced, SeesRequest, SeesTerminate, SeesSend, SeesEarlySend, IsPassing, SeesReceive, Hears, Told, kept_of, nothing_waits, early_left, fault_front, left_frame, after_act, reads_front}
 use Rattle.iw_laws.proofs.Tales.{Tale, tale_after}
-use Rattle.iw_laws.proofs.Checks.{checked_buffer}
-use Rattle.iw_laws.proofs.Joins.{Tells, plain_tells, last_tells, ended-append, requests_in, requests-append, requests_more, count-append, responses-append, count_responses, written-push, sunk-push, Joins, Waits, reshape, joins_buffer, joins_front, joins_end, joins_over, joins_write, joins_response, joins_other, joins_send, joins_tagged, joins_part, joins_last}
+use Rattle.iw_laws.proofs.Joins.{Tells, plain_tells, last_tells, ended-append, requests_in, requests-append, requests_more, count-append, responses-append, count_responses, written-push, sunk-push, Joins, Waits, reshape, joins_buffer, joins_written, joins_front, joins_end, joins_over, joins_write, joins_response, joins_other, joins_send, joins_tagged, joins_part, joins_last}
 
 -- ---- what a state and the acts of a stream have in common
 
@@ -229,11 +228,11 @@ early_here : (s : StreamState) (t : Tale) → Track s t → (f : PlacedFrame) �
 early_here s t k f w = first_is_here (bare_state s) (frame_in (scene s) (front_of (scene s))) (bare_sound s t k) (first_whole s t k f w)
 
 early_fore : (s : StreamState) (t : Tale) → Track s t → (f : PlacedFrame) → IsFirstRecord (scene s) f → IsFore s f
-early_fore s t k f w = go (frames.segment_in (frame_in (scene s) (front_of (scene s)))) refl w.tagged
+early_fore s t k f w = go (frames.segment_in (frame_in (scene s) (front_of (scene s)))) refl w.placeable
   where
-    go : (o : Option (Segment Octets)) → frames.segment_in (frame_in (scene s) (front_of (scene s))) ≡ o → IsForRegion o → IsFore s f
+    go : (o : Option (Segment Octets)) → frames.segment_in (frame_in (scene s) (front_of (scene s))) ≡ o → IsPlaceable o → IsFore s f
     go None is t = absurd t
-    go (Some segment) is tagged =
+    go (Some segment) is placeable =
         let first = early_here s t k f w in
         record {
           frame = carried_by (frame_in (scene s) (front_of (scene s)));
@@ -317,11 +316,14 @@ was_placed_is s t k = (λ i. k.placed i || is_some (placed_at (k.early.records_a
     go None = refl
     go (Some f) = refl
 
--- the octets of the frame that is judged, where that is the next
-pub judged_carries : (s : StreamState) (t : Tale) (frame : Carried) (rest : Octets) → Track s t → fore s ≡ Some (frame, rest) → judged_payload t.story ≡ payload_of (segment_at (fore s))
-judged_carries s t frame rest k e =
-    ap (λ z. option_map_or (λ f. payload_of (frames.segment_in f)) (option_or z (early_frame t.story)) []) (next_whole s t frame rest k e)
-    ∙ ap (λ o. payload_of (segment_at o)) (sym e)
+-- the octets of the frame that is judged next are the same
+pub judged_carries : (s : StreamState) (t : Tale) → Track s t → judged_payload t.story ≡ told_of.judged_payload s
+judged_carries s t k = go (fore s) refl
+  where
+    go : (o : Front) → fore s ≡ o → judged_payload t.story ≡ told_of.judged_payload s
+    go None e = λ i. option_map_or (λ f. payload_of (frames.segment_in f)) (option_or ((next_none s t k e ∙ ap (option_map (λ (x : Carried × Octets). standing s x.0)) (sym e)) i) (early_frame_is s t k i)) []
+    go (Some (frame, rest)) e =
+        λ i. option_map_or (λ f. payload_of (frames.segment_in f)) (option_or ((next_whole s t frame rest k e ∙ ap (option_map (λ (x : Carried × Octets). standing s x.0)) (sym e)) i) (early_frame_is s t k i)) []
 
 take_past : (xs ys : List Located) (y : Located) → take (length xs + 1) (xs ++ y ∷ ys) ≡ xs ++ y ∷ []
 take_past [] ys y = refl
@@ -559,7 +561,7 @@ kept_is s from n e = go (ended s) refl e
 stays : (s s' : StreamState) (t : Tale) (more : Octets) (k : Track s t) → ended s ≡ false → fore s' ≡ first_frame (expecting s.start) (length k.before) (inbox s ++ more) → (is_some s.front) ≡ true → segment_at (fore s') ≡ segment_at (fore s)
 stays s s' t more k running next placed = go (fore s) refl (k.joins.waits running placed)
   where
-    go : (o : Front) → fore s ≡ o → Waits s.receiving k.segments (segment_at o) → segment_at (fore s') ≡ segment_at o
+    go : (o : Front) → fore s ≡ o → Waits (segment_at o) → segment_at (fore s') ≡ segment_at o
     go None e w = absurd w
     go (Some (frame, rest)) e w = ap segment_at (next ∙ first_stays (expecting s.start) (length k.before) (inbox s) more frame rest k.between (sym (front_is s t k) ∙ e))
 
@@ -830,7 +832,7 @@ turning s t k segment f = go s.front refl
 
     -- it has the first record
     early : (p : PlacedFrame) → s.front ≡ None → IsFirstRecord (scene s) p → Turning s t k segment
-    early p none w = by segment (subst IsForRegion carried w.tagged) carried at
+    early p none w = by segment (subst IsPlaceable carried w.placeable) carried at
       where
         v : View
         v = scene s
@@ -859,9 +861,9 @@ turning s t k segment f = go s.front refl
         base g is = reshape refl (ap is_some none) f.running is refl refl k.joins
 
         -- placed now, it would be counted as it was before
-        now : (g : Segment Octets) (q : Placing) → frames.segment_in (frame_in (scene s) (front_of (scene s))) ≡ Some g → segment_at (fore s) ≡ Some g → Joins k.segments s.receiving true false (Some g) t.received (k.shown ++ q ∷ []) → Turning s t k g
-        now g q is at j = record {
-          shown = k.shown ++ q ∷ [];
+        now : (g : Segment Octets) (shown : List Placing) → frames.segment_in (frame_in (scene s) (front_of (scene s))) ≡ Some g → segment_at (fore s) ≡ Some g → Joins k.segments s.receiving true false (Some g) t.received shown → Turning s t k g
+        now g shown is at j = record {
+          shown = shown;
           joins = j;
           counts = record {
             written_are = λ c. omega (arith, k.early.written_are c, j.counted c, (base g at).counted c, ap (count_segments c) (all g is), count-append c (g ∷ []) (segments_early (scene s) (early_left s)));
@@ -870,14 +872,14 @@ turning s t k segment f = go s.front refl
           fewer = omega (arith, ap waiting_count none, ap length (all g is));
         }
 
-        by : (g : Segment Octets) → IsForRegion (Some g) → frames.segment_in (frame_in (scene s) (front_of (scene s))) ≡ Some g → segment_at (fore s) ≡ Some g → Turning s t k g
+        by : (g : Segment Octets) → IsPlaceable (Some g) → frames.segment_in (frame_in (scene s) (front_of (scene s))) ≡ Some g → segment_at (fore s) ≡ Some g → Turning s t k g
         by (Tagged head payload) (inl op) is at =
-            now (Tagged head payload) (record { right = rights.Write; stag = head.stag; to = head.to; octets = payload }) is at
+            now (Tagged head payload) (k.shown ++ record { right = rights.Write; stag = head.stag; to = head.to; octets = payload } ∷ []) is at
             (joins_write k.segments s.receiving head payload t.received k.shown op (base (Tagged head payload) at))
         by (Tagged head payload) (inr op) is at =
-            now (Tagged head payload) (record { right = rights.Sink; stag = head.stag; to = head.to; octets = payload }) is at
+            now (Tagged head payload) (k.shown ++ record { right = rights.Sink; stag = head.stag; to = head.to; octets = payload } ∷ []) is at
             (joins_response k.segments s.receiving head payload t.received k.shown op (base (Tagged head payload) at))
-        by (Untagged head payload) t is at = absurd t
+        by (Untagged head payload) queue is at = now (Untagged head payload) k.shown is at (joins_send k.segments s.receiving head payload t.received k.shown queue (base (Untagged head payload) at))
 
     before : (o : Option PlacedFrame) → waiting s ≡ o → is_some o ≡ true → s.front ≡ None → Turning s t k segment
     before None is e none = absurd (false≢true e)
@@ -952,11 +954,12 @@ terminates s t o' w k =
 
 -- a Send's segment is placed
 buffers : (s : StreamState) (t : Tale) (msn mo len : ℕ) → SeesSend s msn mo len → (k : Track s t)
-    → Joins k.segments (written s.receiving msn mo (payload_of (segment_at (fore s)))) true (ended s) (segment_at (fore s)) (t.received ++ []) k.shown
+    → Joins k.segments (written s.receiving msn mo (told_of.judged_payload s)) true (ended s) (segment_at (fore s)) (t.received ++ []) k.shown
 buffers s t msn mo len p k =
     let at : segment_at (fore s) ≡ Some (Untagged p.head p.payload) = ap segment_at p.fronts.whole ∙ p.fronts.carries in
-    reshape (λ i. written s.receiving (sym p.msn_is i) (sym p.mo_is i) (payload_of (sym at i))) refl (sym p.fronts.running) (sym at) (sym (append-nil t.received)) refl
-    (joins_send k.segments s.receiving p.head p.payload t.received k.shown p.queue (checked_buffer s.receiving p.head (length p.payload) p.checked) (fronted s t k (Untagged p.head p.payload) p.fronts))
+    joins_written k.segments s.receiving msn mo (told_of.judged_payload s) true (ended s) (segment_at (fore s)) (t.received ++ []) k.shown
+    (reshape refl refl (sym p.fronts.running) (sym at) (sym (append-nil t.received)) refl
+    (joins_send k.segments s.receiving p.head p.payload t.received k.shown p.queue (fronted s t k (Untagged p.head p.payload) p.fronts)))
 
 -- a segment has its turn that completes nothing
 passes : (s : StreamState) (t : Tale) (segment : Segment Octets) (o' : Option (Segment Octets)) → Fronts s true segment → IsPassing s segment → (k : Track s t) → (w : Turning s t k segment)
@@ -966,14 +969,14 @@ passes s t (Tagged head payload) o' f passing k w =
     (joins_tagged k.segments s.receiving head payload o' t.received w.shown w.joins)
 passes s t (Untagged head payload) o' f passing k w =
     reshape (ap (turned_by s.receiving) (sym (ap segment_at f.whole ∙ f.carries))) refl (sym f.running) refl (sym (append-nil t.received)) refl
-    (joins_part k.segments s.receiving head payload o' t.received w.shown passing.0 passing.1 w.joins)
+    (joins_part k.segments s.receiving head payload o' t.received w.shown passing.1 w.joins)
 
 -- a Send is complete
 receives : (s : StreamState) (t : Tale) (octets : Octets) (solicited : Bool) (invalidate : Option Stag) (o' : Option (Segment Octets)) → (c : SeesReceive s octets solicited invalidate) → (k : Track s t) → (w : Turning s t k (Untagged c.head c.payload))
     → Joins (k.segments ++ Untagged c.head c.payload ∷ []) (finished s.receiving) false (ended s) o' (t.received ++ record { octets = octets; solicited = solicited; invalidate = invalidate } ∷ []) w.shown
 receives s t octets solicited invalidate o' c k w =
-    reshape refl refl (sym c.fronts.running) refl (λ i. t.received ++ record { octets = sym c.is i; solicited = sym c.solicited_is i; invalidate = sym c.invalidate_is i } ∷ []) refl
-    (joins_last k.segments s.receiving c.head c.payload o' t.received w.shown c.turn c.last w.joins)
+    reshape refl refl (sym c.fronts.running) refl refl refl
+    (joins_last k.segments s.receiving c.head c.payload o' t.received (record { octets = octets; solicited = solicited; invalidate = invalidate }) w.shown c.last w.joins)
 
 kept_start : (s s' : StreamState) (t t' : Tale) → s'.start ≡ s.start → t'.story.start ≡ t.story.start → SameStart s s' t t'
 kept_start s s' t t' a b = record { start = a; tale_start = b }
@@ -1297,7 +1300,7 @@ passing_tells s t segment f passing same k =
       asked_are = k.tells.asked_are ∙ sym (append-nil (requests_in k.segments)) ∙ sym (requests-append k.segments (Tagged head payload ∷ []));
     }
     go (Untagged head payload) f passing few =
-        let plain = plain_tells k.segments head payload ((turning s t k (Untagged head payload) f).joins.waits refl refl).queue k.tells in
+        let plain = plain_tells k.segments head payload ((turning s t k (Untagged head payload) f).joins.waits refl refl) k.tells in
         record { answered_are = omega (arith, plain.answered_are, few); asked_are = plain.asked_are }
 
 -- a Read Request that had its turn tells what is asked
@@ -1379,28 +1382,30 @@ placed_there table s t right stag to octets w k =
     subst (λ z. Track z (tale_after t act)) (sym (left_there s false (Tagged w.head octets) w.fronts))
     (subst (λ y. Track s' (record (tale_after t act) { story = y })) (sym (told_there s t false (Tagged w.head octets) w.fronts k)) track)
 
-buffered : (s : StreamState) (t : Tale) (msn mo len : ℕ) → SeesSend s msn mo len → Track s t → Track (after_act s (Work (seen.Buffered msn mo len))) (tale_after t (Work (seen.Buffered msn mo len)))
-buffered s t msn mo len w k =
+buffered_there : (s : StreamState) (t : Tale) (msn mo len : ℕ) → SeesSend s msn mo len → Track s t → Track (after_act s (Work (seen.Buffered msn mo len))) (tale_after t (Work (seen.Buffered msn mo len)))
+buffered_there s t msn mo len w k =
     let act : StreamAct Octets = Work (seen.Buffered msn mo len) in
-    let s' : StreamState = after_act s act in
+    let r : Receiving = written s.receiving msn mo (told_of.judged_payload s) in
+    let s' : StreamState = record s { front = kept_of s; receiving = r } in
     let story : Story = record t.story { placed = true; receiving = written t.story.receiving msn mo (judged_payload t.story) } in
     let t' : Tale = record (tale_after t act) { story = story } in
     let told : (tale_after t act).story ≡ story = ap (λ (y : Story). record y { receiving = written t.story.receiving msn mo (judged_payload t.story) }) (told_there s t false (Untagged w.head w.payload) w.fronts k) in
+    let left : after_act s act ≡ s' = ap (λ (z : StreamState). record z { receiving = r }) (left_there s false (Untagged w.head w.payload) w.fronts) in
     let some : is_some (kept_of s) ≡ true = ap is_some (kept_whole s false (Untagged w.head w.payload) w.fronts) in
     let track : Track s' t' =
-    same_track s s' t t' (kept_start s s' t t' refl refl) refl refl refl (sym some) (λ i. written (k.receiving i) msn mo (judged_carries s t w.fronts.frame w.fronts.rest k w.fronts.whole i)) (λ h. absurd (false≢true (sym h ∙ w.fronts.started)))
+    same_track s s' t t' (kept_start s s' t t' refl refl) refl refl refl (sym some) (λ i. written (k.receiving i) msn mo (judged_carries s t k i)) (λ h. absurd (false≢true (sym h ∙ w.fronts.started)))
     (λ f h. kept_fore s s' false (Untagged w.head w.payload) w.fronts refl refl f h) k
     k.shown (same_early s s' t t' k.shown refl refl refl refl (append-nil t.placings) (λ f h. clear_there s t k (Untagged w.head w.payload) w.fronts f h) k.early) k.sent_ones
     (reshape refl (sym some) refl refl refl refl (buffers s t msn mo len w k)) k.tells in
-    subst (λ y. Track s' (record (tale_after t act) { story = y })) (sym told) track
+    subst (λ z. Track z (tale_after t act)) (sym left) (subst (λ y. Track s' (record (tale_after t act) { story = y })) (sym told) track)
 
 -- a frame is judged before its turn
-judges_early : {A : Type 0} (table : Table) (s : StreamState) (t t' : Tale) (step : Seen Octets) (frame : Frame) (at : Option A) → JudgedEarly table s step → work.early_frame s ≡ Some frame → (IsPlaced (state_tried frame at) → IsForRegion (frames.segment_in frame))
+judges_early : {A : Type 0} (table : Table) (s : StreamState) (t t' : Tale) (step : Seen Octets) (frame : Frame) (at : Option A) → JudgedEarly table s step → work.early_frame s ≡ Some frame → (IsPlaced (state_tried frame at) → IsPlaceable (frames.segment_in frame))
     → t'.story ≡ record t.story { early = added t.story.early (record_tried frame at) } → t'.received ≡ t.received
     → ((c : Cell) → count_writes c (written_of t'.placings) ≡ count_writes c (written_of t.placings) + count_segments c (judged.placed_by frame (state_tried frame at)))
     → ((c : Cell) → count_writes c (sunk t'.placings) ≡ count_writes c (sunk t.placings) + count_responses c (judged.placed_by frame (state_tried frame at)))
     → Track s t → Track (record s { early = added s.early (record_tried frame at) }) t'
-judges_early table s t t' step frame at j found tagged story received written sunk_so k =
+judges_early table s t t' step frame at j found placeable story received written sunk_so k =
     let r : EarlyRecord = record_tried frame at in
     let s' : StreamState = record s { early = added s.early r } in
     let low : first_place_in s.start ≤ s.arrived.floor = omega (arith, k.point, first_is s t k.intro k.begins) in
@@ -1411,7 +1416,7 @@ judges_early table s t t' step frame at j found tagged story received written su
     (record {
       records_are = ap (λ (z : Story). z.early) story ∙ ap (λ rs. added rs r) k.early.records_are;
       unopened = λ h. absurd (false≢true (sym h ∙ j.runs.started));
-      judged = judges_one (scene s) frame at open_here tagged k.early.judged;
+      judged = judges_one (scene s) frame at open_here placeable k.early.judged;
       clear = λ f h. absurd (none-some _ (sym front ∙ h));
       written_are = λ c. omega (arith, written c, k.early.written_are c, ap (count_segments c) (same_segments (scene s) (added s.early r) (added s.early r)), one_counts (scene s) frame (state_tried frame at) (count_segments c) (record { both = count-append c }) open_here);
       sunk_are = λ c. omega (arith, sunk_so c, k.early.sunk_are c, ap (count_responses c) (same_segments (scene s) (added s.early r) (added s.early r)), one_counts (scene s) frame (state_tried frame at) (count_responses c) (record { both = responses-append c }) open_here);
@@ -1436,24 +1441,59 @@ left_early table s step frame j found =
 pub left_tried : (s : StreamState) (place : ℕ) (frame : Frame) → work.early_frame s ≡ Some frame → after_act s (Work (seen.Tried place)) ≡ record s { early = added s.early (record_of frame states.Tried) }
 left_tried s place frame found = ap (λ (o : Option Frame). record s { early = option_map_or (λ f. added s.early (record_of f states.Tried)) o s.early }) found
 
+-- what the acts say of a frame that was placed before its turn
+told_early : (table : Table) (s : StreamState) (t : Tale) (step : Seen Octets) (frame : Frame) → JudgedEarly table s step → work.early_frame s ≡ Some frame → Track s t
+    → turns.places t.story ≡ record t.story { early = added t.story.early (record_of frame (states.Placed (placed_of frame).header)) }
+told_early table s t step frame j found k =
+    let state : Frame → State (ArrayVec ℕ) = λ f. states.Placed (placed_of f).header in
+    let next : next_frame t.story ≡ None = next_none s t k j.none in
+    let placed : is_some (next_frame t.story) ≡ t.story.placed = ap is_some next ∙ sym (k.placed ∙ ap is_some (nothing_waits s (ap is_some j.unplaced))) in
+    let told_records : cond (is_some (next_frame t.story)) t.story.early (turns.early_with t.story state) ≡ added t.story.early (record_of frame (state frame)) =
+    ap (λ (o : Option Frame). cond (is_some o) t.story.early (turns.early_with t.story state)) next ∙ ap (λ (o : Option Frame). option_map_or (λ f. added t.story.early (record_of f (state f))) o t.story.early) (early_frame_is s t k ∙ found) in
+    λ i. record t.story { placed = placed i; early = told_records i }
+
 placed_early : (table : Table) (s : StreamState) (t : Tale) (right : Right) (stag : Stag) (to : ℕ) (octets : Octets) → JudgedEarly table s (seen.Placed right stag to octets) → SeesEarly table s right stag to octets → Track s t
     → Track (after_act s (Work (seen.Placed right stag to octets))) (tale_after t (Work (seen.Placed right stag to octets)))
 placed_early table s t right stag to octets j w k =
     let act : StreamAct Octets = Work (seen.Placed right stag to octets) in
     let one : Placing = record { right = right; stag = stag; to = to; octets = octets } in
-    let state : Frame → State (ArrayVec ℕ) = λ f. states.Placed (placed_of f).header in
-    let left : told_of.places s ≡ record s { early = added s.early (record_of w.frame (state w.frame)) } = left_early table s (seen.Placed right stag to octets) w.frame j w.is_early in
-    let next : next_frame t.story ≡ None = next_none s t k j.none in
-    let placed : is_some (next_frame t.story) ≡ t.story.placed = ap is_some next ∙ sym (k.placed ∙ ap is_some (nothing_waits s (ap is_some j.unplaced))) in
-    let told_records : cond (is_some (next_frame t.story)) t.story.early (turns.early_with t.story state) ≡ added t.story.early (record_of w.frame (state w.frame)) =
-    ap (λ (o : Option Frame). cond (is_some o) t.story.early (turns.early_with t.story state)) next ∙ ap (λ (o : Option Frame). option_map_or (λ f. added t.story.early (record_of f (state f))) o t.story.early) (early_frame_is s t k ∙ w.is_early) in
-    let told : turns.places t.story ≡ record t.story { early = added t.story.early (record_of w.frame (state w.frame)) } = λ i. record t.story { placed = placed i; early = told_records i } in
+    let left = left_early table s (seen.Placed right stag to octets) w.frame j w.is_early in
+    let told = told_early table s t (seen.Placed right stag to octets) w.frame j w.is_early k in
     subst (λ z. Track z (tale_after t act)) (sym left)
-    (judges_early table s t (tale_after t act) (seen.Placed right stag to octets) w.frame (Some s) j w.is_early (λ p. subst IsForRegion (sym w.carries) (elim w.kind [ inl z ↦ inl z.1 | inr z ↦ inr z.1 ]))
+    (judges_early table s t (tale_after t act) (seen.Placed right stag to octets) w.frame (Some s) j w.is_early (λ p. subst IsPlaceable (sym w.carries) (elim w.kind [ inl z ↦ inl z.1 | inr z ↦ inr z.1 ]))
     told (append-nil t.received)
     (λ c. written-push c t.placings one ∙ ap (λ n. count_writes c (written_of t.placings) + n) (shown_written c w.head right stag to octets w.kind w.stag_is w.to_is ∙ ap (λ o. count_segments c (listed o)) (sym w.carries)))
     (λ c. sunk-push c t.placings one ∙ ap (λ n. count_writes c (sunk t.placings) + n) (shown_sunk c w.head right stag to octets w.kind w.stag_is w.to_is ∙ ap (λ o. count_responses c (listed o)) (sym w.carries)))
     k)
+
+-- a receive buffer is written into
+writes_track : (s : StreamState) (t : Tale) (msn mo : ℕ) (octets told : Octets) → told ≡ octets → Track s t
+    → Track (record s { receiving = written s.receiving msn mo octets }) (record t { story = record t.story { receiving = written t.story.receiving msn mo told } })
+writes_track s t msn mo octets told same k =
+    let s' : StreamState = record s { receiving = written s.receiving msn mo octets } in
+    let t' : Tale = record t { story = record t.story { receiving = written t.story.receiving msn mo told } } in
+    same_track s s' t t' (kept_start s s' t t' refl refl) refl refl refl k.placed (λ i. written (k.receiving i) msn mo (same i)) (λ h. refl) (λ f h. same_fore s s' refl refl f (k.fore_is f h)) k
+    k.shown (same_early s s' t t' k.shown refl refl refl refl refl k.early.clear k.early) k.sent_ones
+    (joins_written k.segments s.receiving msn mo octets (is_some s.front) (ended s) (segment_at (fore s)) t.received k.shown k.joins) k.tells
+
+buffered_early : (table : Table) (s : StreamState) (t : Tale) (msn mo len : ℕ) → JudgedEarly table s (seen.Buffered msn mo len) → SeesEarlySend s msn mo len → Track s t
+    → Track (after_act s (Work (seen.Buffered msn mo len))) (tale_after t (Work (seen.Buffered msn mo len)))
+buffered_early table s t msn mo len j w k =
+    let act : StreamAct Octets = Work (seen.Buffered msn mo len) in
+    let s' : StreamState = record s { early = added s.early (record_of w.frame (states.Placed (placed_of w.frame).header)) } in
+    let story : Story = record t.story { early = added t.story.early (record_of w.frame (states.Placed (placed_of w.frame).header)) } in
+    let left : told_of.places s ≡ s' = left_early table s (seen.Buffered msn mo len) w.frame j w.is_early in
+    let told : turns.places t.story ≡ story = told_early table s t (seen.Buffered msn mo len) w.frame j w.is_early k in
+    let t' : Tale = record (tale_after t act) { story = story } in
+    let none : (count : List (Segment Octets) → ℕ) → count (Untagged w.head w.payload ∷ []) ≡ 0 → count (listed (frames.segment_in w.frame)) ≡ 0 = λ count e. ap (λ o. count (listed o)) w.carries ∙ e in
+    let track : Track s' t' =
+    judges_early table s t t' (seen.Buffered msn mo len) w.frame (Some s) j w.is_early (λ p. subst IsPlaceable (sym w.carries) w.queue) refl (append-nil t.received)
+    (λ c. let same : count_writes c (written_of (t.placings ++ [])) ≡ count_writes c (written_of t.placings) = ap (λ z. count_writes c (written_of z)) (append-nil t.placings) in omega (arith, same, none (count_segments c) refl))
+    (λ c. let same : count_writes c (sunk (t.placings ++ [])) ≡ count_writes c (sunk t.placings) = ap (λ z. count_writes c (sunk z)) (append-nil t.placings) in omega (arith, same, none (count_responses c) refl))
+    k in
+    let both = writes_track s' t' msn mo (told_of.judged_payload s) (judged_payload t.story) (judged_carries s t k) track in
+    subst (λ z. Track (record z { receiving = written s.receiving msn mo (told_of.judged_payload s) }) (tale_after t act)) (sym left)
+    (subst (λ y. Track (record s' { receiving = written s.receiving msn mo (told_of.judged_payload s) }) (record (tale_after t act) { story = record y { receiving = written t.story.receiving msn mo (judged_payload t.story) } })) (sym told) both)
 
 tried : (table : Table) (s : StreamState) (t : Tale) (place : ℕ) → JudgedEarly table s (seen.Tried place) → Track s t → Track (after_act s (Work (seen.Tried place))) (tale_after t (Work (seen.Tried place)))
 tried table s t place j k =
@@ -1500,7 +1540,10 @@ tracking table s t (Work (seen.Placed right stag to octets)) rule r k = elim rul
   | inr (judged, w) ↦ placed_early table s t right stag to octets judged w k
 ]
 tracking table s t (Work (seen.Tried place)) rule r k = tried table s t place rule k
-tracking table s t (Work (seen.Buffered msn mo len)) rule r k = buffered s t msn mo len rule.1 k
+tracking table s t (Work (seen.Buffered msn mo len)) rule r k = elim rule [
+  | inl (judged, w) ↦ buffered_there s t msn mo len w k
+  | inr (judged, w) ↦ buffered_early table s t msn mo len judged w k
+]
 tracking table s t (Work (seen.Requested size stag to)) rule r k =
     let w = rule.1 in
     let s' : StreamState = after_act s (Work (seen.Requested size stag to)) in
@@ -1522,7 +1565,7 @@ tracking table s t (Work (seen.Received octets solicited invalidate)) rule r k =
     let now = turning s t k (Untagged c.head c.payload) c.fronts in
     turned s s' t t' c.fronts.frame c.fronts.rest (Untagged c.head c.payload) c.fronts.whole c.fronts.carries c.fronts.started (kept_start s s' t t' refl refl) refl refl refl refl refl refl refl
     (ap finished k.receiving) k now.shown (same_placings s t t' now.shown (append-nil t.placings) now.counts) (receives s t octets solicited invalidate (segment_at (fore s')) c k now)
-    (plain_tells k.segments c.head c.payload (now.joins.waits refl refl).queue k.tells)
+    (plain_tells k.segments c.head c.payload (now.joins.waits refl refl) k.tells)
 tracking table s t (Work (seen.Terminated fault)) rule r k =
     let w = rule.1 in
     let s' : StreamState = after_act s (Work (seen.Terminated fault)) in

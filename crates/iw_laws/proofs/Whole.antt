@@ -59,6 +59,7 @@ use Rattle.iw_laws.proofs.Spent.{none_spent}
 use Rattle.iw_laws.proofs.Tales.{Tale, tale_of, tale_after, tale-push, stream_acts-push, openings-push, acts_mine, acts_other}
 use Rattle.iw_laws.proofs.Sending.{shown_good, EmitsStart, EmitsLast, EmitsPart, emits_as, terminate_small}
 use Rattle.iw_laws.proofs.Tracks.{OnStart, start_octets, Track, shown_stays}
+use Rattle.iw_laws.proofs.Fills.{nothing_placed}
 use Rattle.iw_laws.proofs.Owns.{Own, owning, answers_part, first_fits, Emits, out_of, lives, all_spoken, word_unbroken, runs_unbroken, Unspoken, IsSmall, IsStartOf, past_start}
 use Rattle.iw_laws.proofs.Ends.{EndSeen, end_step, opens, opens_same, at_act, at_same, at_other, number_there, unopened, opening_none, opening_one}
 
@@ -237,8 +238,8 @@ no_track o = record {
   sent_ones = λ us short of. none_sent (expecting (start_at_first o.role o.config)) us;
   carried = refl;
   joins = record {
-    received_are = refl;
-    begins = λ e p. record { octets = refl; count = refl };
+    completed_are = refl;
+    begun_are = λ e. refl;
     waits = λ e p. absurd (false≢true p);
     counted = λ c. refl;
     sunk_are = λ c. refl;
@@ -261,6 +262,7 @@ no_own o small = record {
   ended = refl;
   paid = record { paid = omega arith };
   once = record { known = []; are = refl; spent = none_spent (scene (connected o).stream) None; bare = λ h. refl };
+  fills = nothing_placed (connected o).stream (tale_of o []) refl refl refl refl;
 }
 
 -- nothing came of it

@@ -25,24 +25,24 @@ use Rattle.iw_laws.specs.Turns.{Story, scene, next_frame, early_frame, was_place
 abbrev pub NoneIsFree : Story → Type 0
 NoneIsFree t = ((place : ℕ) → IsFree (scene t) place → ⊥) ⊎ (max_records ≤ length t.early)
 
--- the payload goes to a region: a Write's or a Read Response's
-abbrev pub IsForRegion : Landing → Type 0
-IsForRegion (landing.Write at) = Unit {0}
-IsForRegion (landing.Response at) = Unit {0}
-IsForRegion (landing.Send msn mo len) = ⊥
-IsForRegion (landing.Request request) = ⊥
-IsForRegion (landing.Terminate fault) = ⊥
+-- the payload has a place to go to: a Write's, a Read Response's or a Send's
+abbrev pub HasPlace : Landing → Type 0
+HasPlace (landing.Write at) = Unit {0}
+HasPlace (landing.Response at) = Unit {0}
+HasPlace (landing.Send msn mo len) = Unit {0}
+HasPlace (landing.Request request) = ⊥
+HasPlace (landing.Terminate fault) = ⊥
 
--- it passes its checks, and its payload goes to a region
+-- it passes its checks, and its payload has a place to go to
 abbrev pub CanBePlaced : Standing → Frame → Type 0
-CanBePlaced s frame = (at : Landing) × (verdict s frame ≡ Ok at) × IsForRegion at
+CanBePlaced s frame = (at : Landing) × (verdict s frame ≡ Ok at) × HasPlace at
 
 -- the frame whose turn is next is not whole, and that at the lowest free place is judged: where it can be placed, it is placed in that step, and otherwise it is left
 pub record IsJudgedEarly (t : Story) (s : Standing) (step : Seen Octets) : Type 0 where
   pub frame : Frame
   pub no_next : next_frame t ≡ None
   pub lowest : early_frame t ≡ Some frame
-  pub placed : (at : Landing) → verdict s frame ≡ Ok at → IsForRegion at → step ≡ seen_judged frame (Ok at)
+  pub placed : (at : Landing) → verdict s frame ≡ Ok at → HasPlace at → step ≡ seen_judged frame (Ok at)
   pub left : (CanBePlaced s frame → ⊥) → step ≡ seen.Tried (first_place_in t.start + frame.start)
 
 -- a frame that is left changes nothing but that it has a record

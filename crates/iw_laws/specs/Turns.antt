@@ -393,7 +393,8 @@ TurnsSeen over t s (seen.Opened agreed private) = HearsReply over t agreed × (p
 TurnsSeen over t s (seen.Closed fault) = HearsFrame over t (progress.Faulted fault)
 TurnsSeen over t s (seen.Placed right stag to octets) =
     ReadsFrames over t × (IsJudged t s (seen.Placed right stag to octets) ⊎ IsEarly t s (seen.Placed right stag to octets))
-TurnsSeen over t s (seen.Buffered msn mo len) = ReadsFrames over t × IsJudged t s (seen.Buffered msn mo len)
+TurnsSeen over t s (seen.Buffered msn mo len) =
+    ReadsFrames over t × (IsJudged t s (seen.Buffered msn mo len) ⊎ IsEarly t s (seen.Buffered msn mo len))
 TurnsSeen over t s (seen.Requested size stag to) = ReadsFrames over t × IsJudged t s (seen.Requested size stag to)
 TurnsSeen over t s (seen.Terminated fault) = ReadsFrames over t × IsJudged t s (seen.Terminated fault)
 TurnsSeen over t s (seen.Tried place) = ReadsFrames over t × IsEarly t s (seen.Tried place)
