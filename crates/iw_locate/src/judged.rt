@@ -106,6 +106,13 @@ impl<T, A: Allocator> Judged<T, A> {
         self.records.len()
     }
 
+    /// The limits that the records keep: no two frames overlap, and there are 4,096 at most.
+    pub fn limits(&self)
+        ensures { IsWithinLimits self.now.records }
+    {
+        let _ = &self.records;
+    }
+
     /// Where the frame of the record at an index ends.
     pub(crate) fn end_at(&self, index: usize) -> u64
         requires { index < length self.now.records }

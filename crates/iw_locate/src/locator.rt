@@ -54,8 +54,7 @@ impl Locator {
         ensures { let v = scene_of self.now.layout self.now.base islands.now.arrived judged.now.records in
             MatchOption result (IsFrontWhole v → ⊥) (λ next. IsNext v next × IsFrontWhole v) }
     {
-        // Its contract has what is so of the records.
-        let _ = judged.len();
+        judged.limits();
         let front = self.layout.start_of(islands.floor() - self.base);
         match Fpdu::read(self.layout, self.base, front, islands) {
             Some(fpdu) => {

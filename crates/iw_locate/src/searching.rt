@@ -103,8 +103,7 @@ impl Locator {
         if high <= low {
             return None;
         }
-        // Its contract has the limits: nothing comes so far past the in-order point.
-        let _ = islands.floor();
+        islands.limits();
         let mut place = round_up(low.saturating_sub(MARKER).max(point));
         let mut lowest = None;
         'markers: while place < end {
@@ -171,8 +170,7 @@ impl Locator {
         ensures { let v = scene_of self.now.layout self.now.base islands.now.arrived judged.now.records in
             IsLowestAmong (λ s. IsWithin low high s × EndsBefore end s) v result }
     {
-        // Its contract has the limits: nothing comes so far past the in-order point.
-        let _ = islands.floor();
+        islands.limits();
         if end >= 1 << 63 {
             return None;
         }
@@ -197,8 +195,7 @@ impl Locator {
         ensures { let v = scene_of self.now.layout self.now.base islands.now.arrived judged.now.records in
             MatchOption result (IsOpen v start → ⊥) (λ f. (f ≡ frame_at v start true) × IsOpen v start) }
     {
-        // Its contract has the limits: nothing comes so far past the in-order point.
-        let _ = islands.floor();
+        islands.limits();
         if start >= 1 << 63 || start % 4 != 0 || start % SPACING < MARKER {
             return None;
         }

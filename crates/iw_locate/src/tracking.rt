@@ -120,8 +120,7 @@ impl Locator {
         ensures none { result.to ≡ 0 }
         ensures high { result.high ≤ 2 ^ 63 }
     {
-        // Its contract has the limits: nothing comes so far past the in-order point.
-        let _ = islands.floor();
+        islands.limits();
         let from = unsearched.from.max(point);
         let to = unsearched.to.min(point + WINDOW);
         let high = unsearched.high.min(1 << 63);
@@ -182,8 +181,7 @@ impl Locator {
         ensures { let v = scene_of self.now.layout self.now.base islands.now.arrived judged.now.records in
             (s : ℕ) → IsOpen v s → from < end_of v s → result ≤ s }
     {
-        // Its contract has what is so of the records.
-        let _ = judged.len();
+        judged.limits();
         let at = self.base + from;
         if point < from && !islands.came(at - 1, at) {
             return from;
@@ -223,8 +221,7 @@ impl Locator {
                 Some(_) => {}
             }
         }
-        // Its contract has the limits: nothing comes so far past the in-order point.
-        let _ = islands.floor();
+        islands.limits();
         let end = unsearched.reach.min(point + WINDOW).min(high + LONGEST);
         self.lowest_in(islands, judged, point, low, high, end)
     }

@@ -171,6 +171,13 @@ impl<A: Allocator> Islands<A> {
         self.missing
     }
 
+    /// The limits that what came keeps.
+    pub fn limits(&self)
+        ensures { IsWithinLimits self.now.arrived }
+    {
+        let _ = &self.spans;
+    }
+
     /// Whether all octets from place `from` up to place `to` came, given up or not.
     pub fn came(&self, from: u64, to: u64) -> bool
         ensures { MatchBool result ((p : ℕ) → from ≤ p → p < to → has_come self.now.arrived p ≡ true)

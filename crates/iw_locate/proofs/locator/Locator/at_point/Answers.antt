@@ -20,4 +20,4 @@ pub read-requires-clause-length_kept : goal.read-requires-clause-length_kept
 read-requires-clause-length_kept g c =
     let v : Scene g.row.T.Denot = scene_of c.args.self.now.layout c.args.self.now.base c.args.islands.now.arrived c.args.judged.now.records in
     let e : c.start_of-front.result ≡ front_of v = c.start_of-front.ensures ∙ ap (λ f. frame_start c.args.self.now.layout.markers (f - c.args.self.now.base)) c.floor.ensures.floor in
-    λ q low high. front_kept v c.requires (starts_of v.records c.len.ensures.limits.apart) q (omega (arith, e)) (omega (arith, e))
+    λ q low high. front_kept v c.requires (starts_of v.records c.limits.ensures.apart) q (omega (arith, e)) (omega (arith, e))

@@ -17,7 +17,7 @@ returns-in-Some g c =
     let v : Scene g.row.T.Denot = scene_of c.args.self.now.layout c.args.self.now.base c.args.islands.now.arrived c.args.judged.now.records in
     let w = c.in-Some.ensures in
     λ s open_ over.
-    let past = over_end v c.requires.can c.requires.markers c.len.ensures.limits.apart w.1.0 c.in-Some.end c.args.from s w.1.1 w.1.2 w.0 open_ over in
+    let past = over_end v c.requires.can c.requires.markers c.limits.ensures.apart w.1.0 c.in-Some.end c.args.from s w.1.1 w.1.2 w.0 open_ over in
     omega (arith, past, over, reaches_near v c.requires.can c.requires.markers c.requires.octets s open_, c.max.ensures, c.saturating_sub-near.ensures)
 
 pub returns-in-None : goal.returns-in-None

@@ -12,7 +12,7 @@ returns-then-start g c =
     let v : Scene g.row.T.Denot = scene_of c.args.self.now.layout c.args.self.now.base c.args.islands.now.arrived c.args.judged.now.records in
     λ open_.
     elim (c.then-start.branch) [
-      | then-start-via-then-start w ↦ not_open_far v c.requires.can c.requires.markers c.args.start c.floor.ensures.limits (omega (arith, w.if-start.true)) open_
+      | then-start-via-then-start w ↦ not_open_far v c.requires.can c.requires.markers c.args.start c.limits.ensures (omega (arith, w.if-start.true)) open_
       | then-start-via-else-start+then-start-ne0 w ↦ absurd (omega (arith, w.if-start-ne0.true, open_.start.aligned))
       | then-start-via-else-start+else-start-ne0+then-start-lt-MARKER w ↦ omega (arith, w.if-start-lt-MARKER.true, start_high v.layout.markers c.args.start c.requires.markers open_.start)
     ]

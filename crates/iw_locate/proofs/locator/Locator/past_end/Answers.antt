@@ -9,7 +9,7 @@ use Rattle.iw_locate.proofs.locator.Locator.past_end.Goals.{then-start-low-via-t
 pub returns-then-end : goal.returns-then-end
 returns-then-end g c =
     let v : Scene g.row.T.Denot = scene_of c.args.self.now.layout c.args.self.now.base c.args.islands.now.arrived c.args.judged.now.records in
-    λ s q open_. not_open_far v c.requires.can c.requires.markers s c.floor.ensures.limits (omega (arith, c.if-end.true, (ends_near c.args.end s q.1).0)) open_
+    λ s q open_. not_open_far v c.requires.can c.requires.markers s c.limits.ensures (omega (arith, c.if-end.true, (ends_near c.args.end s q.1).0)) open_
 
 pub returns-then-start-low : goal.returns-then-start-low
 returns-then-start-low g c =
