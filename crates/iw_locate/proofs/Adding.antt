@@ -19,6 +19,7 @@ use Rattle.iw_locate.specs.Unsearched.{Tells, IsTouched, IsFollowed}
 use Rattle.iw_locate.specs.Keeping.{Keeps, changed, record_of, JudgingKeeps}
 use Rattle.iw_locate.proofs.Open.{start_high}
 use Rattle.iw_locate.proofs.Holds.{adds_one}
+use Rattle.iw_locate.proofs.GivesUp.{only_adds}
 
 pub early_is : {T : Type 0} (v : Scene T) (f : Frame) → IsNext v (Found f) → f.early ≡ true → (f ≡ frame_at v f.start true) × (v.layout.markers ≡ true) × IsOpen v f.start
 early_is v f (inl front) early = absurd (let e = sym early ∙ ap (λ (x : Frame). x.early) front.0 in cc e)
@@ -57,7 +58,7 @@ module _ {T : Type 0} (v : Scene T) (u : Unsearched) (f : Frame) (state : State 
           | inl old ↦ keeps.ends x old
           | inr same ↦ sym (ap (λ (y : Record T). y.end) same) ∙ end_is ∙ (ap (λ b. frame_end b f.start (length_at (octet_of v) f.start)) m ∙ ap (frame_end true f.start) (sym (ap (λ (x : Frame). x.length) is)) ∙ ap (λ (y : Record T). frame_end true y.start y.length) same)
         ];
-    released = λ q low gone. let w = keeps.released q low gone in (w.0, (adds_one v.records (record_of f state) w.0).1 (inl w.1), w.2, w.3, w.4);
+    released = only_adds v keeps.released (record_of f state);
   }
 
   more_clear : (start end : ℕ) → IsClear (added v.records (record_of f state)) start end → IsClear v.records start end

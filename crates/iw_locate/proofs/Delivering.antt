@@ -4,8 +4,9 @@ use Rattle.std.proofs.lemmas.Bool.{cases_lt, lt-ltb, le-ltb}
 use Rattle.std.proofs.lemmas.Bool.Decides.{nat_tests}
 use Rattle.std.specs.Prelude.{◌⊎◌, nat_lt, not, min, max, slice_index}
 use Rattle.iw_ranges.specs.declared.Delivery.TheVariants.{Kept}
-use Rattle.iw_ranges.specs.Arrived.{Arrived, Cell, Missing, Here, Gone, cell_at, has_come, is_missing, in_segment, first_copy, delivery, delivered, taken_in, drawn, end_of as end_come}
-use Rattle.iw_ranges.proofs.ByPlace.{keeps_first_copies, delivered-kept, first_copy-gone}
+use Rattle.iw_ranges.specs.Arrived.{Arrived, Cell, Missing, Here, Gone, cell_at, has_come, is_missing, in_segment, first_copy, delivery, delivered}
+use Rattle.iw_ranges.proofs.InOrder.{floor_takes}
+use Rattle.iw_ranges.proofs.ByPlace.{keeps_first_copies, delivered-kept}
 use Rattle.iw_fpdu.specs.Places.{span_start, frame_start}
 use Rattle.iw_fpdu.specs.Found.{octet_of as octet_held, octet_in}
 use Rattle.iw_fpdu.specs.Laws.{IsBetween}
@@ -18,6 +19,7 @@ use Rattle.iw_locate.specs.Among.{IsWithin}
 use Rattle.iw_locate.specs.Unsearched.{IsPointedIn, IsTouched, Tells, joined_from, joined_to, with_octets}
 use Rattle.iw_locate.specs.Keeping.{Keeps, changed, DeliveryKeeps}
 use Rattle.iw_locate.proofs.Carried.{same_end, open_back, points_back, points_on, seen_back, seen_on}
+use Rattle.iw_locate.proofs.GivesUp.{only_delivers}
 
 -- ---- what is unsearched then
 module _ (u : Unsearched) (from to : ℕ) where
@@ -97,16 +99,8 @@ small place octets p Missing few old = go (in_segment place (length octets) p)
     go true = few (p - place)
     go false = old
 
-taken_floor : (a : Arrived) (place : ℕ) (octets : List ℕ) → (taken_in a place octets).floor ≡ a.floor
-unfolding taken_in
-taken_floor a place octets = go (nat_lt 0 (length octets))
-  where
-    go : (b : Bool) → (cond b (drawn a.floor (max (end_come a) (place + length octets)) (λ p. first_copy place octets p (cell_at a p))) a).floor ≡ a.floor
-    go true = refl
-    go false = refl
-
 pub delivered_floor : (a : Arrived) (place : ℕ) (octets : List ℕ) → delivery a place (length octets) ≡ Kept → (delivered a place octets).floor ≡ a.floor
-delivered_floor a place octets kept = ap (λ (x : Arrived). x.floor) (delivered-kept a place octets kept) ∙ taken_floor a place octets
+delivered_floor a place octets kept = ap (λ (x : Arrived). x.floor) (delivered-kept a place octets kept) ∙ floor_takes a place octets
 
 not_in_segment : (base place n q : ℕ) → (q < place - base) ⊎ (place + n - base ≤ q) → in_segment place n (base + q) ≡ false
 not_in_segment base place n q (inl before) = let lt : base + q < place = omega (arith, before) in grind (arith, nat_tests)
@@ -136,9 +130,7 @@ module _ {T : Type 0} (v : Scene T) (u : Unsearched) (place : ℕ) (octets : Lis
     records = λ r within. omega (arith, keeps.records r within, point_is);
     whole = λ r within q low high. ap (λ c. not (is_missing c)) (stays q (keeps.whole r within q low high)) ∙ keeps.whole r within q low high;
     ends = keeps.ends;
-    released = λ q low gone.
-        keeps.released q (omega (arith, low, point_is))
-        (first_copy-gone place octets (v.base + q) (cell_at v.arrived (v.base + q)) (in_segment place (length octets) (v.base + q)) refl (sym (cell_is (v.base + q)) ∙ gone));
+    released = only_delivers v keeps.released place octets;
   }
 
   abbrev TouchedNow : ℕ → Type 0

@@ -7,11 +7,13 @@ use Rattle.std.specs.List.{Contains}
 use Rattle.iw_ranges.specs.Arrived.{Cell, Missing, Here, Gone, cell_at}
 use Rattle.iw_fpdu.specs.Places.{IsStart, span_start}
 use Rattle.iw_fpdu.specs.Found.{IsKept}
+use Rattle.iw_fpdu.specs.Laws.{IsBetween}
 use Rattle.iw_fpdu.proofs.Octets.{span_low, span_near}
 use Rattle.iw_fpdu.proofs.Follows.{begins}
 use Rattle.iw_locate.specs.declared.judged.Record.{Record}
-use Rattle.iw_locate.specs.Records.{from_of, AreApart}
+use Rattle.iw_locate.specs.Records.{from_of, IsClearOfPlaced, AreApart}
 use Rattle.iw_locate.specs.Free.{Scene, point_of, front_of, IsOpen, CanLocate}
+use Rattle.iw_locate.specs.Keeping.{IsFrontUnplaced}
 use Rattle.iw_locate.proofs.Open.{start_high, span_is}
 
 pub span_cases : (s : ℕ) → ((s % 512 ≡ 4) × (span_start true s ≡ s - 4)) ⊎ ((s % 512 ≡ 4 → ⊥) × (span_start true s ≡ s))
@@ -32,6 +34,31 @@ same_span s t first second same =
       | inr (far, is) ↦ elim (span_cases t) [ inl (here, at) ↦ omega (arith, same) | inr (here, at) ↦ omega (arith, same) ]
     ]
 
+none_in : {T : Type 0} (rs : List (Record T)) → rs ≡ [] → (r : Record T) → Contains rs r → ⊥
+none_in [] e r (k, lt, is) = omega arith
+none_in (x ∷ xs) e r within = absurd (cc e)
+
+-- no record but its own lies over the length field of the frame at the in-order point
+own_record : {T : Type 0} (v : Scene T) → IsBetween v.layout.markers (point_of v) → v.layout.markers ≡ true → (r : Record T) → IsStart true r.start → point_of v ≤ from_of r → from_of r < front_of v + 2 → r.start ≡ front_of v
+own_record v between m r start past over =
+    let front : IsStart v.layout.markers (front_of v) = begins v.layout.markers (point_of v) between in
+    let high1 = start_high true r.start refl start in
+    let high2 = start_high v.layout.markers (front_of v) m front in
+    let at : span_start true (front_of v) ≡ point_of v = ap (λ b. span_start b (front_of v)) (sym m) ∙ between.span in
+    elim (span_cases r.start) [
+      | inl (near, is) ↦ elim (span_cases (front_of v)) [ inl (here, same) ↦ omega (arith, start.aligned, front.aligned) | inr (here, same) ↦ omega (arith, start.aligned, front.aligned) ]
+      | inr (far, is) ↦ elim (span_cases (front_of v)) [ inl (here, same) ↦ omega (arith, start.aligned, front.aligned) | inr (here, same) ↦ omega (arith, start.aligned, front.aligned) ]
+    ]
+
+-- where that frame was not placed, no placed one does
+pub front_clear : {T : Type 0} (v : Scene T) → IsBetween v.layout.markers (point_of v) → (v.layout.markers ≡ false → v.records ≡ []) → ((r : Record T) → Contains v.records r → IsStart true r.start)
+    → ((r : Record T) → Contains v.records r → point_of v ≤ from_of r) → IsFrontUnplaced v → IsClearOfPlaced v.records (front_of v) (front_of v + 2)
+front_clear v between marked starts past turn r within placed over =
+    elim (cases_Bool v.layout.markers) [
+      | inl m ↦ turn r within placed (own_record v between m r (starts r within) (past r within) over.0)
+      | inr m ↦ none_in v.records (marked m) r within
+    ]
+
 module _ {T : Type 0} (v : Scene T) (can : CanLocate v) where
   pub front_start : IsStart v.layout.markers (front_of v)
   front_start = begins v.layout.markers (point_of v) can.between
@@ -42,22 +69,6 @@ module _ {T : Type 0} (v : Scene T) (can : CanLocate v) where
   pub front_past : point_of v ≤ front_of v
   front_past = omega (arith, span_low v.layout.markers (front_of v), can.between.span)
 
-  none_in : (rs : List (Record T)) → rs ≡ [] → (r : Record T) → Contains rs r → ⊥
-  none_in [] e r (k, lt, is) = omega arith
-  none_in (x ∷ xs) e r within = absurd (cc e)
-
-  -- no record but its own lies over its length field
-  other_record : (q : ℕ) → v.layout.markers ≡ true → front_of v ≤ q → q < front_of v + 2 → (r : Record T) → IsStart true r.start → point_of v ≤ from_of r → from_of r ≤ q → r.start ≡ front_of v
-  other_record q m low high r start past over =
-      let high1 = start_high true r.start refl start in
-      let high2 = start_high v.layout.markers (front_of v) m front_start in
-      let at : span_start true (front_of v) ≡ point_of v = ap (λ b. span_start b (front_of v)) (sym m) ∙ can.between.span in
-      let aligned = front_start.aligned in
-      elim (span_cases r.start) [
-        | inl (near, is) ↦ elim (span_cases (front_of v)) [ inl (here, same) ↦ omega (arith, start.aligned) | inr (here, same) ↦ omega (arith, start.aligned) ]
-        | inr (far, is) ↦ elim (span_cases (front_of v)) [ inl (here, same) ↦ omega (arith, start.aligned) | inr (here, same) ↦ omega (arith, start.aligned) ]
-      ]
-
   pub front_kept : ((r : Record T) → Contains v.records r → IsStart true r.start) → (q : ℕ) → front_of v ≤ q → q < front_of v + 2 → IsKept (cell_at v.arrived (v.base + q))
   front_kept starts q low high = go (cell_at v.arrived (v.base + q)) refl
     where
@@ -66,10 +77,7 @@ module _ {T : Type 0} (v : Scene T) (can : CanLocate v) where
       go (Here x) e = tt
       go Gone e =
           let w = can.released q (omega (arith, front_past)) e in
-          elim (cases_Bool v.layout.markers) [
-            | inl m ↦ can.turn w.0 w.1 w.2 (other_record q m low high w.0 (starts w.0 w.1) (can.records w.0 w.1) w.3)
-            | inr m ↦ none_in v.records (can.marked m) w.0 w.1
-          ]
+          front_clear v can.between can.marked starts can.records can.turn w.0 w.1 w.2 (omega (arith, w.3, high), omega (arith, w.4, low, span_low true (front_of v)))
 
 -- no frame whose span begins at the in-order point or before it may be judged early
 pub not_open_low : {T : Type 0} (v : Scene T) → CanLocate v → v.layout.markers ≡ true → (s : ℕ) → span_start true s ≤ point_of v → IsOpen v s → ⊥

@@ -18,3 +18,5 @@ pub mod Sequenced
 pub mod Honest
 pub mod Sublists
 pub mod Recorded
+pub mod GivesUp
+pub mod Left

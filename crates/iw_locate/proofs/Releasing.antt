@@ -1,10 +1,9 @@
 -- The octets of a placed frame are given up.
-use Rattle.std.proofs.Common.{◌≡◌, ℕ, ◌+◌, ◌-◌, ◌<◌, ◌≤◌, Bool, true, false, cond, refl, sym, ap, ◌∙◌, subst, arith, inl, inr}
+use Rattle.std.proofs.Common.{◌≡◌, ℕ, ◌+◌, ◌-◌, ◌<◌, ◌≤◌, Bool, true, false, cond, sym, ap, ◌∙◌, subst, arith, inl, inr}
 use Rattle.std.proofs.lemmas.Bool.{cases_lt}
-use Rattle.std.proofs.lemmas.Bool.Decides.{nat_tests}
 use Rattle.std.specs.Prelude.{◌⊎◌, ◌&&◌, nat_lt, nat_le}
 use Rattle.std.specs.List.{Contains}
-use Rattle.iw_ranges.specs.Arrived.{Arrived, Cell, Missing, Here, Gone, cell_at, has_come, given_up, released}
+use Rattle.iw_ranges.specs.Arrived.{Cell, Missing, Here, Gone, cell_at, has_come, given_up, released}
 use Rattle.iw_ranges.proofs.ByPlace.{gives_up_places, stays_come}
 use Rattle.iw_fpdu.specs.Places.{span_start, frame_start}
 use Rattle.iw_fpdu.specs.Found.{octet_of as octet_held}
@@ -17,22 +16,7 @@ use Rattle.iw_locate.specs.Free.{Scene, point_of, end_of, IsMarkerSeen, IsFound,
 use Rattle.iw_locate.specs.Unsearched.{IsTouched, Tells}
 use Rattle.iw_locate.specs.Keeping.{Keeps, changed, ReleaseKeeps}
 use Rattle.iw_locate.proofs.Carried.{same_end, open_back, points_back, points_on, seen_back, seen_on}
-
-released_floor : (a : Arrived) (from to : ℕ) → (released a from to).floor ≡ a.floor
-unfolding released
-released_floor a from to = refl
-
-outside : (from to p : ℕ) (c : Cell) → (p < from) ⊎ (to ≤ p) → given_up from to p c ≡ c
-outside from to p Missing out = refl
-outside from to p Gone out = refl
-outside from to p (Here x) out = ap (λ b. cond b Gone (Here x)) (test out)
-  where
-    test : (p < from) ⊎ (to ≤ p) → (nat_le from p && nat_lt p to) ≡ false
-    test (inl before) = grind (arith, nat_tests)
-    test (inr past) = grind (arith, nat_tests)
-
-was_gone : (from to p : ℕ) (c : Cell) → given_up from to p c ≡ Gone → (p < from) ⊎ (to ≤ p) → c ≡ Gone
-was_gone from to p c gone out = sym (outside from to p c out) ∙ gone
+use Rattle.iw_locate.proofs.GivesUp.{released_floor, outside, only_releases}
 
 small : (from to p : ℕ) (c : Cell) → octet_held c < 256 → octet_held (given_up from to p c) < 256
 small from to p Missing few = few
@@ -76,11 +60,7 @@ module _ {T : Type 0} (v : Scene T) (u : Unsearched) (r : Record T) (keeps : Kee
     records = λ x inside. omega (arith, keeps.records x inside, point_is);
     whole = λ x inside q low high. come_is q ∙ keeps.whole x inside q low high;
     ends = keeps.ends;
-    released = λ q low gone.
-        elim (in_or_out q) [
-          | inl (from, to) ↦ (r, within, placed, from, to)
-          | inr out ↦ keeps.released q (omega (arith, low, point_is)) (sym (cell_out q out) ∙ gone)
-        ];
+    released = only_releases v keeps.released r within placed;
   }
 
   -- where no record lies over a frame its octets stay

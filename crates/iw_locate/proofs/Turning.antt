@@ -22,6 +22,7 @@ use Rattle.iw_locate.proofs.Open.{span_past_marker}
 use Rattle.iw_locate.proofs.Front.{span_cases}
 use Rattle.iw_locate.proofs.Holds.{keeps_from}
 use Rattle.iw_locate.proofs.Carried.{same_end, open_back, points_back, points_on, seen_back, seen_on}
+use Rattle.iw_locate.proofs.GivesUp.{only_moves}
 
 small : (b : Bool) (c : Cell) → octet_held c < 256 → octet_held (cond b Gone c) < 256
 small true c few = omega arith
@@ -67,13 +68,7 @@ module _ {T : Type 0} (v : Scene T) (u : Unsearched) (to : ℕ) (keeps : Keeps v
         let w = kept_is r within in
         ap (λ c. not (is_missing c)) (cell_past q (omega (arith, w.1, low))) ∙ keeps.whole r w.0 q low high;
     ends = λ r within. keeps.ends r (kept_is r within).0;
-    released = λ q low gone.
-        let past : to - v.base ≤ q = omega (arith, low, point_is) in
-        let w = keeps.released q (omega (arith, past, further)) (sym (cell_past q past) ∙ gone) in
-        elim (cases_lt (from_of w.0) (to - v.base)) [
-          | inl before ↦ absurd (omega (arith, passed.placed w.0 w.1 w.2 before, past, w.4))
-          | inr from ↦ (w.0, is_kept w.0 w.1 from, w.2, w.3, w.4)
-        ];
+    released = only_moves v keeps.released to passed.placed;
   }
 
   missing_still : (q : ℕ) → u.reach ≤ q → has_come (advanced v.arrived to) (v.base + q) ≡ false

@@ -68,6 +68,11 @@ pub record IsFree {T : Type 0} (v : Scene T) (s : ℕ) : Type 0 where
   pub open_ : IsOpen v s
 
 -- ---- what a caller keeps
+-- from the in-order point on only octets of placed frames were given up
+abbrev pub GivesUpOnlyPlaced : {T : Type 0} → Scene T → Type 0
+GivesUpOnlyPlaced {T} v = (q : ℕ) → point_of v ≤ q → cell_at v.arrived (v.base + q) ≡ Gone
+    → (r : Record T) × Contains v.records r × IsPlaced r.state × (from_of r ≤ q) × (q < r.end)
+
 pub record CanLocate {T : Type 0} (v : Scene T) : Type 0 where
   -- the in-order point lies past the start-up frame, at the end of a frame
   pub based : v.base ≤ v.arrived.floor
@@ -78,5 +83,4 @@ pub record CanLocate {T : Type 0} (v : Scene T) : Type 0 where
   pub records : (r : Record T) → Contains v.records r → point_of v ≤ from_of r
   -- the frame at the in-order point wasn't placed
   pub turn : (r : Record T) → Contains v.records r → IsPlaced r.state → r.start ≡ front_of v → ⊥
-  -- from the in-order point on only octets of placed frames were given up
-  pub released : (q : ℕ) → point_of v ≤ q → cell_at v.arrived (v.base + q) ≡ Gone → (r : Record T) × Contains v.records r × IsPlaced r.state × (from_of r ≤ q) × (q < r.end)
+  pub released : GivesUpOnlyPlaced v

@@ -12,7 +12,7 @@ use Rattle.iw_locate.specs.declared.judged.Record.{Record}
 use Rattle.iw_locate.specs.declared.judged.State.{State}
 use Rattle.iw_locate.specs.declared.unsearched.Unsearched.{Unsearched}
 use Rattle.iw_locate.specs.Records.{from_of, IsPlaced, added, kept_from}
-use Rattle.iw_locate.specs.Free.{Scene, scene_of, point_of, front_of, octet_of, CanLocate}
+use Rattle.iw_locate.specs.Free.{Scene, scene_of, point_of, front_of, octet_of, GivesUpOnlyPlaced, CanLocate}
 use Rattle.iw_locate.specs.Next.{IsNext}
 use Rattle.iw_locate.specs.Unsearched.{Tells, IsFollowed, everything, nothing_unsearched, counted_from, with_octets, anywhere}
 
@@ -25,7 +25,7 @@ pub record Keeps {T : Type 0} (v : Scene T) : Type 0 where
   pub records : (r : Record T) → Contains v.records r → point_of v ≤ from_of r
   pub whole : (r : Record T) → Contains v.records r → (q : ℕ) → from_of r ≤ q → q < r.end → has_come v.arrived (v.base + q) ≡ true
   pub ends : (r : Record T) → Contains v.records r → r.end ≡ frame_end true r.start r.length
-  pub released : (q : ℕ) → point_of v ≤ q → cell_at v.arrived (v.base + q) ≡ Gone → (r : Record T) × Contains v.records r × IsPlaced r.state × (from_of r ≤ q) × (q < r.end)
+  pub released : GivesUpOnlyPlaced v
 
 -- the frame at the in-order point has no placed record: where it has one, its turn comes before anything is looked for
 abbrev pub IsFrontUnplaced : {T : Type 0} → Scene T → Type 0

@@ -1,12 +1,13 @@
 -- What is so of records and free places whatever is called, and worked values.
 use Rattle.std.specs.Prelude.{ℕ, ◌+◌, ◌%◌, ◌<◌, ◌≤◌, ◌≡◌, ◌⊎◌, ◌↔◌, true, List}
 use Rattle.std.specs.List.{Contains}
-use Rattle.iw_ranges.specs.Arrived.{Arrived, Gone, cell_at, has_come}
+use Rattle.iw_ranges.specs.Arrived.{Arrived, has_come}
+use Rattle.iw_ranges.specs.Laws.{IsLeftOf}
 use Rattle.iw_fpdu.specs.Reading.{marker_agrees}
 use Rattle.iw_fpdu.specs.Found.{octet_in}
 use Rattle.iw_locate.specs.declared.judged.Record.{Record}
 use Rattle.iw_locate.specs.Records.{from_of, IsPlaced, AreApart, added, kept_from}
-use Rattle.iw_locate.specs.Free.{Scene, point_of, PointsTo, EndsBefore, IsOpen, IsFree, CanLocate}
+use Rattle.iw_locate.specs.Free.{Scene, PointsTo, EndsBefore, IsOpen, IsFree, GivesUpOnlyPlaced}
 
 -- ---- what the calls leave, record by record
 abbrev pub AddsOne : Type 0 → Type 0
@@ -16,11 +17,9 @@ abbrev pub KeepsFrom : Type 0 → Type 0
 KeepsFrom T = (place : ℕ) (rs : List (Record T)) (x : Record T) → Contains (kept_from place rs) x ↔ (Contains rs x × (place ≤ from_of x))
 
 -- ---- octets that were given up
--- `came` is what came of the stream had nothing been given up, and the markers in each placed frame's span agree
+-- `came` is all that came of the stream, also what was given up; and the markers in each placed frame's span agree
 pub record IsCameOf {T : Type 0} (v : Scene T) (came : Arrived) : Type 0 where
-  pub floor : came.floor ≡ v.arrived.floor
-  pub held : (q : ℕ) → point_of v ≤ q → (cell_at v.arrived (v.base + q) ≡ Gone → ⊥) → cell_at came (v.base + q) ≡ cell_at v.arrived (v.base + q)
-  pub come : (q : ℕ) → point_of v ≤ q → has_come came (v.base + q) ≡ has_come v.arrived (v.base + q)
+  pub left : IsLeftOf v.arrived came
   pub checked : (r : Record T) → Contains v.records r → IsPlaced r.state → (p : ℕ) → from_of r ≤ p → p < r.end → p % 512 ≡ 0 → marker_agrees (octet_in came v.base) r.start p ≡ true
 
 -- a marker stands at p and its four octets came, wherever it lies
@@ -35,5 +34,5 @@ pub record IsFreeByAny {T : Type 0} (w : Scene T) (s : ℕ) : Type 0 where
 
 -- the free places are those that there are by all the markers, also those in placed frames, of all that came, also what was given up
 abbrev pub ReleasesLoseNothing : Type 0 → Type 0
-ReleasesLoseNothing T = (v : Scene T) (came : Arrived) → CanLocate v → v.layout.markers ≡ true → AreApart v.records → IsCameOf v came
+ReleasesLoseNothing T = (v : Scene T) (came : Arrived) → GivesUpOnlyPlaced v → AreApart v.records → IsCameOf v came
     → (s : ℕ) → IsFree v s ↔ IsFreeByAny (record v { arrived = came }) s

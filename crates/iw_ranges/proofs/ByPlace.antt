@@ -61,7 +61,7 @@ delivered-kept a place octets kept = ap (λ b. cond b a (taken_in a place octets
 pub keeps_first_copies : KeepsFirstCopies
 keeps_first_copies a place octets p kept = ap (λ x. cell_at x p) (delivered-kept a place octets kept) ∙ cell_at-taken_in a place octets p
 
-come-first_copy : (place : ℕ) (octets : List ℕ) (p : ℕ) (c : Cell) (v : Bool) → in_segment place (length octets) p ≡ v → not (is_missing (first_copy place octets p c)) ≡ (not (is_missing c) || v)
+pub come-first_copy : (place : ℕ) (octets : List ℕ) (p : ℕ) (c : Cell) (v : Bool) → in_segment place (length octets) p ≡ v → not (is_missing (first_copy place octets p c)) ≡ (not (is_missing c) || v)
 come-first_copy place octets p Missing true h = ap (λ b. not (is_missing (cond b (Here (get_or octets (p - place) 0)) Missing))) h
 come-first_copy place octets p Missing false h = ap (λ b. not (is_missing (cond b (Here (get_or octets (p - place) 0)) Missing))) h
 come-first_copy place octets p (Here x) v h = refl

@@ -33,7 +33,7 @@ stops (Here x ∷ cells) kept = stops cells kept
 stops (Gone ∷ cells) kept = absurd (let e : true ≡ false = kept in cc)
 
 -- where octets stand at the front, what is held behind them comes next
-held_from : (xs : List ℕ) (cells : List Cell) → ((i : ℕ) → i < length xs → get_or cells i Missing ≡ Here (get_or xs i 0)) → held cells ≡ xs ++ held (drop (length xs) cells)
+pub held_from : (xs : List ℕ) (cells : List Cell) → ((i : ℕ) → i < length xs → get_or cells i Missing ≡ Here (get_or xs i 0)) → held cells ≡ xs ++ held (drop (length xs) cells)
 unfolding held
 held_from [] cells all = refl
 held_from (x ∷ xs) [] all = absurd (let e : Missing ≡ Here x = all 0 (omega arith) in cc)

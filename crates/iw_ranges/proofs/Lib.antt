@@ -9,3 +9,4 @@ pub mod Moves
 pub mod ByPlace
 pub mod InOrder
 pub mod Blocks
+pub mod Left

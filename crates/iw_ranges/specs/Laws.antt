@@ -34,3 +34,10 @@ pub record InOrderGrows : Type 0 where
   pub moves_takes : (a : Arrived) (place : ℕ) (octets : List ℕ) (to : ℕ) → a.floor ≤ to → to ≤ a.floor + length (in_order a)
       → advanced (taken_in a place octets) to ≡ taken_in (advanced a to) place octets
   pub first : (a : Arrived) (sent : List ℕ) → a.floor ≡ 0 → IsOf a sent → (rest : List ℕ) × (in_order a ++ rest ≡ sent)
+
+-- ---- what is left once octets were given up
+-- `left` is `came`, but that the octets of some places were given up: they still count as come
+pub record IsLeftOf (left came : Arrived) : Type 0 where
+  pub floor : left.floor ≡ came.floor
+  pub cells : (p : ℕ) → (cell_at left p ≡ Gone → ⊥) → cell_at left p ≡ cell_at came p
+  pub come : (p : ℕ) → has_come left p ≡ has_come came p
