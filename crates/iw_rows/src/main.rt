@@ -28,7 +28,7 @@ enum Ending {
 }
 
 /// The schedules, by the names of their files, `NAME.schedule`. The trace of one that has a trace is in `NAME.trace`.
-const ROWS: [(&str, Ending); 76] = [
+const ROWS: [(&str, Ending); 80] = [
     ("first", Ending::Completed),
     ("one-write", Ending::Completed),
     ("empty-messages", Ending::Completed),
@@ -66,6 +66,10 @@ const ROWS: [(&str, Ending); 76] = [
     ("a-tried-frame-changes-no-memory", Ending::Completed),
     ("a-frame-over-a-placed-one", Ending::Faulted),
     ("a-placed-frame-past-markers-that-agree", Ending::Faulted),
+    ("a-send-placed-before-its-turn", Ending::Completed),
+    ("a-send-that-waits-for-a-write", Ending::Completed),
+    ("a-break-after-an-early-send", Ending::Completed),
+    ("an-early-send-at-a-wrong-offset", Ending::Faulted),
     ("the-low-bits-of-a-pointer", Ending::Completed),
     ("a-pointer-into-a-placed-frame", Ending::Completed),
     ("capture", Ending::Completed),
