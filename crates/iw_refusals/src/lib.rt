@@ -13,6 +13,8 @@ mod fpdu;
 #[cfg(test)]
 mod memory;
 #[cfg(test)]
+mod no_copy;
+#[cfg(test)]
 mod queues;
 #[cfg(test)]
 mod ranges;
