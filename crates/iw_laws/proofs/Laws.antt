@@ -112,7 +112,8 @@ use Rattle.iw_laws.specs.Once.{AreOnce, PlacesOnce, spans_placed}
 use Rattle.iw_laws.proofs.EarlyLaws.{judges_early, checks_once}
 use Rattle.iw_laws.proofs.Onces.{are_once}
 use Rattle.iw_laws.proofs.Placements.{placements}
-use Rattle.iw_laws.proofs.Whole.{tale, Seen as BothSeen, seen_at, follows_split}
+use Rattle.iw_laws.proofs.Releases.{left_acts}
+use Rattle.iw_laws.proofs.Whole.{held, tale, Seen as BothSeen, seen_at, follows_split}
 
 -- ---- honest streams
 
@@ -124,17 +125,17 @@ fitting n past honest x =
 
 -- what each end has heard of the other
 heard : (past : List (Entry Octets)) (w : State) (k : BothSeen past w) (x : End) (n : ℕ) → IsHonest n past
-    → IsHeard (connected_at (end_of x w) n) (tale n (acts x past)) (connected_at (end_of (other x) w) n) (tale n (acts (other x) past)) (out_of (connected_at (end_of x w) n).stream (tale n (acts x past)) (k.pairs x n).own.emits) (k.pairs x n).own_peer.track
+    → IsHeard (held (k.pairs x n).own) (tale n (acts x past)) (held (k.pairs x n).own_peer) (tale n (acts (other x) past)) (out_of (held (k.pairs x n).own).stream (tale n (acts x past)) (k.pairs x n).own.own.emits) (k.pairs x n).own_peer.own.track
 heard past w k x n honest =
     let p = k.pairs x n in
-    hears_all (opening_of n (acts x past)) (connected_at (end_of x w) n) (tale n (acts x past)) p.own (opening_of n (acts (other x) past)) (connected_at (end_of (other x) w) n) (tale n (acts (other x) past)) p.own_peer
+    hears_all (opening_of n (acts x past)) (held (k.pairs x n).own) (tale n (acts x past)) p.own.own (opening_of n (acts (other x) past)) (held (k.pairs x n).own_peer) (tale n (acts (other x) past)) p.own_peer.own
     (fitting n past honest x) (p.out (honest.calm (other x))) (p.back (honest.calm x))
 
 -- what was received is a prefix of the Sends posted
 prefix_of : (past : List (Entry Octets)) (w : State) → BothSeen past w → (x : End) (n : ℕ) → IsHonest n past → IsPrefixOf (received (stream_acts n (acts (other x) past))) (sends (posted (stream_acts n (acts x past))))
 prefix_of past w k x n honest =
     let p = k.pairs x n in
-    received_prefix (connected_at (end_of x w) n) (tale n (acts x past)) (connected_at (end_of (other x) w) n) (tale n (acts (other x) past)) p.own.emits p.own_peer.track (heard past w k x n honest) (p.out (honest.calm (other x))) p.own_peer.fills
+    received_prefix (held p.own) (tale n (acts x past)) (held p.own_peer) (tale n (acts (other x) past)) p.own.own.emits p.own_peer.own.track (heard past w k x n honest) (p.out (honest.calm (other x))) p.own_peer.own.fills
 
 pub in_order : (trace : List (Entry Octets)) → Follows start trace → InOrder trace
 in_order trace follows past future is x n honest = prefix_of past (state_after start past) (seen_at past future trace follows is) x n honest
@@ -144,7 +145,7 @@ covers : (past : List (Entry Octets)) (w : State) → BothSeen past w → (x : E
     → CoversWrites (posted (stream_acts n (acts x past))) (written (placings (stream_acts n (acts (other x) past)))) (length (received (stream_acts n (acts (other x) past)))) cell
 covers past w k x n honest cell =
     let p = k.pairs x n in
-    writes_covered (connected_at (end_of x w) n) (tale n (acts x past)) (connected_at (end_of (other x) w) n) (tale n (acts (other x) past)) p.own.emits p.own_peer.track (heard past w k x n honest) (p.out (honest.calm (other x))) cell
+    writes_covered (held p.own) (tale n (acts x past)) (held p.own_peer) (tale n (acts (other x) past)) p.own.own.emits p.own_peer.own.track (heard past w k x n honest) (p.out (honest.calm (other x))) cell
 
 pub covered : (trace : List (Entry Octets)) → Follows start trace → Covered trace
 covered trace follows past future is x n honest cell = covers past (state_after start past) (seen_at past future trace follows is) x n honest cell
@@ -166,8 +167,8 @@ answers_reads past w k x n honest =
     let out = p.out (honest.calm (other x)) in
     let back = p.back (honest.calm x) in
     let there = heard past w k x n honest in
-    let home = hears_all m (connected_at (end_of (other x) w) n) (tale n (acts (other x) past)) p.own_peer o (connected_at (end_of x w) n) (tale n (acts x past)) p.own (fits_both o m (fitting n past honest x)) back out in
-    reads_answered (connected_at (end_of x w) n) (tale n (acts x past)) (connected_at (end_of (other x) w) n) (tale n (acts (other x) past)) p.own.emits p.own.track p.own_peer.emits p.own_peer.track p.own_peer.doing.answered there home out back
+    let home = hears_all m (held p.own_peer) (tale n (acts (other x) past)) p.own_peer.own o (held p.own) (tale n (acts x past)) p.own.own (fits_both o m (fitting n past honest x)) back out in
+    reads_answered (held p.own) (tale n (acts x past)) (held p.own_peer) (tale n (acts (other x) past)) p.own.own.emits p.own.own.track p.own_peer.own.emits p.own_peer.own.track p.own_peer.own.doing.answered there home out back
 
 pub answering_all : (trace : List (Entry Octets)) → Follows start trace → Answering trace
 answering_all trace follows past future is x n honest = answers_reads past (state_after start past) (seen_at past future trace follows is) x n honest
@@ -200,26 +201,28 @@ moment past e future trace follows is =
 
 -- a law of each entry of a stream, by the state before it
 each_stream : (P : List (Act Octets) → ℕ → StreamAct Octets → Type 0) (trace : List (Entry Octets)) → Follows start trace
-    → ((done : List (Act Octets)) (s : EndState) (n : ℕ) (act : StreamAct Octets) → EndKept s done → has_stream s.endpoint n ≡ true → StreamRule s.endpoint.table (connected_at s n).stream act
-    → Own (opening_of n done) (connected_at s n) (tale n done) → P done n act) → AtEach (OnStream P) trace
+    → ((done : List (Act Octets)) (s : EndState) (n : ℕ) (c : Connected) (act : StreamAct Octets) → EndKept s done → c.stream.domain ≡ domain_of n done → StreamRule s.endpoint.table c.stream act
+    → Own (opening_of n done) c (tale n done) → P done n act) → AtEach (OnStream P) trace
 each_stream P trace follows one past e future is =
     let m = moment past e future trace follows is in
     let w : State = state_after start past in
     let s : EndState = end_of e.end w in
-    on_stream P (acts e.end past) s e.act m.1.0 (λ n act opened rule. one (acts e.end past) s n act (m.0.ends e.end) opened rule (m.0.pairs e.end n).own)
+    on_stream P (acts e.end past) s e.act m.1.0 (λ n act opened rule.
+    let h = (m.0.pairs e.end n).own in
+    let there = left_acts s.endpoint.table (connected_at s n).stream h.stream (tale n (acts e.end past)) act h.is_left h.own.track rule in
+    one (acts e.end past) s n (held h) act (m.0.ends e.end) (sym (ap (λ (z : StreamState). z.domain) h.is_left.has.same) ∙ (m.0.ends e.end).domain n opened) there.0 h.own)
 
 pub within_all : (trace : List (Entry Octets)) → Follows start trace → Within trace
-within_all trace follows = each_stream WithinStream trace follows (λ done s n act k opened rule own.
-    let c : Connected = connected_at s n in
-    within_stream done n c.stream.domain s.endpoint.table act (k.domain n opened) k.table (within (opening_of n done) s.endpoint.table c (tale n done) act (told s.endpoint.table c.stream act (sound c.stream (tale n done) own.track) rule) own))
+within_all trace follows = each_stream WithinStream trace follows (λ done s n c act k domain rule own.
+    within_stream done n c.stream.domain s.endpoint.table act domain k.table (within (opening_of n done) s.endpoint.table c (tale n done) act (told s.endpoint.table c.stream act (sound c.stream (tale n done) own.track) rule) own))
 
 -- ---- what goes out
 
 first_frames : (past : List (Entry Octets)) (w : State) → BothSeen past w → (x : End) (n : ℕ) → AreFirstFrames (story_of n (acts x past)) (sent (stream_acts n (acts x past))) (posted (stream_acts n (acts x past)))
 first_frames past w k x n =
-    let s : StreamState = (connected_at (end_of x w) n).stream in
+    let s : StreamState = (k.pairs x n).own.stream in
     let t : Tale = tale n (acts x past) in
-    let own = (k.pairs x n).own in
+    let own = (k.pairs x n).own.own in
     let e = own.emits in
     let all = whole_of s t e in
     record {
@@ -368,7 +371,7 @@ nothing_stream o c done table (Work step) rule own = tt
 nothing_stream o c done table Break rule own = tt
 
 pub nothing_at_rest : (trace : List (Entry Octets)) → Follows start trace → NothingOnlyAtRest trace
-nothing_at_rest trace follows = each_stream NothingStream trace follows (λ done s n act k opened rule own. nothing_stream (opening_of n done) (connected_at s n) (stream_acts n done) s.endpoint.table act rule own)
+nothing_at_rest trace follows = each_stream NothingStream trace follows (λ done s n c act k domain rule own. nothing_stream (opening_of n done) c (stream_acts n done) s.endpoint.table act rule own)
 
 -- a frame stands behind what was sent, and is the start-up frame or that of a part, as large as was set
 -- how large the frame of a part is
@@ -472,7 +475,7 @@ shown_sized o c done table (Work step) rule own = tt
 shown_sized o c done table Break rule own = tt
 
 pub sized_all : (trace : List (Entry Octets)) → Follows start trace → Sized trace
-sized_all trace follows = each_stream SizedStream trace follows (λ done s n act k opened rule own. shown_sized (opening_of n done) (connected_at s n) (stream_acts n done) s.endpoint.table act rule own)
+sized_all trace follows = each_stream SizedStream trace follows (λ done s n c act k domain rule own. shown_sized (opening_of n done) c (stream_acts n done) s.endpoint.table act rule own)
 
 may_send : (o : Opening) (c : Connected) (done : List (StreamAct Octets)) → MaySpeak c.stream → Own o c (tale_of o done) → MaySend (has_ended_by done) (story o done)
 may_send o c done m own =
@@ -513,41 +516,40 @@ shown_allowed o c done table (Work step) rule own = tt
 shown_allowed o c done table Break rule own = tt
 
 pub speaks_all : (trace : List (Entry Octets)) → Follows start trace → Speaks trace
-speaks_all trace follows = each_stream SpeaksStream trace follows (λ done s n act k opened rule own. shown_allowed (opening_of n done) (connected_at s n) (stream_acts n done) s.endpoint.table act rule own)
+speaks_all trace follows = each_stream SpeaksStream trace follows (λ done s n c act k domain rule own. shown_allowed (opening_of n done) c (stream_acts n done) s.endpoint.table act rule own)
 
 -- ---- the turns of frames
 
-same_standing : (done : List (Act Octets)) (n : ℕ) (s : EndState) → EndKept s done → has_stream s.endpoint n ≡ true → Own (opening_of n done) (connected_at s n) (tale n done) → work.standing s.endpoint.table (connected_at s n).stream ≡ standing n done
-same_standing done n s k there own =
-    λ i. record { table = k.table i; domain = k.domain n there i; receiving = sym own.track.receiving i; reads = sym own.emits.asks.reads i; asked = sym own.emits.asks.asked i }
+same_standing : (done : List (Act Octets)) (n : ℕ) (s : EndState) (c : Connected) → EndKept s done → c.stream.domain ≡ domain_of n done → Own (opening_of n done) c (tale n done) → work.standing s.endpoint.table c.stream ≡ standing n done
+same_standing done n s c k domain own =
+    λ i. record { table = k.table i; domain = domain i; receiving = sym own.track.receiving i; reads = sym own.emits.asks.reads i; asked = sym own.emits.asks.asked i }
 
-turns_stream : (done : List (Act Octets)) (n : ℕ) (s : EndState) (act : StreamAct Octets) → EndKept s done → has_stream s.endpoint n ≡ true → StreamRule s.endpoint.table (connected_at s n).stream act
-    → Own (opening_of n done) (connected_at s n) (tale n done) → TurnsStream done n act
-turns_stream done n s (Work step) k there rule own =
-    subst (λ z. TurnsSeen (has_ended_by (stream_acts n done)) (story_of n done) z step) (same_standing done n s k there own) (answers s.endpoint.table (connected_at s n).stream (tale n done) step rule own.track own.ended)
-turns_stream done n s (Post m refused) k there rule own = tt
-turns_stream done n s (Recv len refused) k there rule own = tt
-turns_stream done n s (Emit shown) k there rule own = tt
-turns_stream done n s (Deliver from octets delivery) k there rule own = tt
-turns_stream done n s (Raw from octets delivery) k there rule own = tt
-turns_stream done n s (Mulpdu size refused) k there rule own = tt
-turns_stream done n s (Accept private answer) k there rule own = tt
-turns_stream done n s (Reject private refused) k there rule own = tt
-turns_stream done n s Break k there rule own = tt
+turns_stream : (done : List (Act Octets)) (n : ℕ) (s : EndState) (c : Connected) (act : StreamAct Octets) → EndKept s done → c.stream.domain ≡ domain_of n done → StreamRule s.endpoint.table c.stream act
+    → Own (opening_of n done) c (tale n done) → TurnsStream done n act
+turns_stream done n s c (Work step) k domain rule own =
+    subst (λ z. TurnsSeen (has_ended_by (stream_acts n done)) (story_of n done) z step) (same_standing done n s c k domain own) (answers s.endpoint.table c.stream (tale n done) step rule own.track own.ended)
+turns_stream done n s c (Post m refused) k domain rule own = tt
+turns_stream done n s c (Recv len refused) k domain rule own = tt
+turns_stream done n s c (Emit shown) k domain rule own = tt
+turns_stream done n s c (Deliver from octets delivery) k domain rule own = tt
+turns_stream done n s c (Raw from octets delivery) k domain rule own = tt
+turns_stream done n s c (Mulpdu size refused) k domain rule own = tt
+turns_stream done n s c (Accept private answer) k domain rule own = tt
+turns_stream done n s c (Reject private refused) k domain rule own = tt
+turns_stream done n s c Break k domain rule own = tt
 
 pub turns_all : (trace : List (Entry Octets)) → Follows start trace → Turns trace
 turns_all trace follows = each_stream TurnsStream trace follows turns_at
   where
-    turns_at : (done : List (Act Octets)) (s : EndState) (n : ℕ) (act : StreamAct Octets) → EndKept s done → has_stream s.endpoint n ≡ true → StreamRule s.endpoint.table (connected_at s n).stream act
-        → Own (opening_of n done) (connected_at s n) (tale n done) → TurnsStream done n act
-    turns_at done s n act k there rule own = turns_stream done n s act k there rule own
+    turns_at : (done : List (Act Octets)) (s : EndState) (n : ℕ) (c : Connected) (act : StreamAct Octets) → EndKept s done → c.stream.domain ≡ domain_of n done → StreamRule s.endpoint.table c.stream act
+        → Own (opening_of n done) c (tale n done) → TurnsStream done n act
+    turns_at done s n c act k domain rule own = turns_stream done n s c act k domain rule own
 
 -- ---- what is fetched
 
-fetch_shown : (done : List (Act Octets)) (n : ℕ) (s : EndState) (act : StreamAct Octets) → EndKept s done → has_stream s.endpoint n ≡ true → StreamRule s.endpoint.table (connected_at s n).stream act → Own (opening_of n done) (connected_at s n) (tale n done)
-    → OnSome (FetchShown (story_of n done) (work.standing s.endpoint.table (connected_at s n).stream)) (deed act).shown
-fetch_shown done n s (Emit (Fetched from frame stag to octets)) k there rule own =
-    let c : Connected = connected_at s n in
+fetch_shown : (done : List (Act Octets)) (n : ℕ) (s : EndState) (c : Connected) (act : StreamAct Octets) → EndKept s done → c.stream.domain ≡ domain_of n done → StreamRule s.endpoint.table c.stream act → Own (opening_of n done) c (tale n done)
+    → OnSome (FetchShown (story_of n done) (work.standing s.endpoint.table c.stream)) (deed act).shown
+fetch_shown done n s c (Emit (Fetched from frame stag to octets)) k domain rule own =
     let t : Tale = tale n done in
     let w = answers_part s.endpoint.table c.stream t from frame stag to octets (emits_as s.endpoint.table c.stream (Fetched from frame stag to octets) rule) own.emits.asks in
     let p = emits_as s.endpoint.table c.stream (Fetched from frame stag to octets) rule in
@@ -562,8 +564,7 @@ fetch_shown done n s (Emit (Fetched from frame stag to octets)) k there rule own
       carries = w.frame_is
           ∙ (λ i. frame_octets (sending (sym own.track.begins.start i)) (sym p.from_is i - first_place_out (sym own.track.begins.start i)) (segment_octets (response_segment w.oldest.request (length (story_of n done).begun) (w.last_is i) octets)));
     }
-fetch_shown done n s (Emit (Denied fault)) k there rule own =
-    let c : Connected = connected_at s n in
+fetch_shown done n s c (Emit (Denied fault)) k domain rule own =
     let t : Tale = tale n done in
     let p = emits_as s.endpoint.table c.stream (Denied fault) rule in
     let w = part_is_of c.stream p.part p.is_due in
@@ -581,62 +582,61 @@ fetch_shown done n s (Emit (Denied fault)) k there rule own =
     denied_within : (n size room : ℕ) → (0 < n → n < size) → n + min (size - n) room ≤ size
     denied_within zero size room h = omega arith
     denied_within (suc n) size room h = let more : suc n < size = h (omega arith) in omega (arith, more)
-fetch_shown done n s (Emit (Frame from octets)) k there rule own = tt
-fetch_shown done n s (Emit Nothing) k there rule own = tt
-fetch_shown done n s (Post m refused) k there rule own = tt
-fetch_shown done n s (Recv len refused) k there rule own = tt
-fetch_shown done n s (Deliver from octets delivery) k there rule own = tt
-fetch_shown done n s (Raw from octets delivery) k there rule own = tt
-fetch_shown done n s (Mulpdu size refused) k there rule own = tt
-fetch_shown done n s (Accept private answer) k there rule own = tt
-fetch_shown done n s (Reject private refused) k there rule own = tt
-fetch_shown done n s (Work step) k there rule own = tt
-fetch_shown done n s Break k there rule own = tt
+fetch_shown done n s c (Emit (Frame from octets)) k domain rule own = tt
+fetch_shown done n s c (Emit Nothing) k domain rule own = tt
+fetch_shown done n s c (Post m refused) k domain rule own = tt
+fetch_shown done n s c (Recv len refused) k domain rule own = tt
+fetch_shown done n s c (Deliver from octets delivery) k domain rule own = tt
+fetch_shown done n s c (Raw from octets delivery) k domain rule own = tt
+fetch_shown done n s c (Mulpdu size refused) k domain rule own = tt
+fetch_shown done n s c (Accept private answer) k domain rule own = tt
+fetch_shown done n s c (Reject private refused) k domain rule own = tt
+fetch_shown done n s c (Work step) k domain rule own = tt
+fetch_shown done n s c Break k domain rule own = tt
 
 pub fetched_all : (trace : List (Entry Octets)) → Follows start trace → AtEach (OnStream FetchStream) trace
-fetched_all trace follows = each_stream FetchStream trace follows (λ done s n act k opened rule own.
-    subst (λ z. OnSome (FetchShown (story_of n done) z) (deed act).shown) (same_standing done n s k opened own) (fetch_shown done n s act k opened rule own))
+fetched_all trace follows = each_stream FetchStream trace follows (λ done s n c act k domain rule own.
+    subst (λ z. OnSome (FetchShown (story_of n done) z) (deed act).shown) (same_standing done n s c k domain own) (fetch_shown done n s c act k domain rule own))
 
 -- ---- Reads that are outstanding
 
 pub few_reads : (trace : List (Entry Octets)) → Follows start trace → FewReads trace
 few_reads trace follows past future is x n =
-    let own = ((seen_at past future trace follows is).pairs x n).own in
+    let own = ((seen_at past future trace follows is).pairs x n).own.own in
     omega (arith, own.emits.asks.few, ap length own.emits.asks.reads)
 
 -- ---- finished messages
 
-finished_stream : (done : List (Act Octets)) (n : ℕ) (s : EndState) (act : StreamAct Octets) → StreamRule s.endpoint.table (connected_at s n).stream act → Own (opening_of n done) (connected_at s n) (tale n done) → FinishedStream done n act
-finished_stream done n s (Work (seen.Done kind)) rule own =
-    let c : Connected = connected_at s n in
+finished_stream : (done : List (Act Octets)) (n : ℕ) (s : EndState) (c : Connected) (act : StreamAct Octets) → StreamRule s.endpoint.table c.stream act → Own (opening_of n done) c (tale n done) → FinishedStream done n act
+finished_stream done n s c (Work (seen.Done kind)) rule own =
     let d = (sees s.endpoint.table c.stream (sound c.stream (tale n done) own.track) (seen.Done kind) rule).0 in
     subst (CanFinish (story_of n done) (stream_acts n done)) (sym d.2) (can_finish c.stream (tale n done) own.track own.emits d.0 d.1)
-finished_stream done n s (Work seen.Idle) rule own = tt
-finished_stream done n s (Work (seen.Asked private)) rule own = tt
-finished_stream done n s (Work (seen.Opened agreed private)) rule own = tt
-finished_stream done n s (Work (seen.Closed fault)) rule own = tt
-finished_stream done n s (Work (seen.Placed right stag to octets)) rule own = tt
-finished_stream done n s (Work (seen.Tried place)) rule own = tt
-finished_stream done n s (Work (seen.Buffered msn mo len)) rule own = tt
-finished_stream done n s (Work (seen.Requested size stag to)) rule own = tt
-finished_stream done n s (Work seen.Passed) rule own = tt
-finished_stream done n s (Work (seen.Received octets solicited invalidate)) rule own = tt
-finished_stream done n s (Work (seen.Flushed kind)) rule own = tt
-finished_stream done n s (Work (seen.FlushedRecv octets)) rule own = tt
-finished_stream done n s (Work (seen.Terminated fault)) rule own = tt
-finished_stream done n s (Work (seen.Fault fault)) rule own = tt
-finished_stream done n s Break rule own = tt
-finished_stream done n s (Post m refused) rule own = tt
-finished_stream done n s (Recv len refused) rule own = tt
-finished_stream done n s (Emit shown) rule own = tt
-finished_stream done n s (Deliver from octets delivery) rule own = tt
-finished_stream done n s (Raw from octets delivery) rule own = tt
-finished_stream done n s (Mulpdu size refused) rule own = tt
-finished_stream done n s (Accept private answer) rule own = tt
-finished_stream done n s (Reject private refused) rule own = tt
+finished_stream done n s c (Work seen.Idle) rule own = tt
+finished_stream done n s c (Work (seen.Asked private)) rule own = tt
+finished_stream done n s c (Work (seen.Opened agreed private)) rule own = tt
+finished_stream done n s c (Work (seen.Closed fault)) rule own = tt
+finished_stream done n s c (Work (seen.Placed right stag to octets)) rule own = tt
+finished_stream done n s c (Work (seen.Tried place)) rule own = tt
+finished_stream done n s c (Work (seen.Buffered msn mo len)) rule own = tt
+finished_stream done n s c (Work (seen.Requested size stag to)) rule own = tt
+finished_stream done n s c (Work seen.Passed) rule own = tt
+finished_stream done n s c (Work (seen.Received octets solicited invalidate)) rule own = tt
+finished_stream done n s c (Work (seen.Flushed kind)) rule own = tt
+finished_stream done n s c (Work (seen.FlushedRecv octets)) rule own = tt
+finished_stream done n s c (Work (seen.Terminated fault)) rule own = tt
+finished_stream done n s c (Work (seen.Fault fault)) rule own = tt
+finished_stream done n s c Break rule own = tt
+finished_stream done n s c (Post m refused) rule own = tt
+finished_stream done n s c (Recv len refused) rule own = tt
+finished_stream done n s c (Emit shown) rule own = tt
+finished_stream done n s c (Deliver from octets delivery) rule own = tt
+finished_stream done n s c (Raw from octets delivery) rule own = tt
+finished_stream done n s c (Mulpdu size refused) rule own = tt
+finished_stream done n s c (Accept private answer) rule own = tt
+finished_stream done n s c (Reject private refused) rule own = tt
 
 pub finished_all : (trace : List (Entry Octets)) → Follows start trace → Finished trace
-finished_all trace follows = each_stream FinishedStream trace follows (λ done s n act k opened rule own. finished_stream done n s act rule own)
+finished_all trace follows = each_stream FinishedStream trace follows (λ done s n c act k domain rule own. finished_stream done n s c act rule own)
 
 -- ---- rest
 
@@ -670,7 +670,7 @@ idle_stream s c done n (Raw from octets delivery) rule o = tt
 idle_stream s c done n (Mulpdu size refused) rule o = tt
 
 pub idle_at_rest : (trace : List (Entry Octets)) → Follows start trace → IdleOnlyAtRest trace
-idle_at_rest trace follows = each_stream IdleStream trace follows (λ done s n act k opened rule own. idle_stream s (connected_at s n) done n act rule own)
+idle_at_rest trace follows = each_stream IdleStream trace follows (λ done s n c act k domain rule own. idle_stream s c done n act rule own)
 
 -- ---- before their turn
 
@@ -682,8 +682,8 @@ second_all trace follows = checks_once trace (turns_all trace follows)
 
 spans_once : (trace : List (Entry Octets)) → Follows start trace → (past future : List (Entry Octets)) → trace ≡ past ++ future → (x : End) (n : ℕ) → AreOnce (spans_placed (opening_of n (acts x past)) (stream_acts n (acts x past)))
 spans_once trace follows past future is x n =
-    let own = ((seen_at past future trace follows is).pairs x n).own in
-    are_once (connected_at (end_of x (state_after start past)) n).stream (spans_placed (opening_of n (acts x past)) (stream_acts n (acts x past))) own.once
+    let h = ((seen_at past future trace follows is).pairs x n).own in
+    are_once h.stream (spans_placed (opening_of n (acts x past)) (stream_acts n (acts x past))) h.own.once
 
 pub once_all : (trace : List (Entry Octets)) → Follows start trace → PlacesOnce trace
 once_all trace follows = record { placements = placements trace (turns_all trace follows); once = spans_once trace follows }
@@ -772,25 +772,25 @@ end_shown o c done table (Fetched from frame stag to octets) rule own = sym own.
 end_shown o c done table (Denied fault) rule own = sym own.ended ∙ (emits_as table c.stream (Denied fault) rule).speaks.running
 end_shown o c done table Nothing rule own = tt
 
-ends_stream : (done : List (Act Octets)) (n : ℕ) (s : EndState) (act : StreamAct Octets) → StreamRule s.endpoint.table (connected_at s n).stream act → Own (opening_of n done) (connected_at s n) (tale n done) → EndsStream done n act
-ends_stream done n s (Work step) rule own = (end_seen (opening_of n done) (connected_at s n) (stream_acts n done) s.endpoint.table step rule own, tt)
-ends_stream done n s (Emit shown) rule own = (tt, end_shown (opening_of n done) (connected_at s n) (stream_acts n done) s.endpoint.table shown rule own)
-ends_stream done n s (Post m refused) rule own = (tt, tt)
-ends_stream done n s (Recv len refused) rule own = (tt, tt)
-ends_stream done n s (Deliver from octets delivery) rule own = (tt, tt)
-ends_stream done n s (Raw from octets delivery) rule own = (tt, tt)
-ends_stream done n s (Mulpdu size refused) rule own = (tt, tt)
-ends_stream done n s (Accept private answer) rule own = (tt, tt)
-ends_stream done n s (Reject private refused) rule own = (tt, tt)
-ends_stream done n s Break rule own = (tt, tt)
+ends_stream : (done : List (Act Octets)) (n : ℕ) (s : EndState) (c : Connected) (act : StreamAct Octets) → StreamRule s.endpoint.table c.stream act → Own (opening_of n done) c (tale n done) → EndsStream done n act
+ends_stream done n s c (Work step) rule own = (end_seen (opening_of n done) c (stream_acts n done) s.endpoint.table step rule own, tt)
+ends_stream done n s c (Emit shown) rule own = (tt, end_shown (opening_of n done) c (stream_acts n done) s.endpoint.table shown rule own)
+ends_stream done n s c (Post m refused) rule own = (tt, tt)
+ends_stream done n s c (Recv len refused) rule own = (tt, tt)
+ends_stream done n s c (Deliver from octets delivery) rule own = (tt, tt)
+ends_stream done n s c (Raw from octets delivery) rule own = (tt, tt)
+ends_stream done n s c (Mulpdu size refused) rule own = (tt, tt)
+ends_stream done n s c (Accept private answer) rule own = (tt, tt)
+ends_stream done n s c (Reject private refused) rule own = (tt, tt)
+ends_stream done n s c Break rule own = (tt, tt)
 
 pub ends_all : (trace : List (Entry Octets)) → Follows start trace → Ends trace
-ends_all trace follows = each_stream EndsStream trace follows (λ done s n act k opened rule own. ends_stream done n s act rule own)
+ends_all trace follows = each_stream EndsStream trace follows (λ done s n c act k domain rule own. ends_stream done n s c act rule own)
 
 -- the story of a stream has ended where its acts say so
 pub ended_told : (trace : List (Entry Octets)) → Follows start trace → (x : End) (n : ℕ) → has_ended (story_of n (acts x trace)).ending ≡ has_ended_by (stream_acts n (acts x trace))
 ended_told trace follows x n =
-    let own = ((seen_at trace [] trace follows (sym (append-nil trace))).pairs x n).own in
+    let own = ((seen_at trace [] trace follows (sym (append-nil trace))).pairs x n).own.own in
     ap has_ended own.emits.parts.ending ∙ own.ended
 
 -- ---- calls
@@ -906,7 +906,7 @@ stream_answered o c done table (Work step) rule own = tt
 stream_answered o c done table Break rule own = tt
 
 pub answered_all : (trace : List (Entry Octets)) → Follows start trace → Answered trace
-answered_all trace follows = each_stream AnsweredStream trace follows (λ done s n act k opened rule own. stream_answered (opening_of n done) (connected_at s n) (stream_acts n done) s.endpoint.table act rule own)
+answered_all trace follows = each_stream AnsweredStream trace follows (λ done s n c act k domain rule own. stream_answered (opening_of n done) c (stream_acts n done) s.endpoint.table act rule own)
 
 -- ---- octets that come
 
@@ -929,7 +929,7 @@ octets_kept o c done table (Work step) rule own = tt
 octets_kept o c done table Break rule own = tt
 
 pub keeps_octets : (trace : List (Entry Octets)) → Follows start trace → KeepsOctets trace
-keeps_octets trace follows = each_stream KeptStream trace follows (λ done s n act k opened rule own. octets_kept (opening_of n done) (connected_at s n) (stream_acts n done) s.endpoint.table act rule own)
+keeps_octets trace follows = each_stream KeptStream trace follows (λ done s n c act k domain rule own. octets_kept (opening_of n done) c (stream_acts n done) s.endpoint.table act rule own)
 
 -- octets that are delivered are the other end's
 octets_carried : (peer : EndState) (others : List (Act Octets)) (act : Act Octets) → ((n : ℕ) → wire_at peer n ≡ sent (stream_acts n others)) → PeerRule peer act → OnStream CarriedStream others act
@@ -945,7 +945,7 @@ pub carries_octets : (trace : List (Entry Octets)) → Follows start trace → C
 carries_octets trace follows past e future is =
     let m = moment past e future trace follows is in
     let w : State = state_after start past in
-    octets_carried (end_of (other e.end) w) (acts (other e.end) past) e.act (λ n. (m.0.pairs e.end n).own_peer.wire) m.1.1
+    octets_carried (end_of (other e.end) w) (acts (other e.end) past) e.act (λ n. (m.0.pairs e.end n).own_peer.own.wire) m.1.1
 
 -- ---- events that cannot happen
 

@@ -4,6 +4,7 @@ pub mod Seeing
 pub mod States
 pub mod Told
 pub mod Judged
+pub mod Left
 pub mod Checks
 pub mod Lists
 pub mod Joins
@@ -21,6 +22,7 @@ pub mod Reached
 pub mod Paid
 pub mod Spent
 pub mod Onces
+pub mod Releases
 pub mod Fills
 pub mod Answers
 pub mod Owns

@@ -97,7 +97,7 @@ emits_once s spans shows.Nothing o = same_once s s spans refl refl refl refl o
 -- ---- the frame at the in-order point
 
 -- where it ends
-end_here : StreamState → Carried → ℕ
+unfoldable pub end_here : StreamState → Carried → ℕ
 end_here s frame = frame_end (expecting s.start).markers (standing s frame).start (length frame.ulpdu)
 
 ends_there : (s : StreamState) (t : Tale) → Track s t → (frame : Carried) (rest : Octets) → fore s ≡ Some (frame, rest) → first_place_in s.start + end_here s frame ≡ place_past s (fore s)
@@ -198,11 +198,11 @@ places_early table s s' t k spans step frame state j found is_placed start arriv
 -- ---- a turn
 
 -- a record of a placed frame goes with it, or stays
-abbrev GoesOrStays : StreamState → Carried → Type 0
+abbrev pub GoesOrStays : StreamState → Carried → Type 0
 GoesOrStays s frame = (r : EarlyRecord) → Contains s.early r → IsPlaced r.state → (r.end ≤ end_here s frame) ⊎ (end_here s frame ≤ from_of r)
 
 -- what is kept of the frame there ends where it does
-fore_end : (s : StreamState) (f : PlacedFrame) (frame : Carried) (rest : Octets) → IsFore s f → fore s ≡ Some (frame, rest) → frame_end (expecting s.start).markers f.start f.len ≡ end_here s frame
+pub fore_end : (s : StreamState) (f : PlacedFrame) (frame : Carried) (rest : Octets) → IsFore s f → fore s ≡ Some (frame, rest) → frame_end (expecting s.start).markers f.start f.len ≡ end_here s frame
 unfolding end_here
 fore_end s f frame rest w e =
     let same : w.frame ≡ frame = (some_pair_parts _ _ _ _ (sym w.whole ∙ e)).0 in
@@ -240,7 +240,7 @@ turns_there s s' t k spans frame rest e opened start arrived front early goes o 
         ]
 
 -- none lies over a frame that is judged there
-goes_judged : (s : StreamState) (t : Tale) (k : Track s t) (frame : Carried) → clashes s (standing s frame) ≡ false → GoesOrStays s frame
+pub goes_judged : (s : StreamState) (t : Tale) (k : Track s t) (frame : Carried) → clashes s (standing s frame) ≡ false → GoesOrStays s frame
 goes_judged s t k frame clear r within is_placed =
     elim (cases_lt (from_of r) (end_here s frame)) [
       | inr past ↦ inr past
@@ -253,7 +253,7 @@ goes_judged s t k frame clear r within is_placed =
     ]
 
 -- of one that was placed before its turn the record goes, and the others stay
-goes_turned : (s : StreamState) (t : Tale) (k : Track s t) (f : PlacedFrame) (frame : Carried) (rest : Octets) → waiting s ≡ Some f → fore s ≡ Some (frame, rest) → GoesOrStays s frame
+pub goes_turned : (s : StreamState) (t : Tale) (k : Track s t) (f : PlacedFrame) (frame : Carried) (rest : Octets) → waiting s ≡ Some f → fore s ≡ Some (frame, rest) → GoesOrStays s frame
 goes_turned s t k f frame rest waits e r within is_placed = go s.front refl
   where
     ends : frame_end (expecting s.start).markers f.start f.len ≡ end_here s frame

@@ -105,11 +105,11 @@ use Rattle.iw_events.specs.declared.act.Shown.TheVariants.{Frame, Fetched, Fault
 use Rattle.iw_events.specs.declared.act.Seen.TheVariants as seen
 use Rattle.iw_laws.specs.Words.{Octets, deed, Opening, posted_by, finished_by, handed_by, size_after, received_by, ended_after, octets_shown, is_denied, sent_by, buffers_after, Sent, private_data}
 use Rattle.iw_laws.specs.Rules.{StreamRule, shown_of}
-use Rattle.iw_laws.proofs.States.{Connected, connected_after}
+use Rattle.iw_laws.proofs.States.{Connected}
 use Rattle.iw_laws.specs.Safe.{InBuffer}
 use Rattle.iw_laws.specs.Words.{OnSome}
 use Rattle.iw_laws.proofs.Nexts.{Front, fore, segment_at, turned_by, standing}
-use Rattle.iw_laws.proofs.Told.{Told, judged_payload, payload_there, payload_early, Hears, GivesUp, fault_front, left_frame, after_shown, after_act, told, left_told, asked_front, reads_front, finishes_read, with_finished}
+use Rattle.iw_laws.proofs.Told.{Told, judged_payload, payload_there, payload_early, Hears, GivesUp, fault_front, left_frame, after_shown, after_act, told, asked_front, reads_front, finishes_read, with_finished}
 use Rattle.iw_laws.proofs.Tales.{Tale, tale_after}
 use Rattle.iw_laws.proofs.Paid.{IsPaid, paying}
 use Rattle.iw_laws.proofs.Onces.{Onces, once_after}
@@ -1765,11 +1765,11 @@ doing table s t (Work (seen.Terminated fault)) rule e k = quiet_doing t (Work (s
 doing table s t (Work (seen.Fault fault)) rule e k = quiet_doing t (Work (seen.Fault fault)) refl refl (omega arith) k
 doing table s t (Work seen.Idle) rule e k = quiet_doing t (Work seen.Idle) refl refl (omega arith) k
 
-pub owning : (o : Opening) (table : Table) (c : Connected) (t : Tale) (act : StreamAct Octets) → StreamRule table c.stream act → Own o c t → Own o (connected_after table c act) (tale_after t act)
+pub owning : (o : Opening) (table : Table) (c : Connected) (t : Tale) (act : StreamAct Octets) → StreamRule table c.stream act → Own o c t → Own o (record { stream = after_act c.stream act; wire = c.wire ++ sent_by act }) (tale_after t act)
 owning o table c t act given own =
     let k = sound c.stream t own.track in
     let rule = told table c.stream act k given in
-    let next : Own o (record { stream = after_act c.stream act; wire = c.wire ++ sent_by act }) (tale_after t act) = record {
+    record {
       wire = ap (λ z. z ++ sent_by act) own.wire;
       sent = sent_is table c.stream act t.sent rule own.sent;
       lengths = lengths_are table c.stream act rule ∙ ap (λ z. buffers_after z act) own.lengths;
@@ -1783,8 +1783,7 @@ owning o table c t act given own =
       paid = paying table c.stream t act rule own.track t.acts (ended_is table c.stream act rule) own.paid;
       once = once_after table c.stream t act t.spans rule own.track own.once;
       fills = fill_after table c.stream t act rule own.due (ended_is table c.stream act rule) own.track own.fills;
-    } in
-    subst (λ z. Own o (record { stream = z; wire = c.wire ++ sent_by act }) (tale_after t act)) (sym (left_told table c.stream act k given)) next
+    }
 
 -- what an act changes lay where it may
 abbrev pub WithinTale : Table → ℕ → Tale → StreamAct Octets → Type 0

@@ -13,8 +13,9 @@ use Rattle.iw_laws.specs.Rules.{EndState, State, end_of, start, Rule, after_entr
 use Rattle.iw_laws.proofs.States.{connected_at}
 use Rattle.iw_laws.specs.Bounds.{IsShortEnd, IsShortState}
 use Rattle.iw_laws.proofs.Tales.{Tale, stream_acts-push, acts_mine, acts_other}
-use Rattle.iw_laws.proofs.Owns.{Own}
-use Rattle.iw_laws.proofs.Whole.{tale, tale_next, Seen, emits_few, one_more, unsaid, seen_after, both, acts_none}
+use Rattle.iw_stream.specs.Stream.{StreamState}
+use Rattle.iw_laws.proofs.Releases.{left_acts}
+use Rattle.iw_laws.proofs.Whole.{Holds, held, tale, tale_next, Seen, emits_few, one_more, unsaid, seen_after, both, acts_none}
 
 -- the octets emitted on a stream
 abbrev sent_on : ℕ → List (Act Octets) → ℕ
@@ -28,7 +29,7 @@ silent n done act none = stream_acts-push n done act ∙ ap (λ z. stream_acts n
 same_sent : (n : ℕ) (done : List (Act Octets)) (act : Act Octets) → stream_acts_by n act ≡ [] → sent_on n (done ++ act ∷ []) ≤ sent_on n done + 2 ^ 17
 same_sent n done act none = let same : sent_on n (done ++ act ∷ []) ≡ sent_on n done = ap (λ z. length (sent z)) (silent n done act none) in omega arith
 
-one_frame : (s peer : EndState) (done : List (Act Octets)) (act : Act Octets) (n : ℕ) → ((n : ℕ) → Own (opening_of n done) (connected_at s n) (tale n done)) → Rule s peer act
+one_frame : (s peer : EndState) (done : List (Act Octets)) (act : Act Octets) (n : ℕ) → ((n : ℕ) → Holds (opening_of n done) (connected_at s n) (tale n done)) → Rule s peer act
     → sent_on n (done ++ act ∷ []) ≤ sent_on n done + 2 ^ 17
 one_frame s peer done (Domain pd None) n p rule = same_sent n done (Domain pd None) refl
 one_frame s peer done (Domain pd (Some refusal)) n p rule = same_sent n done (Domain pd (Some refusal)) refl
@@ -42,7 +43,9 @@ one_frame s peer done (Stream m act) n p rule = go (eqb m n) refl
     go : (b : Bool) → eqb m n ≡ b → sent_on n (done ++ Stream m act ∷ []) ≤ sent_on n done + 2 ^ 17
     go false e = same_sent n done (Stream m act) (acts_none m n act e)
     go true e =
-        let few : length (sent_by act) ≤ 2 ^ 17 = emits_few (opening_of m done) s.endpoint.table (connected_at s m) (tale m done) act rule.0.1 (p m) in
+        let h = p m in
+        let there = left_acts s.endpoint.table (connected_at s m).stream h.stream (tale m done) act h.is_left h.own.track rule.0.1 in
+        let few : length (sent_by act) ≤ 2 ^ 17 = emits_few (opening_of m done) s.endpoint.table (held h) (tale m done) act there.0 h.own in
         let more : sent_on n (done ++ Stream m act ∷ []) ≡ length (sent (stream_acts n done) ++ sent_by act) =
         ap (λ (t : Tale). length t.sent) (tale_next n done m act e) in
         omega (arith, more, length-append (sent (stream_acts n done)) (sent_by act), few)
@@ -135,11 +138,15 @@ short_end trace w k few bound x = record {
   streams = λ n.
       let p = k.pairs x n in
       let mine : sent_on n (acts x trace) ≤ 2 ^ 17 * length trace = few x n in
-      record { sent = omega (arith, p.own.sent, mine, bound); point = omega (arith, p.own.paid.paid, acts_all trace x n, last_few (ended (connected_at (end_of x w) n).stream), bound) };
+      let same = p.own.is_left.has in
+      record {
+        sent = omega (arith, p.own.own.sent, ap (λ (z : StreamState). z.sent) same.same, mine, bound);
+        point = omega (arith, p.own.own.paid.paid, same.left.floor, acts_all trace x n, last_few (ended p.own.stream), bound);
+      };
   wires = λ n.
       let p = k.pairs x n in
       let mine : sent_on n (acts x trace) ≤ 2 ^ 17 * length trace = few x n in
-      omega (arith, ap length p.own.wire, mine, bound);
+      omega (arith, ap length p.own.own.wire, mine, bound);
 }
 
 pub short_state : (trace : List (Entry Octets)) → Follows start trace → length trace < 2 ^ 45 → IsShortState (state_after start trace)

@@ -53,10 +53,10 @@ use Rattle.iw_stream.specs.Frames as frames
 use Rattle.iw_stream.specs.declared.ending.Ending.TheVariants.{Over}
 use Rattle.iw_stream.specs.Ending.{last_word}
 use Rattle.iw_stream.specs.Terminating.{terminate_judged, terminate_turned, terminate_fetched}
-use Rattle.iw_stream.specs.Judging.{or_else, fault_or, is_solicited, stag_to_invalidate, invalidation_fault, send_turning, early_verdict, table_tried, verdict, answering_by, is_response, tagged_turn, segment_turn, turn_of, receiving_turned, left_by_turn, reads_left}
+use Rattle.iw_stream.specs.Judging.{or_else, fault_or, is_solicited, stag_to_invalidate, invalidation_fault, send_turning, early_verdict, table_tried, verdict, answering_by, is_response, tagged_turn, segment_turn, turn_of, receiving_turned, left_by_turn, reads_left, receiving_tried}
 use Rattle.iw_stream.specs.Starting.{StartState, AtOnce, Unheard, Heard, is_open, own_frame, awaits_frame, expecting, first_place_in, progress_in, heard, agreement_in, private_in}
 use Rattle.iw_stream.specs.Stream.{StreamState, Due, StartUp, LastWord, Response, NextPart, NoneDue, ended, ends, ends_by, due, owes_frame, is_mute, part_due, response_due, frame_of_part, frame_of_terminate, frame_fetched, reads_with, octets_due, octets_fetched, emission_due, emission_fetched, emission_of, emitted, left_due, left_fetched, with_buffer, with_request, with_mulpdu, after_emit, after_deliver, accepted, rejected, breaks}
-use Rattle.iw_stream.specs.Work.{Turn, Clash, Judge, Try, inbox, scene, next_frame, early_frame, waiting, clashes, clash_fault, hears, heard_step, turned_step, judged_step, tried_step, step_of, after_hearing, after_turn, after_judging, after_trying, left_by, table_judged, table_passed, table_left, work_step, worked, table_worked}
+use Rattle.iw_stream.specs.Work.{Task, Hear, Turn, Clash, Judge, Try, inbox, scene, next_frame, early_frame, waiting, clashes, clash_fault, hears, heard_step, turned_step, judged_step, tried_step, step_of, after_hearing, after_turn, after_judging, after_trying, left_by, table_judged, table_passed, table_left, work_step, worked, table_worked}
 use Rattle.iw_stream.specs.Work as work
 use Rattle.iw_stream.proofs.Headers.{payload_kept, turn_kept, turned_kept, left_kept}
 use Rattle.iw_stream.proofs.Tasks.{IsRunning, IsResting, by_task}
@@ -72,6 +72,7 @@ use Rattle.iw_laws.specs.Rules.{StreamRule, seen_of, shown_of}
 use Rattle.iw_laws.proofs.States.{stream_after}
 use Rattle.iw_laws.proofs.Nexts.{fore, place_past, segment_in, segment_at, turned_by, past_front, standing, Sound, none_first_here, first_is_here, past_is}
 use Rattle.iw_laws.specs.Early.{HasPlace}
+use Rattle.iw_laws.proofs.Left.{HasLeft, equal_has, trying_has}
 use Rattle.iw_laws.proofs.Seeing.{LandsTagged, LandsRequest, LandsAs, lands_as, early_lands, stands}
 
 -- ---- what an act leaves of a stream, by what is seen of it
@@ -369,6 +370,10 @@ Sees table s (seen.Fault fault) = Judged table s (seen.Fault fault) ⊎ Turned t
 abbrev Given : Table → StreamState → Seen Octets → StreamState → Type 0
 Given table s step left = Sees table s step × (left ≡ after_seen s step)
 
+-- the same, where less is left of what came
+abbrev Gives : Table → StreamState → Seen Octets → StreamState → Type 0
+Gives table s step left = Sees table s step × HasLeft left (after_seen s step)
+
 -- a Read Request that passed its checks has 28 octets of payload
 request_short : (frame : Frame) (head : UntaggedHead) (next unanswered : ℕ) → request_fault head (length frame.ulpdu - 18) next unanswered ≡ None → length frame.ulpdu ≤ 46
 request_short frame head next unanswered e = grind (arith, nat_tests, e)
@@ -554,17 +559,20 @@ module _ (table : Table) (s : StreamState) (k : Sound s) (runs : IsRunning s) wh
         λ i. option_map_or (λ f. payload_of (frames.segment_in f)) (option_or (option_map (λ (x : Carried × Octets). standing s x.0) (sym none i)) (sym is_early i)) []
 
     abbrev TriesIn : Option Landing → Type 0
-    TriesIn o = Given table s (seen_of (table_tried table frame o) private (tried_step at_place o)) (after_trying s frame o)
+    TriesIn o = Gives table s (seen_of (table_tried table frame o) private (tried_step at_place o)) (after_trying s frame o)
+
+    tries_to : (o : Option Landing) (w : StreamState) → record s { early = added s.early (record_tried frame o); receiving = receiving_tried s.receiving frame o } ≡ w → HasLeft (after_trying s frame o) w
+    tries_to o w e = subst (HasLeft (after_trying s frame o)) e (trying_has s frame o)
 
     in_place : (x : Landing) → HasPlace x → early_verdict (work.standing table s) frame ≡ Some x → LandsAs (work.standing table s) frame (Ok x) → TriesIn (Some x)
-    in_place (landing.Write p) t e w = (tagged_early 0 rights.Write p w (inl (refl, refl)) (ap (seen_tried (first_place_in s.start) frame) (sym e)), left_placed)
-    in_place (landing.Response p) t e w = (tagged_early 2 rights.Sink p w (inr (refl, refl)) (ap (seen_tried (first_place_in s.start) frame) (sym e)), left_placed)
+    in_place (landing.Write p) t e w = (tagged_early 0 rights.Write p w (inl (refl, refl)) (ap (seen_tried (first_place_in s.start) frame) (sym e)), tries_to (Some (landing.Write p)) _ left_placed)
+    in_place (landing.Response p) t e w = (tagged_early 2 rights.Sink p w (inr (refl, refl)) (ap (seen_tried (first_place_in s.start) frame) (sym e)), tries_to (Some (landing.Response p)) _ left_placed)
     in_place (landing.Send msn mo len) t e w = (
       inr (
         judged_early (seen.Buffered msn mo len) (ap (seen_tried (first_place_in s.start) frame) (sym e)),
         record { frame = frame; is_early = is_early; head = w.head; payload = w.payload; carries = w.carries; queue = w.queue; checked = w.checked; msn_is = w.msn_is; mo_is = w.mo_is; len_is = w.len_is },
       ),
-      (λ i. record (left_placed i) { receiving = written s.receiving msn mo (payload_tried i) }),
+      tries_to (Some (landing.Send msn mo len)) _ (λ i. record (left_placed i) { receiving = written s.receiving msn mo (payload_tried i) }),
     )
     in_place (landing.Request request) t e w = absurd t
     in_place (landing.Terminate fault) t e w = absurd t
@@ -573,7 +581,7 @@ module _ (table : Table) (s : StreamState) (k : Sound s) (runs : IsRunning s) wh
     tried = go (early_verdict (work.standing table s) frame) refl
       where
         go : (o : Option Landing) → early_verdict (work.standing table s) frame ≡ o → TriesIn o
-        go None e = (judged_early (seen.Tried at_place) (ap (seen_tried (first_place_in s.start) frame) (sym e)), (λ i. record s { early = with_this (λ f. states.Tried) i }))
+        go None e = (judged_early (seen.Tried at_place) (ap (seen_tried (first_place_in s.start) frame) (sym e)), tries_to None _ (λ i. record s { early = with_this (λ f. states.Tried) i }))
         go (Some x) e = let l = early_lands (work.standing table s) frame x e in in_place x l.1 e (subst (LandsAs (work.standing table s) frame) l.0 (lands_as (work.standing table s) frame))
 
   -- a frame that was placed has its turn
@@ -725,37 +733,43 @@ response_told s = go (owes_frame s) (is_mute s) (last_word s.ending) (response_d
 -- whatever the task is
 module _ (table : Table) (s : StreamState) (k : Sound s) where
   abbrev Shows : Step Octets → StreamState → Table → Type 0
-  Shows step left after = Given table s (seen_of after (private_in left.start) step) left
+  Shows step left after = Gives table s (seen_of after (private_in left.start) step) left
 
-  hearing : done_in s.queue ≡ None → ended s ≡ false → awaits_frame s.start ≡ true → Shows (heard_step s.start (inbox s) (progress_in s.start (inbox s))) (after_hearing s (progress_in s.start (inbox s))) table
+  abbrev Given_by : Step Octets → StreamState → Table → Type 0
+  Given_by step left after = Given table s (seen_of after (private_in left.start) step) left
+
+  hearing : done_in s.queue ≡ None → ended s ≡ false → awaits_frame s.start ≡ true → Given_by (heard_step s.start (inbox s) (progress_in s.start (inbox s))) (after_hearing s (progress_in s.start (inbox s))) table
   hearing none running awaits = go (progress_in s.start (inbox s)) refl
     where
       hears_to : (p : Progress) → progress_in s.start (inbox s) ≡ p → Hears s p
       hears_to p e = let u = unheard_by s.start awaits in record { running = running; startup = u.0; is = u.1; comes = e }
 
-      go : (p : Progress) → progress_in s.start (inbox s) ≡ p → Shows (heard_step s.start (inbox s) p) (after_hearing s p) table
+      go : (p : Progress) → progress_in s.start (inbox s) ≡ p → Given_by (heard_step s.start (inbox s) p) (after_hearing s p) table
       go progress.More e = ((none, inl (hears_to progress.More e)), refl)
       go progress.Asked e = ((hears_to progress.Asked e, refl), refl)
       go progress.Agreed e = ((hears_to progress.Agreed e, refl, refl), refl)
       go (progress.Faulted fault) e = (hears_to (progress.Faulted fault) e, refl)
 
+  gives : (t : Task) → Given_by (step_of table s t) (left_by table s t) (table_left table s t) → Shows (step_of table s t) (left_by table s t) (table_left table s t)
+  gives t g = (g.0, equal_has g.1)
+
   given : Shows (work_step table s) (worked table s) (table_worked table s)
   given = by_task Shows table s
-      (λ done e. ((done, e, refl), (λ i. record s { queue = handed_from s.queue (sym e i) })))
-      (λ done none over e. (record { over = over; unfinished = none; oldest = done; is = e; kind_is = refl }, (λ i. record s { queue = handed_from s.queue (sym e i) })))
-      (λ buffer none over old e. (record { over = over; unfinished = none; none = old; is = e }, refl))
-      hearing
+      (λ done e. ((done, e, refl), equal_has (λ i. record s { queue = handed_from s.queue (sym e i) })))
+      (λ done none over e. (record { over = over; unfinished = none; oldest = done; is = e; kind_is = refl }, equal_has (λ i. record s { queue = handed_from s.queue (sym e i) })))
+      (λ buffer none over old e. (record { over = over; unfinished = none; none = old; is = e }, equal_has refl))
+      (λ none running awaits. gives Hear (hearing none running awaits))
       (λ f runs e.
       let w = k.placed_is f e in
       subst (λ z. Shows (step_of table s (Turn z)) (left_by table s (Turn z)) (table_left table s (Turn z))) (sym w.is)
-      (turns table s k runs w.frame w.rest w.whole w.segment w.carries (e ∙ ap Some w.is) (private_in (left_by table s (Turn (placed (standing s w.frame)))).start)))
-      (λ frame runs unplaced e over. clashing table s k runs frame e unplaced (private_in (left_by table s (Clash frame)).start) over)
-      (λ frame runs unplaced e clear. lands table s k runs frame e unplaced (private_in (left_by table s (Judge frame)).start) clear)
+      (gives (Turn (placed (standing s w.frame))) (turns table s k runs w.frame w.rest w.whole w.segment w.carries (e ∙ ap Some w.is) (private_in (left_by table s (Turn (placed (standing s w.frame)))).start))))
+      (λ frame runs unplaced e over. gives (Clash frame) (clashing table s k runs frame e unplaced (private_in (left_by table s (Clash frame)).start) over))
+      (λ frame runs unplaced e clear. gives (Judge frame) (lands table s k runs frame e unplaced (private_in (left_by table s (Judge frame)).start) clear))
       (λ frame runs unplaced no_next e. tried table s k runs frame unplaced no_next e (private_in (left_by table s (Try frame)).start))
-      (λ none resting. ((none, inr resting), refl))
+      (λ none resting. ((none, inr resting), equal_has refl))
 
-  pub sees : (step : Seen Octets) → step ≡ seen_of (table_worked table s) (private_in (worked table s).start) (work_step table s) → Given table s step (worked table s)
-  sees step e = subst (λ z. Given table s z (worked table s)) (sym e) given
+  pub sees : (step : Seen Octets) → step ≡ seen_of (table_worked table s) (private_in (worked table s).start) (work_step table s) → Gives table s step (worked table s)
+  sees step e = subst (λ z. Gives table s z (worked table s)) (sym e) given
 
 -- the rule at a stream, with steps told apart
 abbrev pub Told : Table → StreamState → StreamAct Octets → Type 0
@@ -798,19 +812,19 @@ left_shown table s shown e = go (due s) refl (response_told s) shown e
     go (NextPart part) is t shown e = ap (left_frame s) (sym is) ∙ ap (after_shown s) (sym e)
     go NoneDue is t shown e = ap (after_shown s) (sym e)
 
-pub left_told : (table : Table) (s : StreamState) (act : StreamAct Octets) → Sound s → StreamRule table s act → stream_after table s act ≡ after_act s act
+pub left_told : (table : Table) (s : StreamState) (act : StreamAct Octets) → Sound s → StreamRule table s act → HasLeft (stream_after table s act) (after_act s act)
 left_told table s (Work step) k rule = (sees table s k step rule).1
-left_told table s (Recv len None) k rule = refl
-left_told table s (Recv len (Some refusal)) k rule = refl
-left_told table s (Post message None) k rule = refl
-left_told table s (Post message (Some refusal)) k rule = refl
-left_told table s (Emit shown) k rule = left_shown table s shown rule
-left_told table s (Deliver from octets delivery) k rule = refl
-left_told table s (Raw from octets delivery) k rule = refl
-left_told table s (Accept private (Ok agreed)) k rule = refl
-left_told table s (Accept private (Err refusal)) k rule = refl
-left_told table s (Reject private None) k rule = refl
-left_told table s (Reject private (Some refusal)) k rule = refl
-left_told table s (Mulpdu most None) k rule = refl
-left_told table s (Mulpdu most (Some refusal)) k rule = refl
-left_told table s Break k rule = refl
+left_told table s (Recv len None) k rule = equal_has refl
+left_told table s (Recv len (Some refusal)) k rule = equal_has refl
+left_told table s (Post message None) k rule = equal_has refl
+left_told table s (Post message (Some refusal)) k rule = equal_has refl
+left_told table s (Emit shown) k rule = equal_has (left_shown table s shown rule)
+left_told table s (Deliver from octets delivery) k rule = equal_has refl
+left_told table s (Raw from octets delivery) k rule = equal_has refl
+left_told table s (Accept private (Ok agreed)) k rule = equal_has refl
+left_told table s (Accept private (Err refusal)) k rule = equal_has refl
+left_told table s (Reject private None) k rule = equal_has refl
+left_told table s (Reject private (Some refusal)) k rule = equal_has refl
+left_told table s (Mulpdu most None) k rule = equal_has refl
+left_told table s (Mulpdu most (Some refusal)) k rule = equal_has refl
+left_told table s Break k rule = equal_has refl

@@ -59,6 +59,9 @@ use Rattle.iw_laws.proofs.Spent.{none_spent}
 use Rattle.iw_laws.proofs.Tales.{Tale, tale_of, tale_after, tale-push, stream_acts-push, openings-push, acts_mine, acts_other}
 use Rattle.iw_laws.proofs.Sending.{shown_good, EmitsStart, EmitsLast, EmitsPart, emits_as, terminate_small}
 use Rattle.iw_laws.proofs.Tracks.{OnStart, start_octets, Track, shown_stays}
+use Rattle.iw_laws.proofs.Left.{equal_has}
+use Rattle.iw_laws.proofs.Told.{after_act}
+use Rattle.iw_laws.proofs.Releases.{IsLeft, left_acts, nothing_given}
 use Rattle.iw_laws.proofs.Fills.{nothing_placed}
 use Rattle.iw_laws.proofs.Owns.{Own, owning, answers_part, first_fits, Emits, out_of, lives, all_spoken, word_unbroken, runs_unbroken, Unspoken, IsSmall, IsStartOf, past_start}
 use Rattle.iw_laws.proofs.Ends.{EndSeen, end_step, opens, opens_same, at_act, at_same, at_other, number_there, unopened, opening_none, opening_one}
@@ -67,10 +70,19 @@ use Rattle.iw_laws.proofs.Ends.{EndSeen, end_step, opens, opens_same, at_act, at
 abbrev pub tale : ℕ → List (Act Octets) → Tale
 tale n done = tale_of (opening_of n done) (stream_acts n done)
 
+-- a stream, as it would be had no octets of placed frames been given up
+pub record Holds (l : Opening) (c : Connected) (t : Tale) : Type 0 where
+  pub stream : StreamState
+  pub is_left : IsLeft c.stream stream
+  pub own : Own l (record { stream = stream; wire = c.wire }) t
+
+abbrev pub held : {l : Opening} {c : Connected} {t : Tale} → Holds l c t → Connected
+held {l} {c} {t} h = record { stream = h.stream; wire = c.wire }
+
 -- a stream at both ends, with what the acts say of each; where no raw octets came, what came is what the other end sent
 pub record Pair (l : Opening) (c : Connected) (t : Tale) (m : Opening) (d : Connected) (u : Tale) : Type 0 where
-  pub own : Own l c t
-  pub own_peer : Own m d u
+  pub own : Holds l c t
+  pub own_peer : Holds m d u
   pub out : u.raw ≡ false → IsOf u.story.came t.sent
   pub back : t.raw ≡ false → IsOf t.story.came u.sent
 
@@ -114,13 +126,18 @@ still_of t u Break rule h raw = h raw
 still_of t u (Work seen.Idle) rule h raw = h raw
 
 -- an act of the stream
+holding : (table : Table) (l : Opening) (c : Connected) (t : Tale) (act : StreamAct Octets) → StreamRule table c.stream act → Holds l c t → Holds l (connected_after table c act) (tale_after t act)
+holding table l c t act rule h =
+    let x = left_acts table c.stream h.stream t act h.is_left h.own.track rule in
+    record { stream = after_act h.stream act; is_left = x.1; own = owning l table (record { stream = h.stream; wire = c.wire }) t act x.0 h.own }
+
 streamed : (table : Table) (l : Opening) (c : Connected) (t : Tale) (m : Opening) (d : Connected) (u : Tale) (act : StreamAct Octets) → StreamRule table c.stream act → WireRule d.wire act → Pair l c t m d u
     → Pair l (connected_after table c act) (tale_after t act) m d u
 streamed table l c t m d u act rule wire p = record {
-  own = owning l table c t act rule p.own;
+  own = holding table l c t act rule p.own;
   own_peer = p.own_peer;
   out = λ raw. of_more u.story.came t.sent (sent_by act) (p.out raw);
-  back = still_of t u act (subst (λ z. WireRule z act) p.own_peer.wire wire) p.back;
+  back = still_of t u act (subst (λ z. WireRule z act) p.own_peer.own.wire wire) p.back;
 }
 
 -- ---- at the start, and at an opening
@@ -265,6 +282,12 @@ no_own o small = record {
   fills = nothing_placed (connected o).stream (tale_of o []) refl refl refl refl;
 }
 
+nothing_left : (o : Opening) → IsLeft (connected o).stream (connected o).stream
+nothing_left o = record { has = equal_has refl; only = nothing_given (scene (connected o).stream) held_nothing }
+
+no_holds : (o : Opening) → length o.config.private.items ≤ 512 → Holds o (connected o) (tale_of o [])
+no_holds o small = record { stream = (connected o).stream; is_left = nothing_left o; own = no_own o small }
+
 -- nothing came of it
 nothing_of : (o : Opening) (octets : List ℕ) → IsOf (tale_of o []).story.came octets
 unfolding story
@@ -273,7 +296,7 @@ nothing_of o octets = of_nothing octets
 -- a stream to which nothing has happened is opened
 reopened : (o l m : Opening) (c : Connected) (done : List (StreamAct Octets)) (d : Connected) (u : Tale) → length o.config.private.items ≤ 512 → done ≡ [] → Pair l c (tale_of l done) m d u → Pair o (connected o) (tale_of o []) m d u
 reopened o l m c done d u small none p = record {
-  own = no_own o small;
+  own = no_holds o small;
   own_peer = p.own_peer;
   out = λ raw. subst (IsOf u.story.came) (ap sent none) (p.out raw);
   back = λ raw. nothing_of o u.sent;
@@ -333,7 +356,7 @@ acted s peer done (Open m pd role options private None) n l u k rule p = go (eqb
         let now : opening_of n (done ++ act ∷ []) ≡ opening_by pd role options private =
         ap opening_in (openings-push n done act ∙ (λ i. before i ++ opening_one (eqb m n) (opening_by pd role options private) e i)) in
         let silent : stream_acts n (done ++ act ∷ []) ≡ [] = stream_acts-push n done act ∙ ap (λ z. z ++ []) (k.unused n closed) in
-        let quiet : [] ≡ wire_at (end_after s act) n = sym (p.own.wire ∙ ap sent (k.unused n closed) ∙ nothing_sent) in
+        let quiet : [] ≡ wire_at (end_after s act) n = sym (p.own.own.wire ∙ ap sent (k.unused n closed) ∙ nothing_sent) in
         moved l (connected_at peer n) u (sym now) (λ i. record { stream = unwrap_or (sym here i) no_stream; wire = quiet i }) (λ i. tale_of (sym now i) (sym silent i))
         (reopened (opening_by pd role options private) (opening_of n done) l (connected_at s n) (stream_acts n done) (connected_at peer n) u (omega (arith, length-take 512 private)) (k.unused n closed) p)
 acted s peer done (Stream m act) n l u k rule p = go (eqb m n) refl
@@ -492,8 +515,8 @@ state_after-push (x ∷ xs) e w = state_after-push xs e (after_entry w x)
 
 no_pair : Pair no_opening unconnected (tale_of no_opening []) no_opening unconnected (tale_of no_opening [])
 no_pair = record {
-  own = no_own no_opening (omega arith);
-  own_peer = no_own no_opening (omega arith);
+  own = no_holds no_opening (omega arith);
+  own_peer = no_holds no_opening (omega arith);
   out = λ raw. nothing_of no_opening (tale_of no_opening []).sent;
   back = λ raw. nothing_of no_opening (tale_of no_opening []).sent;
 }
