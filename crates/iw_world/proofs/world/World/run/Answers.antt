@@ -135,7 +135,7 @@ returns-in-Err-NotSent-clause-refused g c =
       split = sym (take-append-drop i c.args.events.now) ∙ (λ j. sym c.loop-event.invariant.events j ++ (more ∙ ap (λ z. z ∷ drop (i + 1) c.args.events.now) (sym c.event-item.is)) j);
       number = search rules;
       follows = c.loop-event.invariant.follows;
-      is_so = asks_not_sent (end_of event.end w) (end_of (other event.end) w) (acts event.end trace) (acts (other event.end) trace) event.call (seen.ends event.end) (seen.ends (other event.end)) (λ n. (seen.pairs event.end n).own_peer.wire) asks;
+      is_so = asks_not_sent (end_of event.end w) (end_of (other event.end) w) (acts event.end trace) (acts (other event.end) trace) event.call (seen.ends event.end) (seen.ends (other event.end)) (λ n. (seen.pairs event.end n).own_peer.own.wire) asks;
     }
 
 pub returns-clause-events : goal.returns-clause-events
