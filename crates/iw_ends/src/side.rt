@@ -5,8 +5,8 @@ use crate::meter::{Call, Heap, MOST_TRIES, Meter, Stopped};
 use crate::wire::Wire;
 use bytes::Bytes;
 use iw_endpoint::{
-    CallRefusal, Config, Delivery, Emission, Endpoint, NoSuchStream, Octets, OpenRefusal,
-    PostRefusal, RecvRefusal, RegisterRefusal, Request, Rights, Role, Stag, Step,
+    Agreed, CallRefusal, Config, Delivery, Emission, Endpoint, NoSuchStream, Octets, OpenRefusal,
+    PostRefusal, RecvRefusal, RegisterRefusal, Request, Right, Rights, Role, Stag, Step,
 };
 use iw_events::{Act, Options, Seen, Shown, StreamAct, StreamCall};
 use std::alloc::AllocError;
@@ -26,6 +26,8 @@ type Answer<'h> = Result<Act<Bytes<Heap<'h>>>, Stopped>;
 
 type StreamAnswer<'h> = Result<StreamAct<Bytes<Heap<'h>>>, Stopped>;
 
+type SeenStep<'h> = Result<Seen<Bytes<Heap<'h>>>, Stopped>;
+
 // A stream that has the number.
 fn there<T>(answer: Result<T, NoSuchStream>) -> Result<T, Stopped> {
     answer.map_err(|_| Stopped::NoSuchStream)
@@ -40,6 +42,25 @@ fn endpoint<'h>(meter: &mut Meter<'h>) -> Result<Endpoint<Heap<'h>>, Stopped> {
         }
     }
     Err(Stopped::Endless(Call::New))
+}
+
+fn see_flushed<'h>(buffer: Octets<Heap<'h>>) -> SeenStep<'h> {
+    let len = buffer.len();
+    Ok(Seen::FlushedRecv(message_in(buffer, len)?))
+}
+
+fn see_received<'h>(
+    buffer: Octets<Heap<'h>>,
+    len: usize,
+    solicited: bool,
+    invalidate: Option<Stag>,
+) -> SeenStep<'h> {
+    let octets = message_in(buffer, len)?;
+    Ok(Seen::Received {
+        octets,
+        solicited,
+        invalidate,
+    })
 }
 
 impl<'h> Side<'h> {
@@ -471,34 +492,48 @@ impl<'h> Side<'h> {
         }
     }
 
+    fn see_asked(&self, meter: &mut Meter<'h>, number: u8) -> SeenStep<'h> {
+        let private = self.private(meter, number)?;
+        Ok(Seen::Asked { private })
+    }
+
+    fn see_opened(&self, meter: &mut Meter<'h>, number: u8, agreed: Agreed) -> SeenStep<'h> {
+        let private = self.private(meter, number)?;
+        Ok(Seen::Opened { agreed, private })
+    }
+
+    fn see_placed(
+        &self,
+        meter: &mut Meter<'h>,
+        right: Right,
+        stag: Stag,
+        to: u64,
+        len: usize,
+    ) -> SeenStep<'h> {
+        let octets = self.placed(meter, stag, to, len)?;
+        Ok(Seen::Placed {
+            right,
+            stag,
+            to,
+            octets,
+        })
+    }
+
     // Does one step, and shows it.
-    fn see(&mut self, meter: &mut Meter<'h>, number: u8) -> Result<Seen<Bytes<Heap<'h>>>, Stopped> {
+    fn see(&mut self, meter: &mut Meter<'h>, number: u8) -> SeenStep<'h> {
         match self.work(meter, number)? {
             Step::Done(kind) => Ok(Seen::Done(kind)),
             Step::Flushed(kind) => Ok(Seen::Flushed(kind)),
-            Step::FlushedRecv(buffer) => {
-                let len = buffer.len();
-                Ok(Seen::FlushedRecv(message_in(buffer, len)?))
-            }
-            Step::Asked => Ok(Seen::Asked {
-                private: self.private(meter, number)?,
-            }),
-            Step::Opened(agreed) => Ok(Seen::Opened {
-                agreed,
-                private: self.private(meter, number)?,
-            }),
+            Step::FlushedRecv(buffer) => see_flushed(buffer),
+            Step::Asked => self.see_asked(meter, number),
+            Step::Opened(agreed) => self.see_opened(meter, number, agreed),
             Step::Closed(fault) => Ok(Seen::Closed(fault)),
             Step::Placed {
                 right,
                 stag,
                 to,
                 len,
-            } => Ok(Seen::Placed {
-                right,
-                stag,
-                to,
-                octets: self.placed(meter, stag, to, len)?,
-            }),
+            } => self.see_placed(meter, right, stag, to, len),
             Step::Buffered { msn, mo, len } => Ok(Seen::Buffered { msn, mo, len }),
             Step::Requested { size, stag, to } => Ok(Seen::Requested { size, stag, to }),
             Step::Passed => Ok(Seen::Passed),
@@ -508,11 +543,7 @@ impl<'h> Side<'h> {
                 len,
                 solicited,
                 invalidate,
-            } => Ok(Seen::Received {
-                octets: message_in(buffer, len)?,
-                solicited,
-                invalidate,
-            }),
+            } => see_received(buffer, len, solicited, invalidate),
             Step::Terminated(fault) => Ok(Seen::Terminated(fault)),
             Step::Fault(fault) => Ok(Seen::Fault(fault)),
             Step::Idle => Ok(Seen::Idle),

@@ -146,6 +146,46 @@ fn say<W: Output>(
     }
 }
 
+// The start-up of a connecting end: writes its Request, and reads until the peer's Reply has come, or the stream has ended.
+fn start_up<R: Read, W: Write>(
+    endpoint: &mut Endpoint,
+    link: &mut Link,
+    out: &mut Vec<u8>,
+    input: &mut Counted<R>,
+    output: &mut W,
+    buffer: &mut [u8],
+) -> Result<(), Broken>
+    requires reads { input.old.reads ≤ 1000000 }
+    requires room { 0 < length buffer.old }
+    ensures number { link.new.number ≡ link.old.number }
+    ensures ok { OnOk result (Exchanged link.old.number (standing endpoint.old link.old)
+        (R.remaining input.old.reader) (W.contents output.old)
+        (standing endpoint.new link.new) (R.remaining input.new.reader) (W.contents output.new)) }
+    ensures err { OnErr result (Failed link.old.number (standing endpoint.old link.old)
+        (R.remaining input.old.reader) (W.contents output.old)
+        (standing endpoint.new link.new) (R.remaining input.new.reader) (W.contents output.new)) }
+    ensures bounded { input.new.reads ≤ 1000000 }
+    ensures room { length buffer.new ≡ length buffer.old }
+{
+    match speak(endpoint, link, out, output) {
+        Ok(()) => {}
+        Err(fault) => return Err(fault),
+    }
+    match hear(
+        Until::Reply,
+        endpoint,
+        link,
+        &[],
+        out,
+        input,
+        output,
+        buffer,
+    ) {
+        Ok(_) => Ok(()),
+        Err(fault) => Err(fault),
+    }
+}
+
 // A connecting end's part, once its stream was opened.
 fn speak_to<R: Read, W: Output>(
     alloc: Global,
@@ -174,21 +214,8 @@ fn speak_to<R: Read, W: Output>(
         Err(fault) => return Err(fault),
     }
     let mut out = Vec::new(alloc);
-    match speak(endpoint, link, &mut out, output) {
+    match start_up(endpoint, link, &mut out, input, output, buffer) {
         Ok(()) => {}
-        Err(fault) => return Err(fault),
-    }
-    match hear(
-        Until::Reply,
-        endpoint,
-        link,
-        &[],
-        &mut out,
-        input,
-        output,
-        buffer,
-    ) {
-        Ok(_) => {}
         Err(fault) => return Err(fault),
     }
     match say(alloc, endpoint, link, text, &mut out, output) {
