@@ -6,11 +6,12 @@
  * 1. opens a handle (iwarp_new), adds a domain (iwarp_add_domain), and registers what peers may use (iwarp_register);
  * 2. opens a stream for each connection (iwarp_open), and posts receive buffers (iwarp_post_recv);
  * 3. when octets came: hands them in with the number of octets that came before them (iwarp_deliver), and calls
- *    iwarp_work until it tells IWARP_IDLE. At IWARP_ASKED it calls iwarp_accept or iwarp_reject and goes on;
+ *    iwarp_work_on, or iwarp_work, until it tells IWARP_IDLE. At IWARP_ASKED it calls iwarp_accept or iwarp_reject and
+ *    goes on;
  * 4. when it may write: calls iwarp_emit until it tells IWARP_NOTHING, and writes out what each call gave;
  * 5. once IWARP_OPENED was told, or iwarp_accept was called: posts Writes, Sends and Reads (iwarp_post_write and so on),
  *    then does 4;
- * 6. when the connection closed: calls iwarp_break, and iwarp_work until IWARP_IDLE, which hands back what was posted.
+ * 6. when the connection closed: calls iwarp_break, and iwarp_work_on until IWARP_IDLE, which hands back what was posted.
  *
  * A caller must uphold, at each call:
  *
@@ -25,7 +26,8 @@
  * - The program's malloc, realloc and free are of one allocator, and align to 16.
  *
  * Each function but iwarp_free returns IWARP_OK, or the first reason that holds why it did nothing. Where it is not
- * IWARP_OK, the handle and all that the call may write are as they were, but for a length that is told with IWARP_NO_ROOM.
+ * IWARP_OK, the handle and all that the call may write are as they were, but for a length that is told with IWARP_NO_ROOM,
+ * and for the steps that iwarp_work_on has done by then.
  * IWARP_NO_MEMORY comes where malloc refused; the call may be made again. What a call copies it copies before its other
  * checks, so that IWARP_NO_MEMORY can come in place of another reason there.
  *
@@ -248,6 +250,11 @@ struct iwarp_event {
 /* Does one step at a stream. To be called until it tells IWARP_IDLE: after octets were delivered, after some were emitted, and
  * after iwarp_break. A message or buffer that it tells stays for iwarp_fetch until the next one that is told on this handle. */
 int32_t iwarp_work(struct iwarp *handle, uint8_t stream, struct iwarp_event *event);
+
+/* Calls iwarp_work as often as it is IWARP_OK and tells IWARP_PLACED, IWARP_BUFFERED, IWARP_REQUESTED, IWARP_PASSED or
+ * IWARP_TRIED, at most 4,096 times, and returns and tells what the last of these calls does. So it tells what the program has
+ * to act on, IWARP_IDLE, or, after 4,096 steps, one of those. Where a call is refused, the steps before it are done. */
+int32_t iwarp_work_on(struct iwarp *handle, uint8_t stream, struct iwarp_event *event);
 
 /* Copies the message or buffer that was told last to the front of `out`, and gives it up. `*n` is how many octets it has, with
  * IWARP_NO_ROOM too; 0 where there is none. */

@@ -1,21 +1,25 @@
 /* What calls cost through the C interface, beside the same calls from Rattle (crates/handle_bench), in one run, by turns: the
- * least of many rounds of each. */
+ * median of many rounds of each, in processor time. */
 #define _POSIX_C_SOURCE 199309L
 #include "../../include/iwarp.h"
 #include <stdio.h>
+#include <stdlib.h>
 #include <string.h>
 #include <time.h>
 
-enum { CALLS = 2000000, ROUNDS = 15, WRITES = 200, REGION = 65536 };
+enum { CALLS = 200000, ROUNDS = 101, WRITES = 200, REGION = 65536 };
 
 uint64_t handle_bench_idle(uint64_t calls);
 uint64_t handle_bench_write(const uint8_t *frames, size_t n, uint64_t writes);
 
-static uint8_t octets[REGION], frames[2 * REGION], frame[66000];
+static uint8_t octets[REGION], written[REGION], frames[2 * REGION], frame[66000];
 
+typedef int32_t working(struct iwarp *, uint8_t, struct iwarp_event *);
+
+/* Processor time, in nanoseconds. */
 static double now(void) {
     struct timespec time;
-    clock_gettime(CLOCK_MONOTONIC, &time);
+    clock_gettime(CLOCK_PROCESS_CPUTIME_ID, &time);
     return 1e9 * (double)time.tv_sec + (double)time.tv_nsec;
 }
 
@@ -26,13 +30,10 @@ static void opened(struct iwarp *end, uint32_t *stag) {
     iwarp_open(end, 0, 1, IWARP_PRESET, 0, octets, 0);
 }
 
-static uint64_t work(struct iwarp *end) {
+/* Works until there is nothing to do. */
+static void work_off(struct iwarp *end, working *work) {
     struct iwarp_event event;
-    uint64_t steps = 0;
-    for (;;) {
-        if (iwarp_work(end, 0, &event) != IWARP_OK || event.kind == IWARP_IDLE) return steps;
-        steps++;
-    }
+    while (work(end, 0, &event) == IWARP_OK && event.kind != IWARP_IDLE) {}
 }
 
 static double idle_in_c(void) {
@@ -53,23 +54,26 @@ static double idle_in_rattle(void) {
     return (now() - from) / CALLS;
 }
 
-static double writes_in_c(size_t n, uint64_t *steps) {
+/* The octets of the last Write must have been placed. */
+static double writes_in_c(size_t n, working *work) {
+    static uint8_t placed[REGION];
     struct iwarp end = IWARP_CLOSED;
     uint32_t stag, kept;
     double from = now();
-    *steps = 0;
     opened(&end, &stag);
     for (uint64_t i = 0; i < WRITES; i++) {
         iwarp_deliver(&end, 0, i * n, frames, n, &kept);
-        *steps += work(&end);
+        work_off(&end, work);
     }
+    double took = now() - from;
+    if (iwarp_load(&end, stag, 0, placed, REGION) != IWARP_OK || memcmp(placed, written, REGION) != 0) exit(1);
     iwarp_free(&end);
-    return (now() - from) / WRITES;
+    return took / WRITES;
 }
 
-static double writes_in_rattle(size_t n, uint64_t *steps) {
+static double writes_in_rattle(size_t n) {
     double from = now();
-    *steps = handle_bench_write(frames, n, WRITES);
+    if (handle_bench_write(frames, n, WRITES) == 0) exit(1);
     return (now() - from) / WRITES;
 }
 
@@ -80,7 +84,8 @@ static size_t emitted(void) {
     uint32_t stag;
     size_t n, all = 0;
     opened(&end, &stag);
-    iwarp_post_write(&end, 0, stag, 0, octets, REGION);
+    for (int i = 0; i < REGION; i++) written[i] = (uint8_t)(i * 31 >> 3);
+    iwarp_post_write(&end, 0, stag, 0, written, REGION);
     while (iwarp_emit(&end, 0, frame, sizeof frame, &n, &emission) == IWARP_OK && emission.kind == IWARP_FRAME) {
         memcpy(frames + all, frame, n);
         all += n;
@@ -89,21 +94,30 @@ static size_t emitted(void) {
     return all;
 }
 
-static double least(double a, double b) { return a < b ? a : b; }
+static int above(const void *a, const void *b) {
+    double x = *(const double *)a, y = *(const double *)b;
+    return (x > y) - (x < y);
+}
+
+static double median(double *times) {
+    qsort(times, ROUNDS, sizeof *times, above);
+    return times[ROUNDS / 2];
+}
 
 int main(void) {
-    double c = 1e18, rattle = 1e18, c_write = 1e18, rattle_write = 1e18;
-    uint64_t steps = 0, others = 0;
+    static double c[ROUNDS], rattle[ROUNDS], stepwise[ROUNDS], at_once[ROUNDS], write[ROUNDS];
     size_t n = emitted();
     for (int i = 0; i < ROUNDS; i++) {
-        c = least(c, idle_in_c());
-        rattle = least(rattle, idle_in_rattle());
-        c_write = least(c_write, writes_in_c(n, &steps));
-        rattle_write = least(rattle_write, writes_in_rattle(n, &others));
+        c[i] = idle_in_c();
+        rattle[i] = idle_in_rattle();
+        stepwise[i] = writes_in_c(n, iwarp_work);
+        at_once[i] = writes_in_c(n, iwarp_work_on);
+        write[i] = writes_in_rattle(n);
     }
-    if (steps != others || steps == 0) return 1;
-    printf("a call with nothing to do: %.1f ns in C, %.1f ns in Rattle, %.1f ns more\n", c, rattle, c - rattle);
-    printf("a Write of 64 KiB, delivered and worked off in %d steps: %.0f ns in C, %.0f ns in Rattle, %+.1f %%\n",
-           (int)(steps / WRITES), c_write, rattle_write, 100 * (c_write / rattle_write - 1));
+    double call = median(c), same = median(rattle), one = median(stepwise), all = median(at_once), base = median(write);
+    printf("a call with nothing to do: %.1f ns in C, %.1f ns in Rattle, %.1f ns more\n", call, same, call - same);
+    printf("a Write of 64 KiB, delivered and worked off: %.0f ns in Rattle\n", base);
+    printf("  by iwarp_work_on: %.0f ns, %+.1f %%\n", all, 100 * (all / base - 1));
+    printf("  by iwarp_work, step by step: %.0f ns, %+.1f %%\n", one, 100 * (one / base - 1));
     return 0;
 }

@@ -49,7 +49,7 @@ static void work(const char *text) {
     struct iwarp_event event;
     size_t n;
     for (;;) {
-        must(iwarp_work(&end, STREAM, &event), "work");
+        must(iwarp_work_on(&end, STREAM, &event), "work_on");
         switch (event.kind) {
         case IWARP_IDLE:
             return;

@@ -91,7 +91,7 @@ static void work(uint8_t number) {
     struct connection *connection = &connections[number];
     struct iwarp_event event;
     for (;;) {
-        must(iwarp_work(&end, number, &event), "work");
+        must(iwarp_work_on(&end, number, &event), "work_on");
         switch (event.kind) {
         case IWARP_IDLE:
             return;
@@ -110,7 +110,7 @@ static void work(uint8_t number) {
             printf("stream %d closed %d\n", number, (int)event.code);
             connection->failed = 1;
             break;
-        default: /* octets were placed, a message is done, or something posted is handed back */
+        default: /* a message is done, or something posted is handed back */
             break;
         }
     }

@@ -1,8 +1,8 @@
-//! An iWARP endpoint for C: `include/iwarp.h` declares these functions, and says in C's words what their contracts say here.
-//! Each is one call of [`iw_handle::Handle`]. A `Global` takes no bytes, so C passes nothing for one.
+//! An iWARP endpoint for C: `include/iwarp.h` declares these functions, and says in C's words what their contracts say
+//! here. Each is one call of [`iw_handle::Handle`]. A `Global` takes no bytes, so C passes nothing for one.
 //!
-//! What C has to uphold stands in no clause, since it is what the types say: a handle is closed (null), or as a call left it,
-//! and it is in one place. A copy of an open handle is none.
+//! What C has to uphold stands in no clause, since it is what the types say: a handle is closed (null), or as a call
+//! left it, and it is in one place. A copy of an open handle is none.
 #![tactic(auto)]
 
 mod octets;
@@ -17,7 +17,7 @@ ghost use Rattle.iw_handle.specs.Refusals.{code_of, domain_reason};
 ghost use Rattle.iw_handle.specs.State.{open_with, refusal_in, changed};
 
 use iw_handle::{Handle, code};
-pub use octets::{iwarp_deliver, iwarp_emit, iwarp_fetch, iwarp_work};
+pub use octets::{iwarp_deliver, iwarp_emit, iwarp_fetch, iwarp_work, iwarp_work_on};
 pub use posting::{iwarp_post_read, iwarp_post_recv, iwarp_post_send, iwarp_post_write};
 pub use regions::{
     iwarp_deregister, iwarp_facts, iwarp_invalidate, iwarp_load, iwarp_register, iwarp_store,
@@ -49,7 +49,8 @@ pub extern "C" fn iwarp_free(alloc: Global, handle: &mut Handle)
 /// Adds a domain with no region and no stream.
 #[unsafe(no_mangle)]
 pub extern "C" fn iwarp_add_domain(alloc: Global, handle: &mut Handle, pd: u8) -> i32
-    ensures code { result ≡ pos (code_of (refusal_in handle.old.state (λ e. option_map domain_reason (domain_refusal e pd)))) }
+    ensures code { result ≡ pos
+        (code_of (refusal_in handle.old.state (λ e. option_map domain_reason (domain_refusal e pd)))) }
     ensures ok { result ≡ pos 0 → handle.new.state ≡ changed handle.old.state (λ e. added e pd) }
     ensures err { result ≢ pos 0 → handle.new.state ≡ handle.old.state }
 {

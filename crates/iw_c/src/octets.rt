@@ -1,19 +1,21 @@
 // Octets that come and go.
-ghost use Rattle.std.specs.Prelude.{◌≡◌, ◌≢◌, ◌⊎◌, pos, Some, length, IfSome, IfNone};
+ghost use Rattle.std.specs.Prelude.{◌≡◌, ◌≢◌, ◌⊎◌, pos, None, Some, length, IfSome, IfNone, IsSomeAnd};
 ghost use Rattle.iw_endpoint.specs.Endpoint.{delivery_at, after_deliver, step_at, emission_at, after_emit};
 ghost use Rattle.iw_handle.specs.Events.{kept_number, event_at, emitted_of, IsFrame};
 ghost use Rattle.iw_handle.specs.Refusals.{code_of, refusal_code};
 ghost use Rattle.iw_handle.specs.State.{refusal_in, changed, told_in, shown_in, stream_refusal};
 ghost use Rattle.iw_handle.specs.State.{copy_refusal, filled, length_told};
 ghost use Rattle.iw_handle.specs.Streams.{refusal_to_work, refusal_to_emit, due_shown};
+ghost use Rattle.iw_handle.specs.Steps.{TellsOn};
+ghost use Rattle.iw_handle.specs.declared.working.TheConstants.{QUIET_STEPS};
 ghost use Rattle.iw_handle.specs.Streams.{BringsAt, TriesAt, worked, handed_in, fetched};
 ghost use Rattle.iw_handle.specs.declared.refusal.Refusal.TheVariants.{Closed};
 
 use iw_handle::{Emitted, Event, Handle, code, kept_number};
 use std::alloc::Global;
 
-/// Takes octets that came on a stream's connection, the first of them at the stream place `from`, and tells whether they
-/// are kept (1) or dropped (0).
+/// Takes octets that came on a stream's connection, the first of them at the stream place `from`, and tells whether
+/// they are kept (1) or dropped (0).
 #[unsafe(no_mangle)]
 pub extern "C" fn iwarp_deliver(
     alloc: Global,
@@ -23,12 +25,17 @@ pub extern "C" fn iwarp_deliver(
     octets: &[u8],
     kept: &mut u32,
 ) -> i32
-    ensures refused { IfSome (refusal_in handle.old.state (λ e. stream_refusal e number)) (λ r. result ≡ pos (refusal_code r)) }
-    ensures memory { IfNone (refusal_in handle.old.state (λ e. stream_refusal e number)) ((result ≡ pos 0) ⊎ (result ≡ pos 3)) }
-    ensures want { IfSome handle.old.state (λ held. result ≡ pos 3 → BringsAt held.endpoint number from (length octets.now)) }
-    ensures delivery { result ≡ pos 0 → Some kept.new ≡ told_in handle.old.state (λ e. kept_number (delivery_at e number from (length octets.now))) }
+    ensures refused { IfSome (refusal_in handle.old.state (λ e. stream_refusal e number))
+        (λ r. result ≡ pos (refusal_code r)) }
+    ensures memory { IfNone (refusal_in handle.old.state (λ e. stream_refusal e number))
+        ((result ≡ pos 0) ⊎ (result ≡ pos 3)) }
+    ensures want { IfSome handle.old.state
+        (λ held. result ≡ pos 3 → BringsAt held.endpoint number from (length octets.now)) }
+    ensures delivery { result ≡ pos 0 → Some kept.new ≡ told_in handle.old.state
+        (λ e. kept_number (delivery_at e number from (length octets.now))) }
     ensures kept { result ≢ pos 0 → kept.new ≡ kept.old }
-    ensures ok { result ≡ pos 0 → handle.new.state ≡ changed handle.old.state (λ e. after_deliver e number from octets.now) }
+    ensures ok { result ≡ pos 0 → handle.new.state ≡ changed handle.old.state
+        (λ e. after_deliver e number from octets.now) }
     ensures err { result ≢ pos 0 → handle.new.state ≡ handle.old.state }
 {
     let done = handle.deliver(alloc, number, from, octets);
@@ -46,19 +53,33 @@ pub extern "C" fn iwarp_work(
     number: u8,
     event: &mut Event,
 ) -> i32
-    ensures refused { IfSome (refusal_in handle.old.state (λ e. refusal_to_work e number)) (λ r. result ≡ pos (refusal_code r)) }
-    ensures memory { IfNone (refusal_in handle.old.state (λ e. refusal_to_work e number)) ((result ≡ pos 0) ⊎ (result ≡ pos 3)) }
+    ensures refused { IfSome (refusal_in handle.old.state (λ e. refusal_to_work e number))
+        (λ r. result ≡ pos (refusal_code r)) }
+    ensures memory { IfNone (refusal_in handle.old.state (λ e. refusal_to_work e number))
+        ((result ≡ pos 0) ⊎ (result ≡ pos 3)) }
     ensures want { result ≡ pos 3 → IfSome handle.old.state (λ held. TriesAt held.endpoint number) }
     ensures event { result ≡ pos 0 → Some event.new ≡ told_in handle.old.state (λ e. event_at (step_at e number)) }
     ensures kept { result ≢ pos 0 → event.new ≡ event.old }
     ensures ok { result ≡ pos 0 → handle.new.state ≡ worked handle.old.state number }
     ensures err { result ≢ pos 0 → handle.new.state ≡ handle.old.state }
 {
-    let done = handle.work(alloc, number);
-    if let Ok(told) = done {
-        *event = told;
-    }
-    code(done.err())
+    code(handle.work(alloc, number, event).err())
+}
+
+/// Does steps at a stream until one that the program has to act on, and tells that one in numbers.
+#[unsafe(no_mangle)]
+pub extern "C" fn iwarp_work_on(
+    alloc: Global,
+    handle: &mut Handle,
+    number: u8,
+    event: &mut Event,
+) -> i32
+    ensures closed { handle.old.state ≡ None → (result ≡ pos 1) × (handle.new.state ≡ None) }
+    ensures steps { IfSome handle.old.state (λ held.
+        IsSomeAnd handle.new.state (λ after. TellsOn QUIET_STEPS held number result event.new after)) }
+    ensures kept { result ≢ pos 0 → event.new ≡ event.old }
+{
+    code(handle.work_on(alloc, number, event).err())
 }
 
 /// Copies to the front of a buffer what `work` handed back last, which is then no longer kept.
@@ -89,11 +110,14 @@ pub extern "C" fn iwarp_emit(
     len: &mut usize,
     emitted: &mut Emitted,
 ) -> i32
-    ensures refused { IfSome (refusal_in handle.old.state (λ e. refusal_to_emit e number (length out.old))) (λ r. result ≡ pos (refusal_code r)) }
-    ensures memory { IfNone (refusal_in handle.old.state (λ e. refusal_to_emit e number (length out.old))) ((result ≡ pos 0) ⊎ (result ≡ pos 3)) }
+    ensures refused { IfSome (refusal_in handle.old.state (λ e. refusal_to_emit e number (length out.old)))
+        (λ r. result ≡ pos (refusal_code r)) }
+    ensures memory { IfNone (refusal_in handle.old.state (λ e. refusal_to_emit e number (length out.old)))
+        ((result ≡ pos 0) ⊎ (result ≡ pos 3)) }
     ensures want { result ≡ pos 3 → IfSome handle.old.state (λ held. IsFrame (emission_at held.endpoint number)) }
     ensures len { len.new ≡ length_told (shown_in handle.old.state (λ e. due_shown e number)) len.old }
-    ensures emitted { result ≡ pos 0 → Some emitted.new ≡ told_in handle.old.state (λ e. emitted_of (emission_at e number)) }
+    ensures emitted { result ≡ pos 0 → Some emitted.new ≡ told_in handle.old.state
+        (λ e. emitted_of (emission_at e number)) }
     ensures untold { result ≢ pos 0 → emitted.new ≡ emitted.old }
     ensures octets { result ≡ pos 0 → out.new ≡ filled (shown_in handle.old.state (λ e. due_shown e number)) out.old }
     ensures kept { result ≢ pos 0 → out.new ≡ out.old }

@@ -21,9 +21,14 @@ pub extern "C" fn iwarp_post_send(
     stag: u32,
 ) -> i32
     // The code of the refusal, where one applies, or want of memory.
-    ensures refused { IfSome (refusal_in handle.old.state (λ e. refusal_to_post e number (send_of octets.now (has_bit flags 1) (invalidated_by flags stag)))) (λ r. (result ≡ pos 3) ⊎ (result ≡ pos (refusal_code r))) }
-    ensures memory { IfNone (refusal_in handle.old.state (λ e. refusal_to_post e number (send_of octets.now (has_bit flags 1) (invalidated_by flags stag)))) ((result ≡ pos 0) ⊎ (result ≡ pos 3)) }
-    ensures ok { result ≡ pos 0 → handle.new.state ≡ changed handle.old.state (λ e. with_request e number (send_of octets.now (has_bit flags 1) (invalidated_by flags stag))) }
+    ensures refused { IfSome (refusal_in handle.old.state
+        (λ e. refusal_to_post e number (send_of octets.now (has_bit flags 1) (invalidated_by flags stag))))
+        (λ r. (result ≡ pos 3) ⊎ (result ≡ pos (refusal_code r))) }
+    ensures memory { IfNone (refusal_in handle.old.state
+        (λ e. refusal_to_post e number (send_of octets.now (has_bit flags 1) (invalidated_by flags stag))))
+        ((result ≡ pos 0) ⊎ (result ≡ pos 3)) }
+    ensures ok { result ≡ pos 0 → handle.new.state ≡ changed handle.old.state
+        (λ e. with_request e number (send_of octets.now (has_bit flags 1) (invalidated_by flags stag))) }
     ensures err { result ≢ pos 0 → handle.new.state ≡ handle.old.state }
 {
     let invalidate = invalidated_by(flags, stag);
@@ -45,9 +50,14 @@ pub extern "C" fn iwarp_post_write(
     octets: &[u8],
 ) -> i32
     // The code of the refusal, where one applies, or want of memory.
-    ensures refused { IfSome (refusal_in handle.old.state (λ e. refusal_to_post e number (write_of (stag_of stag) to octets.now))) (λ r. (result ≡ pos 3) ⊎ (result ≡ pos (refusal_code r))) }
-    ensures memory { IfNone (refusal_in handle.old.state (λ e. refusal_to_post e number (write_of (stag_of stag) to octets.now))) ((result ≡ pos 0) ⊎ (result ≡ pos 3)) }
-    ensures ok { result ≡ pos 0 → handle.new.state ≡ changed handle.old.state (λ e. with_request e number (write_of (stag_of stag) to octets.now)) }
+    ensures refused { IfSome
+        (refusal_in handle.old.state (λ e. refusal_to_post e number (write_of (stag_of stag) to octets.now)))
+        (λ r. (result ≡ pos 3) ⊎ (result ≡ pos (refusal_code r))) }
+    ensures memory { IfNone
+        (refusal_in handle.old.state (λ e. refusal_to_post e number (write_of (stag_of stag) to octets.now)))
+        ((result ≡ pos 0) ⊎ (result ≡ pos 3)) }
+    ensures ok { result ≡ pos 0 → handle.new.state ≡ changed handle.old.state
+        (λ e. with_request e number (write_of (stag_of stag) to octets.now)) }
     ensures err { result ≢ pos 0 → handle.new.state ≡ handle.old.state }
 {
     code(
@@ -69,9 +79,14 @@ pub extern "C" fn iwarp_post_read(
     source: u32,
     source_to: u64,
 ) -> i32
-    ensures refused { IfSome (refusal_in handle.old.state (λ e. refusal_to_post e number (read_of (read_request sink sink_to size source source_to)))) (λ r. result ≡ pos (refusal_code r)) }
-    ensures memory { IfNone (refusal_in handle.old.state (λ e. refusal_to_post e number (read_of (read_request sink sink_to size source source_to)))) ((result ≡ pos 0) ⊎ (result ≡ pos 3)) }
-    ensures ok { result ≡ pos 0 → handle.new.state ≡ changed handle.old.state (λ e. with_request e number (read_of (read_request sink sink_to size source source_to))) }
+    ensures refused { IfSome (refusal_in handle.old.state
+        (λ e. refusal_to_post e number (read_of (read_request sink sink_to size source source_to))))
+        (λ r. result ≡ pos (refusal_code r)) }
+    ensures memory { IfNone (refusal_in handle.old.state
+        (λ e. refusal_to_post e number (read_of (read_request sink sink_to size source source_to))))
+        ((result ≡ pos 0) ⊎ (result ≡ pos 3)) }
+    ensures ok { result ≡ pos 0 → handle.new.state ≡ changed handle.old.state
+        (λ e. with_request e number (read_of (read_request sink sink_to size source source_to))) }
     ensures err { result ≢ pos 0 → handle.new.state ≡ handle.old.state }
 {
     let request = read_request(sink, sink_to, size, source, source_to);
@@ -82,8 +97,10 @@ pub extern "C" fn iwarp_post_read(
 #[unsafe(no_mangle)]
 pub extern "C" fn iwarp_post_recv(alloc: Global, handle: &mut Handle, number: u8, n: usize) -> i32
     // The code of the refusal, where one applies, or want of memory.
-    ensures refused { IfSome (refusal_in handle.old.state (λ e. refusal_to_lend e number)) (λ r. (result ≡ pos 3) ⊎ (result ≡ pos (refusal_code r))) }
-    ensures memory { IfNone (refusal_in handle.old.state (λ e. refusal_to_lend e number)) ((result ≡ pos 0) ⊎ (result ≡ pos 3)) }
+    ensures refused { IfSome (refusal_in handle.old.state (λ e. refusal_to_lend e number))
+        (λ r. (result ≡ pos 3) ⊎ (result ≡ pos (refusal_code r))) }
+    ensures memory { IfNone (refusal_in handle.old.state (λ e. refusal_to_lend e number))
+        ((result ≡ pos 0) ⊎ (result ≡ pos 3)) }
     ensures ok { result ≡ pos 0 → handle.new.state ≡ changed handle.old.state (λ e. with_buffer e number (zeroes n)) }
     ensures err { result ≢ pos 0 → handle.new.state ≡ handle.old.state }
 {

@@ -26,10 +26,13 @@ pub extern "C" fn iwarp_register(
     stag: &mut u32,
 ) -> i32
     // The code of the refusal, where one applies, or want of memory.
-    ensures refused { IfSome (refusal_in handle.old.state (λ e. refusal_to_register e pd base (length octets.now))) (λ r. (result ≡ pos 3) ⊎ (result ≡ pos (refusal_code r))) }
-    ensures memory { IfNone (refusal_in handle.old.state (λ e. refusal_to_register e pd base (length octets.now))) ((result ≡ pos 0) ⊎ (result ≡ pos 3)) }
+    ensures refused { IfSome (refusal_in handle.old.state (λ e. refusal_to_register e pd base (length octets.now)))
+        (λ r. (result ≡ pos 3) ⊎ (result ≡ pos (refusal_code r))) }
+    ensures memory { IfNone (refusal_in handle.old.state (λ e. refusal_to_register e pd base (length octets.now)))
+        ((result ≡ pos 0) ⊎ (result ≡ pos 3)) }
     ensures stag { result ≡ pos 0 → Some stag.new ≡ told_in handle.old.state (λ e. number_of (next_stag e.table pd)) }
-    ensures ok { result ≡ pos 0 → handle.new.state ≡ changed handle.old.state (λ e. registered e pd base octets.now (rights_of rights)) }
+    ensures ok { result ≡ pos 0 → handle.new.state ≡ changed handle.old.state
+        (λ e. registered e pd base octets.now (rights_of rights)) }
     ensures err { result ≢ pos 0 → handle.new.state ≡ handle.old.state }
     ensures kept { result ≢ pos 0 → stag.new ≡ stag.old }
 {
@@ -49,9 +52,11 @@ pub extern "C" fn iwarp_deregister(
     out: &mut [u8],
     len: &mut usize,
 ) -> i32
-    ensures code { result ≡ pos (code_of (refusal_in handle.old.state (λ e. copy_refusal (octets_of e (stag_of stag)) NoRegion (length out.old)))) }
+    ensures code { result ≡ pos (code_of
+        (refusal_in handle.old.state (λ e. copy_refusal (octets_of e (stag_of stag)) NoRegion (length out.old)))) }
     ensures len { len.new ≡ length_told (shown_in handle.old.state (λ e. octets_of e (stag_of stag))) len.old }
-    ensures octets { result ≡ pos 0 → out.new ≡ filled (shown_in handle.old.state (λ e. octets_of e (stag_of stag))) out.old }
+    ensures octets { result ≡ pos 0 → out.new ≡ filled (shown_in handle.old.state (λ e. octets_of e (stag_of stag)))
+        out.old }
     ensures kept { result ≢ pos 0 → out.new ≡ out.old }
     ensures ok { result ≡ pos 0 → handle.new.state ≡ changed handle.old.state (λ e. deregistered e (stag_of stag)) }
     ensures err { result ≢ pos 0 → handle.new.state ≡ handle.old.state }
@@ -78,8 +83,10 @@ pub extern "C" fn iwarp_store(
     to: u64,
     octets: &[u8],
 ) -> i32
-    ensures code { result ≡ pos (code_of (refusal_in handle.old.state (λ e. part_refusal e (stag_of stag) to (length octets.now)))) }
-    ensures ok { result ≡ pos 0 → handle.new.state ≡ changed handle.old.state (λ e. stored e (stag_of stag) to octets.now) }
+    ensures code { result ≡ pos
+        (code_of (refusal_in handle.old.state (λ e. part_refusal e (stag_of stag) to (length octets.now)))) }
+    ensures ok { result ≡ pos 0 → handle.new.state ≡ changed handle.old.state
+        (λ e. stored e (stag_of stag) to octets.now) }
     ensures err { result ≢ pos 0 → handle.new.state ≡ handle.old.state }
 {
     code(handle.store(alloc, stag_of(stag), to, octets).err())
@@ -94,8 +101,10 @@ pub extern "C" fn iwarp_load(
     to: u64,
     out: &mut [u8],
 ) -> i32
-    ensures code { result ≡ pos (code_of (refusal_in handle.old.state (λ e. part_refusal e (stag_of stag) to (length out.old)))) }
-    ensures ok { result ≡ pos 0 → Some out.new ≡ told_in handle.old.state (λ e. part_at e (stag_of stag) to (length out.old)) }
+    ensures code { result ≡ pos
+        (code_of (refusal_in handle.old.state (λ e. part_refusal e (stag_of stag) to (length out.old)))) }
+    ensures ok { result ≡ pos 0 → Some out.new ≡ told_in handle.old.state
+        (λ e. part_at e (stag_of stag) to (length out.old)) }
     ensures err { result ≢ pos 0 → out.new ≡ out.old }
     ensures same { handle.new.state ≡ handle.old.state }
 {
@@ -111,7 +120,8 @@ pub extern "C" fn iwarp_facts(
     facts: &mut RegionFacts,
 ) -> i32
     ensures code { result ≡ pos (code_of (refusal_in handle.old.state (λ e. region_refusal e (stag_of stag)))) }
-    ensures ok { result ≡ pos 0 → Some facts.new ≡ option_map facts_of (shown_in handle.old.state (λ e. facts_at e (stag_of stag))) }
+    ensures ok { result ≡ pos 0 → Some facts.new ≡ option_map facts_of
+        (shown_in handle.old.state (λ e. facts_at e (stag_of stag))) }
     ensures err { result ≢ pos 0 → facts.new ≡ facts.old }
     ensures same { handle.new.state ≡ handle.old.state }
 {

@@ -23,9 +23,12 @@ pub extern "C" fn iwarp_open(
     options: u32,
     private: &[u8],
 ) -> i32
-    ensures refused { IfSome (refusal_in handle.old.state (λ e. refusal_to_open e number pd role (length private.now))) (λ r. result ≡ pos (refusal_code r)) }
-    ensures memory { IfNone (refusal_in handle.old.state (λ e. refusal_to_open e number pd role (length private.now))) ((result ≡ pos 0) ⊎ (result ≡ pos 3)) }
-    ensures ok { result ≡ pos 0 → handle.new.state ≡ changed handle.old.state (λ e. opened e number pd (role_in role) (config_of options private.now)) }
+    ensures refused { IfSome (refusal_in handle.old.state (λ e. refusal_to_open e number pd role (length private.now)))
+        (λ r. result ≡ pos (refusal_code r)) }
+    ensures memory { IfNone (refusal_in handle.old.state (λ e. refusal_to_open e number pd role (length private.now)))
+        ((result ≡ pos 0) ⊎ (result ≡ pos 3)) }
+    ensures ok { result ≡ pos 0 → handle.new.state ≡ changed handle.old.state
+        (λ e. opened e number pd (role_in role) (config_of options private.now)) }
     ensures err { result ≢ pos 0 → handle.new.state ≡ handle.old.state }
 {
     code(
@@ -44,10 +47,13 @@ pub extern "C" fn iwarp_accept(
     private: &[u8],
     agreed: &mut u32,
 ) -> i32
-    ensures code { result ≡ pos (code_of (refusal_in handle.old.state (λ e. refusal_to_answer e number (length private.now)))) }
-    ensures agreed { result ≡ pos 0 → Some agreed.new ≡ told_in handle.old.state (λ e. agreed_flags (agreement e number)) }
+    ensures code { result ≡ pos
+        (code_of (refusal_in handle.old.state (λ e. refusal_to_answer e number (length private.now)))) }
+    ensures agreed { result ≡ pos 0 → Some agreed.new ≡ told_in handle.old.state
+        (λ e. agreed_flags (agreement e number)) }
     ensures kept { result ≢ pos 0 → agreed.new ≡ agreed.old }
-    ensures ok { result ≡ pos 0 → handle.new.state ≡ changed handle.old.state (λ e. accepted e number (private_of private.now)) }
+    ensures ok { result ≡ pos 0 → handle.new.state ≡ changed handle.old.state
+        (λ e. accepted e number (private_of private.now)) }
     ensures err { result ≢ pos 0 → handle.new.state ≡ handle.old.state }
 {
     let done = handle.accept(alloc, number, private);
@@ -65,8 +71,10 @@ pub extern "C" fn iwarp_reject(
     number: u8,
     private: &[u8],
 ) -> i32
-    ensures code { result ≡ pos (code_of (refusal_in handle.old.state (λ e. refusal_to_answer e number (length private.now)))) }
-    ensures ok { result ≡ pos 0 → handle.new.state ≡ changed handle.old.state (λ e. rejected e number (private_of private.now)) }
+    ensures code { result ≡ pos
+        (code_of (refusal_in handle.old.state (λ e. refusal_to_answer e number (length private.now)))) }
+    ensures ok { result ≡ pos 0 → handle.new.state ≡ changed handle.old.state
+        (λ e. rejected e number (private_of private.now)) }
     ensures err { result ≢ pos 0 → handle.new.state ≡ handle.old.state }
 {
     code(handle.reject(alloc, number, private).err())
@@ -81,7 +89,8 @@ pub extern "C" fn iwarp_private(
     out: &mut [u8],
     len: &mut usize,
 ) -> i32
-    ensures code { result ≡ pos (code_of (refusal_in handle.old.state (λ e. copy_refusal (private_shown e number) NoSuchStream (length out.old)))) }
+    ensures code { result ≡ pos (code_of
+        (refusal_in handle.old.state (λ e. copy_refusal (private_shown e number) NoSuchStream (length out.old)))) }
     ensures len { len.new ≡ length_told (shown_in handle.old.state (λ e. private_shown e number)) len.old }
     ensures ok { result ≡ pos 0 → out.new ≡ filled (shown_in handle.old.state (λ e. private_shown e number)) out.old }
     ensures err { result ≢ pos 0 → out.new ≡ out.old }

@@ -18,7 +18,9 @@ use Rattle.iw_startup.specs.declared.progress.StartupFault.TheVariants.{BadKey, 
 use Rattle.iw_stream.specs.declared.answer.Emission as emission
 use Rattle.iw_stream.specs.declared.answer.Emission.TheVariants as emissions
 use Rattle.iw_stream.specs.declared.answer.Step.{Step}
-use Rattle.iw_stream.specs.declared.answer.Step.TheVariants.{Done, Flushed, FlushedRecv, Asked, Opened, Closed, Placed, Buffered, Requested, Tried, Passed, Received, Terminated, Fault, Idle}
+use Rattle.iw_stream.specs.declared.answer.Step.TheVariants.{Done, Flushed, FlushedRecv, Asked, Opened, Closed, Placed}
+use Rattle.iw_stream.specs.declared.answer.Step.TheVariants.{Buffered, Requested, Tried, Passed, Received, Terminated}
+use Rattle.iw_stream.specs.declared.answer.Step.TheVariants.{Fault, Idle}
 use Rattle.iw_endpoint.specs.declared.refusal.NoSuchStream.{NoSuchStream}
 use Rattle.iw_handle.specs.declared.event.Event.{Event}
 use Rattle.iw_handle.specs.declared.event.Emitted.{Emitted}
@@ -63,24 +65,51 @@ kept_number deliveries.Dropped = 0
 
 -- nothing was done
 abbrev pub no_event : Event
-no_event = record { kind = 0; message = 0; right = 0; flags = 0; stag = 0; msn = 0; mo = 0; layer = 0; error = 0; code = 0; to = 0; len = 0 }
+no_event = record {
+  kind = 0;
+  message = 0;
+  right = 0;
+  flags = 0;
+  stag = 0;
+  msn = 0;
+  mo = 0;
+  layer = 0;
+  error = 0;
+  code = 0;
+  to = 0;
+  len = 0;
+}
+
+-- of a message that was posted
+abbrev pub message_event : ℕ → Kind → Event
+message_event kind message = record no_event { kind = kind; message = kind_number message }
 
 abbrev pub fault_event : ℕ → faults.Fault → Event
 fault_event kind fault = record no_event { kind = kind; layer = fault.layer; error = fault.kind; code = fault.code }
 
+-- a Send of so many octets is complete
+abbrev pub received_event : ℕ → Bool → Option Stag → Event
+received_event len solicited invalidate = record no_event {
+  kind = 11;
+  flags = received_flags solicited invalidate;
+  stag = stag_number invalidate;
+  len = len;
+}
+
 abbrev pub event_of : Step (List ℕ) → Event
 event_of Idle = no_event
-event_of (Done kind) = record no_event { kind = 1; message = kind_number kind }
-event_of (Flushed kind) = record no_event { kind = 2; message = kind_number kind }
+event_of (Done message) = message_event 1 message
+event_of (Flushed message) = message_event 2 message
 event_of (FlushedRecv buffer) = record no_event { kind = 3; len = length buffer }
 event_of Asked = record no_event { kind = 4 }
 event_of (Opened agreed) = record no_event { kind = 5; flags = agreed_flags agreed }
 event_of (Closed fault) = record no_event { kind = 6; code = startup_number fault }
-event_of (Placed right stag to len) = record no_event { kind = 7; right = right_number right; stag = number_of stag; to = to; len = len }
+event_of (Placed right stag to len) =
+    record no_event { kind = 7; right = right_number right; stag = number_of stag; to = to; len = len }
 event_of (Buffered msn mo len) = record no_event { kind = 8; msn = msn; mo = mo; len = len }
 event_of (Requested size stag to) = record no_event { kind = 9; stag = number_of stag; to = to; len = size }
 event_of Passed = record no_event { kind = 10 }
-event_of (Received buffer len solicited invalidate) = record no_event { kind = 11; flags = received_flags solicited invalidate; stag = stag_number invalidate; len = len }
+event_of (Received buffer len solicited invalidate) = received_event len solicited invalidate
 event_of (Terminated fault) = fault_event 12 fault
 event_of (Fault fault) = fault_event 13 fault
 event_of (Tried place) = record no_event { kind = 14; to = place }
@@ -96,8 +125,10 @@ none_emitted = record { kind = 0; stag = 0; from = 0; to = 0; n = 0; layer = 0; 
 abbrev pub emitted_of : emission.Emission → Emitted
 emitted_of emissions.Nothing = none_emitted
 emitted_of (emissions.Frame from len) = record none_emitted { kind = 1; from = from }
-emitted_of (emissions.Fetched from len stag to n) = record none_emitted { kind = 2; from = from; stag = number_of stag; to = to; n = n }
-emitted_of (emissions.Fault fault) = record none_emitted { kind = 3; layer = fault.layer; error = fault.kind; code = fault.code }
+emitted_of (emissions.Fetched from len stag to n) =
+    record none_emitted { kind = 2; from = from; stag = number_of stag; to = to; n = n }
+emitted_of (emissions.Fault fault) =
+    record none_emitted { kind = 3; layer = fault.layer; error = fault.kind; code = fault.code }
 
 -- octets are due
 abbrev pub IsFrame : emission.Emission → Type 0
@@ -111,4 +142,5 @@ abbrev pub rights_number : Rights → ℕ
 rights_number rights = flag rights.write 1 + flag rights.read 2 + flag rights.sink 4 + flag rights.invalidate 8
 
 abbrev pub facts_of : Facts → RegionFacts
-facts_of facts = record { base = facts.base; len = facts.len; rights = rights_number facts.rights; valid = flag facts.valid 1 }
+facts_of facts =
+    record { base = facts.base; len = facts.len; rights = rights_number facts.rights; valid = flag facts.valid 1 }

@@ -5,3 +5,4 @@ pub mod Words
 pub mod Regions
 pub mod Streams
 pub mod Events
+pub mod Steps

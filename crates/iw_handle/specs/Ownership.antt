@@ -16,7 +16,8 @@ held_row = held.the_row
 abbrev pub state_coded : Coded (Option Held)
 state_coded = coded_option held_row.coded
 
--- nothing where there is no endpoint, and the pointer is null; else what the handle has, and the right to free its block
+-- nothing where there is no endpoint, and the pointer is null; else what the handle has, and the right to free its
+-- block
 abbrev pub handle_owns : Global → Ptr → Option Held → Fml
 handle_owns alloc at None = feq Ptr at null_ptr
 handle_owns alloc at (Some held) = box_owns (ghosts.dealloc_token alloc) held_row at held

@@ -18,7 +18,12 @@ use Rattle.iw_stream.specs.declared.answer.SizeRefusal.TheVariants as size
 use Rattle.iw_endpoint.specs.declared.refusal.CallRefusal.{CallRefusal}
 use Rattle.iw_endpoint.specs.declared.refusal.CallRefusal.TheVariants as call
 use Rattle.iw_handle.specs.declared.refusal.Refusal.{Refusal}
-use Rattle.iw_handle.specs.declared.refusal.Refusal.TheVariants.{Closed, AlreadyOpen, NoMemory, NoRoom, NoSuchStream, NoRegion, Outside, BadDomain, DomainTaken, NoDomain, DomainFull, RegionTooLong, BaseWrap, NumberTaken, BadNumber, BadRole, PrivateTooLong, NotAsked, NotOpen, MessagesFull, MessageTooLong, BuffersFull, Ended, BadSize, TooFar}
+use Rattle.iw_handle.specs.declared.refusal.Refusal.TheVariants.{Closed, AlreadyOpen, NoMemory, NoRoom, NoSuchStream}
+use Rattle.iw_handle.specs.declared.refusal.Refusal.TheVariants.{NoRegion, Outside, BadDomain, DomainTaken, NoDomain}
+use Rattle.iw_handle.specs.declared.refusal.Refusal.TheVariants.{DomainFull, RegionTooLong, BaseWrap, NumberTaken}
+use Rattle.iw_handle.specs.declared.refusal.Refusal.TheVariants.{BadNumber, BadRole, PrivateTooLong, NotAsked, NotOpen}
+use Rattle.iw_handle.specs.declared.refusal.Refusal.TheVariants.{MessagesFull, MessageTooLong, BuffersFull, Ended}
+use Rattle.iw_handle.specs.declared.refusal.Refusal.TheVariants.{BadSize, TooFar}
 
 -- ---- the endpoint's refusals
 

@@ -1,5 +1,6 @@
 -- What calls at a stream say.
-use Rattle.std.specs.Prelude.{◌≡◌, ℕ, ◌^◌, nat_lt, Bool, false, List, [], length, take, replicate, if◌then◌else◌, Option, None, Some, Result, Ok, Err}
+use Rattle.std.specs.Prelude.{◌≡◌, ℕ, ◌^◌, nat_lt, Bool, false, if◌then◌else◌, List, [], length, take, replicate}
+use Rattle.std.specs.Prelude.{Option, None, Some, Result, Ok, Err}
 use Rattle.std.specs.Option.{option_map}
 use Rattle.iw_octets.specs.declared.message.Message.TheVariants as messages
 use Rattle.iw_octets.specs.declared.payload.ReadRequest.{ReadRequest}
@@ -10,10 +11,13 @@ use Rattle.iw_ranges.specs.Arrived.{BringsOctets}
 use Rattle.iw_stream.specs.Stream.{ended}
 use Rattle.iw_stream.specs.Work.{IsTry, task}
 use Rattle.iw_stream.specs.declared.answer.Step.{Step}
-use Rattle.iw_stream.specs.declared.answer.Step.TheVariants.{Done, Flushed, FlushedRecv, Asked, Opened, Closed, Placed, Buffered, Requested, Tried, Passed, Received, Terminated, Fault, Idle}
+use Rattle.iw_stream.specs.declared.answer.Step.TheVariants.{Done, Flushed, FlushedRecv, Asked, Opened, Closed, Placed}
+use Rattle.iw_stream.specs.declared.answer.Step.TheVariants.{Buffered, Requested, Tried, Passed, Received, Terminated}
+use Rattle.iw_stream.specs.declared.answer.Step.TheVariants.{Fault, Idle}
 use Rattle.iw_endpoint.specs.declared.refusal.NoSuchStream.{NoSuchStream}
 use Rattle.iw_endpoint.specs.Endpoint as endpoint
-use Rattle.iw_endpoint.specs.Endpoint.{EndpointState, has_stream, stream_at, private_at, sent_at, point_at, step_at, after_work, emitted_at}
+use Rattle.iw_endpoint.specs.Endpoint.{EndpointState, has_stream, stream_at, private_at, sent_at, point_at}
+use Rattle.iw_endpoint.specs.Endpoint.{step_at, after_work, emitted_at}
 use Rattle.iw_handle.specs.declared.held.Held.{Held}
 use Rattle.iw_handle.specs.declared.refusal.Refusal.{Refusal}
 use Rattle.iw_handle.specs.declared.refusal.Refusal.TheVariants as refusals
@@ -26,11 +30,13 @@ use Rattle.iw_handle.specs.Words.{role_refusal, private_refusal}
 -- a stream is opened with the number of a role, and so many octets of private data
 abbrev pub refusal_to_open : EndpointState → ℕ → ℕ → ℕ → ℕ → Option Refusal
 refusal_to_open e number pd role n =
-    first_of (role_refusal role) (first_of (private_refusal n) (option_map open_reason (endpoint.open_refusal e number pd)))
+    first_of (role_refusal role)
+    (first_of (private_refusal n) (option_map open_reason (endpoint.open_refusal e number pd)))
 
 -- a Request is answered with so many octets of private data
 abbrev pub refusal_to_answer : EndpointState → ℕ → ℕ → Option Refusal
-refusal_to_answer e number n = first_of (private_refusal n) (option_map answer_reason (endpoint.answer_refusal e number))
+refusal_to_answer e number n =
+    first_of (private_refusal n) (option_map answer_reason (endpoint.answer_refusal e number))
 
 abbrev pub refusal_to_post : EndpointState → ℕ → Request (List ℕ) → Option Refusal
 refusal_to_post e number request = option_map post_reason (endpoint.post_refusal e number request)
@@ -93,7 +99,10 @@ handed_after (Err missing) before = before
 
 -- what a step of work leaves
 abbrev pub held_worked : Held → ℕ → Held
-held_worked held number = record { endpoint = after_work held.endpoint number; handed = handed_after (step_at held.endpoint number) held.handed }
+held_worked held number = record {
+  endpoint = after_work held.endpoint number;
+  handed = handed_after (step_at held.endpoint number) held.handed;
+}
 
 abbrev pub worked : State → ℕ → State
 worked state number = option_map (λ held. held_worked held number) state

@@ -32,7 +32,8 @@ private_of octets = record { items = octets }
 
 -- a sum of 1 (markers are expected) and 2 (CRCs), with private data
 abbrev pub config_of : ℕ → List ℕ → Config
-config_of options private = record { markers = has_bit options 1; crc = has_bit options 2; private = private_of private }
+config_of options private =
+    record { markers = has_bit options 1; crc = has_bit options 2; private = private_of private }
 
 abbrev pub role_refusal : ℕ → Option Refusal
 role_refusal n = if nat_lt 2 n then Some BadRole else None

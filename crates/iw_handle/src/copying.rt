@@ -4,8 +4,8 @@ ghost use Rattle.iw_handle.specs.State.{room_refusal, filled};
 
 use crate::refusal::Refusal;
 
-/// Copies octets to the front of a buffer, and tells how many they are, also where there is no room for them. An `Err` leaves
-/// the buffer as it was.
+/// Copies octets to the front of a buffer, and tells how many they are, also where there is no room for them. An `Err`
+/// leaves the buffer as it was.
 pub(crate) fn copy_out(octets: &[u8], out: &mut [u8], len: &mut usize) -> Result<(), Refusal>
     ensures refused { result_err result ≡ room_refusal (length octets.now) (length out.old) }
     ensures len { len.new ≡ length octets.now }

@@ -22,7 +22,8 @@ fn emit(
 ) -> Result<Emitted, Refusal>
     // The refusal, where one applies, and otherwise want of memory alone.
     ensures refused { IfSome (refusal_to_emit endpoint.old number (length out.old)) (λ r. result ≡ Err r) }
-    ensures memory { IfNone (refusal_to_emit endpoint.old number (length out.old)) (IfErr result (λ e. e ≡ Refusal.NoMemory)) }
+    ensures memory { IfNone (refusal_to_emit endpoint.old number (length out.old))
+        (IfErr result (λ e. e ≡ Refusal.NoMemory)) }
     ensures want { result ≡ Err Refusal.NoMemory → IsFrame (emission_at endpoint.old number) }
     ensures len { len.new ≡ length_told (due_shown endpoint.old number) len.old }
     ensures emitted { IfOk result (λ emitted. emitted ≡ emitted_of (emission_at endpoint.old number)) }
@@ -57,9 +58,10 @@ fn emit(
 }
 
 impl Handle {
-    /// Emits what is due at a stream to the front of a buffer, as [`Endpoint::emit`] says, and tells it in numbers. It tells
-    /// how many octets that is, also where there is no room for them. An `Err` changes nothing else; `TooFar` comes where
-    /// more than 2^62 octets were emitted, and `NoMemory` only where no other refusal applies and octets are due.
+    /// Emits what is due at a stream to the front of a buffer, as [`Endpoint::emit`] says, and tells it in numbers. It
+    /// tells how many octets that is, also where there is no room for them. An `Err` changes nothing else; `TooFar`
+    /// comes where more than 2^62 octets were emitted, and `NoMemory` only where no other refusal applies and octets
+    /// are due.
     pub fn emit(
         &mut self,
         alloc: Global,
@@ -67,11 +69,15 @@ impl Handle {
         out: &mut [u8],
         len: &mut usize,
     ) -> Result<Emitted, Refusal>
-        ensures refused { IfSome (refusal_in self.old.state (λ e. refusal_to_emit e number (length out.old))) (λ r. result ≡ Err r) }
-        ensures memory { IfNone (refusal_in self.old.state (λ e. refusal_to_emit e number (length out.old))) (IfErr result (λ e. e ≡ Refusal.NoMemory)) }
-        ensures want { result ≡ Err Refusal.NoMemory → IfSome self.old.state (λ held. IsFrame (emission_at held.endpoint number)) }
+        ensures refused { IfSome (refusal_in self.old.state (λ e. refusal_to_emit e number (length out.old)))
+            (λ r. result ≡ Err r) }
+        ensures memory { IfNone (refusal_in self.old.state (λ e. refusal_to_emit e number (length out.old)))
+            (IfErr result (λ e. e ≡ Refusal.NoMemory)) }
+        ensures want { result ≡ Err Refusal.NoMemory → IfSome self.old.state
+            (λ held. IsFrame (emission_at held.endpoint number)) }
         ensures len { len.new ≡ length_told (shown_in self.old.state (λ e. due_shown e number)) len.old }
-        ensures emitted { IfOk result (λ emitted. Some emitted ≡ told_in self.old.state (λ e. emitted_of (emission_at e number))) }
+        ensures emitted { IfOk result
+            (λ emitted. Some emitted ≡ told_in self.old.state (λ e. emitted_of (emission_at e number))) }
         ensures octets { OnOk result (out.new ≡ filled (shown_in self.old.state (λ e. due_shown e number)) out.old) }
         ensures kept { OnErr result (out.new ≡ out.old) }
         ensures ok { OnOk result (self.new.state ≡ changed self.old.state (λ e. after_emit e number)) }

@@ -2,7 +2,9 @@
 ghost use Rattle.std.specs.Prelude.{◌≡◌, ◌≤◌};
 ghost use Rattle.iw_handle.specs.Events.{kind_number, right_number, startup_number, stag_number};
 ghost use Rattle.iw_handle.specs.Events.{flag, agreed_flags, received_flags, rights_number, kept_number};
-ghost use Rattle.iw_handle.specs.Events.{fault_event, event_of, emitted_of, facts_of};
+ghost use Rattle.iw_handle.specs.Events.{message_event, fault_event, received_event, event_of};
+ghost use Rattle.iw_handle.specs.Events.{emitted_of, facts_of};
+ghost use Rattle.iw_handle.specs.Steps.{is_quiet};
 
 use iw_endpoint::{
     Agreed, Delivery, Emission, Facts, Fault, Kind, Octets, Right, Rights, Stag, StartupFault, Step,
@@ -54,7 +56,8 @@ pub struct RegionFacts {
     pub valid: u32,
 }
 
-const IDLE: Event = Event {
+/// There was nothing to do.
+pub const IDLE: Event = Event {
     kind: 0,
     message: 0,
     right: 0,
@@ -118,7 +121,8 @@ fn flag(on: bool, value: u32) -> u32
     if on { value } else { 0 }
 }
 
-/// What both ends agree on: 1 where this end puts markers into what it sends, 2 where the peer does, 4 where there are CRCs.
+/// What both ends agree on: 1 where this end puts markers into what it sends, 2 where the peer does, 4 where there are
+/// CRCs.
 pub fn agreed_flags(agreed: Agreed) -> u32
     ensures { result ≡ agreed_flags agreed }
 {
@@ -140,6 +144,7 @@ fn stag_number(stag: Option<Stag>) -> u32
     }
 }
 
+#[inline(always)]
 fn fault_event(kind: u32, fault: Fault) -> Event
     ensures { result ≡ fault_event kind fault }
 {
@@ -152,6 +157,93 @@ fn fault_event(kind: u32, fault: Fault) -> Event
     }
 }
 
+// Of a message that was posted.
+#[inline(always)]
+fn message_event(kind: u32, message: Kind) -> Event
+    ensures { result ≡ message_event kind message }
+{
+    Event {
+        kind,
+        message: kind_number(message),
+        ..IDLE
+    }
+}
+
+#[inline(always)]
+fn opened_event(agreed: Agreed) -> Event
+    ensures { result ≡ event_of (Step.Opened agreed) }
+{
+    Event {
+        kind: 5,
+        flags: agreed_flags(agreed),
+        ..IDLE
+    }
+}
+
+#[inline(always)]
+fn closed_event(fault: StartupFault) -> Event
+    ensures { result ≡ event_of (Step.Closed fault) }
+{
+    Event {
+        kind: 6,
+        code: startup_number(fault),
+        ..IDLE
+    }
+}
+
+#[inline(always)]
+fn placed_event(right: Right, stag: Stag, to: u64, len: usize) -> Event
+    ensures { result ≡ event_of (Step.Placed right stag to len) }
+{
+    Event {
+        kind: 7,
+        right: right_number(right),
+        stag: stag.into(),
+        to,
+        len: len as u64,
+        ..IDLE
+    }
+}
+
+#[inline(always)]
+fn buffered_event(msn: u32, mo: u32, len: usize) -> Event
+    ensures { result ≡ event_of (Step.Buffered msn mo len) }
+{
+    Event {
+        kind: 8,
+        msn,
+        mo,
+        len: len as u64,
+        ..IDLE
+    }
+}
+
+#[inline(always)]
+fn requested_event(size: u32, stag: Stag, to: u64) -> Event
+    ensures { result ≡ event_of (Step.Requested size stag to) }
+{
+    Event {
+        kind: 9,
+        stag: stag.into(),
+        to,
+        len: size.into(),
+        ..IDLE
+    }
+}
+
+#[inline(always)]
+fn received_event(len: usize, solicited: bool, invalidate: &Option<Stag>) -> Event
+    ensures { result ≡ received_event len solicited invalidate.now }
+{
+    Event {
+        kind: 11,
+        flags: received_flags(solicited, *invalidate),
+        stag: stag_number(*invalidate),
+        len: len as u64,
+        ..IDLE
+    }
+}
+
 /// A step in numbers.
 #[inline(always)]
 pub fn event_of(step: &Step<Octets>) -> Event
@@ -159,72 +251,31 @@ pub fn event_of(step: &Step<Octets>) -> Event
 {
     match step {
         Step::Idle => IDLE,
-        Step::Done(kind) => Event {
-            kind: 1,
-            message: kind_number(*kind),
-            ..IDLE
-        },
-        Step::Flushed(kind) => Event {
-            kind: 2,
-            message: kind_number(*kind),
-            ..IDLE
-        },
+        Step::Done(message) => message_event(1, *message),
+        Step::Flushed(message) => message_event(2, *message),
         Step::FlushedRecv(buffer) => Event {
             kind: 3,
             len: buffer.len() as u64,
             ..IDLE
         },
         Step::Asked => Event { kind: 4, ..IDLE },
-        Step::Opened(agreed) => Event {
-            kind: 5,
-            flags: agreed_flags(*agreed),
-            ..IDLE
-        },
-        Step::Closed(fault) => Event {
-            kind: 6,
-            code: startup_number(*fault),
-            ..IDLE
-        },
+        Step::Opened(agreed) => opened_event(*agreed),
+        Step::Closed(fault) => closed_event(*fault),
         Step::Placed {
             right,
             stag,
             to,
             len,
-        } => Event {
-            kind: 7,
-            right: right_number(*right),
-            stag: (*stag).into(),
-            to: *to,
-            len: *len as u64,
-            ..IDLE
-        },
-        Step::Buffered { msn, mo, len } => Event {
-            kind: 8,
-            msn: *msn,
-            mo: *mo,
-            len: *len as u64,
-            ..IDLE
-        },
-        Step::Requested { size, stag, to } => Event {
-            kind: 9,
-            stag: (*stag).into(),
-            to: *to,
-            len: (*size).into(),
-            ..IDLE
-        },
+        } => placed_event(*right, *stag, *to, *len),
+        Step::Buffered { msn, mo, len } => buffered_event(*msn, *mo, *len),
+        Step::Requested { size, stag, to } => requested_event(*size, *stag, *to),
         Step::Passed => Event { kind: 10, ..IDLE },
         Step::Received {
             len,
             solicited,
             invalidate,
             ..
-        } => Event {
-            kind: 11,
-            flags: received_flags(*solicited, *invalidate),
-            stag: stag_number(*invalidate),
-            len: *len as u64,
-            ..IDLE
-        },
+        } => received_event(*len, *solicited, invalidate),
         Step::Terminated(fault) => fault_event(12, *fault),
         Step::Fault(fault) => fault_event(13, *fault),
         Step::Tried(place) => Event {
@@ -232,6 +283,30 @@ pub fn event_of(step: &Step<Octets>) -> Event
             to: *place,
             ..IDLE
         },
+    }
+}
+
+/// Whether a step asks nothing of the program: the peer's frames go their way.
+#[inline(always)]
+pub fn is_quiet(step: &Step<Octets>) -> bool
+    ensures { result ≡ is_quiet step.now }
+{
+    match step {
+        Step::Placed { .. }
+        | Step::Buffered { .. }
+        | Step::Requested { .. }
+        | Step::Tried(_)
+        | Step::Passed => true,
+        Step::Done(_)
+        | Step::Flushed(_)
+        | Step::FlushedRecv(_)
+        | Step::Asked
+        | Step::Opened(_)
+        | Step::Closed(_)
+        | Step::Received { .. }
+        | Step::Terminated(_)
+        | Step::Fault(_)
+        | Step::Idle => false,
     }
 }
 

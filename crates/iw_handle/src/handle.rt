@@ -11,8 +11,8 @@ use std::ptr::null_mut;
 
 /// An endpoint that C keeps, or none. In C it is a struct of one pointer, null where there is none.
 ///
-/// A type whose values can be read through a `&` does not cross to C, nor does a pointer to one. So the pointer says nothing
-/// of what it leads to, and each call takes that out of the handle and puts it back.
+/// A type whose values can be read through a `&` does not cross to C, nor does a pointer to one. So the pointer says
+/// nothing of what it leads to, and each call takes that out of the handle and puts it back.
 #[repr(C)]
 pub struct Handle {
     at: *mut u8,

@@ -17,10 +17,11 @@ mod words;
 mod working;
 
 pub use event::{
-    Emitted, Event, RegionFacts, agreed_flags, emitted_of, event_of, facts_of, kept_number,
+    Emitted, Event, IDLE, RegionFacts, agreed_flags, emitted_of, event_of, facts_of, kept_number,
 };
 pub use handle::Handle;
 pub use held::Held;
 pub use laws::codes_are_distinct;
 pub use refusal::{Refusal, code};
 pub use words::{has_bit, invalidated_by, read_request, rights_of, stag_of};
+pub use working::QUIET_STEPS;

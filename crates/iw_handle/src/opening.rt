@@ -52,7 +52,8 @@ impl Handle {
 
     /// Adds a domain with no region and no stream: `pd` is 1 to 255. An `Err` changes nothing.
     pub fn add_domain(&mut self, alloc: Global, pd: u8) -> Result<(), Refusal>
-        ensures refused { result_err result ≡ refusal_in self.old.state (λ e. option_map domain_reason (domain_refusal e pd)) }
+        ensures refused { result_err result ≡ refusal_in self.old.state
+            (λ e. option_map domain_reason (domain_refusal e pd)) }
         ensures ok { OnOk result (self.new.state ≡ changed self.old.state (λ e. added e pd)) }
         ensures err { OnErr result (self.new.state ≡ self.old.state) }
     {

@@ -47,8 +47,9 @@ fn lend(endpoint: &mut Endpoint, alloc: Global, number: u8, n: usize) -> Result<
 }
 
 impl Handle {
-    /// Posts a Send of a copy of the octets, as [`Endpoint::post`] says; `invalidate` names a region of the peer that it
-    /// loses with it. `NoMemory` may come before another refusal, since the copy is made first. An `Err` changes nothing.
+    /// Posts a Send of a copy of the octets, as [`Endpoint::post`] says; `invalidate` names a region of the peer that
+    /// it loses with it. `NoMemory` may come before another refusal, since the copy is made first. An `Err` changes
+    /// nothing.
     pub fn post_send(
         &mut self,
         alloc: Global,
@@ -57,9 +58,13 @@ impl Handle {
         solicited: bool,
         invalidate: Option<Stag>,
     ) -> Result<(), Refusal>
-        ensures refused { IfSome (refusal_in self.old.state (λ e. refusal_to_post e number (send_of octets.now solicited invalidate))) (λ _. IsErr result) }
-        ensures why { IfErr result (λ e. (e ≡ Refusal.NoMemory) ⊎ (refusal_in self.old.state (λ e. refusal_to_post e number (send_of octets.now solicited invalidate)) ≡ Some e)) }
-        ensures ok { OnOk result (self.new.state ≡ changed self.old.state (λ e. with_request e number (send_of octets.now solicited invalidate))) }
+        ensures refused { IfSome
+            (refusal_in self.old.state (λ e. refusal_to_post e number (send_of octets.now solicited invalidate)))
+            (λ _. IsErr result) }
+        ensures why { IfErr result (λ e. (e ≡ Refusal.NoMemory) ⊎ (refusal_in self.old.state
+            (λ e. refusal_to_post e number (send_of octets.now solicited invalidate)) ≡ Some e)) }
+        ensures ok { OnOk result (self.new.state ≡ changed self.old.state
+            (λ e. with_request e number (send_of octets.now solicited invalidate))) }
         ensures err { OnErr result (self.new.state ≡ self.old.state) }
     {
         let Some(mut held) = self.take(alloc) else {
@@ -77,8 +82,8 @@ impl Handle {
         done
     }
 
-    /// Posts a Write of a copy of the octets to a region of the peer, from a tagged offset on. `NoMemory` may come before
-    /// another refusal, since the copy is made first. An `Err` changes nothing.
+    /// Posts a Write of a copy of the octets to a region of the peer, from a tagged offset on. `NoMemory` may come
+    /// before another refusal, since the copy is made first. An `Err` changes nothing.
     pub fn post_write(
         &mut self,
         alloc: Global,
@@ -87,9 +92,13 @@ impl Handle {
         to: u64,
         octets: &[u8],
     ) -> Result<(), Refusal>
-        ensures refused { IfSome (refusal_in self.old.state (λ e. refusal_to_post e number (write_of stag to octets.now))) (λ _. IsErr result) }
-        ensures why { IfErr result (λ e. (e ≡ Refusal.NoMemory) ⊎ (refusal_in self.old.state (λ e. refusal_to_post e number (write_of stag to octets.now)) ≡ Some e)) }
-        ensures ok { OnOk result (self.new.state ≡ changed self.old.state (λ e. with_request e number (write_of stag to octets.now))) }
+        ensures refused { IfSome
+            (refusal_in self.old.state (λ e. refusal_to_post e number (write_of stag to octets.now)))
+            (λ _. IsErr result) }
+        ensures why { IfErr result (λ e. (e ≡ Refusal.NoMemory) ⊎
+            (refusal_in self.old.state (λ e. refusal_to_post e number (write_of stag to octets.now)) ≡ Some e)) }
+        ensures ok { OnOk result
+            (self.new.state ≡ changed self.old.state (λ e. with_request e number (write_of stag to octets.now))) }
         ensures err { OnErr result (self.new.state ≡ self.old.state) }
     {
         let Some(mut held) = self.take(alloc) else {
@@ -107,9 +116,12 @@ impl Handle {
         number: u8,
         request: ReadRequest,
     ) -> Result<(), Refusal>
-        ensures refused { IfSome (refusal_in self.old.state (λ e. refusal_to_post e number (read_of request))) (λ r. result ≡ Err r) }
-        ensures memory { IfNone (refusal_in self.old.state (λ e. refusal_to_post e number (read_of request))) (IfErr result (λ e. e ≡ Refusal.NoMemory)) }
-        ensures ok { OnOk result (self.new.state ≡ changed self.old.state (λ e. with_request e number (read_of request))) }
+        ensures refused { IfSome (refusal_in self.old.state (λ e. refusal_to_post e number (read_of request)))
+            (λ r. result ≡ Err r) }
+        ensures memory { IfNone (refusal_in self.old.state (λ e. refusal_to_post e number (read_of request)))
+            (IfErr result (λ e. e ≡ Refusal.NoMemory)) }
+        ensures ok { OnOk result
+            (self.new.state ≡ changed self.old.state (λ e. with_request e number (read_of request))) }
         ensures err { OnErr result (self.new.state ≡ self.old.state) }
     {
         let Some(mut held) = self.take(alloc) else {
@@ -124,7 +136,8 @@ impl Handle {
     /// first. An `Err` changes nothing.
     pub fn post_recv(&mut self, alloc: Global, number: u8, n: usize) -> Result<(), Refusal>
         ensures refused { IfSome (refusal_in self.old.state (λ e. refusal_to_lend e number)) (λ _. IsErr result) }
-        ensures why { IfErr result (λ e. (e ≡ Refusal.NoMemory) ⊎ (refusal_in self.old.state (λ e. refusal_to_lend e number) ≡ Some e)) }
+        ensures why { IfErr result
+            (λ e. (e ≡ Refusal.NoMemory) ⊎ (refusal_in self.old.state (λ e. refusal_to_lend e number) ≡ Some e)) }
         ensures ok { OnOk result (self.new.state ≡ changed self.old.state (λ e. with_buffer e number (zeroes n))) }
         ensures err { OnErr result (self.new.state ≡ self.old.state) }
     {
@@ -145,9 +158,12 @@ fn post_send(
     solicited: bool,
     invalidate: Option<Stag>,
 ) -> Result<(), Refusal>
-    ensures refused { IfSome (refusal_to_post endpoint.old number (send_of octets.now solicited invalidate)) (λ _. IsErr result) }
-    ensures why { IfErr result (λ e. (e ≡ Refusal.NoMemory) ⊎ (refusal_to_post endpoint.old number (send_of octets.now solicited invalidate) ≡ Some e)) }
-    ensures ok { OnOk result (endpoint.new ≡ with_request endpoint.old number (send_of octets.now solicited invalidate)) }
+    ensures refused { IfSome (refusal_to_post endpoint.old number (send_of octets.now solicited invalidate))
+        (λ _. IsErr result) }
+    ensures why { IfErr result (λ e. (e ≡ Refusal.NoMemory) ⊎
+        (refusal_to_post endpoint.old number (send_of octets.now solicited invalidate) ≡ Some e)) }
+    ensures ok { OnOk result
+        (endpoint.new ≡ with_request endpoint.old number (send_of octets.now solicited invalidate)) }
     ensures err { OnErr result (endpoint.new ≡ endpoint.old) }
 {
     let Ok(octets) = Bytes::copy_from_slice(alloc, octets) else {
@@ -170,7 +186,8 @@ fn post_write(
     octets: &[u8],
 ) -> Result<(), Refusal>
     ensures refused { IfSome (refusal_to_post endpoint.old number (write_of stag to octets.now)) (λ _. IsErr result) }
-    ensures why { IfErr result (λ e. (e ≡ Refusal.NoMemory) ⊎ (refusal_to_post endpoint.old number (write_of stag to octets.now) ≡ Some e)) }
+    ensures why { IfErr result
+        (λ e. (e ≡ Refusal.NoMemory) ⊎ (refusal_to_post endpoint.old number (write_of stag to octets.now) ≡ Some e)) }
     ensures ok { OnOk result (endpoint.new ≡ with_request endpoint.old number (write_of stag to octets.now)) }
     ensures err { OnErr result (endpoint.new ≡ endpoint.old) }
 {

@@ -18,7 +18,7 @@ pub enum Refusal {
     /// The handle has an endpoint already.
     #[error("the handle has an endpoint already")]
     AlreadyOpen,
-    #[error("out of memory")]
+    #[error("no memory")]
     NoMemory,
     /// The caller's buffer is too short.
     #[error("the buffer is too short")]

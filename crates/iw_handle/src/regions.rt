@@ -22,7 +22,8 @@ fn register_copy(
     rights: Rights,
 ) -> Result<Stag, Refusal>
     ensures refused { IfSome (refusal_to_register endpoint.old pd base (length octets.now)) (λ _. IsErr result) }
-    ensures why { IfErr result (λ e. (e ≡ Refusal.NoMemory) ⊎ (refusal_to_register endpoint.old pd base (length octets.now) ≡ Some e)) }
+    ensures why { IfErr result
+        (λ e. (e ≡ Refusal.NoMemory) ⊎ (refusal_to_register endpoint.old pd base (length octets.now) ≡ Some e)) }
     ensures stag { IfOk result (λ stag. stag ≡ next_stag endpoint.old.table pd) }
     ensures ok { OnOk result (endpoint.new ≡ registered endpoint.old pd base octets.now rights) }
     ensures err { OnErr result (endpoint.new ≡ endpoint.old) }
@@ -99,8 +100,8 @@ fn copy_part(endpoint: &Endpoint, stag: Stag, to: u64, out: &mut [u8]) -> Result
 }
 
 impl Handle {
-    /// Registers a copy of the octets, as [`Endpoint::register`] says. `NoMemory` may come before another refusal, since the
-    /// copy is made first. An `Err` changes nothing.
+    /// Registers a copy of the octets, as [`Endpoint::register`] says. `NoMemory` may come before another refusal,
+    /// since the copy is made first. An `Err` changes nothing.
     pub fn register(
         &mut self,
         alloc: Global,
@@ -110,10 +111,13 @@ impl Handle {
         rights: Rights,
     ) -> Result<Stag, Refusal>
         // The refusal, where one applies, or want of memory.
-        ensures refused { IfSome (refusal_in self.old.state (λ e. refusal_to_register e pd base (length octets.now))) (λ _. IsErr result) }
-        ensures why { IfErr result (λ e. (e ≡ Refusal.NoMemory) ⊎ (refusal_in self.old.state (λ e. refusal_to_register e pd base (length octets.now)) ≡ Some e)) }
+        ensures refused { IfSome (refusal_in self.old.state (λ e. refusal_to_register e pd base (length octets.now)))
+            (λ _. IsErr result) }
+        ensures why { IfErr result (λ e. (e ≡ Refusal.NoMemory) ⊎
+            (refusal_in self.old.state (λ e. refusal_to_register e pd base (length octets.now)) ≡ Some e)) }
         ensures stag { IfOk result (λ stag. Some stag ≡ told_in self.old.state (λ e. next_stag e.table pd)) }
-        ensures ok { OnOk result (self.new.state ≡ changed self.old.state (λ e. registered e pd base octets.now rights)) }
+        ensures ok { OnOk result
+            (self.new.state ≡ changed self.old.state (λ e. registered e pd base octets.now rights)) }
         ensures err { OnErr result (self.new.state ≡ self.old.state) }
     {
         let Some(mut held) = self.take(alloc) else {
@@ -124,8 +128,8 @@ impl Handle {
         done
     }
 
-    /// Takes a region out, valid or not, and copies its octets to the front of a buffer. It tells how many they are, also
-    /// where there is no room for them. An `Err` changes nothing else.
+    /// Takes a region out, valid or not, and copies its octets to the front of a buffer. It tells how many they are,
+    /// also where there is no room for them. An `Err` changes nothing else.
     pub fn deregister(
         &mut self,
         alloc: Global,
@@ -133,7 +137,8 @@ impl Handle {
         out: &mut [u8],
         len: &mut usize,
     ) -> Result<(), Refusal>
-        ensures refused { result_err result ≡ refusal_in self.old.state (λ e. copy_refusal (octets_of e stag) Refusal.NoRegion (length out.old)) }
+        ensures refused { result_err result ≡ refusal_in self.old.state
+            (λ e. copy_refusal (octets_of e stag) Refusal.NoRegion (length out.old)) }
         ensures len { len.new ≡ length_told (shown_in self.old.state (λ e. octets_of e stag)) len.old }
         ensures octets { OnOk result (out.new ≡ filled (shown_in self.old.state (λ e. octets_of e stag)) out.old) }
         ensures kept { OnErr result (out.new ≡ out.old) }
@@ -173,7 +178,8 @@ impl Handle {
         to: u64,
         octets: &[u8],
     ) -> Result<(), Refusal>
-        ensures refused { result_err result ≡ refusal_in self.old.state (λ e. part_refusal e stag to (length octets.now)) }
+        ensures refused { result_err result ≡ refusal_in self.old.state
+            (λ e. part_refusal e stag to (length octets.now)) }
         ensures ok { OnOk result (self.new.state ≡ changed self.old.state (λ e. stored e stag to octets.now)) }
         ensures err { OnErr result (self.new.state ≡ self.old.state) }
     {
@@ -188,7 +194,8 @@ impl Handle {
         }
     }
 
-    /// Reads a region's octets from tagged offset `to` on, as many as the buffer has. An `Err` leaves the buffer as it was.
+    /// Reads a region's octets from tagged offset `to` on, as many as the buffer has. An `Err` leaves the buffer as it
+    /// was.
     pub fn load(
         &mut self,
         alloc: Global,

@@ -25,8 +25,10 @@ fn open_stream(
 ) -> Result<(), Refusal>
     // The refusal, where one applies, and otherwise want of memory alone.
     ensures refused { IfSome (refusal_to_open endpoint.old number pd role (length private.now)) (λ r. result ≡ Err r) }
-    ensures memory { IfNone (refusal_to_open endpoint.old number pd role (length private.now)) (IfErr result (λ e. e ≡ Refusal.NoMemory)) }
-    ensures ok { OnOk result (endpoint.new ≡ opened endpoint.old number pd (role_in role) (config_of options private.now)) }
+    ensures memory { IfNone (refusal_to_open endpoint.old number pd role (length private.now))
+        (IfErr result (λ e. e ≡ Refusal.NoMemory)) }
+    ensures ok { OnOk result
+        (endpoint.new ≡ opened endpoint.old number pd (role_in role) (config_of options private.now)) }
     ensures err { OnErr result (endpoint.new ≡ endpoint.old) }
 {
     let role = role_of(role)?;
@@ -73,7 +75,8 @@ fn copy_private(
     out: &mut [u8],
     len: &mut usize,
 ) -> Result<(), Refusal>
-    ensures refused { result_err result ≡ copy_refusal (private_shown endpoint.now number) Refusal.NoSuchStream (length out.old) }
+    ensures refused { result_err result ≡ copy_refusal (private_shown endpoint.now number) Refusal.NoSuchStream
+        (length out.old) }
     ensures len { len.new ≡ length_told (private_shown endpoint.now number) len.old }
     ensures ok { OnOk result (out.new ≡ filled (private_shown endpoint.now number) out.old) }
     ensures err { OnErr result (out.new ≡ out.old) }
@@ -97,9 +100,13 @@ impl Handle {
         options: u32,
         private: &[u8],
     ) -> Result<(), Refusal>
-        ensures refused { IfSome (refusal_in self.old.state (λ e. refusal_to_open e number pd role (length private.now))) (λ r. result ≡ Err r) }
-        ensures memory { IfNone (refusal_in self.old.state (λ e. refusal_to_open e number pd role (length private.now))) (IfErr result (λ e. e ≡ Refusal.NoMemory)) }
-        ensures ok { OnOk result (self.new.state ≡ changed self.old.state (λ e. opened e number pd (role_in role) (config_of options private.now))) }
+        ensures refused { IfSome
+            (refusal_in self.old.state (λ e. refusal_to_open e number pd role (length private.now)))
+            (λ r. result ≡ Err r) }
+        ensures memory { IfNone (refusal_in self.old.state (λ e. refusal_to_open e number pd role (length private.now)))
+            (IfErr result (λ e. e ≡ Refusal.NoMemory)) }
+        ensures ok { OnOk result (self.new.state ≡ changed self.old.state
+            (λ e. opened e number pd (role_in role) (config_of options private.now))) }
         ensures err { OnErr result (self.new.state ≡ self.old.state) }
     {
         let Some(mut held) = self.take(alloc) else {
@@ -110,12 +117,14 @@ impl Handle {
         done
     }
 
-    /// Accepts the Request that waits for an answer, with this private data, as [`Endpoint::accept`] says. An `Err` changes
-    /// nothing.
+    /// Accepts the Request that waits for an answer, with this private data, as [`Endpoint::accept`] says. An `Err`
+    /// changes nothing.
     pub fn accept(&mut self, alloc: Global, number: u8, private: &[u8]) -> Result<Agreed, Refusal>
-        ensures refused { result_err result ≡ refusal_in self.old.state (λ e. refusal_to_answer e number (length private.now)) }
+        ensures refused { result_err result ≡ refusal_in self.old.state
+            (λ e. refusal_to_answer e number (length private.now)) }
         ensures agreed { IfOk result (λ agreed. Some agreed ≡ told_in self.old.state (λ e. agreement e number)) }
-        ensures ok { OnOk result (self.new.state ≡ changed self.old.state (λ e. accepted e number (private_of private.now))) }
+        ensures ok { OnOk result
+            (self.new.state ≡ changed self.old.state (λ e. accepted e number (private_of private.now))) }
         ensures err { OnErr result (self.new.state ≡ self.old.state) }
     {
         let Some(mut held) = self.take(alloc) else {
@@ -126,10 +135,13 @@ impl Handle {
         done
     }
 
-    /// Rejects the Request that waits for an answer, with this private data: the stream has ended. An `Err` changes nothing.
+    /// Rejects the Request that waits for an answer, with this private data: the stream has ended. An `Err` changes
+    /// nothing.
     pub fn reject(&mut self, alloc: Global, number: u8, private: &[u8]) -> Result<(), Refusal>
-        ensures refused { result_err result ≡ refusal_in self.old.state (λ e. refusal_to_answer e number (length private.now)) }
-        ensures ok { OnOk result (self.new.state ≡ changed self.old.state (λ e. rejected e number (private_of private.now))) }
+        ensures refused { result_err result ≡ refusal_in self.old.state
+            (λ e. refusal_to_answer e number (length private.now)) }
+        ensures ok { OnOk result
+            (self.new.state ≡ changed self.old.state (λ e. rejected e number (private_of private.now))) }
         ensures err { OnErr result (self.new.state ≡ self.old.state) }
     {
         let Some(mut held) = self.take(alloc) else {
@@ -140,8 +152,8 @@ impl Handle {
         done
     }
 
-    /// Copies the private data of the peer's start-up frame to the front of a buffer: none before that was read. It tells
-    /// how many octets they are, also where there is no room for them. An `Err` leaves the buffer as it was.
+    /// Copies the private data of the peer's start-up frame to the front of a buffer: none before that was read. It
+    /// tells how many octets they are, also where there is no room for them. An `Err` leaves the buffer as it was.
     pub fn private(
         &mut self,
         alloc: Global,
@@ -149,7 +161,8 @@ impl Handle {
         out: &mut [u8],
         len: &mut usize,
     ) -> Result<(), Refusal>
-        ensures refused { result_err result ≡ refusal_in self.old.state (λ e. copy_refusal (private_shown e number) Refusal.NoSuchStream (length out.old)) }
+        ensures refused { result_err result ≡ refusal_in self.old.state
+            (λ e. copy_refusal (private_shown e number) Refusal.NoSuchStream (length out.old)) }
         ensures len { len.new ≡ length_told (shown_in self.old.state (λ e. private_shown e number)) len.old }
         ensures ok { OnOk result (out.new ≡ filled (shown_in self.old.state (λ e. private_shown e number)) out.old) }
         ensures err { OnErr result (out.new ≡ out.old) }

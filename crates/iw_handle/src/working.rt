@@ -1,15 +1,16 @@
 // Octets that come, and what is done with them.
-ghost use Rattle.std.specs.Prelude.{◌≡◌, None, Some, length, IfSome, IfNone, IfOk, IfErr, OnOk, OnErr};
+ghost use Rattle.std.specs.Prelude.{◌≡◌, None, Some, length, IfSome, IfNone, IfOk, IfErr, OnOk, OnErr, IsSomeAnd};
 ghost use Rattle.std.specs.Result.{result_err};
-ghost use Rattle.iw_endpoint.specs.Endpoint.{delivery_at, after_deliver, step_at};
+ghost use Rattle.iw_endpoint.specs.Endpoint.{delivery_at, after_deliver, step_at, after_work};
 ghost use Rattle.iw_handle.specs.Events.{event_at};
 ghost use Rattle.iw_handle.specs.State.{refusal_in, changed, told_in, stream_refusal};
 ghost use Rattle.iw_handle.specs.State.{copy_refusal, filled, length_told};
 ghost use Rattle.iw_handle.specs.Streams.{refusal_to_work, BringsAt, TriesAt, handed_in, fetched};
 ghost use Rattle.iw_handle.specs.Streams.{handed_by, held_worked, worked};
+ghost use Rattle.iw_handle.specs.Steps.{WorksOn};
 
 use crate::copying::copy_out;
-use crate::event::{Event, event_of};
+use crate::event::{Event, event_of, is_quiet};
 use crate::handle::Handle;
 use crate::held::Held;
 use crate::refusal::Refusal;
@@ -19,6 +20,9 @@ use std::alloc::Global;
 /// A stream goes through, and emits, no more octets than this.
 pub(crate) const MAX_PLACE: u64 = 1 << 62;
 
+/// [`Handle::work_on`] does at most so many steps before the one that it answers.
+pub const QUIET_STEPS: u32 = 4_095;
+
 fn deliver(
     endpoint: &mut Endpoint,
     number: u8,
@@ -27,7 +31,8 @@ fn deliver(
 ) -> Result<Delivery, Refusal>
     ensures refused { IfSome (stream_refusal endpoint.old number) (λ r. result ≡ Err r) }
     ensures memory { IfNone (stream_refusal endpoint.old number) (IfErr result (λ e. e ≡ Refusal.NoMemory)) }
-    ensures want { IfNone (stream_refusal endpoint.old number) (OnErr result (BringsAt endpoint.old number from (length octets.now))) }
+    ensures want { IfNone (stream_refusal endpoint.old number)
+        (OnErr result (BringsAt endpoint.old number from (length octets.now))) }
     ensures delivery { IfOk result (λ delivery. delivery ≡ delivery_at endpoint.old number from (length octets.now)) }
     ensures ok { OnOk result (endpoint.new ≡ after_deliver endpoint.old number from octets.now) }
     ensures err { OnErr result (endpoint.new ≡ endpoint.old) }
@@ -67,31 +72,62 @@ fn keep(step: Step<Octets>, handed: &mut Octets)
     }
 }
 
+// Does one step at an endpoint.
 #[inline(always)]
-fn work(held: &mut Held, number: u8) -> Result<Event, Refusal>
+fn step(endpoint: &mut Endpoint, number: u8) -> Result<Step<Octets>, Refusal>
     // The refusal, where one applies, and otherwise want of memory alone.
-    ensures refused { IfSome (refusal_to_work held.old.endpoint number) (λ r. result ≡ Err r) }
-    ensures memory { IfNone (refusal_to_work held.old.endpoint number) (IfErr result (λ e. e ≡ Refusal.NoMemory)) }
-    ensures want { result ≡ Err Refusal.NoMemory → TriesAt held.old.endpoint number }
-    ensures event { IfOk result (λ event. event ≡ event_at (step_at held.old.endpoint number)) }
-    ensures ok { OnOk result (held.new ≡ held_worked held.old number) }
-    ensures err { OnErr result (held.new ≡ held.old) }
+    ensures refused { IfSome (refusal_to_work endpoint.old number) (λ r. result ≡ Err r) }
+    ensures memory { IfNone (refusal_to_work endpoint.old number) (IfErr result (λ e. e ≡ Refusal.NoMemory)) }
+    ensures want { result ≡ Err Refusal.NoMemory → TriesAt endpoint.old number }
+    ensures step { IfOk result (λ step. Ok step ≡ step_at endpoint.old number) }
+    ensures ok { OnOk result (endpoint.new ≡ after_work endpoint.old number) }
+    ensures err { OnErr result (endpoint.new ≡ endpoint.old) }
 {
-    let Ok(point) = held.endpoint.in_order_point(number) else {
+    let Ok(point) = endpoint.in_order_point(number) else {
         return Err(Refusal::NoSuchStream);
     };
     if point > MAX_PLACE {
         return Err(Refusal::TooFar);
     }
-    match held.endpoint.work(number) {
-        Ok(step) => {
-            let event = event_of(&step);
-            keep(step, &mut held.handed);
-            Ok(event)
-        }
+    match endpoint.work(number) {
+        Ok(step) => Ok(step),
         Err(CallRefusal::NoSuchStream) => Err(Refusal::NoSuchStream),
         Err(CallRefusal::Refused(_)) => Err(Refusal::NoMemory),
     }
+}
+
+// Does steps one after another: at most so many that ask nothing of the program, and the one that is told.
+fn steps(held: &mut Held, number: u8, most: u32, event: &mut Event) -> Result<(), Refusal>
+    ensures steps { WorksOn most held.old number (result_err result) event.new held.new }
+    ensures kept { OnErr result (event.new ≡ event.old) }
+{
+    let mut before = 0;
+    'steps: loop {
+        match step(&mut held.endpoint, number) {
+            Ok(step) if before < most && is_quiet(&step) => before += 1,
+            Ok(step) => {
+                *event = event_of(&step);
+                keep(step, &mut held.handed);
+                return Ok(());
+            }
+            Err(refusal) => return Err(refusal),
+        }
+    }
+}
+
+// Does one step.
+#[inline(always)]
+fn work(held: &mut Held, number: u8, event: &mut Event) -> Result<(), Refusal>
+    // The refusal, where one applies, and otherwise want of memory alone.
+    ensures refused { IfSome (refusal_to_work held.old.endpoint number) (λ r. result ≡ Err r) }
+    ensures memory { IfNone (refusal_to_work held.old.endpoint number) (IfErr result (λ e. e ≡ Refusal.NoMemory)) }
+    ensures want { result ≡ Err Refusal.NoMemory → TriesAt held.old.endpoint number }
+    ensures event { OnOk result (event.new ≡ event_at (step_at held.old.endpoint number)) }
+    ensures kept { OnErr result (event.new ≡ event.old) }
+    ensures ok { OnOk result (held.new ≡ held_worked held.old number) }
+    ensures err { OnErr result (held.new ≡ held.old) }
+{
+    steps(held, number, 0, event)
 }
 
 // Copies out what was handed back, and gives it up.
@@ -110,8 +146,8 @@ fn fetch(held: &mut Held, alloc: Global, out: &mut [u8], len: &mut usize) -> Res
 
 impl Handle {
     /// Takes octets that came on a stream's connection, the first of them at the stream place `from`, as
-    /// [`Endpoint::deliver`] says. An `Err` changes nothing; `NoMemory` comes only where they would be kept and one of them
-    /// is new.
+    /// [`Endpoint::deliver`] says. An `Err` changes nothing; `NoMemory` comes only where they would be kept and one of
+    /// them is new.
     pub fn deliver(
         &mut self,
         alloc: Global,
@@ -120,10 +156,14 @@ impl Handle {
         octets: &[u8],
     ) -> Result<Delivery, Refusal>
         ensures refused { IfSome (refusal_in self.old.state (λ e. stream_refusal e number)) (λ r. result ≡ Err r) }
-        ensures memory { IfNone (refusal_in self.old.state (λ e. stream_refusal e number)) (IfErr result (λ e. e ≡ Refusal.NoMemory)) }
-        ensures want { IfSome self.old.state (λ held. IfNone (stream_refusal held.endpoint number) (OnErr result (BringsAt held.endpoint number from (length octets.now)))) }
-        ensures delivery { IfOk result (λ delivery. Some delivery ≡ told_in self.old.state (λ e. delivery_at e number from (length octets.now))) }
-        ensures ok { OnOk result (self.new.state ≡ changed self.old.state (λ e. after_deliver e number from octets.now)) }
+        ensures memory { IfNone (refusal_in self.old.state (λ e. stream_refusal e number))
+            (IfErr result (λ e. e ≡ Refusal.NoMemory)) }
+        ensures want { IfSome self.old.state (λ held. IfNone (stream_refusal held.endpoint number)
+            (OnErr result (BringsAt held.endpoint number from (length octets.now)))) }
+        ensures delivery { IfOk result
+            (λ delivery. Some delivery ≡ told_in self.old.state (λ e. delivery_at e number from (length octets.now))) }
+        ensures ok { OnOk result
+            (self.new.state ≡ changed self.old.state (λ e. after_deliver e number from octets.now)) }
         ensures err { OnErr result (self.new.state ≡ self.old.state) }
     {
         let Some(mut held) = self.take(alloc) else {
@@ -138,25 +178,44 @@ impl Handle {
     /// buffer that is handed back, stays for [`Handle::fetch`] until the next that is handed back. An `Err` changes
     /// nothing; `TooFar` comes where the in-order point is past 2^62, and `NoMemory` only where no other refusal applies
     /// and a frame is judged before its turn.
-    #[inline(always)]
-    pub fn work(&mut self, alloc: Global, number: u8) -> Result<Event, Refusal>
+    pub fn work(&mut self, alloc: Global, number: u8, event: &mut Event) -> Result<(), Refusal>
         ensures refused { IfSome (refusal_in self.old.state (λ e. refusal_to_work e number)) (λ r. result ≡ Err r) }
-        ensures memory { IfNone (refusal_in self.old.state (λ e. refusal_to_work e number)) (IfErr result (λ e. e ≡ Refusal.NoMemory)) }
+        ensures memory { IfNone (refusal_in self.old.state (λ e. refusal_to_work e number))
+            (IfErr result (λ e. e ≡ Refusal.NoMemory)) }
         ensures want { result ≡ Err Refusal.NoMemory → IfSome self.old.state (λ held. TriesAt held.endpoint number) }
-        ensures event { IfOk result (λ event. Some event ≡ told_in self.old.state (λ e. event_at (step_at e number))) }
+        ensures event { OnOk result (Some event.new ≡ told_in self.old.state (λ e. event_at (step_at e number))) }
+        ensures kept { OnErr result (event.new ≡ event.old) }
         ensures ok { OnOk result (self.new.state ≡ worked self.old.state number) }
         ensures err { OnErr result (self.new.state ≡ self.old.state) }
     {
         let Some(mut held) = self.take(alloc) else {
             return Err(Refusal::Closed);
         };
-        let done = work(&mut held, number);
+        let done = work(&mut held, number, event);
         self.put(held);
         done
     }
 
-    /// Copies to the front of a buffer what `work` handed back last, which is then no longer kept. It tells how many octets
-    /// that is, also where there is no room for them. An `Err` changes nothing else.
+    /// Does steps at a stream as [`Handle::work`] does, one after another, until one that the program has to act on, that
+    /// tells `Idle` or that is refused, and tells that one. The steps before it ask nothing of the program (`Placed`,
+    /// `Buffered`, `Requested`, `Tried`, `Passed`) and are not told; of 4,096 the last is told whatever it is. An `Err`
+    /// leaves them done, and changes nothing else.
+    pub fn work_on(&mut self, alloc: Global, number: u8, event: &mut Event) -> Result<(), Refusal>
+        ensures closed { self.old.state ≡ None → (result ≡ Err Refusal.Closed) × (self.new.state ≡ None) }
+        ensures steps { IfSome self.old.state (λ held. IsSomeAnd self.new.state
+            (λ after. WorksOn QUIET_STEPS held number (result_err result) event.new after)) }
+        ensures kept { OnErr result (event.new ≡ event.old) }
+    {
+        let Some(mut held) = self.take(alloc) else {
+            return Err(Refusal::Closed);
+        };
+        let done = steps(&mut held, number, QUIET_STEPS, event);
+        self.put(held);
+        done
+    }
+
+    /// Copies to the front of a buffer what `work` handed back last, which is then no longer kept. It tells how many
+    /// octets that is, also where there is no room for them. An `Err` changes nothing else.
     pub fn fetch(&mut self, alloc: Global, out: &mut [u8], len: &mut usize) -> Result<(), Refusal>
         ensures refused { result_err result ≡ copy_refusal (handed_in self.old.state) Refusal.Closed (length out.old) }
         ensures len { len.new ≡ length_told (handed_in self.old.state) len.old }

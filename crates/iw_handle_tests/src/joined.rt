@@ -1,5 +1,5 @@
 //! Two handles joined in memory: start-up, a Write, a Send, a Read, and an end.
-use iw_handle::{Handle, read_request, rights_of, stag_of};
+use iw_handle::{Handle, IDLE, read_request, rights_of, stag_of};
 use std::alloc::Global;
 use std::test::Fail;
 
@@ -31,8 +31,23 @@ impl End {
     // Works until there is nothing to do, and tells the kind of each step.
     fn work(&mut self, alloc: Global) -> Result<Vec<u32>, Fail> {
         let mut kinds = Vec::new(alloc);
+        let mut event = IDLE;
         for _ in 0..100 {
-            let event = self.handle.work(alloc, STREAM)?;
+            self.handle.work(alloc, STREAM, &mut event)?;
+            kinds.push(event.kind)?;
+            if event.kind == 0 {
+                break;
+            }
+        }
+        Ok(kinds)
+    }
+
+    // Works on until there is nothing to do, and tells the kind of each step that is told.
+    fn work_on(&mut self, alloc: Global) -> Result<Vec<u32>, Fail> {
+        let mut kinds = Vec::new(alloc);
+        let mut event = IDLE;
+        for _ in 0..100 {
+            self.handle.work_on(alloc, STREAM, &mut event)?;
             kinds.push(event.kind)?;
             if event.kind == 0 {
                 break;
@@ -117,6 +132,27 @@ fn written_and_sent(rt: HostRuntime) -> Result<(), Fail> {
     b.handle.fetch(alloc, &mut out, &mut len)?;
     assert_eq!(rt; len, 0);
     assert!(rt; !b.handle.facts(alloc, stag)?.valid);
+    Ok(())
+}
+
+#[test]
+fn worked_on(rt: HostRuntime) -> Result<(), Fail> {
+    let alloc = rt.alloc();
+    let (mut a, mut b) = connected(alloc)?;
+    assert_eq!(rt; a.work_on(alloc)?.as_slice(), [5, 0].as_slice());
+    let stag = stag_of(0x01000000);
+    a.handle.post_write(alloc, STREAM, stag, 4098, b"octets")?;
+    a.handle.post_send(alloc, STREAM, b"hi", false, None)?;
+    carry(alloc, &mut a, &mut b)?;
+    assert_eq!(rt; a.work_on(alloc)?.as_slice(), [1, 1, 0].as_slice());
+    // What was placed and passed is not told: the Send is received.
+    assert_eq!(rt; b.work_on(alloc)?.as_slice(), [11, 0].as_slice());
+    let mut out = [b'_'; 8];
+    let mut len = 0usize;
+    b.handle.fetch(alloc, &mut out, &mut len)?;
+    assert_eq!(rt; out, *b"hi______");
+    b.handle.load(alloc, stag, 4097, &mut out)?;
+    assert_eq!(rt; out, *b".octets.");
     Ok(())
 }
 

@@ -1,5 +1,5 @@
 //! What is refused, with its code; and that a refusal changes nothing.
-use iw_handle::{Handle, Refusal, code, rights_of, stag_of};
+use iw_handle::{Handle, IDLE, Refusal, code, rights_of, stag_of};
 use std::alloc::Global;
 use std::test::Fail;
 
@@ -62,7 +62,15 @@ fn streams(rt: HostRuntime) -> Result<(), Fail> {
         handle.set_mulpdu(alloc, STREAM, 127),
         Err(Refusal::BadSize)
     );
-    assert_eq!(rt; handle.work(alloc, 1), Err(Refusal::NoSuchStream));
+    let mut event = IDLE;
+    assert_eq!(rt;
+        handle.work(alloc, 1, &mut event),
+        Err(Refusal::NoSuchStream)
+    );
+    assert_eq!(rt;
+        handle.work_on(alloc, 1, &mut event),
+        Err(Refusal::NoSuchStream)
+    );
     assert_eq!(rt; handle.set_mulpdu(alloc, STREAM, 128), Ok(()));
     Ok(())
 }
