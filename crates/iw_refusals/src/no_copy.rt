@@ -35,7 +35,7 @@ fn opened<'h>(heap: Heap<'h>) -> Result<Stream<Heap<'h>>, AllocError> {
     Stream::new(heap, 1, Role::Preset, config)
 }
 
-// The frames of four Writes to tagged offset 0, that of the k-th of octets k.
+// Four Writes to tagged offset 0, the k-th of octets k. Their frames have 512 octets each, the marker before them among these.
 fn frames<'h>(heap: Heap<'h>) -> Result<Vec<u8, Heap<'h>>, Fail> {
     let memory = Memory::new(heap)?;
     let mut stream = opened(heap)?;
@@ -90,10 +90,10 @@ impl<'h> Receiver<'h> {
         Err("a step was refused twice".into())
     }
 
-    // Takes the frame at `index` in, and works until nothing is left to do. A delivery that is refused is made again.
-    fn take(&mut self, wire: &[u8], index: usize) -> Result<(), Fail> {
-        let from = index * FRAME;
-        let frame = wire.get(from..from + FRAME).ok_or("a frame")?;
+    // Takes the frame from stream place `from` up to `to` in, and works until nothing is left to do. A delivery that is
+    // refused is made again.
+    fn take(&mut self, wire: &[u8], from: usize, to: usize) -> Result<(), Fail> {
+        let frame = wire.get(from..to).ok_or("a frame")?;
         if self.stream.deliver(from as u64, frame).is_err() {
             self.stream.deliver(from as u64, frame)?;
         }
@@ -115,11 +115,11 @@ fn refused_at(alloc: Global, n: u64) -> Result<Option<u32>, Fail> {
     let wire = frames(&heap)?;
     let mut end = Receiver::new(&heap)?;
     heap.refuse_after(n);
-    end.take(wire.as_slice(), 1)?;
-    end.take(wire.as_slice(), 0)?;
+    end.take(wire.as_slice(), 512, 1_024)?;
+    end.take(wire.as_slice(), 0, 512)?;
     let before = end.refused;
-    end.take(wire.as_slice(), 3)?;
-    end.take(wire.as_slice(), 2)?;
+    end.take(wire.as_slice(), 1_536, 2_048)?;
+    end.take(wire.as_slice(), 1_024, 1_536)?;
     if end.refused != before || end.placed != 4 {
         return Err(
             "a step was refused memory for the second pair, or a frame was not placed".into(),
