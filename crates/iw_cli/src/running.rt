@@ -66,11 +66,24 @@ fn run_task<R: Runtime + AllocGlobal + Net + Processes>(rt: &R, task: &Task<'_>)
     }
 }
 
+fn tell_no_memory<R: Runtime>(rt: &R) -> Status {
+    let _ = eprintln!(rt; "no memory");
+    Status::Refused
+}
+
+// Tells why the words were not read: one of them is not UTF-8, or there is no memory for them.
+fn tell_unread<R: Runtime>(rt: &R, error: &io::Error) -> Status {
+    if error.kind() == io::ErrorKind::OutOfMemory {
+        return tell_no_memory(rt);
+    }
+    let _ = eprintln!(rt; "{error}");
+    Status::Refused
+}
+
 // Tells why there is no task: the help, or what is wrong with the command line.
 fn tell<R: Runtime + AllocGlobal>(rt: &R, error: &clap::Error) -> Status {
     if error.kind() == ErrorKind::OutOfMemory {
-        let _ = eprintln!(rt; "no memory");
-        return Status::Refused;
+        return tell_no_memory(rt);
     }
     match error.print(rt) {
         Err(_) if error.exit_code() == 0 => Status::Failed,
@@ -79,26 +92,33 @@ fn tell<R: Runtime + AllocGlobal>(rt: &R, error: &clap::Error) -> Status {
     }
 }
 
-fn try_run<R: Runtime + AllocGlobal + Net + Processes>(rt: &R) -> anyhow::Result<Status> {
+// The words of this process's command line, its name first.
+fn read_words<R: Runtime + AllocGlobal>(rt: &R) -> io::Result<Vec<String>> {
     let alloc = rt.alloc();
-    let words: Vec<String> = std::env::args(rt)?.collect(alloc)?;
-    match iwarp(alloc)?.try_get_matches_from(words.as_slice()) {
-        Ok(matches) => Ok(match task_of(&matches) {
-            Some(task) => run_task(rt, &task),
-            None => Status::Refused,
-        }),
-        Err(error) => Ok(tell(rt, &error)),
-    }
+    let words = std::env::args(rt)?.collect(alloc)?;
+    Ok(words)
+}
+
+fn run_words<R: Runtime + AllocGlobal + Net + Processes>(
+    rt: &R,
+    words: &[String],
+) -> Result<Status, clap::Error> {
+    let matches = iwarp(rt.alloc())?.try_get_matches_from(words)?;
+    Ok(match task_of(&matches) {
+        Some(task) => run_task(rt, &task),
+        None => Status::Refused,
+    })
 }
 
 /// Does what this process's command line asks for. What is wrong with the command line, or with what is replayed, is
 /// told on standard error.
 pub fn run<R: Runtime + AllocGlobal + Net + Processes>(rt: &R) -> Status {
-    match try_run(rt) {
+    let words = match read_words(rt) {
+        Ok(words) => words,
+        Err(error) => return tell_unread(rt, &error),
+    };
+    match run_words(rt, words.as_slice()) {
         Ok(status) => status,
-        Err(error) => {
-            let _ = eprintln!(rt; "{error}");
-            Status::Refused
-        }
+        Err(error) => tell(rt, &error),
     }
 }
