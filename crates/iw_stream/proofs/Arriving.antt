@@ -8,34 +8,39 @@ use Rattle.std.proofs.lemmas.Bool.Decides.{nat_tests}
 use Rattle.arrayvec.specs.ArrayVec.{ArrayVec}
 use Rattle.iw_ranges.specs.declared.Delivery.TheVariants.{Kept, Dropped}
 use Rattle.iw_ranges.specs.Arrived.{Arrived, Cell, Missing, Here, Gone, nothing, window, cell_at, has_come, is_missing, delivery, delivered, taken_in, is_dropped, advanced, IsWithinLimits}
-use Rattle.iw_ranges.specs.InOrder.{IsHeld, is_gone}
+use Rattle.iw_ranges.specs.InOrder.{is_gone}
 use Rattle.iw_ranges.proofs.Counts.{dropped_far}
 use Rattle.iw_ranges.proofs.ByPlace.{cell_at-nothing, gives_up_before, not_dropped}
 use Rattle.iw_ranges.proofs.InOrder.{floor_moves, held_moves}
 use Rattle.iw_fpdu.specs.declared.layout.Layout.{Layout}
+use Rattle.iw_fpdu.specs.Places.{span_start}
 use Rattle.iw_fpdu.specs.Reading.{length_at}
-use Rattle.iw_fpdu.specs.Found.{IsKept, HoldsSpan, ulpdu, octet_of as octet_held}
+use Rattle.iw_fpdu.specs.Found.{ulpdu, octet_of as octet_held}
 use Rattle.iw_fpdu.specs.Laws.{IsBetween, found_at}
 use Rattle.iw_fpdu.proofs.Follows.{frames_follow}
 use Rattle.iw_fpdu.proofs.Octets.{span_low, length_within}
 use Rattle.iw_locate.specs.declared.frame.Frame.{Frame}
 use Rattle.iw_locate.specs.declared.frame.Next.TheVariants.{Frame as Found}
 use Rattle.iw_locate.specs.declared.judged.State.{State}
-use Rattle.iw_locate.specs.Records.{max_records, AreApart}
-use Rattle.iw_locate.specs.Free.{Scene, scene_of, octet_of, IsOpen, IsFree}
+use Rattle.iw_locate.specs.declared.judged.State.TheVariants.{Tried, Placed}
+use Rattle.iw_locate.specs.Records.{max_records, AreApart, IsClear, added}
+use Rattle.iw_locate.specs.Free.{Scene, scene_of, end_of, octet_of, IsOpen, IsFree}
 use Rattle.iw_locate.specs.Next.{CanBeEarly, IsNext, IsNone, IsFrontWhole, IsLowest, frame_at}
 use Rattle.iw_locate.specs.Lowest.{lowest_free, early_place}
-use Rattle.iw_locate.specs.Keeping.{Keeps}
+use Rattle.iw_locate.specs.Keeping.{Keeps, changed}
 use Rattle.iw_locate.specs.Keeping as keeping
 use Rattle.iw_fpdu.specs.Frame.{frame_end}
 use Rattle.iw_stream.proofs.Landings.{length_ulpdu}
 use Rattle.iw_stream.specs.Frames as frames
 use Rattle.iw_locate.specs.declared.unsearched.Unsearched.{Unsearched}
 use Rattle.iw_locate.specs.Unsearched.{Tells, IsFollowed, counted_from}
+use Rattle.iw_locate.proofs.Adding.{judging_keeps}
+use Rattle.iw_locate.proofs.Holds.{adds_one}
+use Rattle.iw_locate.proofs.Releasing.{release_keeps}
 use Rattle.iw_locate.proofs.Starting.{no_record_keeps, nothing_tells}
 use Rattle.iw_locate.proofs.Telling.{lowest_is_told}
-use Rattle.iw_stream.proofs.Fronts.{kept_cell}
-use Rattle.iw_stream.specs.Frames.{EarlyRecord, kept_by, placed_at}
+use Rattle.iw_stream.proofs.Releasing.{all_held}
+use Rattle.iw_stream.specs.Frames.{EarlyRecord, kept_by, placed_at, without}
 use Rattle.iw_stream.specs.Incoming.{Coming, scene_in, frame_in, IsTracked}
 
 -- ---- nothing came
@@ -44,8 +49,8 @@ none_gone Missing e f = absurd (let no : ⊥ = cc in no)
 none_gone (Here x) e f = absurd (let no : ⊥ = cc in no)
 none_gone Gone e f = absurd (let no : ⊥ = cc in no)
 
-pub nothing_tracked : (layout : Layout) (room : ℕ) → IsTracked (record { layout = layout; base = 0; arrived = nothing; early = []; room = room; unsearched = record { from = 0; to = 0; low = 0; high = 0; reach = 0 } })
-nothing_tracked layout room = record {
+pub nothing_tracked : (layout : Layout) (room releases : ℕ) → IsTracked (record { layout = layout; base = 0; arrived = nothing; early = []; room = room; releases = releases; unsearched = record { from = 0; to = 0; low = 0; high = 0; reach = 0 } })
+nothing_tracked layout room releases = record {
   keeps = no_record_keeps (scene_of layout 0 nothing []) (omega arith) (frames_follow.first layout.markers) refl (λ q low gone. none_gone (cell_at nothing (0 + q)) (cell_at-nothing (0 + q)) gone);
   tells = nothing_tells (scene_of layout 0 nothing []) (λ q. cell_at-nothing (0 + q));
 }
@@ -88,12 +93,13 @@ given_up true c few = omega arith
 given_up false c few = few
 
 -- the start-up frame ends at `place`, and frames begin there
-pub begun : (c : Coming) (layout : Layout) (place : ℕ) → c.early ≡ [] → c.arrived.floor ≡ 0 → IsHeld c.arrived → IsTracked c
-    → IsTracked (record { layout = layout; base = place; arrived = advanced c.arrived place; early = c.early; room = c.room; unsearched = counted_from c.unsearched place })
-begun c layout place none first held t =
+pub begun : (c : Coming) (layout : Layout) (place : ℕ) → c.early ≡ [] → c.arrived.floor ≡ 0 → IsTracked c
+    → IsTracked (record { layout = layout; base = place; arrived = advanced c.arrived place; early = c.early; room = c.room; releases = c.releases; unsearched = counted_from c.unsearched place })
+begun c layout place none first t =
     let a : Arrived = advanced c.arrived place in
     let floor : a.floor ≡ place = omega (arith, floor_moves c.arrived place, first) in
     let zero_ : c.base ≡ 0 = omega (arith, t.keeps.based, first) in
+    let held = all_held (scene_in c) t.keeps.released t.keeps.based none in
     let v : Scene (ArrayVec ℕ) = scene_of layout place a c.early in
     record {
       keeps = no_record_keeps v (omega (arith, floor)) (subst (IsBetween layout.markers) (let e : 0 ≡ a.floor - place = omega (arith, floor) in e) (frames_follow.first layout.markers)) none
@@ -109,9 +115,10 @@ begun c layout place none first held t =
         gives_up_before c.arrived place (place + q) ∙ ap (λ b. cond b Gone (cell_at c.arrived (place + q))) not_before ∙ ap (cell_at c.arrived) (let e : place + q ≡ c.base + (place + q) = omega (arith, t.keeps.based, first) in e)
 
 -- the layout is agreed on before any frame had its turn
-pub laid_out : (c : Coming) (layout : Layout) → c.early ≡ [] → c.arrived.floor ≡ c.base → IsHeld c.arrived → IsTracked c
-    → IsTracked (record { layout = layout; base = c.base; arrived = c.arrived; early = c.early; room = c.room; unsearched = counted_from c.unsearched 0 })
-laid_out c layout none first held t =
+pub laid_out : (c : Coming) (layout : Layout) → c.early ≡ [] → c.arrived.floor ≡ c.base → IsTracked c
+    → IsTracked (record { layout = layout; base = c.base; arrived = c.arrived; early = c.early; room = c.room; releases = c.releases; unsearched = counted_from c.unsearched 0 })
+laid_out c layout none first t =
+    let held = all_held (scene_in c) t.keeps.released t.keeps.based none in
     let v : Scene (ArrayVec ℕ) = scene_of layout c.base c.arrived c.early in
     record {
       keeps = no_record_keeps v (omega (arith, first)) (subst (IsBetween layout.markers) (let e : 0 ≡ c.arrived.floor - c.base = omega (arith, first) in e) (frames_follow.first layout.markers)) none
@@ -250,14 +257,6 @@ pub near_since : (v : Scene (ArrayVec ℕ)) → IsWithinLimits v.arrived → v.a
 near_since v limits low lacking None h = tt
 near_since v limits low lacking (Some f) h = next_near v limits low lacking f (as_next v lacking f h)
 
--- none of its octets was given up
-pub open_holds : (v : Scene (ArrayVec ℕ)) → IsHeld v.arrived → (s : ℕ) → IsOpen v s
-    → HoldsSpan (found_at v.arrived v.layout v.base s) × ((p : ℕ) → s ≤ p → IsKept (cell_at v.arrived (v.base + p)))
-open_holds v held s o = (
-  λ p low high. kept_cell _ (held (v.base + p) (omega (arith, o.past, low))),
-  λ p low. kept_cell _ (held (v.base + p) (omega (arith, o.past, low, span_low v.layout.markers s))),
-)
-
 -- its record, as it is read
 pub record_read : (c : Coming) (f : Frame) (state : State (ArrayVec ℕ)) → IsReadable (scene_in c) f → keeping.record_of f state ≡ frames.record_of (frame_in c f.start) state
 record_read c f state r =
@@ -266,3 +265,41 @@ record_read c f state r =
     let end : f.end ≡ frame_end true f.start (length (ulpdu (found_at c.arrived c.layout c.base f.start))) =
     ap (λ (x : Frame). x.end) r.is ∙ ap (λ m. frame_end m f.start (length_at (octet_of (scene_in c)) f.start)) r.markers ∙ ap (frame_end true f.start) (sym (length_ulpdu found)) in
     (λ i. record { start = f.start; length = len i; end = end i; state = state })
+
+-- it came whole, in the window, and lies over no other
+pub record Fits (c : Coming) (f : Frame) : Type 0 where
+  pub some : f.start < f.end
+  pub clear : IsClear c.early f.start f.end
+  pub come : (p : ℕ) → c.base + span_start true f.start ≤ p → p < c.base + f.end → has_come c.arrived p ≡ true
+  pub near : c.base + f.end ≤ c.arrived.floor + window
+
+pub early_fits : (c : Coming) (f : Frame) → IsWithinLimits c.arrived → IsNext (scene_in c) (Found f) → f.early ≡ true → Fits c f
+early_fits c f limits next early =
+    let v = scene_in c in
+    let r = readable v f next early in
+    let end : f.end ≡ end_of v f.start = ap (λ (x : Frame). x.end) r.is in
+    let some : f.start < f.end = omega (arith, end, length_within c.layout.markers f.start (length_at (octet_of v) f.start) r.open_.start) in record {
+      some = some;
+      clear = subst (λ end. IsClear c.early f.start end) (sym end) r.open_.clear;
+      come = come end r;
+      near = elim (cases_lt (c.arrived.floor + window) (c.base + f.end)) [
+        | inl far ↦
+            absurd (true≢false (sym (come end r (c.base + f.end - 1) (omega (arith, some, span_low true f.start)) (omega (arith, some)))
+            ∙ ap (λ x. not (is_missing x)) (limits.octets (c.base + f.end - 1) (omega (arith, far, some)))))
+        | inr fits ↦ fits
+      ];
+    }
+  where
+    come : f.end ≡ end_of (scene_in c) f.start → IsReadable (scene_in c) f → (p : ℕ) → c.base + span_start true f.start ≤ p → p < c.base + f.end → has_come c.arrived p ≡ true
+    come end r p low high =
+        subst (λ q. has_come c.arrived q ≡ true) (let same : c.base + (p - c.base) ≡ p = omega (arith, low) in same)
+        (r.open_.whole (p - c.base) (omega (arith, low, ap (λ m. span_start m f.start) r.markers)) (omega (arith, high, end, low)))
+
+-- and once it is kept
+pub kept_record : (c : Coming) (f : Frame) (state : State (ArrayVec ℕ)) → IsNext (scene_in c) (Found f) → f.early ≡ true → IsFollowed c.unsearched f → IsTracked c
+    → let w = changed (scene_in c) (without c.base c.arrived (keeping.record_of f state) state) (added c.early (keeping.record_of f state)) in Keeps w × Tells w c.unsearched
+kept_record c f Tried next early followed t = judging_keeps (scene_in c) c.unsearched f Tried t.keeps t.tells next early followed
+kept_record c f (Placed header) next early followed t =
+    let r = keeping.record_of f (Placed header) in
+    let j = judging_keeps (scene_in c) c.unsearched f (Placed header) t.keeps t.tells next early followed in
+    release_keeps (changed (scene_in c) c.arrived (added c.early r)) c.unsearched r j.0 j.1 ((adds_one c.early r r).1 (inr refl)) tt

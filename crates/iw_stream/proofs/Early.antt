@@ -1,5 +1,5 @@
 -- A frame that is judged before its turn; and which task the frames of an open stream come to, where some were.
-use Rattle.std.proofs.Common.{◌≡◌, ℕ, ◌+◌, ◌-◌, Bool, true, false, cond, if◌then◌else◌, List, [], ◌∷◌, length, Option, Some, None, Ok, Err, refl, sym, ap, ◌∙◌, subst, arith, inl, inr}
+use Rattle.std.proofs.Common.{◌≡◌, ℕ, ◌+◌, ◌-◌, ◌<◌, ◌≤◌, Bool, true, false, cond, if◌then◌else◌, List, [], ◌∷◌, length, Option, Some, None, Ok, Err, refl, sym, ap, ◌∙◌, subst, arith, inl, inr}
 use Rattle.std.specs.Prelude.{Result, IfOk, IfSome, OnOk, is_some}
 use Rattle.std.specs.Option.{option_map, option_map_or, option_or}
 use Rattle.std.proofs.lemmas.Bool.{true≢false}
@@ -8,13 +8,14 @@ use Rattle.arrayvec.specs.ArrayVec.{ArrayVec}
 use Rattle.iw_octets.specs.declared.fault.Fault.{Fault}
 use Rattle.iw_octets.specs.Segment.{read_segment}
 use Rattle.iw_memory.specs.Table.{Table}
-use Rattle.iw_ranges.specs.Arrived.{IsWithinLimits}
+use Rattle.iw_ranges.specs.Arrived.{Arrived, cell_at}
 use Rattle.iw_fpdu.specs.declared.layout.Layout.{Layout}
 use Rattle.iw_fpdu.specs.Frame.{frame_end}
 use Rattle.iw_fpdu.specs.Places.{frame_start}
 use Rattle.iw_fpdu.specs.Reading.{end_at}
-use Rattle.iw_fpdu.specs.Found.{Found, octet_in}
-use Rattle.iw_fpdu.specs.Laws.{found_at}
+use Rattle.iw_fpdu.specs.Found.{Found, IsKept, octet_in}
+use Rattle.iw_fpdu.specs.Laws.{IsBetween, found_at}
+use Rattle.iw_fpdu.proofs.Octets.{span_low}
 use Rattle.iw_locate.specs.declared.frame.Frame as located
 use Rattle.iw_locate.specs.declared.judged.State.{State}
 use Rattle.iw_locate.specs.declared.judged.State.TheVariants.{Tried, Placed}
@@ -25,30 +26,36 @@ use Rattle.iw_locate.specs.Next.{IsFrontWhole}
 use Rattle.iw_locate.specs.Lowest.{overlaps_placed, early_place}
 use Rattle.iw_locate.specs.Keeping as keeping
 use Rattle.iw_locate.specs.Keeping.{IsFrontUnplaced}
+use Rattle.iw_locate.proofs.Front.{front_clear, starts_of}
 use Rattle.iw_locate.proofs.Holds.{adds_one}
 use Rattle.iw_untagged.specs.Receiving.{Receiving}
 use Rattle.iw_stream.specs.declared.judging.Landing.{Landing}
-use Rattle.iw_stream.specs.Frames.{Frame, EarlyRecord, IsNext, frame_at, frame_by, kept_by, payload_of, placed, placed_at, record_tried, state_tried}
-use Rattle.iw_stream.specs.Incoming.{Coming, IsSameScene, frame_in, scene_in}
+use Rattle.iw_stream.specs.declared.judging.PlacedFrame.{PlacedFrame}
+use Rattle.iw_stream.specs.Frames.{Frame, EarlyRecord, IsNext, frame_at, frame_by, kept_by, payload_of, placed, placed_at, record_tried, state_tried, without}
+use Rattle.iw_stream.specs.Incoming.{Coming, IsClearAt, IsSameScene, frame_in, scene_in}
 use Rattle.iw_stream.specs.Judging.{Standing, early_verdict, judged_head, landing_in, may_be_early, receiving_tried, table_tried, verdict}
 use Rattle.iw_stream.specs.Kept.{IsPlaced, Keeps, KeepsBuffer, KeepsHeader, NoneReachesOver}
 use Rattle.iw_stream.specs.Starting.{is_open, expecting, first_place_in}
 use Rattle.iw_stream.specs.Stream.{StreamState}
 use Rattle.iw_stream.specs.Work.{Task, Turn, Clash, Judge, Try, Rest, after_trying, clashes, early_frame, frame_task, front_task, left_by, next_frame, scene, standing, step_of, table_left, tried_step, waiting}
 use Rattle.iw_stream.proofs.Arriving.{placed_there}
-use Rattle.iw_stream.proofs.Fronts.{frame_whole}
+use Rattle.iw_stream.proofs.Fronts.{frame_whole, kept_cell}
 use Rattle.iw_stream.proofs.Buffers.{StaysThere, stays_same, stays_so}
 use Rattle.iw_stream.proofs.Headers.{header_short, kept_buffer}
 use Rattle.iw_stream.proofs.Keeping.{IsJudged, IsPlacing, early_placing, frame_judged, judged_whole, segment_placed, segment_stays}
 use Rattle.iw_stream.proofs.Landings.{length_ulpdu}
 use Rattle.iw_stream.proofs.Tagged.{next_is}
 use Rattle.iw_stream.proofs.Tasks.{task_tries}
-use Rattle.iw_stream.proofs.Waiting.{clear_over}
+use Rattle.iw_stream.proofs.Releasing.{all_held, clear_held, floor_without, none_in}
 
 -- ---- no frame waits at the in-order point, and none is whole there
 is_none : {A : Type 0} (o : Option A) → is_some o ≡ false → o ≡ None
 is_none None e = refl
 is_none (Some x) e = absurd (true≢false e)
+
+pub alone : (rs : List EarlyRecord) → length rs ≡ 0 → rs ≡ []
+alone [] e = refl
+alone (r ∷ rs) e = absurd (omega (arith, e))
 
 no_record : (rs : List EarlyRecord) (start : ℕ) → length rs ≡ 0 → placed_at rs start ≡ None
 no_record [] start e = refl
@@ -103,10 +110,8 @@ task_clashes s found over none w is = sym (front_is s found over none w ∙ ap (
 pub task_judges : (s : StreamState) (found : Found) (over : Bool) → waiting s ≡ None → IsSeen s found over → over ≡ false → option_map_or Judge (next_frame s) Rest ≡ frame_task s
 task_judges s found over none w is = ap (λ o. option_map_or Judge o Rest) w.next ∙ sym (front_is s found over none w ∙ ap (λ b. cond b (Clash (frame_by found)) (Judge (frame_by found))) is)
 
--- then no placed frame reaches over its end
-pub none_over : (s : StreamState) (found : Found) (over : Bool) → Keeps s → keeping.Keeps (scene s) → AreApart s.early → IsWithinLimits s.arrived → IsSeen s found over → over ≡ false → (frame : Frame) → next_frame s ≡ Some frame → NoneReachesOver s (placed frame)
-none_over s found over k kept apart limits w clear frame is =
-    subst (λ f. NoneReachesOver s (placed f)) (same_Some _ _ (sym w.next ∙ is)) (clear_over s k kept apart limits (placed (frame_by found)) w.begins (w.clash ∙ clear))
+pub none_clashes : (s : StreamState) (found : Found) (over : Bool) → IsSeen s found over → over ≡ false → (frame : Frame) → next_frame s ≡ Some frame → clashes s frame ≡ false
+none_clashes s found over w clear frame is = ap (clashes s) (sym (same_Some _ _ (sym w.next ∙ is))) ∙ w.clash ∙ clear
 
 -- ---- a frame is looked for past it
 pub scene_is : (s : StreamState) (old : Coming) → old.layout ≡ expecting s.start → old.base ≡ first_place_in s.start → old.arrived ≡ s.arrived → old.early ≡ s.early → scene_in old ≡ scene s
@@ -120,9 +125,49 @@ kept_none : (r : EarlyRecord) (state : State (ArrayVec ℕ)) → records.IsPlace
 kept_none r Tried p e = p
 kept_none r (Placed header) p e = none-some _ (sym e)
 
+unplaced : (s : StreamState) → AreApart s.early → waiting s ≡ None → IsFrontUnplaced (scene s)
+unplaced s apart none r within placed at = kept_none r r.state placed (sym (placed_there s.early (front_of (scene s)) r apart within at) ∙ (none_of s.front _ none).1)
+
 pub front_unplaced : (s : StreamState) (old : Coming) → scene_in old ≡ scene s → AreApart s.early → waiting s ≡ None → IsFrontUnplaced (scene_in old)
-front_unplaced s old same apart none =
-    subst IsFrontUnplaced (sym same) (λ r within placed at. kept_none r r.state placed (sym (placed_there s.early (front_of (scene s)) r apart within at) ∙ (none_of s.front _ none).1))
+front_unplaced s old same apart none = subst IsFrontUnplaced (sym same) (unplaced s apart none)
+
+-- so the length of the one at the in-order point is held
+abbrev pub IsFrontKept : StreamState → Type 0
+IsFrontKept s = (p : ℕ) → front_of (scene s) ≤ p → p < front_of (scene s) + 2 → IsKept (cell_at s.arrived (first_place_in s.start + p))
+
+pub front_kept : (s : StreamState) → keeping.Keeps (scene s) → AreApart s.early → waiting s ≡ None → IsFrontKept s
+front_kept s kept apart none p low high =
+    let v = scene s in
+    let clear = front_clear v kept.between kept.marked (starts_of s.early apart) kept.records (unplaced s apart none) in
+    clear_held v kept.released (front_of v) (front_of v + 2) clear p (omega (arith, low, kept.between.span, span_low v.layout.markers (front_of v))) (omega (arith, low, span_low true (front_of v))) high
+
+pub front_kept_alone : (s : StreamState) → keeping.Keeps (scene s) → s.early ≡ [] → IsFrontKept s
+front_kept_alone s kept alone p low high =
+    let v = scene s in
+    kept_cell (cell_at s.arrived (first_place_in s.start + p)) (all_held v kept.released kept.based alone (first_place_in s.start + p) (omega (arith, low, kept.based, kept.between.span, span_low v.layout.markers (front_of v))))
+
+-- wherever it is looked up
+module _ (s : StreamState) (layout : Layout) (base start floor : ℕ) (l : layout ≡ expecting s.start) (b : base ≡ first_place_in s.start) (f : floor ≡ s.arrived.floor) (at : start ≡ frame_start layout.markers (floor - base)) where
+  pub kept_there : IsFrontKept s → (p : ℕ) → start ≤ p → p < start + 2 → IsKept (cell_at s.arrived (base + p))
+  kept_there kept p low high =
+      let is : start ≡ front_of (scene s) = at ∙ (λ i. frame_start (l i).markers (f i - b i)) in
+      subst (λ z. IsKept (cell_at s.arrived (z + p))) (sym b) (kept p (omega (arith, low, is)) (omega (arith, high, is)))
+
+pub clear_there : (s : StreamState) (c : Coming) (start floor : ℕ) → c.layout ≡ expecting s.start → c.base ≡ first_place_in s.start → c.arrived ≡ s.arrived → c.early ≡ s.early → floor ≡ s.arrived.floor
+    → start ≡ frame_start c.layout.markers (floor - c.base) → ((frame : Frame) → next_frame s ≡ Some frame → clashes s frame ≡ false) → IsClearAt c start
+clear_there s c start floor l b a e f at clear frame is =
+    (λ i. overlaps_placed (e i) frame.start (frame_end (l i).markers frame.start (length frame.ulpdu)))
+    ∙ clear frame (next_is s c.layout c.base start floor (frame_at c.layout s.arrived c.base start) l b f at refl ∙ ap (λ x. frame_at c.layout x c.base start) (sym a) ∙ is)
+
+pub clear_alone : (c : Coming) (start : ℕ) → c.early ≡ [] → IsClearAt c start
+clear_alone c start alone frame is = ap (λ xs. overlaps_placed xs frame.start (frame_end c.layout.markers frame.start (length frame.ulpdu))) alone
+
+-- it begins there
+pub begins_at : (s : StreamState) (found : Found) (layout : Layout) (base start floor : ℕ) → layout ≡ expecting s.start → base ≡ first_place_in s.start → IsNext layout s.arrived base found → found.start ≡ front_of (scene s)
+begins_at s found layout base start floor l b n = ap (λ (x : Found). x.start) n.is ∙ (λ i. frame_start (l i).markers (s.arrived.floor - b i))
+
+pub over_alone : (s : StreamState) (frame : PlacedFrame) → s.early ≡ [] → NoneReachesOver s frame
+over_alone s frame alone r within = absurd (none_in s.early alone r within)
 
 pub front_lacks : (s : StreamState) (old : Coming) → scene_in old ≡ scene s → next_frame s ≡ None → IsFrontWhole (scene_in old) → ⊥
 front_lacks s old same lacks =
@@ -168,10 +213,12 @@ step_tried table s frame place o found landed base =
     (λ i. tried_step (base i + frame.start) (landed i)) ∙ ap (λ o. step_of table s (option_map_or Try o Rest)) (sym found)
 
 pub stream_tried : (table : Table) (s : StreamState) (now after : Coming) (r : Receiving) (start : ℕ) (o : Option Landing) → IsFound s now start → o ≡ early_verdict (standing table s) (frame_in now start)
-    → after.arrived ≡ now.arrived → after.early ≡ added now.early (record_tried (frame_in now start) o) → r ≡ receiving_tried s.receiving (frame_in now start) o
+    → after.arrived ≡ without now.base now.arrived (record_tried (frame_in now start) o) (state_tried (frame_in now start) o) → after.early ≡ added now.early (record_tried (frame_in now start) o)
+    → r ≡ receiving_tried s.receiving (frame_in now start) o
     → record s { arrived = after.arrived; early = after.early; receiving = r } ≡ left_by table s (option_map_or Try (early_frame s) Rest)
 stream_tried table s now after r start o w landed arrived early receiving =
-    let come : after.arrived ≡ s.arrived = arrived ∙ w.arrived in
+    let come : after.arrived ≡ without (first_place_in s.start) s.arrived (record_tried (frame_in now start) o) (state_tried (frame_in now start) o) =
+    arrived ∙ (λ i. without (w.base i) (w.arrived i) (record_tried (frame_in now start) o) (state_tried (frame_in now start) o)) in
     let kept : after.early ≡ added s.early (record_tried (frame_in now start) o) = early ∙ ap (λ rs. added rs (record_tried (frame_in now start) o)) w.early in
     (λ i. record s { arrived = come i; early = kept i; receiving = receiving i }) ∙ ap (after_trying s (frame_in now start)) landed ∙ ap (λ o. left_by table s (option_map_or Try o Rest)) (sym w.found)
 
@@ -213,45 +260,48 @@ tried_stays at frame (Some x) is =
     let j = (early_judged at frame x (sym is)).0 in
     segment_stays at frame.ulpdu (length at.asked.unanswered) j.head x j.judged j.placed
 
--- the record of the frame is added
-keeps_record : (s : StreamState) (table : Table) (frame : Frame) (o : Option Landing) (r : Receiving) → is_open s.start ≡ true → waiting s ≡ None → o ≡ early_verdict (standing table s) frame
-    → r ≡ receiving_tried s.receiving frame o → Keeps s
-    → Keeps (record s { early = added s.early (record_tried frame o); receiving = r })
-keeps_record s table frame o r running none landed left k =
+-- the record of the frame is added, and its octets may be given up
+keeps_record : (s : StreamState) (table : Table) (frame : Frame) (o : Option Landing) (a : Arrived) (r : Receiving) → is_open s.start ≡ true → waiting s ≡ None → o ≡ early_verdict (standing table s) frame
+    → a.floor ≡ s.arrived.floor → r ≡ receiving_tried s.receiving frame o → Keeps s
+    → Keeps (record s { arrived = a; early = added s.early (record_tried frame o); receiving = r })
+keeps_record s table frame o a r running none landed floor left k =
     let front : s.front ≡ None = (none_of s.front _ none).0 in
     record {
       started = record {
         unopened = λ e. absurd (true≢false (sym running ∙ e));
         unsent = k.started.unsent;
         alone = k.started.alone;
-        beyond = k.started.beyond;
+        beyond = omega (arith, floor, k.started.beyond);
       };
-      between = k.between;
-      held = k.held;
+      between = subst (λ f. IsBetween (expecting s.start).markers (f - first_place_in s.start)) (sym floor) k.between;
       aligned = k.aligned;
       enough = k.enough;
       few = k.few;
-      is_placed = λ e. subst (λ x. IfSome x (IsPlaced (record s { early = added s.early (record_tried frame o); receiving = r }))) (sym front) tt;
-      clear = λ e. subst (λ x. IfSome x (NoneReachesOver (record s { early = added s.early (record_tried frame o); receiving = r }))) (sym front) tt;
+      is_placed = λ e. subst (λ x. IfSome x (IsPlaced (record s { arrived = a; early = added s.early (record_tried frame o); receiving = r }))) (sym front) tt;
+      clear = λ e. subst (λ x. IfSome x (NoneReachesOver (record s { arrived = a; early = added s.early (record_tried frame o); receiving = r }))) (sym front) tt;
       headed = λ x within. elim ((adds_one s.early (record_tried frame o) x).0 within) [
         | inl old ↦ k.headed x old
         | inr new ↦ subst (λ (y : EarlyRecord). KeepsHeader y y.state) new (tried_header (standing table s) frame o landed)
       ];
-      buffered = λ e x within. subst (λ t. KeepsBuffer t (point_of (scene s)) x x.state) (sym left) (elim ((adds_one s.early (record_tried frame o) x).0 within) [
-        | inl old ↦ stays_so s.receiving (receiving_tried s.receiving frame o) (point_of (scene s)) (point_of (scene s)) s.early (tried_stays (standing table s) frame o landed) (omega arith) x old (k.buffered e x old)
-        | inr new ↦ subst (λ (y : EarlyRecord). KeepsBuffer (receiving_tried s.receiving frame o) (point_of (scene s)) y y.state) new (tried_buffer (standing table s) frame (point_of (scene s)) o landed)
-      ]);
+      buffered = λ e x within. subst (λ f. KeepsBuffer r (f - first_place_in s.start) x x.state) (sym floor)
+          (subst (λ t. KeepsBuffer t (point_of (scene s)) x x.state) (sym left) (elim ((adds_one s.early (record_tried frame o) x).0 within) [
+            | inl old ↦ stays_so s.receiving (receiving_tried s.receiving frame o) (point_of (scene s)) (point_of (scene s)) s.early (tried_stays (standing table s) frame o landed) (omega arith) x old (k.buffered e x old)
+            | inr new ↦ subst (λ (y : EarlyRecord). KeepsBuffer (receiving_tried s.receiving frame o) (point_of (scene s)) y y.state) new (tried_buffer (standing table s) frame (point_of (scene s)) o landed)
+          ]));
       unopened = λ e. absurd (true≢false (sym running ∙ e));
       first = k.first;
       awaited = k.awaited;
     }
 
+-- the in-order point stays
+pub floor_tried : (now after : Coming) (start : ℕ) (o : Option Landing) → after.arrived ≡ without now.base now.arrived (record_tried (frame_in now start) o) (state_tried (frame_in now start) o) → after.arrived.floor ≡ now.arrived.floor
+floor_tried now after start o arrived = ap (λ (a : Arrived). a.floor) arrived ∙ floor_without now.base now.arrived (record_tried (frame_in now start) o) (state_tried (frame_in now start) o)
+
 pub keeps_tried : (s : StreamState) (table : Table) (now after : Coming) (r : Receiving) (start : ℕ) (o : Option Landing) → is_open s.start ≡ true → waiting s ≡ None → IsFound s now start
-    → o ≡ early_verdict (standing table s) (frame_in now start) → after.arrived ≡ now.arrived → after.early ≡ added now.early (record_tried (frame_in now start) o)
-    → r ≡ receiving_tried s.receiving (frame_in now start) o → Keeps s
+    → o ≡ early_verdict (standing table s) (frame_in now start) → after.arrived ≡ without now.base now.arrived (record_tried (frame_in now start) o) (state_tried (frame_in now start) o)
+    → after.early ≡ added now.early (record_tried (frame_in now start) o) → r ≡ receiving_tried s.receiving (frame_in now start) o → Keeps s
     → Keeps (record s { arrived = after.arrived; early = after.early; receiving = r })
 keeps_tried s table now after r start o running none w landed arrived early left k =
-    let come : after.arrived ≡ s.arrived = arrived ∙ w.arrived in
+    let floor : after.arrived.floor ≡ s.arrived.floor = floor_tried now after start o arrived ∙ ap (λ (a : Arrived). a.floor) w.arrived in
     let kept : after.early ≡ added s.early (record_tried (frame_in now start) o) = early ∙ ap (λ rs. added rs (record_tried (frame_in now start) o)) w.early in
-    subst (λ a. Keeps (record s { arrived = a; early = after.early; receiving = r })) (sym come)
-    (subst (λ rs. Keeps (record s { early = rs; receiving = r })) (sym kept) (keeps_record s table (frame_in now start) o r running none landed left k))
+    subst (λ rs. Keeps (record s { arrived = after.arrived; early = rs; receiving = r })) (sym kept) (keeps_record s table (frame_in now start) o after.arrived r running none landed floor left k)

@@ -1,5 +1,5 @@
 -- The frame at the in-order point: whether it is whole, and that it is the first of the octets that came without a gap.
-use Rattle.std.proofs.Common.{◌≡◌, ◌⊎◌, ℕ, zero, suc, ◌+◌, ◌-◌, ◌<◌, ◌≤◌, Bool, true, false, length, drop, if◌then◌else◌, Option, Some, None, refl, sym, ap, ◌∙◌, subst, arith, inl, inr}
+use Rattle.std.proofs.Common.{◌≡◌, ◌⊎◌, ℕ, zero, suc, ◌+◌, ◌-◌, ◌<◌, ◌≤◌, ◌^◌, Bool, true, false, length, drop, if◌then◌else◌, Option, Some, None, refl, sym, ap, ◌∙◌, subst, arith, inl, inr}
 use Rattle.std.specs.Prelude.{not, MatchOption, IfSome}
 use Rattle.std.specs.Option.{option_map}
 use Rattle.std.proofs.lemmas.Bool.{cases_lt, true≢false}
@@ -7,7 +7,7 @@ use Rattle.std.proofs.lemmas.Option.{none-some}
 use Rattle.iw_ranges.specs.Arrived.{Arrived, Cell, Missing, Here, Gone, IsWithinLimits, cell_at, cells_between, is_missing, has_come, in_order, window}
 use Rattle.iw_ranges.specs.InOrder.{IsHeld, is_gone}
 use Rattle.iw_ranges.proofs.ByPlace.{below}
-use Rattle.iw_ranges.proofs.InOrder.{all_come, octet_at, stands, ends}
+use Rattle.iw_ranges.proofs.InOrder.{octet_at, stands, ends}
 use Rattle.iw_fpdu.specs.declared.layout.Layout.{Layout}
 use Rattle.iw_fpdu.specs.Frame.{frame_end}
 use Rattle.iw_fpdu.specs.Places.{frame_start, span_start}
@@ -67,9 +67,9 @@ pub frame_read : (layout : Layout) (a : Arrived) (base start : ℕ) (result : Op
 frame_read layout a base start None read = sym (frame_lacking layout a base start read)
 frame_read layout a base start (Some found) read = ap (λ f. Some (frame_by f)) read.0 ∙ sym (frame_whole layout a base start read.1)
 
-pub is_next : (layout : Layout) (a : Arrived) (base : ℕ) → base ≤ a.floor → IsBetween layout.markers (a.floor - base) → IsHeld a → IsWithinLimits a
+pub is_next : (layout : Layout) (a : Arrived) (base : ℕ) → base ≤ a.floor → IsBetween layout.markers (a.floor - base) → IsWithinLimits a
     → IsWhole a layout.markers base (frame_start layout.markers (a.floor - base)) → IsNext layout a base (found_at a layout base (frame_start layout.markers (a.floor - base)))
-is_next layout a base low b kept limits whole =
+is_next layout a base low b limits whole =
     let m : Bool = layout.markers in
     let at : ℕ = a.floor - base in
     let start : ℕ = frame_start m at in
@@ -77,30 +77,33 @@ is_next layout a base low b kept limits whole =
     let end : ℕ = frame_end m start (ulpdu_len found) in
     let near = start_near m at b in
     let long : start + 2 ≤ end = length_within m start (ulpdu_len found) (begins m at b) in
-    let within : base + end ≤ a.floor + length (in_order a) = reach end (λ p from to. whole p (omega (arith, b.span, from)) to) in record {
+    let come = all_before end (λ p from to. whole p (omega (arith, b.span, from)) to) in record {
       is = refl;
-      holds = λ p from to. kept_cell _ (kept (base + p) (omega (arith, b.span, from, low)));
       low = omega (arith, near.1);
       on = omega (arith, near.0, long, low);
-      near = omega (arith, within, in_window a limits);
-      come = λ p lt. all_come a (base + end) within p lt;
+      near = reach end (omega (arith, near.0, long, low)) come;
+      come = come;
       next = frames_follow.next m start (ulpdu_len found) (begins m at b);
     }
   where
-    reach : (end : ℕ) → ((p : ℕ) → a.floor - base ≤ p → p < end → has_come a (base + p) ≡ true) → base + end ≤ a.floor + length (in_order a)
-    reach end come = elim (cases_lt (a.floor + length (in_order a)) (base + end)) [
-      | inl past ↦
-          absurd (true≢false (sym (come (a.floor - base + length (in_order a)) (omega arith) (omega (arith, past, low)))
-          ∙ ap (has_come a) (let e : base + (a.floor - base + length (in_order a)) ≡ a.floor + length (in_order a) = omega (arith, low) in e) ∙ ends a kept))
-      | inr fits ↦ fits
+    all_before : (end : ℕ) → ((p : ℕ) → a.floor - base ≤ p → p < end → has_come a (base + p) ≡ true) → (p : ℕ) → p < base + end → has_come a p ≡ true
+    all_before end span p lt = elim (cases_lt p a.floor) [
+      | inl before ↦ ap (λ c. not (is_missing c)) (below a p before)
+      | inr past ↦ subst (λ q. has_come a q ≡ true) (let same : base + (p - base) ≡ p = omega (arith, past, low) in same) (span (p - base) (omega (arith, past)) (omega (arith, lt, past, low)))
     ]
 
-pub next_read : (layout : Layout) (a : Arrived) (base start : ℕ) (result : Option Found) → base ≤ a.floor → IsBetween layout.markers (a.floor - base) → IsHeld a → IsWithinLimits a
+    reach : (end : ℕ) → a.floor < base + end → ((p : ℕ) → p < base + end → has_come a p ≡ true) → base + end ≤ a.floor + 2 ^ 18
+    reach end some come = elim (cases_lt (a.floor + window) (base + end)) [
+      | inl past ↦ absurd (true≢false (sym (come (a.floor + window) past) ∙ ap (λ c. not (is_missing c)) (limits.octets (a.floor + window) (omega arith))))
+      | inr fits ↦ omega (arith, fits)
+    ]
+
+pub next_read : (layout : Layout) (a : Arrived) (base start : ℕ) (result : Option Found) → base ≤ a.floor → IsBetween layout.markers (a.floor - base) → IsWithinLimits a
     → start ≡ frame_start layout.markers (a.floor - base) → Read layout a base start result → IfSome result (λ found. IsNext layout a base found)
-next_read layout a base start None beyond b kept limits is read = tt
-next_read layout a base start (Some found) beyond b kept limits is read =
+next_read layout a base start None beyond b limits is read = tt
+next_read layout a base start (Some found) beyond b limits is read =
     subst (IsNext layout a base) (sym (read.0 ∙ ap (λ s. found_at a layout base s) is))
-    (is_next layout a base beyond b kept limits (subst (λ s. IsWhole a layout.markers base s) is read.1))
+    (is_next layout a base beyond b limits (subst (λ s. IsWhole a layout.markers base s) is read.1))
 
 -- where nothing came from the place on at which the frame begins
 pub none_there : (layout : Layout) (a : Arrived) (base start missing : ℕ) → base ≤ a.floor → IsBetween layout.markers (a.floor - base) → start ≡ frame_start layout.markers (a.floor - base) → cell_at a missing ≡ Missing

@@ -11,9 +11,8 @@ use Rattle.iw_octets.specs.declared.segment.Segment.TheVariants.{Tagged, Untagge
 use Rattle.iw_octets.specs.Segment.{read_segment}
 use Rattle.iw_memory.specs.Table.{Table}
 use Rattle.iw_ranges.specs.Arrived.{Arrived, delivered, taken_in, advanced, cell_at, has_come, first_copy, is_missing, is_dropped, window, Cell, Missing, Here, Gone}
-use Rattle.iw_ranges.specs.InOrder.{IsHeld}
 use Rattle.iw_ranges.proofs.ByPlace.{cell_at-taken_in}
-use Rattle.iw_ranges.proofs.InOrder.{floor_moves, floor_takes, held_moves, held_takes}
+use Rattle.iw_ranges.proofs.InOrder.{floor_moves, floor_takes}
 use Rattle.iw_fpdu.specs.declared.layout.Layout.{Layout}
 use Rattle.iw_fpdu.specs.Frame.{frame_end, frame_octets}
 use Rattle.iw_fpdu.specs.Places.{frame_start}
@@ -74,7 +73,6 @@ keeps_taken s place octets k =
         beyond = omega (arith, floor, k.started.beyond);
       };
       between = subst (λ f. IsBetween (expecting s.start).markers (f - first_place_in s.start)) (sym floor) k.between;
-      held = held_takes s.arrived place octets k.held;
       aligned = k.aligned;
       enough = k.enough;
       few = k.few;
@@ -131,7 +129,6 @@ keeps_past s frame place after r queue reads asked left base running p there mov
         beyond = omega (arith, floor, k.started.beyond);
       };
       between = subst (IsBetween (expecting s.start).markers) (sym end) p.next;
-      held = subst IsHeld (sym moved) (held_moves s.arrived place k.held);
       aligned = k.aligned;
       enough = k.enough;
       few = k.few;
@@ -180,7 +177,6 @@ keeps_ended s ending over silent k = record {
     beyond = k.started.beyond;
   };
   between = k.between;
-  held = k.held;
   aligned = k.aligned;
   enough = k.enough;
   few = k.few;
@@ -242,7 +238,6 @@ keeps_queue s queue first awaited k = record {
     beyond = k.started.beyond;
   };
   between = k.between;
-  held = k.held;
   aligned = k.aligned;
   enough = k.enough;
   few = k.few;
@@ -273,7 +268,6 @@ keeps_flushed s r over k = record {
     beyond = k.started.beyond;
   };
   between = k.between;
-  held = k.held;
   aligned = k.aligned;
   enough = k.enough;
   few = k.few;
@@ -300,7 +294,6 @@ keeps_buffers s r w k = record {
     beyond = k.started.beyond;
   };
   between = k.between;
-  held = k.held;
   aligned = k.aligned;
   enough = k.enough;
   few = k.few;
@@ -359,7 +352,6 @@ keeps_sent s queue numbers n reads asked running low aligned first awaited k = r
     beyond = k.started.beyond;
   };
   between = k.between;
-  held = k.held;
   aligned = ap (λ m. m % 4) (let same : s.sent + n - first_place_out s.start ≡ s.sent - first_place_out s.start + n = omega (arith, low) in same) ∙ aligned;
   enough = k.enough;
   few = k.few;
@@ -478,7 +470,6 @@ keeps_judged s table found after x running n ok placing there over k =
         beyond = k.started.beyond;
       };
       between = k.between;
-      held = k.held;
       aligned = k.aligned;
       enough = k.enough;
       few = k.few;

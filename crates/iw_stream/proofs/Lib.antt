@@ -13,6 +13,7 @@ pub mod Dues
 pub mod Handing
 pub mod Origins
 pub mod Stags
+pub mod Releasing
 pub mod Arriving
 pub mod Waiting
 pub mod Early

@@ -5,7 +5,7 @@ use Rattle.std.specs.Option.{option_map_or}
 use Rattle.std.proofs.lemmas.Bool.{true≢false, false≢true}
 use Rattle.arrayvec.specs.ArrayVec.{ArrayVec}
 use Rattle.iw_ranges.specs.Arrived.{Arrived, nothing, advanced}
-use Rattle.iw_ranges.proofs.InOrder.{floor_moves, held_moves, held_nothing}
+use Rattle.iw_ranges.proofs.InOrder.{floor_moves}
 use Rattle.iw_fpdu.specs.declared.layout.Layout.{Layout}
 use Rattle.iw_fpdu.specs.Laws.{IsBetween}
 use Rattle.iw_fpdu.proofs.Follows.{frames_follow}
@@ -102,7 +102,6 @@ keeps_nothing role config domain numbers receiving asked =
         beyond = omega (arith, none_read role config);
       };
       between = subst (IsBetween (expecting start).markers) (let at : 0 ≡ 0 - first_place_in start = omega arith in at) (frames_follow.first (expecting start).markers);
-      held = held_nothing;
       aligned = ap (λ n. n % 4) (let at : 0 - first_place_out start ≡ 0 = omega arith in at);
       enough = omega arith;
       few = omega arith;
@@ -143,7 +142,6 @@ answers s u reply is asked k =
         beyond = omega (arith, rest.0, place);
       };
       between = subst (IsBetween (expecting (Heard (answered u reply))).markers) (let at : 0 ≡ s.arrived.floor - length u.octets = omega (arith, rest.0, place) in at) (frames_follow.first (expecting (Heard (answered u reply))).markers);
-      held = k.held;
       aligned = ap (λ n. n % 4) (let at : s.sent - length (frame_of (answered u reply)) ≡ 0 = omega (arith, none) in at);
       enough = k.enough;
       few = k.few;
@@ -187,7 +185,6 @@ hears s u octets is k =
         beyond = omega (arith, floor, begin);
       };
       between = subst (IsBetween (expecting (Heard (pushed u octets))).markers) (let at : 0 ≡ (advanced s.arrived n).floor - n = omega (arith, floor, begin) in at) (frames_follow.first (expecting (Heard (pushed u octets))).markers);
-      held = held_moves s.arrived n k.held;
       aligned = ap (λ m. (s.sent - m) % 4) (sym own) ∙ k.aligned;
       enough = k.enough;
       few = k.few;

@@ -4,17 +4,18 @@ use Rattle.iw_octets.specs.declared.segment.Segment.{Segment}
 use Rattle.iw_octets.specs.declared.segment.Segment.TheVariants.{Tagged, Untagged}
 use Rattle.iw_octets.specs.Head.{is_tagged}
 use Rattle.iw_octets.specs.Segment.{read_segment}
-use Rattle.iw_ranges.specs.Arrived.{Arrived, has_come}
+use Rattle.iw_ranges.specs.Arrived.{Arrived, has_come, released}
 use Rattle.iw_fpdu.specs.declared.layout.Layout.{Layout}
 use Rattle.iw_fpdu.specs.declared.fpdu.Mismatch.{Mismatch}
 use Rattle.iw_fpdu.specs.Frame.{frame_end}
-use Rattle.iw_fpdu.specs.Found.{Found, HoldsSpan, is_whole, ulpdu, ulpdu_len, mismatch}
+use Rattle.iw_fpdu.specs.Found.{Found, is_whole, ulpdu, ulpdu_len, mismatch}
 use Rattle.iw_fpdu.specs.Laws.{IsBetween, found_at}
 use Rattle.iw_fpdu.specs.Places.{frame_start}
 use Rattle.iw_fpdu.specs.Sequence.{Carried}
 use Rattle.iw_locate.specs.declared.judged.Record.{Record}
 use Rattle.iw_locate.specs.declared.judged.State.{State}
 use Rattle.iw_locate.specs.declared.judged.State.TheVariants.{Tried, Placed}
+use Rattle.iw_locate.specs.Records.{from_of}
 use Rattle.arrayvec.specs.ArrayVec.{ArrayVec}
 use Rattle.iw_stream.specs.declared.judging.PlacedFrame.{PlacedFrame}
 
@@ -35,10 +36,9 @@ standing_at start carried = record { start = start; mismatch = carried.mismatch;
 abbrev pub frame_at : Layout → Arrived → ℕ → ℕ → Option Frame
 frame_at layout arrived base start = if is_whole arrived layout.markers base start then Some (frame_by (found_at arrived layout base start)) else None
 
--- a frame that was found at the in-order point: it is held, and ends within the window, where the next one begins
+-- a frame that was found at the in-order point: it came whole, and ends within the window, where the next one begins
 pub record IsNext (layout : Layout) (arrived : Arrived) (base : ℕ) (found : Found) : Type 0 where
   pub is : found ≡ found_at arrived layout base (frame_start layout.markers (arrived.floor - base))
-  pub holds : HoldsSpan found
   pub low : found.start ≤ arrived.floor + 4
   pub on : arrived.floor < base + frame_end layout.markers found.start (ulpdu_len found)
   pub near : base + frame_end layout.markers found.start (ulpdu_len found) ≤ arrived.floor + 2 ^ 18
@@ -97,3 +97,8 @@ kept_by r (Placed header) = Some (record { start = r.start; len = r.length; head
 abbrev pub placed_at : List EarlyRecord → ℕ → Option PlacedFrame
 placed_at [] start = None
 placed_at (r ∷ rs) start = if r.start == start then kept_by r r.state else placed_at rs start
+
+-- what came, without the octets of the frame, where it was placed: they are given up, and their places still count as come
+abbrev pub without : ℕ → Arrived → EarlyRecord → State (ArrayVec ℕ) → Arrived
+without base arrived r Tried = arrived
+without base arrived r (Placed header) = released arrived (base + from_of r) (base + r.end)

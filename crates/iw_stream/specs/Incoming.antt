@@ -1,15 +1,17 @@
 -- What came from the peer, and the frames among it that were judged before their turn, as one value.
-use Rattle.std.specs.Prelude.{◌≡◌, ℕ, List, []}
+use Rattle.std.specs.Prelude.{◌≡◌, ℕ, false, List, [], length, Some}
 use Rattle.arrayvec.specs.ArrayVec.{ArrayVec}
 use Rattle.iw_ranges.specs.Arrived.{Arrived, nothing}
 use Rattle.iw_fpdu.specs.declared.layout.Layout.{Layout}
 use Rattle.iw_locate.specs.declared.unsearched.Unsearched.{Unsearched}
 use Rattle.iw_locate.specs.Free.{Scene, scene_of}
+use Rattle.iw_fpdu.specs.Frame.{frame_end}
+use Rattle.iw_locate.specs.Lowest.{overlaps_placed}
 use Rattle.iw_locate.specs.Keeping.{Keeps}
 use Rattle.iw_locate.specs.Unsearched.{Tells}
 use Rattle.iw_stream.specs.declared.incoming.Incoming.TheInside.{Inside}
 use Rattle.iw_fpdu.specs.Laws.{found_at}
-use Rattle.iw_stream.specs.Frames.{Frame, EarlyRecord, frame_by}
+use Rattle.iw_stream.specs.Frames.{Frame, EarlyRecord, frame_at, frame_by}
 
 pub record Coming : Type 0 where
   pub layout : Layout  -- how the peer's frames are laid out
@@ -17,6 +19,7 @@ pub record Coming : Type 0 where
   pub arrived : Arrived
   pub early : List EarlyRecord
   pub room : ℕ  -- how many more records there is room for
+  pub releases : ℕ  -- and how many more releases
   pub unsearched : Unsearched  -- where a frame may be found that can be judged early
 
 abbrev pub scene_in : Coming → Scene (ArrayVec ℕ)
@@ -25,6 +28,11 @@ scene_in c = scene_of c.layout c.base c.arrived c.early
 -- the frame that begins at a frame place
 abbrev pub frame_in : Coming → ℕ → Frame
 frame_in c start = frame_by (found_at c.arrived c.layout c.base start)
+
+-- no frame that was placed early lies over the one that begins at a frame place, where that is whole
+abbrev pub IsClearAt : Coming → ℕ → Type 0
+IsClearAt c start = (frame : Frame) → frame_at c.layout c.arrived c.base start ≡ Some frame
+    → overlaps_placed c.early frame.start (frame_end c.layout.markers frame.start (length frame.ulpdu)) ≡ false
 
 -- the records are of frames that came whole past the in-order point, and no frame that can be judged early is missed
 pub record IsTracked (c : Coming) : Type 0 where
@@ -57,5 +65,6 @@ coming_of {A} i = record {
   arrived = i.islands.arrived;
   early = i.judged.records;
   room = i.judged.room;
+  releases = i.islands.room;
   unsearched = i.unsearched;
 }

@@ -3,7 +3,6 @@ use Rattle.std.specs.Prelude.{◌≡◌, ◌≢◌, ◌⊎◌, ℕ, ◌+◌, ◌
 use Rattle.iw_octets.specs.declared.segment.Segment.{Segment}
 use Rattle.iw_octets.specs.declared.segment.Segment.TheVariants.{Tagged, Untagged}
 use Rattle.iw_ranges.specs.Arrived.{IsWithinLimits, has_come, window}
-use Rattle.iw_ranges.specs.InOrder.{IsHeld}
 use Rattle.iw_fpdu.specs.Frame.{frame_end}
 use Rattle.iw_fpdu.specs.Laws.{IsBetween}
 use Rattle.std.specs.List.{Contains}
@@ -124,7 +123,6 @@ AreAwaited sent (read ∷ reads) = (read.ticket < 2 ^ 64) × IsAwaited sent read
 pub record Keeps (s : StreamState) : Type 0 where
   pub started : IsStarted s
   pub between : IsBetween (expecting s.start).markers (s.arrived.floor - first_place_in s.start)
-  pub held : IsHeld s.arrived
   pub aligned : (s.sent - first_place_out s.start) % 4 ≡ 0
   pub enough : 128 ≤ s.mulpdu
   pub few : s.mulpdu ≤ 64512

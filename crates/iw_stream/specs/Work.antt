@@ -28,7 +28,7 @@ use Rattle.iw_stream.specs.declared.judging.Landing.TheVariants.{Write, Response
 use Rattle.iw_stream.specs.declared.judging.PlacedFrame.{PlacedFrame}
 use Rattle.iw_stream.specs.declared.judging.Turning.{Turning}
 use Rattle.iw_stream.specs.declared.judging.Turning.TheVariants.{Passed, Completed, Answered}
-use Rattle.iw_stream.specs.Frames.{Frame, frame_by, frame_at, segment_in, payload_of, placed, payload_len, record_tried, placed_at}
+use Rattle.iw_stream.specs.Frames.{Frame, frame_by, frame_at, segment_in, payload_of, placed, payload_len, record_tried, state_tried, placed_at, without}
 use Rattle.iw_stream.specs.Judging.{Standing, verdict, early_verdict, table_landed, receiving_landed, turn_of, table_turned, receiving_turned, reads_left, table_tried, receiving_tried}
 use Rattle.iw_stream.specs.Starting.{StartState, is_open, expecting, first_place_in, awaits_frame, progress_in, heard, agreement_in}
 use Rattle.iw_stream.specs.Stream.{StreamState, ended, ends, ends_by}
@@ -203,9 +203,13 @@ after_judging s frame (Ok (Request request)) = takes_up s (placed frame) request
 after_judging s frame (Ok (Terminate fault)) = ends (beyond s (placed frame))
 after_judging s frame (Err fault) = ends_by s (terminate_judged s.asked frame fault)
 
--- a frame that was judged early, and not placed, leaves nothing but its record
+-- a frame that was judged early leaves its record; where it was placed its octets are given up, and else nothing more changes
 abbrev pub after_trying : StreamState → Frame → Option Landing → StreamState
-after_trying s frame at = record s { early = added s.early (record_tried frame at); receiving = receiving_tried s.receiving frame at }
+after_trying s frame at = record s {
+  arrived = without (first_place_in s.start) s.arrived (record_tried frame at) (state_tried frame at);
+  early = added s.early (record_tried frame at);
+  receiving = receiving_tried s.receiving frame at;
+}
 
 abbrev pub left_by : Table → StreamState → Task → StreamState
 left_by table s (HandOut done) = record s { queue = handed_from s.queue (Some done) }

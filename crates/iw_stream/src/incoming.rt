@@ -3,9 +3,8 @@ ghost use Rattle.std.specs.Prelude.{IfOk, IfSome, OnOk, OnErr, IsTrue, Some, Non
 ghost use Rattle.std.specs.Option.{option_map};
 ghost use Rattle.iw_ranges.specs.Arrived.{Missing, cell_at, has_come, IsWithinLimits};
 ghost use Rattle.iw_ranges.specs.Arrived.{delivery, delivered, advanced, BringsOctets};
-ghost use Rattle.iw_ranges.specs.InOrder.{IsHeld};
-ghost use Rattle.iw_fpdu.specs.Places.{frame_start};
-ghost use Rattle.iw_fpdu.specs.Found.{HoldsSpan};
+ghost use Rattle.iw_fpdu.specs.Places.{frame_start, span_start};
+ghost use Rattle.iw_fpdu.specs.Found.{HoldsSpan, IsKept};
 ghost use Rattle.iw_fpdu.specs.Laws.{IsBetween, found_at};
 ghost use Rattle.iw_locate.specs.Records.{AreApart, max_records, added, kept_from};
 ghost use Rattle.iw_locate.specs.Free.{scene_of};
@@ -13,7 +12,8 @@ ghost use Rattle.iw_locate.specs.Next.{IsNext, IsFrontWhole};
 ghost use Rattle.iw_locate.specs.Lowest.{overlaps_placed, early_place};
 ghost use Rattle.iw_locate.specs.Keeping.{IsFrontUnplaced, IsPassed, record_of};
 ghost use Rattle.iw_locate.specs.Unsearched.{IsFollowed};
-ghost use Rattle.iw_stream.specs.Frames.{IsNext as IsNextFrame, frame_at, frame_by, placed_at};
+ghost use Rattle.iw_stream.specs.Incoming.{IsClearAt};
+ghost use Rattle.iw_stream.specs.Frames.{IsNext as IsNextFrame, frame_at, frame_by, placed_at, without};
 
 use crate::judging::{Header, PlacedFrame, copy_of};
 use iw_fpdu::{Fpdu, Layout};
@@ -21,6 +21,11 @@ use iw_locate::{Frame, Judged, Locator, Next, RecordRefusal, State, Unsearched};
 use iw_ranges::{Delivery, Islands};
 use std::alloc::{AllocError, Allocator};
 use std::marker::Model;
+
+// The octets of a marker, and from one to the next.
+const MARKER: u64 = 4;
+
+const MARKER_SPACING: u64 = 512;
 
 /// What came from the peer, from the in-order point on, and the frames among it that were judged before their turn.
 #[derive(Drop)]
@@ -69,11 +74,22 @@ impl<A: Allocator> Incoming<A> {
         &self.islands
     }
 
+    /// What is so of what came, and of the records, at any time.
+    #[inline(always)]
+    pub(crate) fn limits(&self)
+        ensures arrived { IsWithinLimits self.now.arrived }
+        ensures few { length self.now.early ≤ max_records }
+        ensures apart { AreApart self.now.early }
+        ensures tracked { IsTracked self.now }
+    {
+        self.islands.limits();
+        self.judged.limits();
+    }
+
     /// The in-order point.
     #[inline(always)]
     pub(crate) fn floor(&self) -> u64
-        ensures floor { result ≡ self.now.arrived.floor }
-        ensures limits { IsWithinLimits self.now.arrived }
+        ensures { result ≡ self.now.arrived.floor }
     {
         self.islands.floor()
     }
@@ -87,12 +103,9 @@ impl<A: Allocator> Incoming<A> {
         self.islands.missing()
     }
 
-    /// How many frames were judged early, and what is so of them at any time.
+    /// How many frames were judged early.
     pub(crate) fn records(&self) -> usize
-        ensures len { result ≡ length self.now.early }
-        ensures few { length self.now.early ≤ max_records }
-        ensures apart { AreApart self.now.early }
-        ensures tracked { IsTracked self.now }
+        ensures { result ≡ length self.now.early }
     {
         self.judged.len()
     }
@@ -106,8 +119,7 @@ impl<A: Allocator> Incoming<A> {
         ensures early { self.new.early ≡ self.old.early }
         ensures same { IsSameStart self.old self.new }
     {
-        // Its contract has the limits.
-        let _ = self.islands.floor();
+        self.islands.limits();
         match self.islands.add(place, octets) {
             Ok(Delivery::Kept) => {
                 let from = place.saturating_sub(self.locator.base);
@@ -124,7 +136,6 @@ impl<A: Allocator> Incoming<A> {
     pub(crate) fn begin(&mut self, layout: Layout, place: u64)
         requires none { self.old.early ≡ [] }
         requires first { self.old.arrived.floor ≡ 0 }
-        requires held { IsHeld self.old.arrived }
         requires come { (p : ℕ) → p < place → has_come self.old.arrived p ≡ true }
         requires near { place ≤ 2 ^ 63 }
         ensures arrived { self.new.arrived ≡ advanced self.old.arrived place }
@@ -141,7 +152,6 @@ impl<A: Allocator> Incoming<A> {
     pub(crate) fn lay_out(&mut self, layout: Layout)
         requires none { self.old.early ≡ [] }
         requires first { self.old.arrived.floor ≡ self.old.base }
-        requires held { IsHeld self.old.arrived }
         ensures arrived { self.new.arrived ≡ self.old.arrived }
         ensures early { self.new.early ≡ [] }
         ensures layout { self.new.layout ≡ layout }
@@ -170,8 +180,7 @@ impl<A: Allocator> Incoming<A> {
     pub(crate) fn placed_at(&self, start: u64) -> Option<PlacedFrame>
         ensures { result ≡ placed_at self.now.early start }
     {
-        // Its contract has the limits.
-        let _ = self.judged.len();
+        self.judged.limits();
         match self.judged.at(start) {
             None => None,
             Some(record) => match &record.state {
@@ -214,19 +223,20 @@ impl<A: Allocator> Incoming<A> {
         ensures near { IfSome result (λ f. self.old.base + f.start < 2 ^ 63) }
         ensures same { IsSameScene self.old self.new }
     {
-        // Its contract has the limits.
-        let _ = self.islands.floor();
+        self.islands.limits();
         self.locator
             .early_since(&self.islands, &self.judged, &mut self.unsearched)
     }
 
-    /// Makes room for one record. An `Err` is want of memory.
+    /// Makes room for one record and one release. An `Err` is want of memory.
     pub(crate) fn ready(&mut self) -> Result<(), AllocError>
         requires { length self.old.early < max_records }
-        ensures ok { OnOk result (0 < self.new.room) }
+        ensures room { OnOk result (0 < self.new.room) }
+        ensures releases { OnOk result (0 < self.new.releases) }
         ensures same { IsSameScene self.old self.new }
         ensures unsearched { self.new.unsearched ≡ self.old.unsearched }
     {
+        self.islands.ready()?;
         match self.judged.ready() {
             Ok(()) => Ok(()),
             Err(_) => Err(AllocError),
@@ -235,15 +245,13 @@ impl<A: Allocator> Incoming<A> {
 
     /// The frame that was found to be the one that can be judged early.
     pub(crate) fn read_early(&self, frame: &Frame) -> Fpdu<'_, A>
-        requires held { IsHeld self.now.arrived }
         requires low { self.now.arrived.floor ≤ 2 ^ 62 }
         requires next { IsNext (scene_in self.now) (Next.Frame frame.now) }
         requires early { frame.now.early ≡ true }
         ensures found { result ≡ found_at self.now.arrived self.now.layout self.now.base frame.now.start }
         ensures holds { HoldsSpan result }
     {
-        // Its contract has the limits.
-        let _ = self.islands.floor();
+        self.islands.limits();
         let Locator { layout, base } = self.locator;
         match Fpdu::read(layout, base, frame.start, &self.islands) {
             Some(fpdu) => fpdu,
@@ -251,18 +259,43 @@ impl<A: Allocator> Incoming<A> {
         }
     }
 
-    /// Adds the record of the frame that can be judged early.
+    /// Adds the record of the frame that can be judged early. Where it was placed, its octets are given up: its record has
+    /// what its turn needs. It takes the room that one `ready` made.
     pub(crate) fn keep(&mut self, frame: Frame, state: State<Header>)
         requires room { 0 < self.old.room }
+        requires releases { 0 < self.old.releases }
         requires few { length self.old.early < max_records }
         requires next { IsNext (scene_in self.old) (Next.Frame frame) }
         requires early { frame.early ≡ true }
         requires followed { IsFollowed self.old.unsearched frame }
         ensures early { self.new.early ≡ added self.old.early (record_of frame state) }
-        ensures arrived { self.new.arrived ≡ self.old.arrived }
+        ensures arrived { self.new.arrived ≡ without self.old.base self.old.arrived (record_of frame state) state }
         ensures same { IsSameStart self.old self.new }
     {
-        self.judged.add(frame, state);
+        self.islands.limits();
+        match state {
+            State::Tried => self.judged.add(frame, State::Tried),
+            State::Placed(header) => {
+                self.judged.add(frame, State::Placed(header));
+                let Locator { base, .. } = self.locator;
+                self.islands
+                    .release(base + span_of(frame.start), base + frame.end);
+            }
+        }
+    }
+}
+
+// Where the span of a frame begins that begins at frame place `start`, where there are markers: with the marker directly
+// before it, or with the frame.
+#[tactic(auto, unfolding(iw_fpdu::specs::Places::span_start))]
+fn span_of(start: u64) -> u64
+    ensures value { result ≡ span_start true start }
+    ensures bound { result ≤ start }
+{
+    if start % MARKER_SPACING == MARKER {
+        start - MARKER
+    } else {
+        start
     }
 }
 
@@ -278,16 +311,39 @@ pub(crate) fn frame_at<'a, A: Allocator>(
     requires beyond { base ≤ arrived.now.arrived.floor }
     requires between { IsBetween layout.markers (arrived.now.arrived.floor - base) }
     requires start { start ≡ frame_start layout.markers (arrived.now.arrived.floor - base) }
-    requires held { IsHeld arrived.now.arrived }
+    requires kept { (p : ℕ) → start ≤ p → p < start + 2 → IsKept (cell_at arrived.now.arrived (base + p)) }
     requires place { arrived.now.arrived.floor + 2 ^ 18 ≤ 2 ^ 63 }
     ensures frame { option_map frame_by result ≡ frame_at layout arrived.now.arrived base start }
     ensures next { IfSome result (λ found. IsNextFrame layout arrived.now.arrived base found) }
 {
-    // Its contract has the limits.
-    let _ = arrived.floor();
+    arrived.limits();
     // Nothing of it came, as past the last frame that did.
     if arrived.missing() <= base + start {
         return None;
     }
     Fpdu::read(layout, base, start, arrived.islands())
+}
+
+/// The same, where no frame that was placed early lies over it: none of its octets was given up.
+#[inline(always)]
+pub(crate) fn held_at<'a, A: Allocator>(
+    layout: Layout,
+    arrived: &'a Incoming<A>,
+    base: u64,
+    start: u64,
+) -> Option<Fpdu<'a, A>>
+    requires beyond { base ≤ arrived.now.arrived.floor }
+    requires between { IsBetween layout.markers (arrived.now.arrived.floor - base) }
+    requires start { start ≡ frame_start layout.markers (arrived.now.arrived.floor - base) }
+    requires kept { (p : ℕ) → start ≤ p → p < start + 2 → IsKept (cell_at arrived.now.arrived (base + p)) }
+    requires clear { IsClearAt arrived.now start }
+    requires layout { layout ≡ arrived.now.layout }
+    requires base { base ≡ arrived.now.base }
+    requires place { arrived.now.arrived.floor + 2 ^ 18 ≤ 2 ^ 63 }
+    ensures frame { option_map frame_by result ≡ frame_at layout arrived.now.arrived base start }
+    ensures next { IfSome result (λ found. IsNextFrame layout arrived.now.arrived base found) }
+    ensures holds { IfSome result (λ found. HoldsSpan found) }
+{
+    arrived.limits();
+    frame_at(layout, arrived, base, start)
 }

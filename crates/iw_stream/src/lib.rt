@@ -1,5 +1,5 @@
 //! One stream of an endpoint: its start-up, messages and Reads posted, frames emitted, octets that came, and the
-//! frames in them judged in order.
+//! frames in them judged, in order or before their turn.
 //!
 //! A [`Stream`] belongs to a protection domain and has a [`Role`]: open at once, or opened by MPA's start-up frames
 //! (RFC 5044 7.1). Its owner
@@ -15,7 +15,8 @@
 //!
 //! After 3 and 4 there may be more to emit. The regions that the peer may use are an `iw_memory::Memory`, lent to each call
 //! of `work`, and of `emit`, which answers the peer's Reads from them. No call does input or output; `post`, `post_recv`,
-//! `deliver` and `emit` may want memory, and then change nothing; `work` takes none.
+//! `deliver` and `emit` may want memory, and `work` where it judges a frame before its turn; a call that wants memory changes
+//! nothing.
 #![tactic(auto)]
 
 mod answer;

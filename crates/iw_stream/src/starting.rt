@@ -1,6 +1,5 @@
 ghost use Rattle.std.specs.Prelude.{◌≡◌, ◌+◌, ◌≤◌, ◌^◌, ◌++◌, [], length, true, is_ok, Some, IfOk, IfSome, OnOk, OnErr};
 ghost use Rattle.iw_ranges.specs.Arrived.{advanced, in_order};
-ghost use Rattle.iw_ranges.specs.InOrder.{IsHeld};
 ghost use Rattle.iw_startup.specs.declared.side.Reply.TheVariants.{Accept, Reject};
 ghost use Rattle.std.specs.Option.{option_map_or};
 ghost use Rattle.iw_startup.specs.State.{agreed_of};
@@ -262,7 +261,6 @@ impl Start {
     pub(crate) fn hear<A: Allocator>(&mut self, arrived: &mut Incoming<A>)
         requires none { arrived.old.early ≡ [] }
         requires awaits { awaits_frame self.old ≡ true }
-        requires held { IsHeld arrived.old.arrived }
         requires begin { arrived.old.arrived.floor ≡ 0 }
         ensures after { self.new ≡ heard self.old (in_order arrived.old.arrived) }
         ensures arrived { arrived.new.arrived ≡ advanced arrived.old.arrived (first_place_in self.new) }
@@ -299,9 +297,10 @@ impl Start {
 
 /// The octets that came without a gap from the in-order point on.
 pub(crate) fn octets_in_order<A: Allocator>(arrived: &Incoming<A>) -> &[u8]
-    requires { IsHeld arrived.now.arrived }
+    requires { arrived.now.early ≡ [] }
     ensures octets { result.now ≡ in_order arrived.now.arrived }
     ensures few { length result.now ≤ 2 ^ 18 }
 {
+    arrived.limits();
     arrived.islands().part(arrived.floor(), arrived.missing())
 }

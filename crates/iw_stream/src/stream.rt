@@ -124,8 +124,7 @@ impl<A: Allocator> Stream<A> {
     pub fn limits(&self)
         ensures { IsWithin self.now }
     {
-        let _ = self.arrived.floor();
-        let _ = self.arrived.records();
+        self.arrived.limits();
         let _ = self.queue.len();
         self.receiving.limits();
         let _ = self.reads.len();

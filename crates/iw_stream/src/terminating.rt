@@ -1,9 +1,11 @@
 ghost use Rattle.std.specs.Prelude.{◌≡◌, ◌<◌, ◌≤◌, length, take};
 ghost use Rattle.iw_fpdu.specs.Found.{HoldsSpan, ulpdu};
 ghost use Rattle.iw_rdmap.specs.Terminate.{FitsFault, HasCause, header_len};
-ghost use Rattle.iw_stream.specs.Frames.{frame_by};
+ghost use Rattle.iw_reads.specs.Requests.{Requested};
+ghost use Rattle.iw_stream.specs.Frames.{Frame, frame_by};
 ghost use Rattle.iw_stream.specs.Stream.{over};
 ghost use Rattle.iw_stream.specs.Terminating.{is_request_of, terminate_judged, terminate_turned, terminate_fetched};
+ghost use Rattle.iw_stream.specs.Work.{clash_fault};
 
 use crate::ending::Ending;
 use crate::incoming::Incoming;
@@ -65,6 +67,19 @@ pub(crate) fn end_judged<A: Allocator>(
 {
     let terminate = terminate_judged(fpdu, fault, asked);
     over(terminate, start, arrived)
+}
+
+/// The end by a frame at the in-order point that lies over one that was placed early. Nothing of the frame comes with the
+/// Terminate, so that its octets, some of which were given up, are not looked at.
+#[inline(never)]
+pub(crate) fn end_clashed<A: Allocator>(start: &Start, arrived: &Incoming<A>) -> Ending
+    ensures { (asked : Requested) → (frame : Frame) → result ≡ over start.now arrived.now.arrived (terminate_judged asked frame clash_fault) }
+{
+    over(
+        terminate(Fault::MARKER_MISMATCH, &[], 0, false),
+        start,
+        arrived,
+    )
 }
 
 /// The payload of the Terminate for a frame whose turn has this fault.

@@ -1,11 +1,10 @@
 ghost use Rattle.std.specs.Prelude.{◌≡◌, ◌+◌, ◌<◌, ◌≤◌, ◌^◌, length, true, false};
-ghost use Rattle.std.specs.Prelude.{is_some, Some, None, Ok, IfSome, IfOk, OnOk, OnErr};
-ghost use Rattle.iw_ranges.specs.InOrder.{IsHeld};
+ghost use Rattle.std.specs.Prelude.{[], is_some, Some, None, Ok, IfSome, IfOk, OnOk, OnErr};
 ghost use Rattle.iw_fpdu.specs.Found.{HoldsSpan};
 ghost use Rattle.iw_locate.specs.Records.{max_records, added};
 ghost use Rattle.iw_locate.specs.Next.{IsNext};
 ghost use Rattle.iw_locate.specs.Unsearched.{IsFollowed};
-ghost use Rattle.iw_stream.specs.Frames.{Frame, frame_by, state_tried, record_tried, placed};
+ghost use Rattle.iw_stream.specs.Frames.{Frame, frame_by, state_tried, record_tried, without};
 ghost use Rattle.iw_stream.specs.Incoming.{IsSameStart, scene_in, frame_in};
 ghost use Rattle.iw_stream.specs.Judging.{early_verdict, landing_of, table_tried, receiving_tried};
 ghost use Rattle.iw_stream.specs.Kept.{IsWithinBuffer};
@@ -17,12 +16,12 @@ ghost use Rattle.iw_reads.specs.Source.{IsInRange};
 use super::Stream;
 use crate::answer::Step;
 use crate::ending::Ending;
-use crate::incoming::{Incoming, frame_at};
+use crate::incoming::{Incoming, frame_at, held_at};
 use crate::judging::{
     Header, Landing, PlacedFrame, front, header_of, keep_frame, keep_tagged, land_early,
     land_frame, land_tagged, placed_frame,
 };
-use crate::terminating::end_judged;
+use crate::terminating::{end_clashed, end_judged};
 use crate::turning::is_response;
 use iw_fpdu::Fpdu;
 use iw_locate::{Frame as EarlyFrame, Next, State};
@@ -108,7 +107,7 @@ fn state_tried<A: Allocator>(landing: &Option<Landing>, fpdu: &Fpdu<'_, A>) -> S
 }
 
 // Judges the frame that was found to be the one that can be judged early, places its payload where it may be placed, and
-// keeps its record.
+// keeps its record. The octets of one that was placed are given up.
 fn judge_early<A: Allocator, B: Allocator>(
     frame: EarlyFrame,
     arrived: &mut Incoming<A>,
@@ -118,9 +117,9 @@ fn judge_early<A: Allocator, B: Allocator>(
     memory: &mut Memory<B>,
     receiving: &mut RecvQueue<B>,
 ) -> Option<Landing>
-    requires held { IsHeld arrived.old.arrived }
     requires low { arrived.old.arrived.floor ≤ 2 ^ 62 }
     requires room { 0 < arrived.old.room }
+    requires releases { 0 < arrived.old.releases }
     requires few { length arrived.old.early < max_records }
     requires next { IsNext (scene_in arrived.old) (Next.Frame frame) }
     requires early { frame.early ≡ true }
@@ -128,7 +127,8 @@ fn judge_early<A: Allocator, B: Allocator>(
     ensures landed { result ≡ early_verdict (record { table = memory.old; domain = domain; receiving = receiving.old; reads = reads.now; asked = asked.now }) (frame_in arrived.old frame.start) }
     ensures memory { memory.new ≡ table_tried memory.old (frame_in arrived.old frame.start) result }
     ensures receiving { receiving.new ≡ receiving_tried receiving.old (frame_in arrived.old frame.start) result }
-    ensures arrived { arrived.new.arrived ≡ arrived.old.arrived }
+    ensures arrived { let frame = frame_in arrived.old frame.start in
+        arrived.new.arrived ≡ without arrived.old.base arrived.old.arrived (record_tried frame result) (state_tried frame result) }
     ensures early { arrived.new.early ≡ added arrived.old.early (record_tried (frame_in arrived.old frame.start) result) }
     ensures same { IsSameStart arrived.old arrived.new }
 {
@@ -141,7 +141,7 @@ fn judge_early<A: Allocator, B: Allocator>(
 
 impl<A: Allocator> Stream<A> {
     ghost use Rattle.iw_stream.specs.Stream.{ended, ends};
-    ghost use Rattle.iw_stream.specs.Work.{Judge, Try, Rest, IsTry, waiting, takes_up, beyond};
+    ghost use Rattle.iw_stream.specs.Work.{Judge, Try, Rest, IsTry, waiting, clashes, takes_up, beyond};
     ghost use Rattle.iw_stream.specs.Work.{next_frame, early_frame, frame_task, step_of, left_by, table_left};
     ghost use Rattle.iw_stream.specs.Kept.{Stands, NoneReachesOver};
 
@@ -152,7 +152,7 @@ impl<A: Allocator> Stream<A> {
         requires open { is_open self.old.start ≡ true }
         requires runs { ended self.old ≡ false }
         requires place { self.old.arrived.floor + 2 ^ 18 ≤ 2 ^ 63 }
-        requires over { (frame : Frame) → next_frame self.old ≡ Some frame → NoneReachesOver self.old (placed frame) }
+        requires none { self.old.early ≡ [] }
         ensures step { IfOk result (λ found. IfSome found (λ landing. judged_step (Ok landing) ≡ step_of memory.old self.old (option_map_or Judge (next_frame self.old) Rest))) }
         ensures whole { IfOk result (λ found. is_some found ≡ is_some (next_frame self.old)) }
         ensures after { OnOk result (self.new ≡ left_by memory.old self.old (option_map_or Judge (next_frame self.old) Rest)) }
@@ -163,10 +163,11 @@ impl<A: Allocator> Stream<A> {
         if self.arrived.missing() <= self.arrived.floor() {
             return Ok(None);
         }
+        self.arrived.limits();
         let base = self.start.first_place_in();
         let layout = self.start.expecting();
         let start = layout.start_of(self.arrived.floor() - base);
-        let Some(fpdu) = frame_at(layout, &self.arrived, base, start) else {
+        let Some(fpdu) = held_at(layout, &self.arrived, base, start) else {
             return Ok(None);
         };
         let Some(front) = front(&fpdu) else {
@@ -191,17 +192,19 @@ impl<A: Allocator> Stream<A> {
         requires open { is_open self.old.start ≡ true }
         requires runs { ended self.old ≡ false }
         requires place { self.old.arrived.floor + 2 ^ 18 ≤ 2 ^ 63 }
-        requires over { (frame : Frame) → next_frame self.old ≡ Some frame → NoneReachesOver self.old (placed frame) }
+        requires waiting { waiting self.old ≡ None }
+        requires clear { (frame : Frame) → next_frame self.old ≡ Some frame → clashes self.old frame ≡ false }
         ensures step { result ≡ step_of memory.old self.old (option_map_or Judge (next_frame self.old) Rest) }
         ensures after { self.new ≡ left_by memory.old self.old (option_map_or Judge (next_frame self.old) Rest) }
         ensures memory { memory.new ≡ table_left memory.old self.old (option_map_or Judge (next_frame self.old) Rest) }
         ensures reach { self.new.arrived.floor ≤ self.old.arrived.floor + 2 ^ 18 }
         ensures within { IsWithinBuffer result }
     {
+        self.arrived.limits();
         let base = self.start.first_place_in();
         let layout = self.start.expecting();
         let start = layout.start_of(self.arrived.floor() - base);
-        let Some(fpdu) = frame_at(layout, &self.arrived, base, start) else {
+        let Some(fpdu) = held_at(layout, &self.arrived, base, start) else {
             return Step::Idle;
         };
         match land_frame(
@@ -334,8 +337,7 @@ impl<A: Allocator> Stream<A> {
         ensures reach { self.new.arrived.floor ≤ self.old.arrived.floor + 2 ^ 18 }
         ensures within { IfOk result IsWithinBuffer }
     {
-        // Its contract has what is so of the records.
-        let _ = self.arrived.records();
+        self.arrived.limits();
         let base = self.start.first_place_in();
         let layout = self.start.expecting();
         let start = layout.start_of(self.arrived.floor() - base);
@@ -343,9 +345,8 @@ impl<A: Allocator> Stream<A> {
             return self.try_early(memory);
         };
         if self.arrived.overlaps_placed(start, fpdu.end()) {
-            let fault = Fault::MARKER_MISMATCH;
-            self.ending = end_judged(&fpdu, fault, &self.asked, &self.start, &self.arrived);
-            return Ok(Step::Fault(fault));
+            self.ending = end_clashed(&self.start, &self.arrived);
+            return Ok(Step::Fault(Fault::MARKER_MISMATCH));
         }
         Ok(self.judge_apart(memory))
     }
@@ -369,8 +370,7 @@ impl<A: Allocator> Stream<A> {
         ensures floor { self.new.arrived.floor ≡ self.old.arrived.floor }
         ensures within { IfOk result IsWithinBuffer }
     {
-        // Its contract has what is so of the records.
-        let _ = self.arrived.records();
+        self.arrived.limits();
         if self.arrived.is_quiet() {
             return Ok(Step::Idle);
         }
@@ -393,8 +393,7 @@ impl<A: Allocator> Stream<A> {
         ensures floor { self.new.arrived.floor ≡ self.old.arrived.floor }
         ensures within { IfOk result IsWithinBuffer }
     {
-        // Its contract has what is so of the records.
-        let _ = self.arrived.records();
+        self.arrived.limits();
         let Some(frame) = self.arrived.next_early() else {
             return Ok(Step::Idle);
         };

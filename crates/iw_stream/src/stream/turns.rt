@@ -134,9 +134,7 @@ impl<A: Allocator> Stream<A> {
         ensures reach { self.new.arrived.floor ≤ self.old.arrived.floor + 2 ^ 18 }
         ensures within { IsWithinBuffer result }
     {
-        // Its contract has what is so of the records.
-        let _ = self.arrived.records();
-        let _ = self.arrived.floor();
+        self.arrived.limits();
         self.receiving.limits();
         let end = self.start.expecting().end_of(frame.start, frame.len);
         let place = self.start.first_place_in() + end;

@@ -3,7 +3,7 @@ use Rattle.iw_fpdu.specs.Places.{IsStart}
 use Rattle.iw_fpdu.proofs.Follows.{begins}
 use Rattle.iw_ranges.specs.Arrived.{Arrived, cell_at}
 use Rattle.iw_fpdu.specs.Found.{IsKept}
-use Rattle.iw_stream.proofs.Fronts.{Read, frame_read, next_read, kept_cell, none_there, start_near}
+use Rattle.iw_stream.proofs.Fronts.{Read, frame_read, next_read, none_there, start_near}
 use Rattle.iw_stream.proofs.incoming.frame_at.Goals as goal
 
 pub overflow_add-base : goal.overflow_add-base
@@ -27,8 +27,7 @@ read-requires-clause-start g c =
 
 pub read-requires-clause-length_kept : goal.read-requires-clause-length_kept
 read-requires-clause-length_kept g c = λ p from to.
-    let at = c.args.arrived.now.arrived.floor - c.args.base in
-    subst (λ (a : Arrived). IsKept (cell_at a (c.args.base + p))) (sym c.islands.ensures) (kept_cell _ (c.requires.held (c.args.base + p) (omega (arith, from, c.requires.start, (start_near c.args.layout.markers at c.requires.between).0, c.requires.beyond))))
+    subst (λ (a : Arrived). IsKept (cell_at a (c.args.base + p))) (sym c.islands.ensures) (c.requires.kept p from to)
 
 pub returns-clause-frame : goal.returns-clause-frame
 returns-clause-frame g c =
@@ -36,4 +35,4 @@ returns-clause-frame g c =
 
 pub returns-clause-next : goal.returns-clause-next
 returns-clause-next g c =
-    next_read c.args.layout c.args.arrived.now.arrived c.args.base c.args.start c.read.result c.requires.beyond c.requires.between c.requires.held c.floor.ensures.limits c.requires.start (subst (λ (a : Arrived). Read c.args.layout a c.args.base c.args.start c.read.result) c.islands.ensures c.read.ensures)
+    next_read c.args.layout c.args.arrived.now.arrived c.args.base c.args.start c.read.result c.requires.beyond c.requires.between c.limits.ensures.arrived c.requires.start (subst (λ (a : Arrived). Read c.args.layout a c.args.base c.args.start c.read.result) c.islands.ensures c.read.ensures)

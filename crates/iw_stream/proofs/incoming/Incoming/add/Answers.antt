@@ -16,7 +16,7 @@ overflow_add-place g c =
     let n = length c.args.octets.now in
     let a = c.self.inside.islands.arrived in
     let kept : delivery a c.args.place n ≡ Kept = sym c.in-Ok-Kept.ensures.answer ∙ c.in-Ok-Kept.field-0-is in
-    elim (cases_lt 0 n) [ inl some ↦ omega (arith, kept_near a c.args.place n kept some, c.floor.ensures.limits.floor) | inr none ↦ omega (arith, none, c.ranges.place.fits) ]
+    elim (cases_lt 0 n) [ inl some ↦ omega (arith, kept_near a c.args.place n kept some, c.limits.ensures.floor) | inr none ↦ omega (arith, none, c.ranges.place.fits) ]
 
 pub invariant_of-self : goal.invariant_of-self
 invariant_of-self g c =
@@ -36,4 +36,5 @@ pub invariant_of-self-in-Ok-Dropped : goal.invariant_of-self-in-Ok-Dropped
 invariant_of-self-in-Ok-Dropped g c =
     let s = coming_of c.self.inside in
     let same = c.in-Ok-Dropped.ensures.ok ∙ delivered_dropped s.arrived c.args.place c.args.octets.now (sym c.in-Ok-Dropped.ensures.answer ∙ c.in-Ok-Dropped.field-0-is) in
-    subst (λ (a : Arrived). IsTracked (record s { arrived = a })) (sym same) c.self.invariant
+    let t = subst (λ (a : Arrived). IsTracked (record s { arrived = a })) (sym same) c.self.invariant in
+    record { keeps = t.keeps; tells = t.tells }

@@ -1,6 +1,5 @@
 use Rattle.std.proofs.Common.{◌≡◌, [], sym, ap, ◌∙◌, subst}
 use Rattle.iw_ranges.specs.Arrived.{Arrived}
-use Rattle.iw_ranges.specs.InOrder.{IsHeld}
 use Rattle.iw_locate.specs.declared.unsearched.Unsearched.{Unsearched}
 use Rattle.iw_locate.specs.declared.locator.Locator.{Locator}
 use Rattle.iw_stream.specs.Incoming.{Coming, IsTracked, coming_of}
@@ -14,7 +13,8 @@ invariant_of-self g c =
     let is = c.self.view_is in
     let none : s.early ≡ [] = ap (λ (x : Coming). x.early) is ∙ c.requires.none in
     let first : s.arrived.floor ≡ 0 = ap (λ (x : Coming). x.arrived.floor) is ∙ c.requires.first in
-    let b = begun s c.args.layout c.args.place none first (subst (λ (x : Coming). IsHeld x.arrived) (sym is) c.requires.held) c.self.invariant in
-    subst (λ (l : Locator). IsTracked (record s { layout = l.layout; base = l.base; arrived = c.advance.new.self.arrived; unsearched = c.start_up_ended.new.self })) (sym c.new-self-inside.ensures)
+    let b = begun s c.args.layout c.args.place none first c.self.invariant in
+    let t = subst (λ (l : Locator). IsTracked (record s { layout = l.layout; base = l.base; arrived = c.advance.new.self.arrived; unsearched = c.start_up_ended.new.self })) (sym c.new-self-inside.ensures)
     (subst (λ (u : Unsearched). IsTracked (record s { layout = c.args.layout; base = c.args.place; arrived = c.advance.new.self.arrived; unsearched = u })) (sym c.start_up_ended.ensures)
-    (subst (λ (a : Arrived). IsTracked (record s { layout = c.args.layout; base = c.args.place; arrived = a; unsearched = counted_from s.unsearched c.args.place })) (sym c.advance.ensures.arrived) b))
+    (subst (λ (a : Arrived). IsTracked (record s { layout = c.args.layout; base = c.args.place; arrived = a; unsearched = counted_from s.unsearched c.args.place })) (sym c.advance.ensures.arrived) b)) in
+    record { keeps = t.keeps; tells = t.tells }

@@ -1,38 +1,74 @@
-use Rattle.std.proofs.Common.{List, sym, ap, subst, arith}
-use Rattle.iw_stream.specs.Incoming.{Coming, coming_of, scene_in}
-use Rattle.iw_fpdu.proofs.Octets.{length_within}
-use Rattle.iw_fpdu.specs.Reading.{length_at}
-use Rattle.iw_locate.specs.declared.frame.Frame.{Frame}
+use Rattle.std.proofs.Common.{◌≡◌, ◌+◌, true, List, sym, ap, ◌∙◌, subst, arith}
+use Rattle.iw_ranges.specs.Arrived.{Arrived, released}
+use Rattle.iw_fpdu.specs.Places.{span_start}
 use Rattle.iw_locate.specs.declared.frame.Next.TheVariants.{Frame as Found}
-use Rattle.iw_locate.specs.Free.{scene_of, octet_of}
+use Rattle.iw_locate.specs.declared.judged.State.TheVariants.{Tried, Placed}
+use Rattle.iw_locate.specs.Free.{scene_of}
 use Rattle.iw_locate.specs.Next.{IsNext}
-use Rattle.iw_locate.specs.Records.{IsClear}
 use Rattle.iw_locate.specs.Keeping.{Keeps}
 use Rattle.iw_locate.specs.Unsearched.{Tells, IsFollowed}
-use Rattle.iw_locate.proofs.Adding.{judging_keeps}
 use Rattle.iw_stream.specs.Frames.{EarlyRecord}
-use Rattle.iw_stream.proofs.Arriving.{readable}
+use Rattle.iw_stream.specs.Incoming.{Coming, coming_of, scene_in}
+use Rattle.iw_stream.proofs.Arriving.{early_fits, kept_record}
 use Rattle.iw_stream.proofs.incoming.Incoming.keep.Goals as goal
 
 pub add-requires-clause-some : goal.add-requires-clause-some
 add-requires-clause-some g c =
-    let s = coming_of c.self.inside in
-    let r = readable (scene_in s) c.args.frame (subst (λ (x : Coming). IsNext (scene_in x) (Found c.args.frame)) (sym c.self.view_is) c.requires.next) c.requires.early in
-    omega (arith, ap (λ (f : Frame). f.end) r.is, length_within s.layout.markers c.args.frame.start (length_at (octet_of (scene_in s)) c.args.frame.start) r.open_.start)
+    let w = early_fits (coming_of c.self.inside) c.args.frame c.limits.ensures (subst (λ (x : Coming). IsNext (scene_in x) (Found c.args.frame)) (sym c.self.view_is) c.requires.next) c.requires.early in
+    w.some
 
 pub add-requires-clause-clear : goal.add-requires-clause-clear
 add-requires-clause-clear g c =
-    let s = coming_of c.self.inside in
-    let r = readable (scene_in s) c.args.frame (subst (λ (x : Coming). IsNext (scene_in x) (Found c.args.frame)) (sym c.self.view_is) c.requires.next) c.requires.early in
-    subst (λ end. IsClear s.early c.args.frame.start end) (sym (ap (λ (f : Frame). f.end) r.is)) r.open_.clear
+    let w = early_fits (coming_of c.self.inside) c.args.frame c.limits.ensures (subst (λ (x : Coming). IsNext (scene_in x) (Found c.args.frame)) (sym c.self.view_is) c.requires.next) c.requires.early in
+    w.clear
+
+pub add-requires-in-Placed-clause-some : goal.add-requires-in-Placed-clause-some
+add-requires-in-Placed-clause-some g c =
+    let w = early_fits (coming_of c.self.inside) c.args.frame c.limits.ensures (subst (λ (x : Coming). IsNext (scene_in x) (Found c.args.frame)) (sym c.self.view_is) c.requires.next) c.requires.early in
+    w.some
+
+pub add-requires-in-Placed-clause-clear : goal.add-requires-in-Placed-clause-clear
+add-requires-in-Placed-clause-clear g c =
+    let w = early_fits (coming_of c.self.inside) c.args.frame c.limits.ensures (subst (λ (x : Coming). IsNext (scene_in x) (Found c.args.frame)) (sym c.self.view_is) c.requires.next) c.requires.early in
+    w.clear
+
+pub overflow_add-base : goal.overflow_add-base
+overflow_add-base g c =
+    let w = early_fits (coming_of c.self.inside) c.args.frame c.limits.ensures (subst (λ (x : Coming). IsNext (scene_in x) (Found c.args.frame)) (sym c.self.view_is) c.requires.next) c.requires.early in
+    omega (arith, w.near, w.some, c.limits.ensures.floor, c.span_of.ensures.bound)
+
+pub overflow_add-base-in-Placed : goal.overflow_add-base-in-Placed
+overflow_add-base-in-Placed g c =
+    let w = early_fits (coming_of c.self.inside) c.args.frame c.limits.ensures (subst (λ (x : Coming). IsNext (scene_in x) (Found c.args.frame)) (sym c.self.view_is) c.requires.next) c.requires.early in
+    omega (arith, w.near, c.limits.ensures.floor)
+
+pub release-requires-clause-come : goal.release-requires-clause-come
+release-requires-clause-come g c = λ p low high.
+    let w = early_fits (coming_of c.self.inside) c.args.frame c.limits.ensures (subst (λ (x : Coming). IsNext (scene_in x) (Found c.args.frame)) (sym c.self.view_is) c.requires.next) c.requires.early in
+    w.come p (omega (arith, low, c.span_of.ensures.value)) high
 
 pub invariant_of-self : goal.invariant_of-self
 invariant_of-self g c =
     let s = coming_of c.self.inside in
     let next = subst (λ (x : Coming). IsNext (scene_in x) (Found c.args.frame)) (sym c.self.view_is) c.requires.next in
     let followed = subst (λ (x : Coming). IsFollowed x.unsearched c.args.frame) (sym c.self.view_is) c.requires.followed in
-    let j = judging_keeps (scene_in s) s.unsearched c.args.frame c.args.state c.self.invariant.keeps c.self.invariant.tells next c.requires.early followed in
+    let k = kept_record s c.args.frame Tried next c.requires.early followed c.self.invariant in
     record {
-      keeps = subst (λ (rs : List EarlyRecord). Keeps (scene_of s.layout s.base s.arrived rs)) (sym c.add.ensures.records) j.0;
-      tells = subst (λ (rs : List EarlyRecord). Tells (scene_of s.layout s.base s.arrived rs) s.unsearched) (sym c.add.ensures.records) j.1;
+      keeps = subst (λ (rs : List EarlyRecord). Keeps (scene_of s.layout s.base s.arrived rs)) (sym c.add.ensures.records) k.0;
+      tells = subst (λ (rs : List EarlyRecord). Tells (scene_of s.layout s.base s.arrived rs) s.unsearched) (sym c.add.ensures.records) k.1;
+    }
+
+pub invariant_of-self-in-Placed : goal.invariant_of-self-in-Placed
+invariant_of-self-in-Placed g c =
+    let s = coming_of c.self.inside in
+    let next = subst (λ (x : Coming). IsNext (scene_in x) (Found c.args.frame)) (sym c.self.view_is) c.requires.next in
+    let followed = subst (λ (x : Coming). IsFollowed x.unsearched c.args.frame) (sym c.self.view_is) c.requires.followed in
+    let k = kept_record s c.args.frame (Placed c.in-Placed.header) next c.requires.early followed c.self.invariant in
+    let there : released s.arrived (s.base + span_start true c.args.frame.start) (s.base + c.args.frame.end) ≡ c.release.new.self.arrived =
+    sym (c.release.ensures.arrived ∙ ap (λ from. released s.arrived (s.base + from) (s.base + c.args.frame.end)) c.span_of.ensures.value) in
+    record {
+      keeps = subst (λ (a : Arrived). Keeps (scene_of s.layout s.base a c.add-in-Placed.new.self.records)) there
+          (subst (λ (rs : List EarlyRecord). Keeps (scene_of s.layout s.base (released s.arrived (s.base + span_start true c.args.frame.start) (s.base + c.args.frame.end)) rs)) (sym c.add-in-Placed.ensures.records) k.0);
+      tells = subst (λ (a : Arrived). Tells (scene_of s.layout s.base a c.add-in-Placed.new.self.records) s.unsearched) there
+          (subst (λ (rs : List EarlyRecord). Tells (scene_of s.layout s.base (released s.arrived (s.base + span_start true c.args.frame.start) (s.base + c.args.frame.end)) rs) s.unsearched) (sym c.add-in-Placed.ensures.records) k.1);
     }

@@ -1,5 +1,4 @@
 use Rattle.std.proofs.Common.{◌≡◌, [], sym, ap, ◌∙◌, subst}
-use Rattle.iw_ranges.specs.InOrder.{IsHeld}
 use Rattle.iw_locate.specs.declared.unsearched.Unsearched.{Unsearched}
 use Rattle.iw_stream.specs.Incoming.{Coming, IsTracked, coming_of}
 use Rattle.iw_stream.proofs.Arriving.{laid_out}
@@ -12,4 +11,4 @@ invariant_of-self g c =
     let none : s.early ≡ [] = ap (λ (x : Coming). x.early) is ∙ c.requires.none in
     let first : s.arrived.floor ≡ s.base = ap (λ (x : Coming). x.arrived.floor) is ∙ c.requires.first ∙ sym (ap (λ (x : Coming). x.base) is) in
     subst (λ (u : Unsearched). IsTracked (record s { layout = c.args.layout; unsearched = u })) (sym c.start_up_ended.ensures)
-    (laid_out s c.args.layout none first (subst (λ (x : Coming). IsHeld x.arrived) (sym is) c.requires.held) c.self.invariant)
+    (laid_out s c.args.layout none first c.self.invariant)

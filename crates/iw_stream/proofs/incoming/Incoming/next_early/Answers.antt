@@ -33,4 +33,4 @@ returns-clause-near g c =
     let v = scene_in (coming_of c.self.inside) in
     let low = subst (λ (s : Coming). s.arrived.floor ≤ 2 ^ 62) (sym c.self.view_is) c.requires.low in
     let P = λ (s : Coming). IfSome c.early_since.result (λ (f : Frame). s.base + f.start < 2 ^ 63) in
-    subst P c.self.view_is (near_since v c.floor.ensures.limits low (lacks g c) c.early_since.result c.early_since.ensures.next)
+    subst P c.self.view_is (near_since v c.limits.ensures low (lacks g c) c.early_since.result c.early_since.ensures.next)

@@ -15,9 +15,6 @@ lay_out-requires-clause-none g c = c.self.invariant.keeps.unopened (asked_closed
 pub lay_out-requires-clause-first : goal.lay_out-requires-clause-first
 lay_out-requires-clause-first g c = (c.self.invariant.keeps.started.unopened (asked_closed c.self.inside.start (sym c.in_ok-agreed.ensures.asked))).0 ∙ sym c.self.invariant.base
 
-pub lay_out-requires-clause-held : goal.lay_out-requires-clause-held
-lay_out-requires-clause-held g c = c.self.invariant.keeps.held
-
 pub invariant_of-self-2 : goal.invariant_of-self-2
 invariant_of-self-2 g c =
     let s = state_of c.self.inside in

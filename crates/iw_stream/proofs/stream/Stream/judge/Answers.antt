@@ -7,11 +7,13 @@ use Rattle.iw_rdmap.proofs.Tags.{Passes, passes}
 use Rattle.iw_stream.specs.Fields.{state_of}
 use Rattle.iw_stream.specs.Frames.{IsNext, placed, frame_by, payload_of}
 use Rattle.iw_stream.specs.Judging.{landing_of, verdict}
-use Rattle.iw_stream.specs.Kept.{NoneReachesOver, Keeps}
+use Rattle.iw_stream.specs.Kept.{Keeps}
 use Rattle.iw_stream.specs.Starting.{is_open, expecting, first_place_in}
 use Rattle.iw_stream.specs.Stream.{StreamState}
 use Rattle.iw_stream.specs.Work.{Judge, Rest, standing, next_frame, step_of, left_by, table_left, judged_step, after_judging, table_judged}
+use Rattle.iw_stream.proofs.Early.{clear_alone, front_kept_alone, kept_there, over_alone}
 use Rattle.iw_stream.proofs.Keeping.{keeps_judged}
+use Rattle.iw_stream.proofs.Waiting.{kept_scene}
 use Rattle.iw_stream.proofs.Tagged.{is_placing, leaves_receiving, next_is, none_next, stream_placed, table_placed, tagged_first, tagged_front, tagged_long, tagged_there}
 use Rattle.iw_stream.proofs.stream.Stream.judge.Goals as goal
 
@@ -19,14 +21,14 @@ pub returns-then-missing-floor-clause-whole : goal.returns-then-missing-floor-cl
 returns-then-missing-floor-clause-whole g c =
     let s = state_of c.self.inside in
     let table = c.args.memory.now in
-    let none = none_next s c.missing.result c.floor.result c.self.invariant.keeps c.missing.ensures.missing c.floor.ensures.floor c.if-missing-floor.true in
+    let none = none_next s c.missing.result c.floor.result c.self.invariant.keeps c.missing.ensures.missing c.floor.ensures c.if-missing-floor.true in
     sym (ap (λ t. is_some (next_frame t)) (sym c.self.view_is) ∙ ap is_some none)
 
 pub returns-then-missing-floor-clause-after : goal.returns-then-missing-floor-clause-after
 returns-then-missing-floor-clause-after g c =
     let s = state_of c.self.inside in
     let table = c.args.memory.now in
-    let none = none_next s c.missing.result c.floor.result c.self.invariant.keeps c.missing.ensures.missing c.floor.ensures.floor c.if-missing-floor.true in
+    let none = none_next s c.missing.result c.floor.result c.self.invariant.keeps c.missing.ensures.missing c.floor.ensures c.if-missing-floor.true in
     sym c.self.view_is
     ∙ ap (λ o. left_by table s (option_map_or Judge o Rest)) (sym none) ∙ ap (λ t. left_by table t (option_map_or Judge (next_frame t) Rest)) c.self.view_is
 
@@ -34,8 +36,23 @@ pub returns-then-missing-floor-clause-memory : goal.returns-then-missing-floor-c
 returns-then-missing-floor-clause-memory g c =
     let s = state_of c.self.inside in
     let table = c.args.memory.now in
-    let none = none_next s c.missing.result c.floor.result c.self.invariant.keeps c.missing.ensures.missing c.floor.ensures.floor c.if-missing-floor.true in
+    let none = none_next s c.missing.result c.floor.result c.self.invariant.keeps c.missing.ensures.missing c.floor.ensures c.if-missing-floor.true in
     ap (λ o. table_left table s (option_map_or Judge o Rest)) (sym none) ∙ ap (λ t. table_left table t (option_map_or Judge (next_frame t) Rest)) c.self.view_is
+
+pub held_at-requires-clause-kept : goal.held_at-requires-clause-kept
+held_at-requires-clause-kept g c =
+    let s = state_of c.self.inside in
+    kept_there s c.expecting-layout.result c.first_place_in-base.result c.start_of-start.result c.floor-2.result c.expecting-layout.ensures c.first_place_in-base.ensures.place c.floor-2.ensures c.start_of-start.ensures
+    (front_kept_alone s (kept_scene s c.self.inside.arrived.layout c.self.inside.arrived.base c.self.invariant.layout c.self.invariant.base c.limits.ensures.tracked.keeps) (ap (λ (t : StreamState). t.early) c.self.view_is ∙ c.requires.none))
+
+pub held_at-requires-clause-clear : goal.held_at-requires-clause-clear
+held_at-requires-clause-clear g c = clear_alone c.self.inside.arrived c.start_of-start.result (ap (λ (t : StreamState). t.early) c.self.view_is ∙ c.requires.none)
+
+pub held_at-requires-clause-layout : goal.held_at-requires-clause-layout
+held_at-requires-clause-layout g c = c.expecting-layout.ensures ∙ sym c.self.invariant.layout
+
+pub held_at-requires-clause-base : goal.held_at-requires-clause-base
+held_at-requires-clause-base g c = c.first_place_in-base.ensures.place ∙ sym c.self.invariant.base
 
 pub land_tagged-requires-clause-tagged : goal.land_tagged-requires-clause-tagged
 land_tagged-requires-clause-tagged g c =
@@ -70,7 +87,7 @@ invariant_of-self g c = record {
       let ok : verdict (standing c.args.memory.now s) (frame_by c.in-Some.fpdu) ≡ Ok (landing_of c.is_response-response.result c.in-Ok.placed) = sym (c.in-Ok.ensures.landed (standing c.args.memory.now s) refl refl refl) in
       subst (λ f. Keeps (record s { front = f })) (sym c.keep_tagged.ensures)
       (keeps_judged s c.args.memory.now c.in-Some.fpdu c.self.inside.receiving (landing_of response at) running next ok (is_placing response at) (leaves_receiving response at c.self.inside.receiving (payload_of (read_segment (ulpdu c.in-Some.fpdu))))
-      (subst (λ t. NoneReachesOver t (placed (frame_by c.in-Some.fpdu))) (sym c.self.view_is) (c.requires.over (frame_by c.in-Some.fpdu) (ap next_frame (sym c.self.view_is) ∙ next_is s c.expecting-layout.result c.first_place_in-base.result c.start_of-start.result c.floor-2.result (Some (frame_by c.in-Some.fpdu)) c.expecting-layout.ensures c.first_place_in-base.ensures.place c.floor-2.ensures.floor c.start_of-start.ensures c.in-Some.ensures.frame))) c.self.invariant.keeps);
+      (over_alone s (placed (frame_by c.in-Some.fpdu)) (ap (λ (t : StreamState). t.early) c.self.view_is ∙ c.requires.none)) c.self.invariant.keeps);
   layout = c.self.invariant.layout;
   base = c.self.invariant.base;
 }
@@ -82,7 +99,7 @@ returns-in-Ok-clause-step g c =
     let frame = frame_by c.in-Some.fpdu in
     let response = c.is_response-response.result in
     let at = c.in-Ok.placed in
-    let next = next_is s c.expecting-layout.result c.first_place_in-base.result c.start_of-start.result c.floor-2.result (Some (frame_by c.in-Some.fpdu)) c.expecting-layout.ensures c.first_place_in-base.ensures.place c.floor-2.ensures.floor c.start_of-start.ensures c.in-Some.ensures.frame in
+    let next = next_is s c.expecting-layout.result c.first_place_in-base.result c.start_of-start.result c.floor-2.result (Some (frame_by c.in-Some.fpdu)) c.expecting-layout.ensures c.first_place_in-base.ensures.place c.floor-2.ensures c.start_of-start.ensures c.in-Some.ensures.frame in
     let ok : verdict (standing table s) frame ≡ Ok (landing_of response at) = sym (c.in-Ok.ensures.landed (standing table s) refl refl refl) in
     ap (λ landing. judged_step (Ok landing)) c.landing_of.ensures ∙ ap judged_step (sym ok)
     ∙ ap (λ o. step_of table s (option_map_or Judge o Rest)) (sym next) ∙ ap (λ t. step_of table t (option_map_or Judge (next_frame t) Rest)) c.self.view_is
@@ -94,7 +111,7 @@ returns-in-Ok-clause-after g c =
     let frame = frame_by c.in-Some.fpdu in
     let response = c.is_response-response.result in
     let at = c.in-Ok.placed in
-    let next = next_is s c.expecting-layout.result c.first_place_in-base.result c.start_of-start.result c.floor-2.result (Some (frame_by c.in-Some.fpdu)) c.expecting-layout.ensures c.first_place_in-base.ensures.place c.floor-2.ensures.floor c.start_of-start.ensures c.in-Some.ensures.frame in
+    let next = next_is s c.expecting-layout.result c.first_place_in-base.result c.start_of-start.result c.floor-2.result (Some (frame_by c.in-Some.fpdu)) c.expecting-layout.ensures c.first_place_in-base.ensures.place c.floor-2.ensures c.start_of-start.ensures c.in-Some.ensures.frame in
     let ok : verdict (standing table s) frame ≡ Ok (landing_of response at) = sym (c.in-Ok.ensures.landed (standing table s) refl refl refl) in
     ap (λ f. record s { front = f }) c.keep_tagged.ensures ∙ stream_placed response at s frame ∙ ap (after_judging s frame) (sym ok)
     ∙ ap (λ o. left_by table s (option_map_or Judge o Rest)) (sym next) ∙ ap (λ t. left_by table t (option_map_or Judge (next_frame t) Rest)) c.self.view_is
@@ -106,7 +123,7 @@ returns-in-Ok-clause-memory g c =
     let frame = frame_by c.in-Some.fpdu in
     let response = c.is_response-response.result in
     let at = c.in-Ok.placed in
-    let next = next_is s c.expecting-layout.result c.first_place_in-base.result c.start_of-start.result c.floor-2.result (Some (frame_by c.in-Some.fpdu)) c.expecting-layout.ensures c.first_place_in-base.ensures.place c.floor-2.ensures.floor c.start_of-start.ensures c.in-Some.ensures.frame in
+    let next = next_is s c.expecting-layout.result c.first_place_in-base.result c.start_of-start.result c.floor-2.result (Some (frame_by c.in-Some.fpdu)) c.expecting-layout.ensures c.first_place_in-base.ensures.place c.floor-2.ensures c.start_of-start.ensures c.in-Some.ensures.frame in
     let ok : verdict (standing table s) frame ≡ Ok (landing_of response at) = sym (c.in-Ok.ensures.landed (standing table s) refl refl refl) in
     c.in-Ok.ensures.memory ∙ table_placed response at table frame ∙ ap (table_judged table frame) (sym ok)
     ∙ ap (λ o. table_left table s (option_map_or Judge o Rest)) (sym next) ∙ ap (λ t. table_left table t (option_map_or Judge (next_frame t) Rest)) c.self.view_is

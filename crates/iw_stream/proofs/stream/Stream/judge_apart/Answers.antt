@@ -1,15 +1,17 @@
-use Rattle.std.proofs.Common.{◌≡◌, ◌-◌, true, Some, Ok, length, ap, sym, ◌∙◌, subst}
+use Rattle.std.proofs.Common.{◌≡◌, ◌-◌, false, true, Some, Ok, length, refl, ap, sym, ◌∙◌, subst}
 use Rattle.std.specs.Option.{option_map, option_map_or}
 use Rattle.iw_fpdu.specs.Places.{frame_start}
 use Rattle.iw_stream.specs.Fields.{state_of}
 use Rattle.iw_stream.specs.declared.judging.Landing.TheVariants.{Request, Terminate}
 use Rattle.iw_stream.specs.declared.judging.PlacedFrame.{PlacedFrame}
-use Rattle.iw_stream.specs.Frames.{IsNext, placed, frame_at, frame_by}
+use Rattle.iw_stream.specs.Frames.{Frame, IsNext, placed, frame_at, frame_by}
 use Rattle.iw_stream.specs.Kept.{Keeps, Stands, NoneReachesOver}
 use Rattle.iw_stream.specs.Starting.{is_open, expecting, first_place_in}
 use Rattle.iw_stream.specs.Stream.{StreamState}
-use Rattle.iw_stream.specs.Work.{Judge, Rest, left_by, next_frame, standing}
+use Rattle.iw_stream.specs.Work.{Judge, Rest, clashes, left_by, next_frame, standing, waiting}
 use Rattle.iw_stream.proofs.Keeping.{IsPlacing, keeps_judged, may_take, stands_next, whole_judged}
+use Rattle.iw_stream.proofs.Early.{begins_at, clear_there, front_kept, kept_there}
+use Rattle.iw_stream.proofs.Waiting.{clear_over, kept_scene}
 use Rattle.iw_stream.proofs.Origins.{caused, judged_over}
 use Rattle.iw_stream.proofs.stream.Stream.judge_apart.Goals as goal
 
@@ -20,10 +22,10 @@ invariant_of-self-in-Ok-Write g c = record {
       let layout = c.expecting-layout.ensures in
       let base = c.first_place_in-base.ensures.place in
       let start : c.start_of-start.result ≡ frame_start (expecting s.start).markers (s.arrived.floor - first_place_in s.start) =
-      c.start_of-start.ensures ∙ (λ i. frame_start (layout i).markers (c.floor.ensures.floor i - base i)) in
+      c.start_of-start.ensures ∙ (λ i. frame_start (layout i).markers (c.floor.ensures i - base i)) in
       let next_ : next_frame s ≡ Some (frame_by c.in-Some.fpdu) =
-      (λ i. frame_at (sym layout i) s.arrived (sym base i) (sym start i)) ∙ sym c.frame_at.ensures.frame ∙ ap (option_map frame_by) c.in-Some.is in
-      let over = subst (λ t. NoneReachesOver t (placed (frame_by c.in-Some.fpdu))) (sym c.self.view_is) (c.requires.over (frame_by c.in-Some.fpdu) (ap next_frame (sym c.self.view_is) ∙ next_)) in
+      (λ i. frame_at (sym layout i) s.arrived (sym base i) (sym start i)) ∙ sym c.held_at.ensures.frame ∙ ap (option_map frame_by) c.in-Some.is in
+      let over = clear_over s c.self.invariant.keeps (kept_scene s c.self.inside.arrived.layout c.self.inside.arrived.base c.self.invariant.layout c.self.invariant.base c.limits.ensures.tracked.keeps) c.limits.ensures.apart c.limits.ensures.arrived (placed (frame_by c.in-Some.fpdu)) (begins_at s c.in-Some.fpdu c.expecting-layout.result c.first_place_in-base.result c.start_of-start.result c.floor.result c.expecting-layout.ensures c.first_place_in-base.ensures.place c.in-Some.ensures.next) (ap (λ (t : StreamState). clashes t (frame_by c.in-Some.fpdu)) c.self.view_is ∙ c.requires.clear (frame_by c.in-Some.fpdu) (ap next_frame (sym c.self.view_is) ∙ next_)) in
       let running : is_open (state_of c.self.inside).start ≡ true = ap (λ (t : StreamState). is_open t.start) c.self.view_is ∙ c.requires.open in
       let next : IsNext (expecting c.self.inside.start) c.self.inside.arrived.arrived (first_place_in c.self.inside.start) c.in-Some.fpdu =
       subst (λ l. IsNext l c.self.inside.arrived.arrived (first_place_in c.self.inside.start) c.in-Some.fpdu) c.expecting-layout.ensures
@@ -41,10 +43,10 @@ invariant_of-self-in-Ok-Response g c = record {
       let layout = c.expecting-layout.ensures in
       let base = c.first_place_in-base.ensures.place in
       let start : c.start_of-start.result ≡ frame_start (expecting s.start).markers (s.arrived.floor - first_place_in s.start) =
-      c.start_of-start.ensures ∙ (λ i. frame_start (layout i).markers (c.floor.ensures.floor i - base i)) in
+      c.start_of-start.ensures ∙ (λ i. frame_start (layout i).markers (c.floor.ensures i - base i)) in
       let next_ : next_frame s ≡ Some (frame_by c.in-Some.fpdu) =
-      (λ i. frame_at (sym layout i) s.arrived (sym base i) (sym start i)) ∙ sym c.frame_at.ensures.frame ∙ ap (option_map frame_by) c.in-Some.is in
-      let over = subst (λ t. NoneReachesOver t (placed (frame_by c.in-Some.fpdu))) (sym c.self.view_is) (c.requires.over (frame_by c.in-Some.fpdu) (ap next_frame (sym c.self.view_is) ∙ next_)) in
+      (λ i. frame_at (sym layout i) s.arrived (sym base i) (sym start i)) ∙ sym c.held_at.ensures.frame ∙ ap (option_map frame_by) c.in-Some.is in
+      let over = clear_over s c.self.invariant.keeps (kept_scene s c.self.inside.arrived.layout c.self.inside.arrived.base c.self.invariant.layout c.self.invariant.base c.limits.ensures.tracked.keeps) c.limits.ensures.apart c.limits.ensures.arrived (placed (frame_by c.in-Some.fpdu)) (begins_at s c.in-Some.fpdu c.expecting-layout.result c.first_place_in-base.result c.start_of-start.result c.floor.result c.expecting-layout.ensures c.first_place_in-base.ensures.place c.in-Some.ensures.next) (ap (λ (t : StreamState). clashes t (frame_by c.in-Some.fpdu)) c.self.view_is ∙ c.requires.clear (frame_by c.in-Some.fpdu) (ap next_frame (sym c.self.view_is) ∙ next_)) in
       let running : is_open (state_of c.self.inside).start ≡ true = ap (λ (t : StreamState). is_open t.start) c.self.view_is ∙ c.requires.open in
       let next : IsNext (expecting c.self.inside.start) c.self.inside.arrived.arrived (first_place_in c.self.inside.start) c.in-Some.fpdu =
       subst (λ l. IsNext l c.self.inside.arrived.arrived (first_place_in c.self.inside.start) c.in-Some.fpdu) c.expecting-layout.ensures
@@ -62,10 +64,10 @@ invariant_of-self-in-Ok-Send g c = record {
       let layout = c.expecting-layout.ensures in
       let base = c.first_place_in-base.ensures.place in
       let start : c.start_of-start.result ≡ frame_start (expecting s.start).markers (s.arrived.floor - first_place_in s.start) =
-      c.start_of-start.ensures ∙ (λ i. frame_start (layout i).markers (c.floor.ensures.floor i - base i)) in
+      c.start_of-start.ensures ∙ (λ i. frame_start (layout i).markers (c.floor.ensures i - base i)) in
       let next_ : next_frame s ≡ Some (frame_by c.in-Some.fpdu) =
-      (λ i. frame_at (sym layout i) s.arrived (sym base i) (sym start i)) ∙ sym c.frame_at.ensures.frame ∙ ap (option_map frame_by) c.in-Some.is in
-      let over = subst (λ t. NoneReachesOver t (placed (frame_by c.in-Some.fpdu))) (sym c.self.view_is) (c.requires.over (frame_by c.in-Some.fpdu) (ap next_frame (sym c.self.view_is) ∙ next_)) in
+      (λ i. frame_at (sym layout i) s.arrived (sym base i) (sym start i)) ∙ sym c.held_at.ensures.frame ∙ ap (option_map frame_by) c.in-Some.is in
+      let over = clear_over s c.self.invariant.keeps (kept_scene s c.self.inside.arrived.layout c.self.inside.arrived.base c.self.invariant.layout c.self.invariant.base c.limits.ensures.tracked.keeps) c.limits.ensures.apart c.limits.ensures.arrived (placed (frame_by c.in-Some.fpdu)) (begins_at s c.in-Some.fpdu c.expecting-layout.result c.first_place_in-base.result c.start_of-start.result c.floor.result c.expecting-layout.ensures c.first_place_in-base.ensures.place c.in-Some.ensures.next) (ap (λ (t : StreamState). clashes t (frame_by c.in-Some.fpdu)) c.self.view_is ∙ c.requires.clear (frame_by c.in-Some.fpdu) (ap next_frame (sym c.self.view_is) ∙ next_)) in
       let running : is_open (state_of c.self.inside).start ≡ true = ap (λ (t : StreamState). is_open t.start) c.self.view_is ∙ c.requires.open in
       let next : IsNext (expecting c.self.inside.start) c.self.inside.arrived.arrived (first_place_in c.self.inside.start) c.in-Some.fpdu =
       subst (λ l. IsNext l c.self.inside.arrived.arrived (first_place_in c.self.inside.start) c.in-Some.fpdu) c.expecting-layout.ensures
@@ -75,6 +77,25 @@ invariant_of-self-in-Ok-Send g c = record {
   layout = c.self.invariant.layout;
   base = c.self.invariant.base;
 }
+
+pub held_at-requires-clause-kept : goal.held_at-requires-clause-kept
+held_at-requires-clause-kept g c =
+    let s = state_of c.self.inside in
+    kept_there s c.expecting-layout.result c.first_place_in-base.result c.start_of-start.result c.floor.result c.expecting-layout.ensures c.first_place_in-base.ensures.place c.floor.ensures c.start_of-start.ensures
+    (front_kept s (kept_scene s c.self.inside.arrived.layout c.self.inside.arrived.base c.self.invariant.layout c.self.invariant.base c.limits.ensures.tracked.keeps) c.limits.ensures.apart (ap waiting c.self.view_is ∙ c.requires.waiting))
+
+pub held_at-requires-clause-clear : goal.held_at-requires-clause-clear
+held_at-requires-clause-clear g c =
+    let s = state_of c.self.inside in
+    clear_there s c.self.inside.arrived c.start_of-start.result c.floor.result c.self.invariant.layout c.self.invariant.base refl refl c.floor.ensures
+    (c.start_of-start.ensures ∙ (λ i. frame_start ((c.expecting-layout.ensures ∙ sym c.self.invariant.layout) i).markers (c.floor.result - (c.first_place_in-base.ensures.place ∙ sym c.self.invariant.base) i)))
+    (subst (λ t. (frame : Frame) → next_frame t ≡ Some frame → clashes t frame ≡ false) (sym c.self.view_is) c.requires.clear)
+
+pub held_at-requires-clause-layout : goal.held_at-requires-clause-layout
+held_at-requires-clause-layout g c = c.expecting-layout.ensures ∙ sym c.self.invariant.layout
+
+pub held_at-requires-clause-base : goal.held_at-requires-clause-base
+held_at-requires-clause-base g c = c.first_place_in-base.ensures.place ∙ sym c.self.invariant.base
 
 pub take_up-requires-clause-stands : goal.take_up-requires-clause-stands
 take_up-requires-clause-stands g c =
@@ -122,9 +143,9 @@ returns-in-Err-clause-after g c =
     let layout = c.expecting-layout.ensures in
     let base = c.first_place_in-base.ensures.place in
     let start : c.start_of-start.result ≡ frame_start (expecting s.start).markers (s.arrived.floor - first_place_in s.start) =
-    c.start_of-start.ensures ∙ (λ i. frame_start (layout i).markers (c.floor.ensures.floor i - base i)) in
+    c.start_of-start.ensures ∙ (λ i. frame_start (layout i).markers (c.floor.ensures i - base i)) in
     let next : next_frame s ≡ Some (frame_by found) =
-    (λ i. frame_at (sym layout i) s.arrived (sym base i) (sym start i)) ∙ sym c.frame_at.ensures.frame ∙ ap (option_map frame_by) c.in-Some.is in
+    (λ i. frame_at (sym layout i) s.arrived (sym base i) (sym start i)) ∙ sym c.held_at.ensures.frame ∙ ap (option_map frame_by) c.in-Some.is in
     (λ i. record s { ending = c.end_judged-self-inside.ensures i; receiving = c.in-Err.ensures.err.1 i })
     ∙ judged_over table s (frame_by found) c.in-Err.fault next (sym c.land_frame.ensures.landed ∙ c.in-Err.is)
     ∙ ap (λ (t : StreamState). left_by table t (option_map_or Judge (next_frame t) Rest)) c.self.view_is
@@ -135,10 +156,10 @@ take_up-requires-clause-over g c =
     let layout = c.expecting-layout.ensures in
     let base = c.first_place_in-base.ensures.place in
     let start : c.start_of-start.result ≡ frame_start (expecting s.start).markers (s.arrived.floor - first_place_in s.start) =
-    c.start_of-start.ensures ∙ (λ i. frame_start (layout i).markers (c.floor.ensures.floor i - base i)) in
+    c.start_of-start.ensures ∙ (λ i. frame_start (layout i).markers (c.floor.ensures i - base i)) in
     let next_ : next_frame s ≡ Some (frame_by c.in-Some.fpdu) =
-    (λ i. frame_at (sym layout i) s.arrived (sym base i) (sym start i)) ∙ sym c.frame_at.ensures.frame ∙ ap (option_map frame_by) c.in-Some.is in
-    let over = subst (λ t. NoneReachesOver t (placed (frame_by c.in-Some.fpdu))) (sym c.self.view_is) (c.requires.over (frame_by c.in-Some.fpdu) (ap next_frame (sym c.self.view_is) ∙ next_)) in
+    (λ i. frame_at (sym layout i) s.arrived (sym base i) (sym start i)) ∙ sym c.held_at.ensures.frame ∙ ap (option_map frame_by) c.in-Some.is in
+    let over = clear_over s c.self.invariant.keeps (kept_scene s c.self.inside.arrived.layout c.self.inside.arrived.base c.self.invariant.layout c.self.invariant.base c.limits.ensures.tracked.keeps) c.limits.ensures.apart c.limits.ensures.arrived (placed (frame_by c.in-Some.fpdu)) (begins_at s c.in-Some.fpdu c.expecting-layout.result c.first_place_in-base.result c.start_of-start.result c.floor.result c.expecting-layout.ensures c.first_place_in-base.ensures.place c.in-Some.ensures.next) (ap (λ (t : StreamState). clashes t (frame_by c.in-Some.fpdu)) c.self.view_is ∙ c.requires.clear (frame_by c.in-Some.fpdu) (ap next_frame (sym c.self.view_is) ∙ next_)) in
     subst (NoneReachesOver (record s { receiving = c.land_frame.new.receiving })) (sym c.placed_frame-frame.ensures) over
 
 pub hear_out-requires-clause-over : goal.hear_out-requires-clause-over
@@ -147,8 +168,8 @@ hear_out-requires-clause-over g c =
     let layout = c.expecting-layout.ensures in
     let base = c.first_place_in-base.ensures.place in
     let start : c.start_of-start.result ≡ frame_start (expecting s.start).markers (s.arrived.floor - first_place_in s.start) =
-    c.start_of-start.ensures ∙ (λ i. frame_start (layout i).markers (c.floor.ensures.floor i - base i)) in
+    c.start_of-start.ensures ∙ (λ i. frame_start (layout i).markers (c.floor.ensures i - base i)) in
     let next_ : next_frame s ≡ Some (frame_by c.in-Some.fpdu) =
-    (λ i. frame_at (sym layout i) s.arrived (sym base i) (sym start i)) ∙ sym c.frame_at.ensures.frame ∙ ap (option_map frame_by) c.in-Some.is in
-    let over = subst (λ t. NoneReachesOver t (placed (frame_by c.in-Some.fpdu))) (sym c.self.view_is) (c.requires.over (frame_by c.in-Some.fpdu) (ap next_frame (sym c.self.view_is) ∙ next_)) in
+    (λ i. frame_at (sym layout i) s.arrived (sym base i) (sym start i)) ∙ sym c.held_at.ensures.frame ∙ ap (option_map frame_by) c.in-Some.is in
+    let over = clear_over s c.self.invariant.keeps (kept_scene s c.self.inside.arrived.layout c.self.inside.arrived.base c.self.invariant.layout c.self.invariant.base c.limits.ensures.tracked.keeps) c.limits.ensures.apart c.limits.ensures.arrived (placed (frame_by c.in-Some.fpdu)) (begins_at s c.in-Some.fpdu c.expecting-layout.result c.first_place_in-base.result c.start_of-start.result c.floor.result c.expecting-layout.ensures c.first_place_in-base.ensures.place c.in-Some.ensures.next) (ap (λ (t : StreamState). clashes t (frame_by c.in-Some.fpdu)) c.self.view_is ∙ c.requires.clear (frame_by c.in-Some.fpdu) (ap next_frame (sym c.self.view_is) ∙ next_)) in
     subst (NoneReachesOver (record s { receiving = c.land_frame.new.receiving })) (sym c.placed_frame-frame-in-Ok-Terminate.ensures) over

@@ -1,11 +1,12 @@
 use Rattle.std.proofs.Common.{◌+◌, refl, ◌∙◌, ap, sym}
 use Rattle.std.specs.Option.{option_map_or}
+use Rattle.iw_ranges.specs.Arrived.{Arrived}
 use Rattle.iw_stream.specs.Fields.{state_of}
 use Rattle.iw_stream.specs.Incoming.{frame_in}
 use Rattle.iw_stream.specs.Starting.{is_open}
 use Rattle.iw_stream.specs.Stream.{StreamState}
 use Rattle.iw_stream.specs.Work.{Try, Rest, early_frame, left_by, next_frame, step_of, table_left, tried_step, waiting}
-use Rattle.iw_stream.proofs.Early.{IsFound, found_early, front_lacks, front_unplaced, keeps_tried, memory_tried, ok_is, on_ok, scene_is, step_tried, stream_tried}
+use Rattle.iw_stream.proofs.Early.{IsFound, floor_tried, found_early, front_lacks, front_unplaced, keeps_tried, memory_tried, ok_is, on_ok, scene_is, step_tried, stream_tried}
 use Rattle.iw_stream.proofs.stream.Stream.try_apart.Given as given
 use Rattle.iw_stream.proofs.stream.Stream.try_apart.Goals.{in-None, in-Some-judge_early}
 use Rattle.iw_stream.proofs.stream.Stream.try_apart.Goals as goal
@@ -13,7 +14,7 @@ use Rattle.iw_stream.proofs.stream.Stream.try_apart.Goals as goal
 pub next_early-requires-clause-turn : goal.next_early-requires-clause-turn
 next_early-requires-clause-turn g c =
     let s = state_of c.self.inside in
-    front_unplaced s c.self.inside.arrived (scene_is s c.self.inside.arrived c.self.invariant.layout c.self.invariant.base refl refl) c.records.ensures.apart (ap waiting c.self.view_is ∙ c.requires.waiting)
+    front_unplaced s c.self.inside.arrived (scene_is s c.self.inside.arrived c.self.invariant.layout c.self.invariant.base refl refl) c.limits.ensures.apart (ap waiting c.self.view_is ∙ c.requires.waiting)
 
 pub next_early-requires-clause-lacking : goal.next_early-requires-clause-lacking
 next_early-requires-clause-lacking g c =
@@ -66,3 +67,8 @@ returns-clause-memory g c =
       | in-None w ↦ on_ok _ c.match-judge_early.result _ w.result-is is
       | in-Some-judge_early w ↦ on_ok _ c.match-judge_early.result _ w.result-is is
     ]
+
+pub returns-clause-floor : goal.returns-clause-floor
+returns-clause-floor g c =
+    floor_tried c.ready.new.self c.judge_early.new.arrived c.in-Some.frame.start c.judge_early.result c.judge_early.ensures.arrived ∙ ap (λ (a : Arrived). a.floor) (found g c).arrived
+    ∙ ap (λ (t : StreamState). t.arrived.floor) c.self.view_is

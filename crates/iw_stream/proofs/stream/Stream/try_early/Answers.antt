@@ -7,4 +7,4 @@ use Rattle.iw_stream.proofs.stream.Stream.try_early.Goals as goal
 pub is_quiet-requires-clause-turn : goal.is_quiet-requires-clause-turn
 is_quiet-requires-clause-turn g c =
     let s = state_of c.self.inside in
-    front_unplaced s c.self.inside.arrived (scene_is s c.self.inside.arrived c.self.invariant.layout c.self.invariant.base refl refl) c.records.ensures.apart (ap waiting c.self.view_is ∙ c.requires.waiting)
+    front_unplaced s c.self.inside.arrived (scene_is s c.self.inside.arrived c.self.invariant.layout c.self.invariant.base refl refl) c.limits.ensures.apart (ap waiting c.self.view_is ∙ c.requires.waiting)
