@@ -99,18 +99,6 @@ pub floor_without : (base : ℕ) (a : Arrived) (r : EarlyRecord) (state : State 
 floor_without base a r Tried = refl
 floor_without base a r (Placed header) = released_floor a (base + from_of r) (base + r.end)
 
--- it is what came, but for what was given up
-pub left_without : (base : ℕ) (a came : Arrived) (r : EarlyRecord) (state : State (ArrayVec ℕ)) → IsLeftOf a came → IsLeftOf (without base a r state) came
-left_without base a came r Tried is = is
-left_without base a came r (Placed header) is = left_gives_up a came (base + from_of r) (base + r.end) is
-
-only_by : (v : Scene (ArrayVec ℕ)) (r : EarlyRecord) (state : State (ArrayVec ℕ)) → r.state ≡ state → GivesUpOnlyPlaced v → GivesUpOnlyPlaced (changed v (without v.base v.arrived r state) (added v.records r))
-only_by v r Tried is only = only_adds v only r
-only_by v r (Placed header) is only = only_places v r only (subst IsPlaced (sym is) tt)
-
-pub only_without : (v : Scene (ArrayVec ℕ)) (r : EarlyRecord) → GivesUpOnlyPlaced v → GivesUpOnlyPlaced (changed v (without v.base v.arrived r r.state) (added v.records r))
-only_without v r only = only_by v r r.state refl only
-
 -- ---- the Terminate for a frame that lies over a placed one takes nothing of it
 pub clash_word : (asked : Requested) (frame : Frame) → terminate_octets clash_fault [] 0 false ≡ terminate_judged asked frame clash_fault
 clash_word asked frame = go (is_request_of asked frame.ulpdu)
