@@ -7,7 +7,7 @@ use Rattle.arrayvec.specs.ArrayVec.{ArrayVec}
 use Rattle.iw_ranges.specs.Arrived.{Arrived, Cell, Missing, Here, Gone, cell_at}
 use Rattle.iw_ranges.specs.InOrder.{is_gone, IsHeld}
 use Rattle.iw_ranges.specs.Laws.{IsLeftOf}
-use Rattle.iw_ranges.proofs.Left.{all_left, left_in_order}
+use Rattle.iw_ranges.proofs.Left.{all_left, left_gives_up, left_in_order}
 use Rattle.iw_fpdu.specs.Places.{IsStart, frame_start}
 use Rattle.iw_fpdu.specs.Frame.{frame_end}
 use Rattle.iw_fpdu.specs.Found.{IsWhole, is_whole, ulpdu_len}
@@ -29,7 +29,7 @@ use Rattle.iw_stream.specs.Frames.{Frame, EarlyRecord, frame_by, placed_at, kept
 use Rattle.iw_stream.specs.Starting.{expecting, first_place_in}
 use Rattle.iw_stream.specs.Stream.{StreamState}
 use Rattle.iw_stream.specs.Work.{next_frame, waiting, clashes, early_frame, scene, inbox, after_trying}
-use Rattle.iw_locate.specs.Records.{added}
+use Rattle.iw_locate.specs.Records.{from_of, added}
 use Rattle.iw_stream.specs.declared.judging.Landing.{Landing}
 use Rattle.iw_stream.specs.Frames.{record_tried}
 use Rattle.iw_stream.specs.Judging.{receiving_tried}
@@ -47,7 +47,10 @@ equal_has {s} e = subst (HasLeft s) e (record { same = refl; left = all_left s.a
 -- a frame that was judged before its turn leaves its record, and of one that was placed the octets are given up
 pub trying_has : (s : StreamState) (frame : Frame) (at : Option Landing)
     → HasLeft (after_trying s frame at) (record s { early = added s.early (record_tried frame at); receiving = receiving_tried s.receiving frame at })
-trying_has s frame at = record { same = refl; left = all_left s.arrived }
+trying_has s frame None = record { same = refl; left = all_left s.arrived }
+trying_has s frame (Some x) =
+    let r : EarlyRecord = record_tried frame (Some x) in
+    record { same = refl; left = left_gives_up s.arrived s.arrived (first_place_in s.start + from_of r) (first_place_in s.start + r.end) (all_left s.arrived) }
 
 -- a placed record that begins there is found
 found_there : (rs : List EarlyRecord) (start : ℕ) (r : EarlyRecord) → AreApart rs → Contains rs r → IsPlaced r.state → r.start ≡ start → placed_at rs start ≡ None → ⊥

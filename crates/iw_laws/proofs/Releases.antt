@@ -5,10 +5,11 @@ use Rattle.std.specs.Option.{option_map_or}
 use Rattle.std.proofs.lemmas.Bool.{true≢false, false≢true}
 use Rattle.iw_octets.specs.declared.fault.Fault.{Fault}
 use Rattle.iw_memory.specs.Table.{Table}
-use Rattle.iw_ranges.specs.Arrived.{Arrived, advanced}
+use Rattle.iw_ranges.specs.Arrived.{Arrived, Gone, given_up, advanced, released}
 use Rattle.iw_ranges.specs.InOrder.{is_gone, IsHeld}
 use Rattle.iw_ranges.specs.Laws.{IsLeftOf}
 use Rattle.iw_ranges.proofs.InOrder.{held_moves}
+use Rattle.iw_ranges.proofs.ByPlace.{gives_up_places, stays_come}
 use Rattle.iw_ranges.specs.declared.Delivery.{Delivery}
 use Rattle.iw_ranges.specs.declared.Delivery.TheVariants.{Kept, Dropped}
 use Rattle.iw_ranges.proofs.Left.{left_moves, left_drops, left_takes}
@@ -16,7 +17,7 @@ use Rattle.iw_fpdu.specs.Frame.{frame_end}
 use Rattle.iw_fpdu.specs.Laws.{IsBetween}
 use Rattle.iw_locate.specs.Records.{from_of, IsPlaced, kept_from}
 use Rattle.iw_locate.specs.Free.{Scene, scene_of, point_of, GivesUpOnlyPlaced}
-use Rattle.iw_locate.proofs.GivesUp.{only_moves, only_adds, only_takes}
+use Rattle.iw_locate.proofs.GivesUp.{only_moves, only_adds, only_takes, only_places}
 use Rattle.iw_queues.specs.declared.completions.Done.{Done}
 use Rattle.iw_queues.specs.Queue.{done_in, oldest_in}
 use Rattle.arrayvec.specs.ArrayVec.{ArrayVec}
@@ -51,6 +52,18 @@ use Rattle.iw_laws.proofs.Nexts.{standing as stands_at, first_is_here}
 use Rattle.iw_laws.proofs.Tales.{Tale}
 use Rattle.iw_laws.proofs.Tracks.{Track, sound, between_is, first_is, accepting, refusing}
 use Rattle.iw_laws.proofs.Onces.{not_answered, end_here, goes_judged, goes_turned, fore_end}
+
+-- of what is left less is left, where both give up the same octets
+left_releases : (left came : Arrived) (from to : ℕ) → IsLeftOf left came → IsLeftOf (released left from to) (released came from to)
+unfolding released
+left_releases left came from to is = record {
+  floor = is.floor;
+  cells = λ p kept.
+      gives_up_places left from to p
+      ∙ ap (given_up from to p) (is.cells p (λ gone. kept (gives_up_places left from to p ∙ ap (given_up from to p) gone)))
+      ∙ sym (gives_up_places came from to p);
+  come = λ p. stays_come left from to p ∙ is.come p ∙ sym (stays_come came from to p);
+}
 
 -- what there is to do, and why
 data Cases (w : StreamState) : Type 0 where
@@ -162,7 +175,14 @@ module _ (table : Table) (s : StreamState) (came : Arrived) (left : IsLeftOf s.a
 
   -- a frame is judged before its turn
   try_like : (f : Frame) (at : Option Landing) → Like (after_trying s f at) (after_trying w f at)
-  try_like f at = record { same = λ x. refl; left = left; only = only_adds (scene s) only (record_tried f at) }
+  try_like f None = record { same = λ x. refl; left = left; only = only_adds (scene s) only (record_tried {A = Landing} f None) }
+  try_like f (Some x) =
+      let r : EarlyRecord = record_tried f (Some x) in
+      record {
+        same = λ y. refl;
+        left = left_releases s.arrived came (first_place_in s.start + from_of r) (first_place_in s.start + r.end) left;
+        only = only_places (scene s) r only tt;
+      }
 
   -- before the stream is open
   shut_held : is_open s.start ≡ false → s.early ≡ []
