@@ -1,29 +1,32 @@
 -- A record of the frame that was answered is added.
-use Rattle.std.proofs.Common.{◌≡◌, ℕ, ◌+◌, ◌≤◌, true, sym, ap, ◌∙◌, subst, arith, inl, inr}
-use Rattle.std.specs.Prelude.{◌⊎◌}
+use Rattle.std.proofs.Common.{◌≡◌, ℕ, Bool, false, cond, ◌+◌, ◌<◌, ◌≤◌, true, sym, ap, refl, ◌∙◌, subst, arith, inl, inr}
+use Rattle.std.specs.Prelude.{◌⊎◌, nat_le}
 use Rattle.std.specs.List.{Contains}
 use Rattle.iw_fpdu.specs.Places.{span_start}
 use Rattle.iw_fpdu.specs.Frame.{frame_end}
 use Rattle.iw_fpdu.specs.Reading.{length_at}
-use Rattle.iw_fpdu.proofs.Octets.{length_within}
+use Rattle.std.proofs.lemmas.Bool.{cases_lt}
+use Rattle.std.proofs.lemmas.Bool.Decides.{nat_tests}
+use Rattle.iw_fpdu.proofs.Octets.{span_low, length_within}
 use Rattle.iw_locate.specs.declared.frame.Frame.{Frame}
 use Rattle.iw_locate.specs.declared.frame.Next.TheVariants.{Frame as Found}
 use Rattle.iw_locate.specs.declared.judged.Record.{Record}
 use Rattle.iw_locate.specs.declared.judged.State.{State}
 use Rattle.iw_locate.specs.declared.unsearched.Unsearched.{Unsearched}
 use Rattle.iw_locate.specs.Records.{from_of, IsClear, IsClearOfPlaced, added}
-use Rattle.iw_locate.specs.Free.{Scene, octet_of, end_of, EndsBefore, IsFound, IsOpen}
+use Rattle.iw_locate.specs.Free.{Scene, octet_of, end_of, EndsBefore, IsFound, IsOpen, IsFree}
 use Rattle.iw_locate.specs.Next.{IsNext, frame_at}
 use Rattle.iw_locate.specs.Among.{IsWithin}
-use Rattle.iw_locate.specs.Unsearched.{Tells, IsTouched, IsFollowed}
+use Rattle.iw_locate.specs.Unsearched.{Tells, IsTouched, IsFollowed, past_frame}
 use Rattle.iw_locate.specs.Keeping.{Keeps, changed, record_of, JudgingKeeps}
 use Rattle.iw_locate.proofs.Open.{start_high}
 use Rattle.iw_locate.proofs.Holds.{adds_one}
 use Rattle.iw_locate.proofs.GivesUp.{only_adds}
+use Rattle.iw_locate.proofs.Lowest.{ends_near}
 
-pub early_is : {T : Type 0} (v : Scene T) (f : Frame) → IsNext v (Found f) → f.early ≡ true → (f ≡ frame_at v f.start true) × (v.layout.markers ≡ true) × IsOpen v f.start
+pub early_is : {T : Type 0} (v : Scene T) (f : Frame) → IsNext v (Found f) → f.early ≡ true → (f ≡ frame_at v f.start true) × (v.layout.markers ≡ true) × IsOpen v f.start × ((s : ℕ) → IsFree v s → f.start ≤ s)
 early_is v f (inl front) early = absurd (let e = sym early ∙ ap (λ (x : Frame). x.early) front.0 in cc e)
-early_is v f (inr free) early = (free.0, free.2.0, free.3.0.open_)
+early_is v f (inr free) early = (free.0, free.2.0, free.3.0.open_, free.3.1)
 
 module _ {T : Type 0} (v : Scene T) (u : Unsearched) (f : Frame) (state : State T) (keeps : Keeps v) (is : f ≡ frame_at v f.start true) (m : v.layout.markers ≡ true) (open_ : IsOpen v f.start) where
   r : Record T
@@ -105,7 +108,47 @@ module _ {T : Type 0} (v : Scene T) (u : Unsearched) (f : Frame) (state : State 
         high = followed.next s ends (start_high v.layout.markers s m o.start);
       }
 
+  -- the frame was the lowest, so that none begins before its end
+  pub recorded_tells : Tells v u → IsFollowed u f → ((s : ℕ) → IsFree v s → f.start ≤ s) → Tells (changed v v.arrived (added v.records (record_of f state))) (past_frame u f)
+  recorded_tells tells followed lowest = go (nat_le u.reach f.end) refl
+    where
+      length_of : (s : ℕ) → IsFree (changed v v.arrived (added v.records (record_of f state))) s → s < end_of v s
+      length_of s free = omega (arith, length_within v.layout.markers s (length_at (octet_of v) s) free.open_.start)
+
+      told : Tells (changed v v.arrived (added v.records (record_of f state))) u
+      told = adding_tells tells followed
+
+      begins : (s : ℕ) → IsFree (changed v v.arrived (added v.records (record_of f state))) s → f.start ≤ s
+      begins s free =
+          elim (was_found s free.found) [
+            | inl found ↦ lowest s (record { found = found; open_ = was_open s free.open_ })
+            | inr ends ↦ omega (arith, (ends_near f.end s ends).0, end_is, length_within v.layout.markers f.start (length_at (octet_of v) f.start) open_.start)
+          ]
+
+      past : (s : ℕ) → IsFree (changed v v.arrived (added v.records (record_of f state))) s → f.end ≤ s
+      past s free =
+          elim (cases_lt s f.end) [
+            | inl under ↦ absurd (free.open_.clear (record_of f state) ((adds_one v.records (record_of f state) (record_of f state)).1 (inr refl)) (omega (arith, begins s free, span_low true f.start, length_within v.layout.markers s (length_at (octet_of v) s) free.open_.start), omega (arith, under, span_low true s)))
+            | inr past_it ↦ past_it
+          ]
+
+      go : (b : Bool) → nat_le u.reach f.end ≡ b → Tells (changed v v.arrived (added v.records (record_of f state))) (cond b (record u { low = 0; high = 0 }) (record u { low = f.end }))
+      go true far = record {
+        free = λ e s free. absurd (let none = tells.reach s (grind (arith, nat_tests, past s free)) in let some = free.open_.whole s (span_low v.layout.markers s) (length_of s free) in let x = sym none ∙ some in cc x);
+        reach = tells.reach;
+        octets = tells.octets;
+      }
+      go false near = record {
+        free = λ e s free.
+            elim (told.free e s free) [
+              | inl within ↦ inl record { low = past s free; high = within.high }
+              | inr touched ↦ inr touched
+            ];
+        reach = tells.reach;
+        octets = tells.octets;
+      }
+
 pub judging_keeps : {T : Type 0} → JudgingKeeps T
 judging_keeps v u f state keeps tells next early followed =
     let e = early_is v f next early in
-    (adding_keeps v u f state keeps e.0 e.1 e.2, adding_tells v u f state keeps e.0 e.1 e.2 tells followed)
+    (adding_keeps v u f state keeps e.0 e.1 e.2, adding_tells v u f state keeps e.0 e.1 e.2 tells followed, recorded_tells v u f state keeps e.0 e.1 e.2 tells followed e.3)

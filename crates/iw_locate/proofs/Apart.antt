@@ -103,6 +103,14 @@ module _ {T : Type 0} (rs : List (Record T)) (apart : AreApart rs) where
     past = λ k d le lt. omega (arith, ends_rise 0 k d (omega arith) lt, ap (λ (x : Record T). x.end) (here ∙ get_or_default rs 0 first d some), high);
   }
 
+  -- nor any but the first, where that ends at it or before it, and the second past it
+  pub others_past : (place : ℕ) → (first second : Record T) → 1 < length rs → first ≡ get_or rs 0 first → first.end ≤ place → second ≡ get_or rs 1 second → place < second.end → IsFirstPast rs place 1
+  others_past place first second some at low here high = record {
+    within = omega arith;
+    before = λ k d lt. omega (arith, ap (λ j. (get_or rs j d).end) (let e : k ≡ 0 = omega arith in e), ap (λ (x : Record T). x.end) (at ∙ get_or_default rs 0 first d (omega arith)), low);
+    past = λ k d le lt. omega (arith, ends_rise 1 k d le lt, ap (λ (x : Record T). x.end) (here ∙ get_or_default rs 1 second d some), high);
+  }
+
   -- all begin before a place, where the last does
   pub last_point : (start count : ℕ) → count ≡ length rs → (last : Record T) → 0 < count → last ≡ get_or rs (count - 1) last → last.start < start
       → IsPartitionPoint (λ (r : Record T). nat_lt r.start start ≡ true) (λ (r : Record T). nat_lt r.start start ≡ false) rs count

@@ -5,7 +5,7 @@ use Rattle.std.proofs.lemmas.Bool.Decides.{nat_tests}
 use Rattle.std.specs.List.{Contains}
 use Rattle.iw_ranges.specs.Arrived.{Cell, Missing, Here, Gone, cell_at, is_missing, has_come, IsHere, IsWithinLimits}
 use Rattle.iw_fpdu.specs.Places.{IsStart, in_marker, span_start}
-use Rattle.iw_fpdu.specs.Reading.{length_at}
+use Rattle.iw_fpdu.specs.Reading.{length_at, pointer_at}
 use Rattle.iw_fpdu.specs.Found.{IsKept}
 use Rattle.iw_fpdu.proofs.Octets.{span_low, length_within}
 use Rattle.iw_locate.specs.declared.judged.Record.{Record}
@@ -85,6 +85,13 @@ module _ {T : Type 0} (v : Scene T) (can : CanLocate v) (m : v.layout.markers �
       go Gone e =
           let w = can.released q (omega arith) e in
           clear w.0 w.1 w.2 (omega (arith, w.3), omega (arith, w.4, span_low true p))
+
+  -- so what is said of it where it is held is said of it where it is seen
+  pub pointer_seen : (p back : ℕ) → point_of v ≤ p → (IsHere (cell_at v.arrived (v.base + (p + 2))) → IsHere (cell_at v.arrived (v.base + (p + 3))) → back ≡ pointer_at (octet_of v) p)
+      → IsMarkerSeen v p → back ≡ pointer_at (octet_of v) p
+  pointer_seen p back past value seen =
+      let here = marker_here p seen.came seen.outside past in
+      value (here (p + 2) (omega arith) (omega arith)) (here (p + 3) (omega arith) (omega arith))
 
   -- a marker before the in-order point points to nothing past it
   pub not_open_before : (p s : ℕ) → p % 512 ≡ 0 → p < point_of v → PointsTo v p s → IsOpen v s → ⊥

@@ -1,7 +1,7 @@
 -- The in-order point moves on, and the records before it are dropped.
 use Rattle.std.proofs.Common.{◌≡◌, ℕ, ◌+◌, ◌-◌, ◌%◌, ◌<◌, ◌≤◌, Bool, true, false, cond, sym, ap, ◌∙◌, subst, arith, inl, inr}
 use Rattle.std.proofs.lemmas.Bool.{cases_lt, le-ltb}
-use Rattle.std.specs.Prelude.{◌⊎◌, not, nat_lt}
+use Rattle.std.specs.Prelude.{◌⊎◌, not, nat_lt, max}
 use Rattle.std.specs.List.{Contains}
 use Rattle.iw_ranges.specs.Arrived.{Cell, Gone, cell_at, has_come, is_missing, advanced}
 use Rattle.iw_ranges.proofs.ByPlace.{gives_up_before}
@@ -16,7 +16,7 @@ use Rattle.iw_locate.specs.declared.unsearched.Unsearched.{Unsearched}
 use Rattle.iw_locate.specs.Records.{from_of, IsClearOfPlaced, kept_from}
 use Rattle.iw_locate.specs.Free.{Scene, point_of, front_of, octet_of, end_of, PointsTo, IsFound, IsOpen, IsFree}
 use Rattle.iw_locate.specs.Among.{IsWithin}
-use Rattle.iw_locate.specs.Unsearched.{IsTouched, Tells, anywhere}
+use Rattle.iw_locate.specs.Unsearched.{IsTouched, Tells, from_place, anywhere}
 use Rattle.iw_locate.specs.Keeping.{Keeps, changed, IsPassed, TurnKeeps}
 use Rattle.iw_locate.proofs.Open.{span_past_marker}
 use Rattle.iw_locate.proofs.Front.{span_cases}
@@ -125,21 +125,22 @@ module _ {T : Type 0} (v : Scene T) (u : Unsearched) (to : ℕ) (keeps : Keeps v
           | inr (r, within, ends) ↦ inr (r, (kept_is r within).0, ends)
         ]
 
-    still_touched : IsTouched v u.from u.to s → IsTouched After u.from u.to s
-    still_touched (inl (q, inside, from, below)) = inl (q, inside, from, omega (arith, below, end_is))
+    still_touched : IsTouched v u.from u.to s → IsTouched After (max u.from (to - v.base)) u.to s
+    still_touched (inl (q, inside, from, below)) =
+        inl (q, record { low = omega (arith, inside.low, from, low, ap (λ b. span_start b s) m); high = inside.high }, from, omega (arith, below, end_is))
     still_touched (inr (q, p, inside, seen, points, from, below)) =
         let past = marker_past v p seen.marker points in
         let same = λ (x : ℕ) (over : p ≤ x) (under : x < p + 4). cell_past x (omega (arith, past, over)) in
-        inr (q, p, inside, seen_on v (advanced v.arrived to) (kept_from (to - v.base) v.records) p same (λ r within placed over. seen.outside r (kept_is r within).0 placed over) seen, points_on v (advanced v.arrived to) (kept_from (to - v.base) v.records) p s same points, from, below)
+        inr (q, p, record { low = omega (arith, inside.low, past, from); high = inside.high }, seen_on v (advanced v.arrived to) (kept_from (to - v.base) v.records) p same (λ r within placed over. seen.outside r (kept_is r within).0 placed over) seen, points_on v (advanced v.arrived to) (kept_from (to - v.base) v.records) p s same points, from, below)
 
-    still_told : IsWithin u.low u.high s ⊎ IsTouched After u.from u.to s
+    still_told : IsWithin (max u.low (to - v.base)) u.high s ⊎ IsTouched After (max u.from (to - v.base)) u.to s
     still_told =
         elim (tells.free m s (record { found = was_found; open_ = was_open })) [
-          | inl inside ↦ inl inside
+          | inl inside ↦ inl (record { low = omega (arith, inside.low, low, span_low true s); high = inside.high })
           | inr touched ↦ inr (still_touched touched)
         ]
 
-  pub turn_tells : ((r : Record T) → Contains v.records r → from_of r < to - v.base → r.end ≤ to - v.base) → Tells After u
+  pub turn_tells : ((r : Record T) → Contains v.records r → from_of r < to - v.base → r.end ≤ to - v.base) → Tells After (from_place u (to - v.base))
   turn_tells under = record { free = λ m s free. still_told m under s free; reach = missing_still; octets = octets_still }
 
   pub turn_tells_anywhere : Tells After (anywhere u)

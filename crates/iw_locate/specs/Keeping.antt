@@ -14,7 +14,7 @@ use Rattle.iw_locate.specs.declared.unsearched.Unsearched.{Unsearched}
 use Rattle.iw_locate.specs.Records.{from_of, IsPlaced, added, kept_from}
 use Rattle.iw_locate.specs.Free.{Scene, scene_of, point_of, front_of, octet_of, GivesUpOnlyPlaced, CanLocate}
 use Rattle.iw_locate.specs.Next.{IsNext}
-use Rattle.iw_locate.specs.Unsearched.{Tells, IsFollowed, everything, nothing_unsearched, counted_from, with_octets, anywhere}
+use Rattle.iw_locate.specs.Unsearched.{Tells, IsFollowed, everything, nothing_unsearched, counted_from, with_octets, past_frame, from_place, anywhere}
 
 -- the records of frames that were judged early, and what came: each span lies wholly ahead of the in-order point and is whole, and from that point on only
 -- octets of placed frames were given up; that the spans are in order, and no two have a place in common, is so of a `Judged` at any time
@@ -65,10 +65,10 @@ NothingTells T = (v : Scene T) → ((q : ℕ) → cell_at v.arrived (v.base + q)
 abbrev pub StartUpTells : Type 0 → Type 0
 StartUpTells T = (v : Scene T) (u : Unsearched) (layout : Layout) (base : ℕ) → v.base ≡ 0 → Tells v u → Tells (scene_of layout base v.arrived v.records) (counted_from u base)
 
--- a record of the frame that was answered is added
+-- a record of the frame that was answered is added, of which what is unsearched may be told
 abbrev pub JudgingKeeps : Type 0 → Type 0
 JudgingKeeps T = (v : Scene T) (u : Unsearched) (f : Frame) (state : State T) → Keeps v → Tells v u → IsNext v (Found f) → f.early ≡ true → IsFollowed u f
-    → let w = changed v v.arrived (added v.records (record_of f state)) in Keeps w × Tells w u
+    → let w = changed v v.arrived (added v.records (record_of f state)) in Keeps w × Tells w u × Tells w (past_frame u f)
 
 -- a segment is kept
 abbrev pub DeliveryKeeps : Type 0 → Type 0
@@ -80,9 +80,9 @@ abbrev pub ReleaseKeeps : Type 0 → Type 0
 ReleaseKeeps T = (v : Scene T) (u : Unsearched) (r : Record T) → Keeps v → Tells v u → Contains v.records r → IsPlaced r.state
     → let w = changed v (released v.arrived (v.base + from_of r) (v.base + r.end)) v.records in Keeps w × Tells w u
 
--- the in-order point moves on to where the frame there ends, and the records before it are dropped; a frame that was tried, and reaches past it, had kept others
--- from being judged
+-- the in-order point moves on to where the frame there ends, and the records before it are dropped: what lies before it need not be looked at any more; a frame
+-- that was tried, and reaches past it, had kept others from being judged
 abbrev pub TurnKeeps : Type 0 → Type 0
 TurnKeeps T = (v : Scene T) (u left : Unsearched) (to : ℕ) → Keeps v → Tells v u → IsPassed v to
-    → ((left ≡ u) × ((r : Record T) → Contains v.records r → from_of r < to - v.base → r.end ≤ to - v.base)) ⊎ (left ≡ anywhere u)
+    → ((left ≡ from_place u (to - v.base)) × ((r : Record T) → Contains v.records r → from_of r < to - v.base → r.end ≤ to - v.base)) ⊎ (left ≡ anywhere u)
     → let w = changed v (advanced v.arrived to) (kept_from (to - v.base) v.records) in Keeps w × Tells w left

@@ -1,5 +1,5 @@
 -- What has to be looked at for a frame that can be judged early.
-use Rattle.std.specs.Prelude.{ℕ, true, ◌+◌, ◌-◌, ◌%◌, ◌^◌, ◌<◌, ◌≤◌, ◌≡◌, ◌⊎◌, false, nat_lt, min, max, if◌then◌else◌}
+use Rattle.std.specs.Prelude.{ℕ, true, ◌+◌, ◌-◌, ◌%◌, ◌^◌, ◌<◌, ◌≤◌, ◌≡◌, ◌⊎◌, false, nat_lt, nat_le, min, max, if◌then◌else◌}
 use Rattle.iw_ranges.specs.Arrived.{has_come}
 use Rattle.iw_fpdu.specs.Places.{span_start}
 use Rattle.iw_locate.specs.declared.frame.Frame.{Frame}
@@ -51,6 +51,14 @@ joined_to u to = if nat_lt u.from u.to then max u.to to else to
 
 abbrev pub with_octets : Unsearched → ℕ → ℕ → Unsearched
 with_octets u from to = if nat_lt from to then record u { from = joined_from u from; to = joined_to u to; reach = max u.reach to } else u
+
+-- only frames that begin where this one ends, or past it: none where nothing came there
+abbrev pub past_frame : Unsearched → Frame → Unsearched
+past_frame u f = if nat_le u.reach f.end then record u { low = 0; high = 0 } else record u { low = f.end }
+
+-- frames that begin at `place` or past it, and octets from there on
+abbrev pub from_place : Unsearched → ℕ → Unsearched
+from_place u place = record u { from = max u.from place; low = max u.low place }
 
 -- frames that begin anywhere
 abbrev pub anywhere : Unsearched → Unsearched

@@ -275,6 +275,9 @@ fn first_ending_past<T, A: Allocator>(records: &VecDeque<Record<T>, A>, place: u
     if place < records[0].end {
         return 0;
     }
+    if count > 1 && place < records[1].end {
+        return 1;
+    }
     records.partition_point(
         |record: &Record<T>| -> bool
             ensures { result ≡ nat_le record.now.end place }

@@ -53,7 +53,8 @@ pub fn the_end_of_a_start_up_frame_tells<T>()
     ensures { StartUpTells T }
 {}
 
-/// It holds once a record of the frame that was answered is added; and what is unsearched tells of that too.
+/// It holds once a record of the frame that was answered is added; and what is unsearched tells of that too, whether
+/// [`Unsearched::recorded`](crate::Unsearched::recorded) was told or not.
 pub fn judging_keeps<T>()
     ensures { JudgingKeeps T }
 {}

@@ -136,19 +136,19 @@ impl Locator {
         ensures { let v = scene_of self.now.layout self.now.base islands.now.arrived judged.now.records in
             IsLowestAmong (λ s. IsWithin low high s × IsMarkerSeen v place × PointsTo v place s) v result }
     {
-        let at = self.base + place;
-        if !islands.came(at, at + MARKER) {
-            return None;
-        }
-        if judged.overlaps_placed(place, place + MARKER) {
-            return None;
-        }
         let back = pointer(islands, self.base, place);
         if place < back {
             return None;
         }
         let start = pointed_from(place, back);
         if start < low || high <= start {
+            return None;
+        }
+        let at = self.base + place;
+        if !islands.came(at, at + MARKER) {
+            return None;
+        }
+        if judged.overlaps_placed(place, place + MARKER) {
             return None;
         }
         self.open_at(islands, judged, point, start)
@@ -219,16 +219,15 @@ impl Locator {
     }
 }
 
-/// How far back the marker at frame place `place` points, which came and was not given up.
+/// How far back the marker at frame place `place` points, where it came and was not given up.
 fn pointer<A: Allocator>(islands: &Islands<A>, base: u64, place: u64) -> u64
     requires fits { base + place + 4 < 2 ^ 64 }
-    requires high { IsHere (cell_at islands.now.arrived (base + place + 2)) }
-    requires low { IsHere (cell_at islands.now.arrived (base + place + 3)) }
-    ensures value { result ≡ pointer_at (octet_in islands.now.arrived base) place }
+    ensures value { IsHere (cell_at islands.now.arrived (base + (place + 2))) → IsHere (cell_at islands.now.arrived (base + (place + 3)))
+        → result ≡ pointer_at (octet_in islands.now.arrived base) place }
     ensures small { result < 2 ^ 16 }
 {
     let at = base + place;
-    u64::from(u16::from_be_bytes([islands.octet(at + 2), islands.octet(at + 3)])) / 4 * 4
+    u64::from(u16::from_be_bytes([islands.peek(at + 2), islands.peek(at + 3)])) / 4 * 4
 }
 
 /// Where the marker at `place` points that says `back`.

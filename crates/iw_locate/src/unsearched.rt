@@ -2,8 +2,10 @@ ghost use Rattle.std.specs.Prelude.{◌≡◌, ◌<◌, ◌≤◌, ◌⊎◌};
 ghost use Rattle.std.specs.List.{Contains};
 ghost use Rattle.iw_locate.specs.declared.judged.Record.{Record};
 ghost use Rattle.iw_locate.specs.Records.{from_of};
-ghost use Rattle.iw_locate.specs.Unsearched.{everything, nothing_unsearched, counted_from, with_octets, anywhere};
+ghost use Rattle.iw_locate.specs.Unsearched.{everything, nothing_unsearched, counted_from, with_octets};
+ghost use Rattle.iw_locate.specs.Unsearched.{past_frame, from_place, anywhere};
 
+use crate::frame::Frame;
 use crate::judged::Judged;
 use std::alloc::Allocator;
 
@@ -81,14 +83,29 @@ impl Unsearched {
         self.reach = self.reach.max(to);
     }
 
-    /// The in-order point moves on to `place`, and the records of frames whose spans begin before it will be dropped. One of
-    /// a frame that ends past it had kept other frames from being judged.
+    /// A record was added of the frame that was found, the lowest that could be judged early: none begins before its end.
+    pub fn recorded(&mut self, frame: &Frame)
+        ensures { self.new ≡ past_frame self.old frame.now }
+    {
+        if self.reach <= frame.end {
+            self.low = 0;
+            self.high = 0;
+        } else {
+            self.low = frame.end;
+        }
+    }
+
+    /// The in-order point moves on to `place`, and the records of frames whose spans begin before it will be dropped. What lies
+    /// before it need not be looked at any more. A record of a frame that ends past it had kept other frames from being judged.
     pub fn passed<T, A: Allocator>(&mut self, judged: &Judged<T, A>, place: u64)
-        ensures { ((self.new ≡ self.old) × ((r : Record T) → Contains judged.now.records r → from_of r < place → r.end ≤ place)) ⊎ (self.new ≡ anywhere self.old) }
+        ensures { ((self.new ≡ from_place self.old place) × ((r : Record T) → Contains judged.now.records r → from_of r < place → r.end ≤ place)) ⊎ (self.new ≡ anywhere self.old) }
     {
         if judged.reaches_over(place) {
             self.low = 0;
             self.high = self.reach;
+        } else {
+            self.from = self.from.max(place);
+            self.low = self.low.max(place);
         }
     }
 }

@@ -1,6 +1,6 @@
 -- The spans before the first that reaches a place, and those from it on.
-use Rattle.std.proofs.Common.{◌≡◌, ℕ, ◌+◌, ◌<◌, ◌≤◌, zero, suc, Bool, true, false, ◌||◌, List, [], ◌∷◌, drop, length, get_or, refl, sym, ap, ◌∙◌, subst, arith, inl, inr}
-use Rattle.std.proofs.lemmas.List.{drop_more, drop_all}
+use Rattle.std.proofs.Common.{◌≡◌, ℕ, ◌+◌, ◌-◌, ◌<◌, ◌≤◌, zero, suc, Bool, true, false, ◌||◌, List, [], ◌∷◌, drop, length, get_or, refl, sym, ap, ◌∙◌, subst, arith, inl, inr}
+use Rattle.std.proofs.lemmas.List.{drop_more, drop_all, get_or_default}
 use Rattle.std.proofs.lemmas.Bool.{cases_lt}
 use Rattle.std.proofs.lemmas.Bool.Decides.{nat_tests}
 use Rattle.std.specs.Prelude.{nat_lt, nat_le, MatchBool}
@@ -41,6 +41,18 @@ ends_rise (s ∷ ss) order zero (suc j) d le lt = omega (arith, ends_above s.to 
 ends_rise (s ∷ ss) order (suc i) zero d le lt = absurd (omega arith)
 ends_rise (s ∷ ss) order (suc i) (suc j) d le lt = ends_rise ss (in_order_tail s ss order) i j d (omega arith) (omega arith)
 
+-- the spans before another end before it begins
+starts_past : (m : ℕ) (ss : List Span) (k : ℕ) (d : Span) → IsApart m ss → k < length ss → m < (get_or ss k d).from
+starts_past m [] k d apart lt = absurd (omega arith)
+starts_past m (s ∷ ss) zero d apart lt = apart.0
+starts_past m (s ∷ ss) (suc k) d apart lt = omega (arith, apart.0, apart.1, starts_past s.to ss k d apart.2 (omega arith))
+
+ends_before : (ss : List Span) → IsInOrder ss → (i j : ℕ) (d : Span) → i < j → j < length ss → (get_or ss i d).to < (get_or ss j d).from
+ends_before [] order i j d lt within = absurd (omega arith)
+ends_before (s ∷ ss) order i zero d lt within = absurd (omega arith)
+ends_before (s ∷ ss) order zero (suc j) d lt within = starts_past s.to ss j d order.1 (omega arith)
+ends_before (s ∷ ss) order (suc i) (suc j) d lt within = ends_before ss (in_order_tail s ss order) i j d (omega arith) (omega arith)
+
 -- ---- the spans before `from`
 abbrev pub AllBefore : List Span → ℕ → ℕ → Type 0
 AllBefore ss from i = (k : ℕ) (d : Span) → k < i → (get_or ss k d).to < from
@@ -63,6 +75,36 @@ first_from_point ss from i within point = record {
   before = λ k d lt. let t = point.0 k d (omega arith) lt in grind (arith, nat_tests, t);
   reaches = λ d lt. let t = point.1 i d (omega arith) lt in grind (arith, nat_tests, t);
 }
+
+-- the same for a place that the last span does not begin past
+pub first_from_last : (ss : List Span) (from count i : ℕ) (last : Span) → IsInOrder ss → count ≡ length ss → 0 < count → last ≡ get_or ss (count - 1) last → last.from ≤ from
+    → (last.to < from → i ≡ count) → (from ≤ last.to → i + 1 ≡ count) → IsFirstReaching ss from i
+first_from_last ss from count i last order all some is low past reaches =
+    elim (cases_lt last.to from) [
+      | inl before ↦ record {
+        within = omega (arith, past before, all);
+        before = λ k d lt.
+            elim (cases_lt k (count - 1)) [
+              | inl earlier ↦ omega (arith, others k d earlier, low)
+              | inr here ↦ omega (arith, before, the_last k d (omega (arith, here, lt, past before)))
+            ];
+        reaches = λ d lt. absurd (omega (arith, lt, past before, all));
+      }
+      | inr at ↦ record {
+        within = omega (arith, reaches at, all);
+        before = λ k d lt. omega (arith, others k d (omega (arith, lt, reaches at)), low);
+        reaches = λ d lt. omega (arith, at, the_last i d (omega (arith, reaches at)));
+      }
+    ]
+  where
+    same : (d : Span) → get_or ss (count - 1) d ≡ last
+    same d = get_or_default ss (count - 1) d last (omega (arith, some, all)) ∙ sym is
+
+    the_last : (k : ℕ) (d : Span) → k + 1 ≡ count → (get_or ss k d).to ≡ last.to
+    the_last k d e = ap (λ j. (get_or ss j d).to) (let f : k ≡ count - 1 = omega (arith, e) in f) ∙ ap (λ (s : Span). s.to) (same d)
+
+    others : (k : ℕ) (d : Span) → k < count - 1 → (get_or ss k d).to < last.from
+    others k d lt = omega (arith, ends_before ss order k (count - 1) d lt (omega (arith, some, all)), ap (λ (s : Span). s.from) (same d))
 
 -- ---- whether a range lies in the spans: `at` is the first span that reaches `from`
 abbrev pub AllOrSome : Bool → (ℕ → Bool) → ℕ → ℕ → Type 0
@@ -117,3 +159,17 @@ answer_at_from ss at s from to lt is some order first before =
 
 pub none_reaches : (ss : List Span) (at from : ℕ) → IsFirstReaching ss from at → length ss ≤ at → in_spans from ss ≡ false
 none_reaches ss at from first past = sym (in_rest ss from at from first.before (omega arith)) ∙ ap (in_spans from) (drop_all at ss past)
+
+-- the same of a range that the last span does not begin past
+pub answer_at_last : (ss : List Span) (count : ℕ) (last : Span) (from to : ℕ) → IsInOrder ss → count ≡ length ss → 0 < count → last ≡ get_or ss (count - 1) last → last.from ≤ from → from < to
+    → AllOrSome (nat_le to last.to) (λ p. in_spans p ss) from to
+answer_at_last ss count last from to order all some is low more =
+    elim (cases_lt last.to from) [
+      | inl before ↦
+          let t : nat_le to last.to ≡ false = grind (arith, nat_tests) in
+          let first = first_from_last ss from count count last order all some is low (λ lt. refl) (λ le. absurd (omega (arith, le, before))) in
+          subst (λ b. AllOrSome b (λ p. in_spans p ss) from to) (sym t) (from, omega arith, more, none_reaches ss count from first (omega (arith, all)))
+      | inr at ↦
+          let first = first_from_last ss from count (count - 1) last order all some is low (λ lt. absurd (omega (arith, lt, at))) (λ le. omega (arith, some)) in
+          answer_at_to ss (count - 1) last from to (omega (arith, all, some)) is more order first low
+    ]

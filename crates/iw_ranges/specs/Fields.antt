@@ -38,7 +38,7 @@ pub record IsSound (f : Fields) : Type 0 where
   pub reached : f.floor ≤ first_end f.spans
   pub within : (p : ℕ) → in_spans p f.spans ≡ true → p < f.base + length f.octets
   pub windowed : f.base + length f.octets ≤ f.floor + window
-  pub half : 2 * (f.floor - f.base) ≤ length f.octets
+  pub quarter : 4 * (f.floor - f.base) ≤ 3 * length f.octets
   pub held : length f.octets ≤ max_held
   pub few : length f.spans ≤ 1025
   pub low : f.floor ≤ 2 ^ 63

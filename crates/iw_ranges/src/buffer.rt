@@ -216,8 +216,8 @@ fn drop_front<A: Allocator>(octets: &mut Vec<u8, A>, n: usize)
     octets.truncate(kept);
 }
 
-/// Lets octets before place `to` go: where none stands past them, or where they are more than half of the buffer, which
-/// begins at place `base`.
+/// Lets octets before place `to` go: where none stands past them, or where they are three quarters of the buffer, which
+/// begins at place `base`. One octet is moved at most for each three that the in-order point passed.
 #[inline]
 pub(crate) fn let_go<A: Allocator>(octets: &mut Vec<u8, A>, base: &mut u64, to: u64)
     requires low { base.old ≤ to }
@@ -225,13 +225,13 @@ pub(crate) fn let_go<A: Allocator>(octets: &mut Vec<u8, A>, base: &mut u64, to: 
     ensures octets { octets.new.items ≡ drop (base.new - base.old) octets.old.items }
     ensures low { base.old ≤ base.new }
     ensures high { base.new ≤ to }
-    ensures half { 2 * (to - base.new) ≤ vec_len octets.new }
+    ensures quarter { 4 * (to - base.new) ≤ 3 * vec_len octets.new }
 {
     let dead = (to - *base) as usize;
     if dead == octets.len() {
         octets.clear();
         *base = to;
-    } else if dead > octets.len() / 2 {
+    } else if dead / 3 >= octets.len() - dead {
         drop_front(octets, dead);
         *base = to;
     }
@@ -284,13 +284,13 @@ fn drop_few<A: Allocator>(octets: &mut Vec<u8, A>, n: usize)
 pub(crate) fn shorten<A: Allocator>(octets: &mut Vec<u8, A>, base: &mut u64, floor: u64, to: u64)
     requires low { base.old ≤ floor }
     requires high { floor ≤ base.old + vec_len octets.old }
-    requires half { 2 * (floor - base.old) ≤ vec_len octets.old }
+    requires quarter { 4 * (floor - base.old) ≤ 3 * vec_len octets.old }
     requires ahead { floor ≤ to }
     requires near { to ≤ floor + 262144 }
     ensures octets { octets.new.items ≡ drop (base.new - base.old) octets.old.items }
     ensures low { base.old ≤ base.new }
     ensures high { base.new ≤ floor }
-    ensures half { 2 * (floor - base.new) ≤ vec_len octets.new }
+    ensures quarter { 4 * (floor - base.new) ≤ 3 * vec_len octets.new }
     ensures room { to ≤ base.new + 327680 }
 {
     if to - *base > MAX_HELD as u64 {

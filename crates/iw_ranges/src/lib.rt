@@ -183,10 +183,15 @@ impl<A: Allocator> Islands<A> {
         ensures { MatchBool result ((p : ℕ) → from ≤ p → p < to → has_come self.now.arrived p ≡ true)
             ((p : ℕ) × (from ≤ p) × (p < to) × (has_come self.now.arrived p ≡ false)) }
     {
-        if to <= self.missing {
+        if to <= self.missing || to <= from {
             return true;
         }
-        from >= to || holds_all(&self.spans, first_reaching(&self.spans, from), from, to)
+        if let Some(last) = self.spans.back()
+            && last.from <= from
+        {
+            return to <= last.to;
+        }
+        holds_all(&self.spans, first_reaching(&self.spans, from), from, to)
     }
 
     /// The octets from place `from` up to place `to`, which came and were not given up.
@@ -219,6 +224,17 @@ impl<A: Allocator> Islands<A> {
         ensures { cell_at self.now.arrived place ≡ Here result }
     {
         self.octets[(place - self.base) as usize]
+    }
+
+    /// The octet at a place, where it came and was not given up; elsewhere any number.
+    #[inline]
+    pub fn peek(&self, place: u64) -> u8
+        ensures { (x : ℕ) → cell_at self.now.arrived place ≡ Here x → result ≡ x }
+    {
+        match self.octets.get(place.wrapping_sub(self.base) as usize) {
+            Some(octet) => *octet,
+            None => 0,
+        }
     }
 
     /// Makes room for one release, where there is none. The room stays until it is used.

@@ -27,11 +27,28 @@ pub(crate) fn first_reaching<A: Allocator>(spans: &VecDeque<Span, A>, from: u64)
     {
         return 0;
     }
+    let count = spans.len();
+    if count > 0 {
+        let last = spans[count - 1];
+        if last.from <= from {
+            return index_at_last(count, last.to, from);
+        }
+    }
     spans.partition_point(
         |span: &Span| -> bool
             ensures { result ≡ nat_lt span.now.to from }
         { span.to < from },
     )
+}
+
+/// The same where the last of `count` spans, which ends at `end`, begins at `from` or before it.
+#[inline(always)]
+fn index_at_last(count: usize, end: u64, from: u64) -> usize
+    requires { 0 < count }
+    ensures past { end < from → result ≡ count }
+    ensures reaches { from ≤ end → result + 1 ≡ count }
+{
+    if end < from { count } else { count - 1 }
 }
 
 /// Whether the places from `from` up to `to` touch none of the spans, of which that at `low` is the first that reaches

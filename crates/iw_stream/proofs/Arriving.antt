@@ -33,7 +33,7 @@ use Rattle.iw_fpdu.specs.Frame.{frame_end}
 use Rattle.iw_stream.proofs.Landings.{length_ulpdu}
 use Rattle.iw_stream.specs.Frames as frames
 use Rattle.iw_locate.specs.declared.unsearched.Unsearched.{Unsearched}
-use Rattle.iw_locate.specs.Unsearched.{Tells, IsFollowed, counted_from}
+use Rattle.iw_locate.specs.Unsearched.{Tells, IsFollowed, counted_from, past_frame}
 use Rattle.iw_locate.proofs.Adding.{judging_keeps}
 use Rattle.iw_locate.proofs.Holds.{adds_one}
 use Rattle.iw_locate.proofs.Releasing.{release_keeps}
@@ -297,9 +297,11 @@ early_fits c f limits next early =
 
 -- and once it is kept
 pub kept_record : (c : Coming) (f : Frame) (state : State (ArrayVec ℕ)) → IsNext (scene_in c) (Found f) → f.early ≡ true → IsFollowed c.unsearched f → IsTracked c
-    → let w = changed (scene_in c) (without c.base c.arrived (keeping.record_of f state) state) (added c.early (keeping.record_of f state)) in Keeps w × Tells w c.unsearched
-kept_record c f Tried next early followed t = judging_keeps (scene_in c) c.unsearched f Tried t.keeps t.tells next early followed
+    → let w = changed (scene_in c) (without c.base c.arrived (keeping.record_of f state) state) (added c.early (keeping.record_of f state)) in Keeps w × Tells w (past_frame c.unsearched f)
+kept_record c f Tried next early followed t =
+    let j = judging_keeps (scene_in c) c.unsearched f Tried t.keeps t.tells next early followed in
+    (j.0, j.2)
 kept_record c f (Placed header) next early followed t =
     let r = keeping.record_of f (Placed header) in
     let j = judging_keeps (scene_in c) c.unsearched f (Placed header) t.keeps t.tells next early followed in
-    release_keeps (changed (scene_in c) c.arrived (added c.early r)) c.unsearched r j.0 j.1 ((adds_one c.early r r).1 (inr refl)) tt
+    release_keeps (changed (scene_in c) c.arrived (added c.early r)) (past_frame c.unsearched f) r j.0 j.2 ((adds_one c.early r r).1 (inr refl)) tt

@@ -273,6 +273,7 @@ impl<A: Allocator> Incoming<A> {
         ensures same { IsSameStart self.old self.new }
     {
         self.islands.limits();
+        self.unsearched.recorded(&frame);
         match state {
             State::Tried => self.judged.add(frame, State::Tried),
             State::Placed(header) => {

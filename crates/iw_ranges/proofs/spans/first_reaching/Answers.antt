@@ -2,8 +2,13 @@ use Rattle.std.proofs.Common.{rules, of_calls, arith}
 use Rattle.std.proofs.lemmas.Fn.{always_returns_same}
 use Rattle.std.proofs.lemmas.List.Sorted.{IsPartitionedBy-ltb}
 use Rattle.std.specs.Prelude.{nat_lt}
-use Rattle.iw_ranges.proofs.Reaches.{first_from_point, ends_rise}
+use Rattle.iw_ranges.proofs.Reaches.{first_from_point, first_from_last, ends_rise}
 use Rattle.iw_ranges.proofs.spans.first_reaching.Goals as goal
+
+pub returns-then-last-from : goal.returns-then-last-from
+returns-then-last-from g c =
+    first_from_last c.args.spans.now.items c.args.from c.len-count.result c.index_at_last.result c.index-last.result.now c.requires (omega (arith, c.len-count.ensures, c.args.spans.now.ok.0)) c.if-count-gt0.true c.index-last.ensures
+    c.if-last-from.true c.index_at_last.ensures.past c.index_at_last.ensures.reaches
 
 pub returns-2 : goal.returns-2
 returns-2 g c =

@@ -1,9 +1,8 @@
-use Rattle.std.proofs.Common.{◌≡◌, ◌+◌, ◌-◌, ◌≤◌, ◌<◌, ℕ, ap, ◌∙◌, sym, subst, arith}
-use Rattle.iw_ranges.specs.Arrived.{cell_at, has_come, IsHere}
+use Rattle.std.proofs.Common.{◌≡◌, ◌+◌, ◌-◌, ap, ◌∙◌, sym, arith}
+use Rattle.iw_ranges.specs.Arrived.{has_come}
 use Rattle.iw_locate.specs.Free.{Scene, scene_of, IsMarkerSeen}
-use Rattle.iw_locate.proofs.Open.{marker_here}
+use Rattle.iw_locate.proofs.Open.{pointer_seen}
 use Rattle.iw_locate.proofs.Lowest.{among_one, IsPointedAt, points_one, points_there, points_before}
-use Rattle.iw_locate.proofs.locator.Locator.pointed_by.Given as given
 use Rattle.iw_locate.proofs.locator.Locator.pointed_by.Goals as goal
 use Rattle.iw_locate.proofs.locator.Locator.pointed_by.Goals.{then-start-low-via-then-start-low, then-start-low-via-else-start-low+then-high-start}
 
@@ -15,35 +14,20 @@ returns-then-not-came g c = λ s q open_.
     let came = q.1.came (w.0 - base) (omega (arith, w.1)) (omega (arith, w.1, w.2)) in
     absurd (let e = sym came ∙ ap (has_come c.args.islands.now.arrived) here ∙ w.3 in cc e)
 
-here : (g : given.Over) (c : goal.Else-overlaps_placed g) → (q : ℕ) → c.args.place ≤ q → q < c.args.place + 4 → IsHere (cell_at c.args.islands.now.arrived (c.args.self.now.base + q))
-here g c =
-    let v : Scene g.row.T.Denot = scene_of c.args.self.now.layout c.args.self.now.base c.args.islands.now.arrived c.args.judged.now.records in
-    marker_here v c.requires.can c.requires.markers c.args.place (λ q low high. c.if-not-came.ensures (c.args.self.now.base + q) (omega arith) (omega arith)) c.if-overlaps_placed.ensures (omega (arith, c.requires.past, c.requires.point))
-
-pub pointer-back-requires-clause-high : goal.pointer-back-requires-clause-high
-pointer-back-requires-clause-high g c =
-    subst (λ p. IsHere (cell_at c.args.islands.now.arrived p)) (let e : c.args.self.now.base + (c.args.place + 2) ≡ c.args.self.now.base + c.args.place + 2 = omega arith in e)
-    (here g c (c.args.place + 2) (omega arith) (omega arith))
-
-pub pointer-back-requires-clause-low : goal.pointer-back-requires-clause-low
-pointer-back-requires-clause-low g c =
-    subst (λ p. IsHere (cell_at c.args.islands.now.arrived p)) (let e : c.args.self.now.base + (c.args.place + 3) ≡ c.args.self.now.base + c.args.place + 3 = omega arith in e)
-    (here g c (c.args.place + 3) (omega arith) (omega arith))
-
 pub returns-then-overlaps_placed : goal.returns-then-overlaps_placed
 returns-then-overlaps_placed g c = λ s q open_. let w = c.if-overlaps_placed.ensures in q.1.outside w.0 w.1 w.2 w.3
 
 pub returns-then-place-back : goal.returns-then-place-back
 returns-then-place-back g c =
     let v : Scene g.row.T.Denot = scene_of c.args.self.now.layout c.args.self.now.base c.args.islands.now.arrived c.args.judged.now.records in
-    λ s q open_. points_before v c.args.place s c.pointer-back.result c.pointer-back.ensures.value c.if-place-back.true q.2
+    λ s q open_. points_before v c.args.place s c.pointer-back.result (pointer_seen v c.requires.can c.requires.markers c.args.place c.pointer-back.result (omega (arith, c.requires.past, c.requires.point)) c.pointer-back.ensures.value q.1) c.if-place-back.true q.2
 
 pub returns-then-start-low : goal.returns-then-start-low
 returns-then-start-low g c =
     let v : Scene g.row.T.Denot = scene_of c.args.self.now.layout c.args.self.now.base c.args.islands.now.arrived c.args.judged.now.records in
     let start = c.pointed_from-start.ensures in
     λ s q open_.
-    let same = points_one v c.args.place c.pointer-back.result c.pointed_from-start.result c.pointer-back.ensures.value start.none start.some s q.2 in
+    let same = points_one v c.args.place c.pointer-back.result c.pointed_from-start.result (pointer_seen v c.requires.can c.requires.markers c.args.place c.pointer-back.result (omega (arith, c.requires.past, c.requires.point)) c.pointer-back.ensures.value q.1) start.none start.some s q.2 in
     elim (c.then-start-low.branch) [
       | then-start-low-via-then-start-low w ↦ omega (arith, same, w.if-start-low.true, q.0.low)
       | then-start-low-via-else-start-low+then-high-start w ↦ omega (arith, same, w.if-high-start.true, q.0.high)
@@ -53,12 +37,12 @@ pub returns : goal.returns
 returns g c =
     let v : Scene g.row.T.Denot = scene_of c.args.self.now.layout c.args.self.now.base c.args.islands.now.arrived c.args.judged.now.records in
     let start = c.pointed_from-start.ensures in
-    let value = c.pointer-back.ensures.value in
     let seen : IsMarkerSeen v c.args.place = record {
       marker = c.requires.marker;
       came = λ q low up. c.if-not-came.ensures (c.args.self.now.base + q) (omega (arith, low)) (omega (arith, up));
       outside = c.if-overlaps_placed.ensures;
     } in
+    let value = pointer_seen v c.requires.can c.requires.markers c.args.place c.pointer-back.result (omega (arith, c.requires.past, c.requires.point)) c.pointer-back.ensures.value seen in
     among_one v (IsPointedAt v c.args.low c.args.high c.args.place) c.pointed_from-start.result c.open_at.result
     (record { low = c.if-start-low.false; high = c.if-high-start.false }, seen, points_there v c.args.place c.pointer-back.result c.pointed_from-start.result value start.none start.some)
     (λ s q open_. points_one v c.args.place c.pointer-back.result c.pointed_from-start.result value start.none start.some s q.2) c.open_at.ensures

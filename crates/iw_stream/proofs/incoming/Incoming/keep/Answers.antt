@@ -6,7 +6,7 @@ use Rattle.iw_locate.specs.declared.judged.State.TheVariants.{Tried, Placed}
 use Rattle.iw_locate.specs.Free.{scene_of}
 use Rattle.iw_locate.specs.Next.{IsNext}
 use Rattle.iw_locate.specs.Keeping.{Keeps}
-use Rattle.iw_locate.specs.Unsearched.{Tells, IsFollowed}
+use Rattle.iw_locate.specs.Unsearched.{Tells, IsFollowed, past_frame}
 use Rattle.iw_stream.specs.Frames.{EarlyRecord}
 use Rattle.iw_stream.specs.Incoming.{Coming, coming_of, scene_in}
 use Rattle.iw_stream.proofs.Arriving.{early_fits, kept_record}
@@ -55,7 +55,8 @@ invariant_of-self g c =
     let k = kept_record s c.args.frame Tried next c.requires.early followed c.self.invariant in
     record {
       keeps = subst (λ (rs : List EarlyRecord). Keeps (scene_of s.layout s.base s.arrived rs)) (sym c.add.ensures.records) k.0;
-      tells = subst (λ (rs : List EarlyRecord). Tells (scene_of s.layout s.base s.arrived rs) s.unsearched) (sym c.add.ensures.records) k.1;
+      tells = subst (Tells (scene_of s.layout s.base s.arrived c.add.new.self.records)) (sym c.recorded.ensures)
+          (subst (λ (rs : List EarlyRecord). Tells (scene_of s.layout s.base s.arrived rs) (past_frame s.unsearched c.args.frame)) (sym c.add.ensures.records) k.1);
     }
 
 pub invariant_of-self-in-Placed : goal.invariant_of-self-in-Placed
@@ -69,6 +70,7 @@ invariant_of-self-in-Placed g c =
     record {
       keeps = subst (λ (a : Arrived). Keeps (scene_of s.layout s.base a c.add-in-Placed.new.self.records)) there
           (subst (λ (rs : List EarlyRecord). Keeps (scene_of s.layout s.base (released s.arrived (s.base + span_start true c.args.frame.start) (s.base + c.args.frame.end)) rs)) (sym c.add-in-Placed.ensures.records) k.0);
-      tells = subst (λ (a : Arrived). Tells (scene_of s.layout s.base a c.add-in-Placed.new.self.records) s.unsearched) there
-          (subst (λ (rs : List EarlyRecord). Tells (scene_of s.layout s.base (released s.arrived (s.base + span_start true c.args.frame.start) (s.base + c.args.frame.end)) rs) s.unsearched) (sym c.add-in-Placed.ensures.records) k.1);
+      tells = subst (λ (a : Arrived). Tells (scene_of s.layout s.base a c.add-in-Placed.new.self.records) c.recorded.new.self) there
+          (subst (Tells (scene_of s.layout s.base (released s.arrived (s.base + span_start true c.args.frame.start) (s.base + c.args.frame.end)) c.add-in-Placed.new.self.records)) (sym c.recorded.ensures)
+          (subst (λ (rs : List EarlyRecord). Tells (scene_of s.layout s.base (released s.arrived (s.base + span_start true c.args.frame.start) (s.base + c.args.frame.end)) rs) (past_frame s.unsearched c.args.frame)) (sym c.add-in-Placed.ensures.records) k.1));
     }
