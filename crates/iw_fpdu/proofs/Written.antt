@@ -8,7 +8,7 @@ use Rattle.std.specs.Int.{w32, to_le_bytes}
 use Rattle.iw_octets.specs.Crc.{crc32c}
 use Rattle.iw_fpdu.specs.declared.layout.Layout.{Layout}
 use Rattle.iw_fpdu.specs.Places.{data_place, data_index, in_marker, place_after, frame_start, span_start}
-use Rattle.iw_fpdu.specs.Frame.{marker_value, octet_at, laid, pad_len, frame_end, field_place, bare_data, covered, crc_field, frame_data, frame_octet, frame_octets}
+use Rattle.iw_fpdu.specs.Frame.{marker_value, octet_at, laid, pad_len, frame_size, frame_end, field_place, bare_data, bare_frame, covered, crc_field, frame_data, frame_octet, frame_octets}
 use Rattle.iw_fpdu.specs.Laying.{IsRun, IsEdge, marker_before, marker_beyond}
 use Rattle.iw_fpdu.proofs.Counted.{place_after_none, run_place, four_past, index_place, index_mono, place_mono, place_index, no_in_marker, edge_inside, edge_marker, run_data, past_edge, after_edge, at_most_after, index_after, after_some, aligned_edge, marker_value_is, four_in_row, index_aligned, after_after}
 use Rattle.iw_fpdu.proofs.Laid.{laid_three, laid_turn, map_range, laid_split, laid_none, laid_shift, laid_run, laid_past, laid_marker, octet_data, octet_marker}
@@ -295,3 +295,35 @@ plain_written false at start len ulpdu f e =
   where
     plain_place : (at n : ℕ) → data_place false (data_index false at + n) ≡ at + n
     plain_place at n = unfold data_place data_index in refl
+
+-- a frame where there are neither markers nor CRCs
+pub frame_bare : (layout : Layout) (at : ℕ) (ulpdu : List ℕ) → at % 4 ≡ 0 → layout.markers ≡ false → layout.crc ≡ false → frame_octets layout at ulpdu ≡ bare_frame ulpdu
+frame_bare layout at ulpdu aligned unmarked unchecked =
+    let m = layout.markers in
+    let start = frame_start m at in
+    frame_is layout at ulpdu aligned
+    ∙ ap (λ xs. xs ++ crc_field layout start ulpdu) (plain_written m at start (length ulpdu) ulpdu unmarked refl)
+    ∙ ap (λ b. bare_data ulpdu ++ cond b (to_le_bytes w32 (crc32c (covered m start ulpdu))) (0 ∷ 0 ∷ 0 ∷ 0 ∷ [])) unchecked
+
+pub length-bare_frame : (ulpdu : List ℕ) → length (bare_frame ulpdu) ≡ frame_size (length ulpdu)
+length-bare_frame ulpdu = length-append (bare_data ulpdu) (0 ∷ 0 ∷ 0 ∷ 0 ∷ []) ∙ ap (λ n. n + 4) (length_bare ulpdu)
+
+four_more : (n : ℕ) → replicate {A = ℕ} (n + 4) 0 ≡ replicate n 0 ++ (0 ∷ 0 ∷ 0 ∷ 0 ∷ [])
+four_more zero = refl
+four_more (suc n) = ap (λ k. replicate k 0) (let e : suc n + 4 ≡ suc (n + 4) = omega arith in e) ∙ ap (λ xs. 0 ∷ xs) (four_more n)
+
+-- it is written as length field and header, payload, and pad and CRC field
+pub bare_frame_written : (header payload old one two new : List ℕ) (len pad : ℕ) → len ≡ length (header ++ payload) → pad ≡ pad_len len
+    → one ≡ old ++ (len / 256 ∷ len % 256 ∷ header) → two ≡ one ++ payload → new ≡ two ++ replicate (pad + 4) 0
+    → new ≡ old ++ bare_frame (header ++ payload)
+bare_frame_written header payload old one two new len pad long pad_is one_is two_is new_is =
+    let field : List ℕ = len / 256 ∷ len % 256 ∷ [] in
+    let end : replicate (pad + 4) 0 ≡ replicate pad 0 ++ (0 ∷ 0 ∷ 0 ∷ 0 ∷ []) = four_more pad in
+    new_is ∙ ap (λ xs. xs ++ replicate (pad + 4) 0) (two_is ∙ ap (λ xs. xs ++ payload) one_is)
+    ∙ ap (λ xs. old ++ (field ++ header) ++ payload ++ xs) end
+    ∙ regroup old field header payload (replicate pad 0) (0 ∷ 0 ∷ 0 ∷ 0 ∷ [])
+    ∙ ap (λ n. old ++ ((field ++ (header ++ payload) ++ replicate n 0) ++ (0 ∷ 0 ∷ 0 ∷ 0 ∷ []))) pad_is
+    ∙ ap (λ n. old ++ (((n / 256 ∷ n % 256 ∷ []) ++ (header ++ payload) ++ replicate (pad_len n) 0) ++ (0 ∷ 0 ∷ 0 ∷ 0 ∷ []))) long
+  where
+    regroup : (o f h p z c : List ℕ) → o ++ (f ++ h) ++ p ++ (z ++ c) ≡ o ++ ((f ++ (h ++ p) ++ z) ++ c)
+    regroup o f h p z c = simp append_assoc refl

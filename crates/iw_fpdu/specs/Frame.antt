@@ -63,6 +63,10 @@ crc_field layout start ulpdu = if layout.crc then to_le_bytes w32 (crc32c (cover
 abbrev pub frame_data : Layout → ℕ → List ℕ → List ℕ
 frame_data layout start ulpdu = bare_data ulpdu ++ crc_field layout start ulpdu
 
+-- all octets of a frame without markers and CRC, which are the same at each place
+abbrev pub bare_frame : List ℕ → List ℕ
+bare_frame ulpdu = bare_data ulpdu ++ 0 ∷ 0 ∷ 0 ∷ 0 ∷ []
+
 -- what stands at place p of the span of the frame that begins at `start`
 unfoldable pub frame_octet : Layout → ℕ → List ℕ → ℕ → ℕ
 frame_octet layout start ulpdu p = octet_at layout.markers start (data_index layout.markers start) (frame_data layout start ulpdu) p

@@ -1,18 +1,21 @@
 ghost use Rattle.std.specs.Int.{w32, to_le_bytes};
-ghost use Rattle.std.specs.Prelude.{◌≡◌, ◌<◌, ◌≤◌, ◌+◌, ◌-◌, ◌%◌, ◌^◌, ◌++◌, [], ◌∷◌, true};
-ghost use Rattle.std.specs.Prelude.{if◌then◌else◌, nat_lt, length, vec_len, vec_capacity};
+ghost use Rattle.std.specs.Prelude.{◌≡◌, ◌<◌, ◌≤◌, ◌+◌, ◌-◌, ◌/◌, ◌%◌, ◌^◌, ◌++◌, [], ◌∷◌, true};
+ghost use Rattle.std.specs.Prelude.{if◌then◌else◌, nat_lt, length, replicate, vec_len, vec_capacity};
 ghost use Rattle.std.specs.Prelude.{MatchOption, OnOk, OnErr, IfErr, IsOk};
 ghost use Rattle.iw_octets.specs.Crc.{after_octets, all_ones, crc32c};
 ghost use Rattle.iw_octets.specs.Pieces.{joined};
-ghost use Rattle.iw_fpdu.specs.Frame.{max_sent, bare_data, frame_end, frame_octets, frame_size, field_place, laid};
+ghost use Rattle.iw_fpdu.specs.Frame.{max_sent, bare_data, bare_frame, frame_end, frame_octets, frame_size, field_place, laid};
 ghost use Rattle.iw_fpdu.specs.Laying.{marker_beyond};
 ghost use Rattle.iw_fpdu.specs.Places.{data_index, frame_start};
 
 use crate::layout::{Layout, MARKER, SPACING, end_of, index_of, pad_of, place_of};
 use crate::writer::{Writer, append};
-use iw_octets::{Crc, MAX_ULPDU, TAGGED_HEADER};
-use std::alloc::Allocator;
+use iw_octets::{Crc, MAX_ULPDU, UNTAGGED_HEADER};
+use std::alloc::{AllocError, Allocator};
 use thiserror::Error;
+
+/// The most octets that a header has.
+const MAX_HEADER: usize = UNTAGGED_HEADER;
 
 /// Why a frame isn't written.
 #[derive(Clone, Copy, Debug, PartialEq, Eq, Error)]
@@ -23,23 +26,6 @@ pub enum WriteRefusal {
     /// No memory could be had.
     #[error("no memory")]
     NoMemory,
-}
-
-/// Appends a piece of a ULPDU, for which there is room. One as long as the header of a tagged segment is copied in
-/// place.
-#[inline(always)]
-fn append_piece<A: Allocator>(out: &mut Vec<u8, A>, octets: &[u8])
-    requires { vec_len out.old + length octets.now ≤ vec_capacity out.old }
-    ensures items { out.new.items ≡ out.old.items ++ octets.now }
-    ensures len { vec_len out.new ≡ vec_len out.old + length octets.now }
-    ensures capacity { vec_capacity out.old ≤ vec_capacity out.new }
-{
-    if octets.len() == TAGGED_HEADER {
-        let (header, _) = octets.split_at(TAGGED_HEADER);
-        append(out, header);
-    } else {
-        append(out, octets);
-    }
 }
 
 /// How many octets the pieces have, or `None` where they have more than a ULPDU that is sent.
@@ -66,7 +52,38 @@ fn append_all<A: Allocator>(parts: &[&[u8]], out: &mut Vec<u8, A>)
     ensures capacity { vec_capacity out.old ≤ vec_capacity out.new }
 {
     for part in parts {
-        append_piece(out, part);
+        append(out, part);
+    }
+}
+
+/// Appends the length field and the header of a frame, at once.
+#[inline(always)]
+fn append_front<const N: usize, A: Allocator>(len: u16, header: [u8; N], out: &mut Vec<u8, A>)
+    requires few { N ≤ 18 }
+    requires room { vec_len out.old + 2 + N ≤ vec_capacity out.old }
+    ensures items { out.new.items ≡ out.old.items ++ (len / 256 ∷ len % 256 ∷ header.entry) }
+    ensures len { vec_len out.new ≡ vec_len out.old + 2 + N }
+    ensures capacity { vec_capacity out.old ≤ vec_capacity out.new }
+{
+    let mut front = [0; 2 + MAX_HEADER];
+    front[0] = (len / 256) as u8;
+    front[1] = (len % 256) as u8;
+    front[2..2 + N].copy_from_slice(&header);
+    append(out, &front[..2 + N]);
+}
+
+/// Appends the pad and a CRC field of zero: each number of octets by an append of its own, whose length is known.
+#[inline(always)]
+fn append_end<A: Allocator>(pad: u64, out: &mut Vec<u8, A>)
+    requires few { pad < 4 }
+    requires room { vec_len out.old + pad + 4 ≤ vec_capacity out.old }
+    ensures { out.new.items ≡ out.old.items ++ replicate (pad + 4) 0 }
+{
+    match pad {
+        0 => append(out, &[0; 4]),
+        1 => append(out, &[0; 5]),
+        2 => append(out, &[0; 6]),
+        _ => append(out, &[0; 7]),
     }
 }
 
@@ -181,5 +198,31 @@ pub fn write_fpdu<A: Allocator>(
     let (_, written) = out.as_slice().split_at(mark);
     let field = crc_field(layout, at, written);
     append(out, &field);
+    Ok(())
+}
+
+/// Appends the frame of a ULPDU that is a header and a payload, where there are neither markers nor CRCs: it is the same
+/// at each place, and its length field and header are appended at once.
+///
+/// An `Err` is want of memory, and leaves `out` as it was.
+#[inline(always)]
+pub fn write_bare<const N: usize, A: Allocator>(
+    header: [u8; N],
+    payload: &[u8],
+    out: &mut Vec<u8, A>,
+) -> Result<(), AllocError>
+    requires few { N ≤ 18 }
+    requires short { N + length payload.now ≤ max_sent }
+    ensures ok { OnOk result (out.new.items ≡ out.old.items ++ bare_frame (header.entry ++ payload.now)) }
+    ensures err { OnErr result (out.new.items ≡ out.old.items) }
+    ensures memory { vec_len out.old + length (bare_frame (header.entry ++ payload.now)) ≤ vec_capacity out.old
+        → IsOk result }
+{
+    let len = (N + payload.len()) as u16;
+    let pad = pad_of(len);
+    out.reserve(2 + len as usize + pad as usize + 4)?;
+    append_front(len, header, out);
+    append(out, payload);
+    append_end(pad, out);
     Ok(())
 }

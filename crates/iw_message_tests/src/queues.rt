@@ -51,8 +51,9 @@ fn post(queue: &mut SendQueue, message: Request<Bytes>) -> Result<u64, Refusal> 
 fn sent(rt: &impl Abort, queue: &mut SendQueue, max: usize) -> (u64, usize, usize, bool) {
     assert!(rt; max >= 128);
     let part = queue.next_part(max).expect(rt, "a part is left");
-    let told = (part.ticket, part.offset, part.octets().len(), part.last);
-    queue.part_sent(max);
+    let (n, last) = (part.n, part.last);
+    let told = (part.ticket, part.offset, part.octets().len(), last);
+    queue.part_sent(n, last);
     told
 }
 

@@ -8,7 +8,6 @@ ghost use Rattle.iw_octets.specs.Stag.{stag_at};
 
 use crate::constants::{TAGGED_HEADER, UNTAGGED_HEADER};
 use crate::stag::Stag;
-use arrayvec::ArrayVec;
 use std::error::Error;
 use std::fmt;
 
@@ -134,15 +133,15 @@ impl TaggedHead {
     /// The header's 14 octets.
     #[tactic(auto, unfolding(crate::specs::Head::tagged_octets))]
     #[inline(always)]
-    pub fn write(&self) -> ArrayVec<u8, 28>
+    pub fn write(&self) -> [u8; TAGGED_HEADER]
         requires { self.now.ddp_version < 4 }
-        ensures { result.items ≡ tagged_octets self.now }
+        ensures { result ≡ tagged_octets self.now }
     {
-        let mut out = ArrayVec::new();
-        out.push(first_octet(true, self.last, self.ddp_version));
-        out.push(self.control);
-        let _ = out.try_extend_from_slice(&self.stag.to_octets());
-        let _ = out.try_extend_from_slice(&self.to.to_be_bytes());
+        let mut out = [0; TAGGED_HEADER];
+        out[0] = first_octet(true, self.last, self.ddp_version);
+        out[1] = self.control;
+        out[2..6].copy_from_slice(&self.stag.to_octets());
+        out[6..].copy_from_slice(&self.to.to_be_bytes());
         out
     }
 }
@@ -172,17 +171,18 @@ impl UntaggedHead {
 
     /// The header's 18 octets.
     #[tactic(auto, unfolding(crate::specs::Head::untagged_octets))]
-    pub fn write(&self) -> ArrayVec<u8, 28>
+    #[inline(always)]
+    pub fn write(&self) -> [u8; UNTAGGED_HEADER]
         requires { self.now.ddp_version < 4 }
-        ensures { result.items ≡ untagged_octets self.now }
+        ensures { result ≡ untagged_octets self.now }
     {
-        let mut out = ArrayVec::new();
-        out.push(first_octet(false, self.last, self.ddp_version));
-        out.push(self.control);
-        let _ = out.try_extend_from_slice(&self.tail.to_be_bytes());
-        let _ = out.try_extend_from_slice(&self.queue.to_be_bytes());
-        let _ = out.try_extend_from_slice(&self.msn.to_be_bytes());
-        let _ = out.try_extend_from_slice(&self.mo.to_be_bytes());
+        let mut out = [0; UNTAGGED_HEADER];
+        out[0] = first_octet(false, self.last, self.ddp_version);
+        out[1] = self.control;
+        out[2..6].copy_from_slice(&self.tail.to_be_bytes());
+        out[6..10].copy_from_slice(&self.queue.to_be_bytes());
+        out[10..14].copy_from_slice(&self.msn.to_be_bytes());
+        out[14..].copy_from_slice(&self.mo.to_be_bytes());
         out
     }
 }

@@ -1,5 +1,5 @@
 -- The messages posted at one end of a stream and not handed out, and what each call leaves of them.
-use Rattle.std.specs.Prelude.{ℕ, ◌≡◌, ◌+◌, ◌-◌, ◌%◌, ◌^◌, ◌<◌, ◌≤◌, All, List, [], ◌∷◌, ◌++◌, length, drop, nat_lt, nat_le, if◌then◌else◌, Option, Some, None}
+use Rattle.std.specs.Prelude.{ℕ, Bool, ◌≡◌, ◌+◌, ◌-◌, ◌%◌, ◌^◌, ◌<◌, ◌≤◌, All, List, [], ◌∷◌, ◌++◌, length, drop, nat_lt, nat_le, if◌then◌else◌, Option, Some, None}
 use Rattle.iw_octets.specs.Parts.{part_at}
 use Rattle.iw_queues.specs.declared.request.Request.{Request}
 use Rattle.iw_queues.specs.declared.request.Refusal.{Refusal}
@@ -47,6 +47,15 @@ part_of_first ticket (message ∷ messages) offset max = Some (part_from ticket 
 -- the part that is to be sent next
 abbrev pub next_part : Queue → ℕ → Option (Part (Request (List ℕ)))
 next_part q max = part_of_first (next_ticket q.sent) q.unsent q.offset max
+
+-- the part that is to be sent next, in ULPDUs of some size, has n octets, and is its message's last or not
+pub record IsNext (q : Queue) (n : ℕ) (last : Bool) : Type 0 where
+  pub max : ℕ
+  pub least : 128 ≤ max
+  pub part : Part (Request (List ℕ))
+  pub shown : next_part q max ≡ Some part
+  pub octets : part.n ≡ n
+  pub ends : part.last ≡ last
 
 -- what is left to be sent after this part
 abbrev pub part_sent : Queue → Option (Part (Request (List ℕ))) → Queue

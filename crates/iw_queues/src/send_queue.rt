@@ -1,5 +1,5 @@
 ghost use Rattle.std.specs.Prelude.{◌≡◌, ◌↔◌, ◌+◌, ◌<◌, ◌≤◌, ◌^◌, nat_lt, length, take, drop, slice_get};
-ghost use Rattle.std.specs.Prelude.{IsTrue, MatchBool, IsSome, IfSome, IfNone, IfOk, IfErr, IsErr, OnOk, OnErr};
+ghost use Rattle.std.specs.Prelude.{IsTrue, MatchBool, Some, IfSome, IfNone, IfOk, IfErr, IsErr, OnOk, OnErr};
 ghost use Rattle.std.specs.Option.{option_map};
 ghost use Rattle.iw_queues.specs.Request.{kind_of, payload};
 
@@ -66,7 +66,7 @@ impl<A: Allocator> Model for SendQueue<A> {
 impl<A: Allocator> SendQueue<A> {
     ghost use Rattle.iw_queues.specs.Completions.{IsAwaited, finished};
     ghost use Rattle.iw_queues.specs.Queue.{nothing_posted, post_refusal, ticket_past, posted, IsWithinLimits};
-    ghost use Rattle.iw_queues.specs.Queue.{next_part, part_sent, sent_with};
+    ghost use Rattle.iw_queues.specs.Queue.{next_part, part_sent, sent_with, IsNext};
     ghost use Rattle.iw_queues.specs.Queue.{done_in, oldest_in, handed_from};
     ghost use Rattle.iw_queues.specs.Shown.{shown};
 
@@ -166,23 +166,21 @@ impl<A: Allocator> SendQueue<A> {
         })
     }
 
-    /// Says that the part that `next_part(max)` shows was sent. The last part of a Write or a Send finishes it.
-    pub fn part_sent(&mut self, max: usize)
-        requires max { 128 ≤ max }
-        requires part { IsSome (next_part self.old max) }
-        ensures { self.new ≡ part_sent self.old (next_part self.old max) }
+    /// Says that the part that `next_part` shows was sent, by how many octets it has and whether it is its message's last.
+    /// The last part of a Write or a Send finishes it.
+    #[inline(always)]
+    pub fn part_sent(&mut self, n: usize, last: bool)
+        requires { IsNext self.old n last }
+        ensures { (next : IsNext self.old n last) → self.new ≡ part_sent self.old (Some next.part) }
     {
-        let Some(message) = self.unsent.front() else {
-            return;
-        };
-        let room = max - message.header_len();
-        let left = message.payload().len() - self.offset;
-        if left > room {
-            self.offset += room;
+        if !last {
+            self.offset += n;
             return;
         }
-        self.sent.add(message.kind());
-        let _ = self.unsent.pop_front();
+        let Some(kind) = take_first(&mut self.unsent) else {
+            return;
+        };
+        self.sent.add(kind);
         self.offset = 0;
     }
 

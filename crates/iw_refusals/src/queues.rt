@@ -45,8 +45,9 @@ fn posted<A: Allocator>(queue: &mut SendQueue<A>) -> Option<u64> {
 fn send_all<A: Allocator>(rt: &impl Abort, queue: &mut SendQueue<A>) {
     for ticket in 0..9u64 {
         let part = queue.next_part(SIZE).expect(rt, "a part is left");
-        assert_eq!(rt; (part.ticket, part.last), (ticket, true));
-        queue.part_sent(SIZE);
+        let (n, last) = (part.n, part.last);
+        assert_eq!(rt; (part.ticket, last), (ticket, true));
+        queue.part_sent(n, last);
     }
     assert!(rt; queue.next().is_some());
     assert!(rt; queue.awaits(1));

@@ -9,7 +9,7 @@ ghost use Rattle.iw_rdmap.specs.Laws.{terminate_head};
 ghost use Rattle.iw_stream.specs.Emitting.{numbers_of, write_head, send_head, request_head};
 
 use bytes::Bytes;
-use iw_fpdu::{Layout, WriteRefusal, write_fpdu};
+use iw_fpdu::{Layout, WriteRefusal, write_bare, write_fpdu};
 use iw_octets::{DDP_VERSION, Message, Stag, TaggedHead, UntaggedHead};
 use iw_queues::{Part, Request};
 use iw_rdmap::{MAX_TERMINATE, TaggedOperation, UntaggedOperation};
@@ -127,10 +127,58 @@ fn write_frame<A: Allocator>(
     }
 }
 
-/// Appends the frame of a part, to stand at frame place `at`, where the next messages have these numbers.
+/// Appends the frame of a tagged segment, to stand at frame place `at`.
 ///
 /// An `Err` leaves `out` as it was.
 #[tactic(auto, unfolding(iw_octets::specs::Segment::segment_octets))]
+#[inline(never)]
+pub(crate) fn write_tagged<A: Allocator>(
+    layout: Layout,
+    at: u64,
+    head: TaggedHead,
+    payload: &[u8],
+    out: &mut Vec<u8, A>,
+) -> Result<(), AllocError>
+    requires place { at < 2 ^ 63 }
+    requires aligned { at % 4 ≡ 0 }
+    requires version { head.ddp_version < 4 }
+    requires short { 14 + length payload.now ≤ max_sent }
+    ensures ok { OnOk result (out.new.items ≡ out.old.items ++ frame_octets layout at (segment_octets (Tagged head payload.now))) }
+    ensures err { OnErr result (out.new.items ≡ out.old.items) }
+{
+    if layout.markers || layout.crc {
+        return write_frame(layout, at, &head.write(), payload, out);
+    }
+    write_bare(head.write(), payload, out)
+}
+
+// Appends the frame of an untagged segment, to stand at frame place `at`. An `Err` leaves `out` as it was.
+#[tactic(auto, unfolding(iw_octets::specs::Segment::segment_octets))]
+#[inline(never)]
+fn write_untagged<A: Allocator>(
+    layout: Layout,
+    at: u64,
+    head: UntaggedHead,
+    payload: &[u8],
+    out: &mut Vec<u8, A>,
+) -> Result<(), AllocError>
+    requires place { at < 2 ^ 63 }
+    requires aligned { at % 4 ≡ 0 }
+    requires version { head.ddp_version < 4 }
+    requires short { 18 + length payload.now ≤ max_sent }
+    ensures ok { OnOk result (out.new.items ≡ out.old.items ++ frame_octets layout at (segment_octets (Untagged head payload.now))) }
+    ensures err { OnErr result (out.new.items ≡ out.old.items) }
+{
+    if layout.markers || layout.crc {
+        return write_frame(layout, at, &head.write(), payload, out);
+    }
+    write_bare(head.write(), payload, out)
+}
+
+/// Appends the frame of a part, to stand at frame place `at`, where the next messages have these numbers.
+///
+/// An `Err` leaves `out` as it was.
+#[inline(always)]
 pub(crate) fn write_part<A: Allocator, B: Allocator>(
     layout: Layout,
     at: u64,
@@ -148,8 +196,8 @@ pub(crate) fn write_part<A: Allocator, B: Allocator>(
 {
     match part.message {
         Request::Message(Message::Write { stag, to, .. }) => {
-            let head = write_head(*stag, *to, part.offset, part.last).write();
-            write_frame(layout, at, head.as_slice(), part.octets(), out)
+            let head = write_head(*stag, *to, part.offset, part.last);
+            write_tagged(layout, at, head, part.octets(), out)
         }
         Request::Message(
             Message::Send {
@@ -164,38 +212,20 @@ pub(crate) fn write_part<A: Allocator, B: Allocator>(
                 *invalidate,
                 part.offset,
                 part.last,
-            )
-            .write();
-            write_frame(layout, at, head.as_slice(), part.octets(), out)
+            );
+            write_untagged(layout, at, head, part.octets(), out)
         }
         Request::Read(request) => {
-            let head = request_head(numbers.read).write();
-            let request = request.write();
-            write_frame(layout, at, head.as_slice(), request.as_slice(), out)
+            let octets = request.write();
+            write_untagged(
+                layout,
+                at,
+                request_head(numbers.read),
+                octets.as_slice(),
+                out,
+            )
         }
     }
-}
-
-/// Appends the frame of a part of a response, to stand at frame place `at`: a segment with this header and these octets.
-///
-/// An `Err` leaves `out` as it was.
-#[tactic(auto, unfolding(iw_octets::specs::Segment::segment_octets))]
-pub(crate) fn write_response<A: Allocator>(
-    layout: Layout,
-    at: u64,
-    head: TaggedHead,
-    octets: &[u8],
-    out: &mut Vec<u8, A>,
-) -> Result<(), AllocError>
-    requires place { at < 2 ^ 63 }
-    requires aligned { at % 4 ≡ 0 }
-    requires version { head.ddp_version < 4 }
-    requires short { 14 + length octets.now ≤ max_sent }
-    ensures ok { OnOk result (out.new.items ≡ out.old.items ++ frame_octets layout at (segment_octets (Tagged head octets.now))) }
-    ensures err { OnErr result (out.new.items ≡ out.old.items) }
-{
-    let head = head.write();
-    write_frame(layout, at, head.as_slice(), octets, out)
 }
 
 // The header of a Terminate: its queue's first message, in one segment (RFC 5040 5.4).
@@ -216,7 +246,6 @@ fn terminate_head() -> UntaggedHead
 /// Appends the frame of a Terminate with this payload, to stand at frame place `at`.
 ///
 /// An `Err` leaves `out` as it was.
-#[tactic(auto, unfolding(iw_octets::specs::Segment::segment_octets))]
 pub(crate) fn write_terminate<A: Allocator>(
     layout: Layout,
     at: u64,
@@ -229,6 +258,5 @@ pub(crate) fn write_terminate<A: Allocator>(
     ensures ok { OnOk result (out.new.items ≡ out.old.items ++ frame_octets layout at (segment_octets (Untagged terminate_head payload.now))) }
     ensures err { OnErr result (out.new.items ≡ out.old.items) }
 {
-    let head = terminate_head().write();
-    write_frame(layout, at, head.as_slice(), payload, out)
+    write_untagged(layout, at, terminate_head(), payload, out)
 }

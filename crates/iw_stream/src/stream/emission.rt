@@ -10,7 +10,7 @@ ghost use Rattle.iw_stream.specs.Stream.{is_read, reads_with};
 
 use super::Stream;
 use crate::answer::Emission;
-use crate::emitting::{write_part, write_response, write_terminate};
+use crate::emitting::{write_part, write_tagged, write_terminate};
 use crate::ending::Ending;
 use crate::terminating::{over, terminate_fetched};
 use bytes::Bytes;
@@ -191,7 +191,7 @@ impl<A: Allocator> Stream<A> {
     {
         let place = self.sent - self.start.first_place_out();
         let before = out.len();
-        write_response(self.start.sending(), place, part.head, octets, out)?;
+        write_tagged(self.start.sending(), place, part.head, octets, out)?;
         let len = out.len() - before;
         let from = self.sent;
         self.asked.part_fetched(self.mulpdu);
@@ -230,9 +230,10 @@ impl<A: Allocator> Stream<A> {
         write_part(self.start.sending(), place, self.numbers, &part, out)?;
         let len = out.len() - before;
         let from = self.sent;
+        let (n, last) = (part.n, part.last);
         self.numbers = self.numbers.beyond(&part);
         read_sent(&mut self.reads, part.ticket, part.message);
-        self.queue.part_sent(self.mulpdu);
+        self.queue.part_sent(n, last);
         self.sent += len as u64;
         Ok(Emission::Frame { from, len })
     }

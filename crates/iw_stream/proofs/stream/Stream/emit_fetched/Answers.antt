@@ -18,7 +18,7 @@ invariant_of-self g c = record {
       let running : is_open (state_of c.self.inside).start ≡ true = ap (λ (t : StreamState). is_open t.start) c.self.view_is ∙ c.requires.open in
       let low : first_place_out (state_of c.self.inside).start ≤ (state_of c.self.inside).sent = subst (λ (t : StreamState). first_place_out t.start ≤ t.sent) (sym c.self.view_is) c.requires.owed in
       let at : c.first_place_out.result ≡ first_place_out (state_of c.self.inside).start = c.first_place_out.ensures.place in
-      let long : length c.write_response.new.out.items ≡ length c.args.out.now.items + length frame = ap length c.in_ok-write_response.ensures.ok ∙ length-append c.args.out.now.items frame in
+      let long : length c.write_tagged.new.out.items ≡ length c.args.out.now.items + length frame = ap length c.in_ok-write_tagged.ensures.ok ∙ length-append c.args.out.now.items frame in
       let all : s.sent - first_place_out (state_of c.self.inside).start + (c.len.result - c.len-before.result) ≡ s.sent - first + length frame = omega (arith, long, c.len.ensures, c.len-before.ensures, at) in
       keeps_sent (state_of s) s.queue (state_of s).numbers (c.len.result - c.len-before.result) s.reads c.part_fetched.new.self running low
       (ap (λ n. n % 4) all ∙ aligned_past c.sending.result (s.sent - first) u (ap (λ n. (s.sent - n) % 4) at ∙ c.self.invariant.keeps.aligned))

@@ -1,4 +1,4 @@
-use Rattle.std.proofs.Common.{◌≡◌, ◌+◌, ◌-◌, ◌%◌, ◌^◌, ◌<◌, ◌≤◌, true, Some, length, ap, sym, ◌∙◌, subst, arith, length-append}
+use Rattle.std.proofs.Common.{◌≡◌, ◌+◌, ◌-◌, ◌%◌, ◌^◌, ◌<◌, ◌≤◌, true, Some, None, length, refl, ap, sym, ◌∙◌, subst, cond, arith, length-append}
 use Rattle.iw_octets.specs.Segment.{segment_octets}
 use Rattle.iw_fpdu.specs.Frame.{frame_octets}
 use Rattle.iw_queues.specs.Queue.{Queue, part_sent}
@@ -8,10 +8,39 @@ use Rattle.iw_stream.specs.Emitting.{numbers_of}
 use Rattle.iw_stream.specs.Fields.{state_of}
 use Rattle.iw_stream.specs.Kept.{AreAwaited}
 use Rattle.iw_stream.specs.Starting.{is_open, first_place_out}
-use Rattle.iw_stream.specs.Stream.{StreamState}
+use Rattle.iw_stream.specs.Stream.{StreamState, NextPart, NoneDue, may_go, part_due, frame_of_part, left_due}
+use Rattle.std.specs.Option.{option_map_or}
 use Rattle.iw_stream.proofs.Keeping.{aligned_past, keeps_sent}
 use Rattle.iw_stream.proofs.Reading.{awaited_sent, first_sent}
 use Rattle.iw_stream.proofs.stream.Stream.emit_part.Goals as goal
+
+pub part_sent-requires : goal.part_sent-requires
+part_sent-requires g c = record {
+  max = c.self.inside.mulpdu;
+  least = c.self.invariant.keeps.enough;
+  part = shown_part c.in-Some.part;
+  shown = sym c.in-Some.ensures.part;
+  octets = refl;
+  ends = refl;
+}
+
+pub returns-clause-after : goal.returns-clause-after
+returns-clause-after g c = λ table.
+    let s : StreamState = state_of c.self.inside in
+    let part = shown_part c.in-Some.part in
+    let first = c.first_place_out.result in
+    let u = segment_octets (segment_of s.numbers part) in
+    let due : part_due s ≡ Some part = ap (may_go s.reads) (sym c.in-Some.ensures.part) ∙ ap (λ b. cond b None (Some part)) (sym c.must_wait.ensures ∙ c.if-must_wait.false) in
+    let queue : c.part_sent.new.self ≡ part_sent s.queue (Some part) =
+    c.part_sent.ensures (record { max = s.mulpdu; least = c.self.invariant.keeps.enough; part = part; shown = sym c.in-Some.ensures.part; octets = refl; ends = refl }) in
+    let frame : frame_octets c.sending.result (s.sent - first) u ≡ frame_of_part s part =
+    (λ i. frame_octets (c.sending.ensures i) (s.sent - c.first_place_out.ensures.place i) u) in
+    let long : length c.write_part.new.out.items ≡ length c.args.out.now.items + length (frame_of_part s part) =
+    ap length c.in_ok-write_part.ensures.ok ∙ length-append c.args.out.now.items _ ∙ ap (λ xs. length c.args.out.now.items + length xs) frame in
+    let sent : s.sent + (c.len-2.result - c.len-before.result) ≡ s.sent + length (frame_of_part s part) = omega (arith, long, c.len-2.ensures, c.len-before.ensures) in
+    (λ i. record s { queue = queue i; numbers = c.beyond-self-inside.ensures i; sent = sent i; reads = c.read_sent.ensures i })
+    ∙ ap (λ o. left_due table s (option_map_or NextPart o NoneDue)) (sym due)
+    ∙ ap (λ (t : StreamState). left_due table t (option_map_or NextPart (part_due t) NoneDue)) c.self.view_is
 
 pub invariant_of-self : goal.invariant_of-self
 invariant_of-self g c = record {
@@ -26,7 +55,7 @@ invariant_of-self g c = record {
       let at : c.first_place_out.result ≡ first_place_out (state_of c.self.inside).start = c.first_place_out.ensures.place in
       let long : length c.write_part.new.out.items ≡ length c.args.out.now.items + length frame = ap length c.in_ok-write_part.ensures.ok ∙ length-append c.args.out.now.items frame in
       let all : s.sent - first_place_out (state_of c.self.inside).start + (c.len-2.result - c.len-before.result) ≡ s.sent - first + length frame = omega (arith, long, c.len-2.ensures, c.len-before.ensures, at) in
-      let after : c.part_sent.new.self ≡ part_sent c.self.inside.queue (Some (shown_part c.in-Some.part)) = c.part_sent.ensures ∙ ap (part_sent c.self.inside.queue) (sym c.in-Some.ensures.part) in
+      let after : c.part_sent.new.self ≡ part_sent c.self.inside.queue (Some (shown_part c.in-Some.part)) = c.part_sent.ensures (record { max = c.self.inside.mulpdu; least = c.self.invariant.keeps.enough; part = part; shown = sym c.in-Some.ensures.part; octets = refl; ends = refl }) in
       keeps_sent (state_of s) c.part_sent.new.self (numbers_of c.beyond-self-inside.result) (c.len-2.result - c.len-before.result) c.read_sent.new.reads s.asked running low
       (ap (λ n. n % 4) all ∙ aligned_past c.sending.result (s.sent - first) u (ap (λ n. (s.sent - n) % 4) at ∙ c.self.invariant.keeps.aligned))
       (subst (λ (q : Queue). q.sent.first < 2 ^ 64) (sym after) (first_sent s.queue (Some part) c.self.invariant.keeps.first))
