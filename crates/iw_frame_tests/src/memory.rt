@@ -22,8 +22,18 @@ fn registered(
     }
 }
 
+/// A region of 8 octets that ends at the last tagged offset, the first of its domain.
+fn region_at_the_end(alloc: Global) -> Result<(Memory, Stag), Fail> {
+    let mut memory = Memory::new(alloc)?;
+    memory.add_domain(1)?;
+    match registered(alloc, &mut memory, u64::MAX - 7)? {
+        Ok(number) => Ok((memory, Stag::from(number))),
+        Err(_) => Err("not registered".into()),
+    }
+}
+
 #[test]
-fn a_part_may_end_at_the_last_offset(rt: HostRuntime) -> Result<(), Fail> {
+fn a_region_ends_at_the_last_offset_at_most(rt: HostRuntime) -> Result<(), Fail> {
     let mut memory = Memory::new(rt.alloc())?;
     assert_eq!(rt; memory.add_domain(1), Ok(()));
     assert_eq!(rt;
@@ -34,7 +44,12 @@ fn a_part_may_end_at_the_last_offset(rt: HostRuntime) -> Result<(), Fail> {
         registered(rt.alloc(), &mut memory, u64::MAX - 7)?,
         Ok(0x0100_0000)
     );
-    let stag = Stag::from(0x0100_0000);
+    Ok(())
+}
+
+#[test]
+fn a_part_may_end_at_the_last_offset(rt: HostRuntime) -> Result<(), Fail> {
+    let (mut memory, stag) = region_at_the_end(rt.alloc())?;
     assert_eq!(rt;
         memory.place(1, stag, u64::MAX, "ab".as_bytes(), Right::Write),
         Err(Deny::ToWrap)
@@ -48,6 +63,15 @@ fn a_part_may_end_at_the_last_offset(rt: HostRuntime) -> Result<(), Fail> {
         memory.store(stag, 0, "b".as_bytes()),
         Err(StoreRefusal::Outside)
     );
+    assert!(rt;
+        matches!(memory.deregister(stag), Ok(octets) if octets.as_slice() == "\0\0\0\0\0\0ba".as_bytes())
+    );
+    Ok(())
+}
+
+#[test]
+fn a_region_is_denied_and_ends(rt: HostRuntime) -> Result<(), Fail> {
+    let (mut memory, stag) = region_at_the_end(rt.alloc())?;
     assert_eq!(rt;
         memory.check(1, stag, u64::MAX, 1, Right::Read),
         Err(Deny::Rights)
@@ -61,9 +85,7 @@ fn a_part_may_end_at_the_last_offset(rt: HostRuntime) -> Result<(), Fail> {
         memory.invalidate_remote(1, stag),
         Err(InvalidateDeny::Invalid)
     );
-    assert!(rt;
-        matches!(memory.deregister(stag), Ok(octets) if octets.as_slice() == "\0\0\0\0\0\0ba".as_bytes())
-    );
+    assert!(rt; memory.deregister(stag).is_ok());
     assert_eq!(rt; registered(rt.alloc(), &mut memory, 0)?, Ok(0x0100_0001));
     Ok(())
 }

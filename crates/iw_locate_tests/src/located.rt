@@ -77,9 +77,21 @@ fn frame(start: u64, length: u16, end: u64, early: bool) -> Next {
     })
 }
 
-/// A frame of 512 octets comes last, those of 28 and 24 past it first: repeats of what came find nothing more.
+/// The frames of 28 and 24 octets at 512 came, and were judged early.
+fn two_judged_early(alloc: Global) -> Result<(Islands, Judged<u32>, Unsearched), Fail>
+    ensures { IfOk result (λ r. IsPastHole r.0.arrived r.1.records r.2) }
+{
+    let (mut islands, mut judged, mut unsearched) = begun(alloc)?;
+    deliver(&mut islands, &judged, &mut unsearched, 512, SECOND)?;
+    judge(&islands, &mut judged, &mut unsearched)?;
+    let (_, third) = SECOND.split_at(4);
+    deliver(&mut islands, &judged, &mut unsearched, 540, third)?;
+    judge(&islands, &mut judged, &mut unsearched)?;
+    Ok((islands, judged, unsearched))
+}
+
 #[test]
-fn the_first_frame_comes_last(rt: HostRuntime) -> Result<(), Fail> {
+fn repeats_of_what_came_find_nothing_more(rt: HostRuntime) -> Result<(), Fail> {
     let (mut islands, mut judged, mut unsearched) = begun(rt.alloc())?;
     deliver(&mut islands, &judged, &mut unsearched, 512, SECOND)?;
     assert_eq!(rt;
@@ -101,14 +113,16 @@ fn the_first_frame_comes_last(rt: HostRuntime) -> Result<(), Fail> {
         judge(&islands, &mut judged, &mut unsearched)?,
         frame(540, 18, 564, true)
     );
-    deliver(
-        &mut islands,
-        &judged,
-        &mut unsearched,
-        0,
-        b"\0\0\0\0\x01\xf6",
-    )?;
-    deliver(&mut islands, &judged, &mut unsearched, 6, &[0; 500])?;
+    Ok(())
+}
+
+/// A frame of 512 octets comes after the two past it.
+#[test]
+fn the_first_frame_comes_last(rt: HostRuntime) -> Result<(), Fail> {
+    let (mut islands, mut judged, mut unsearched) = two_judged_early(rt.alloc())?;
+    let front = b"\0\0\0\0\x01\xf6";
+    deliver(&mut islands, &judged, &mut unsearched, 0, front)?;
+    deliver(&mut islands, &judged, &mut unsearched, 6, &[0; 506])?;
     assert_eq!(rt;
         judge(&islands, &mut judged, &mut unsearched)?,
         frame(4, 502, 512, false)
