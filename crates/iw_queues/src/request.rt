@@ -31,7 +31,7 @@ pub enum Refusal {
     /// The message has more than 16,777,216 octets, or is a Read of more.
     #[error("the message or Read has more than 16,777,216 octets")]
     TooLong,
-    #[error("out of memory")]
+    #[error("no memory")]
     NoMemory,
 }
 

@@ -16,7 +16,7 @@ pub enum OpenRefusal {
     /// The domain was not added.
     #[error("the domain was not added")]
     NoDomain,
-    #[error("out of memory")]
+    #[error("no memory")]
     NoMemory,
 }
 
@@ -33,7 +33,7 @@ pub enum PostRefusal {
     /// The stream is not open yet, or has ended.
     #[error("the stream is not open")]
     NotOpen,
-    #[error("out of memory")]
+    #[error("no memory")]
     NoMemory,
 }
 
@@ -43,7 +43,7 @@ pub enum RecvRefusal {
     /// 256 buffers are posted and not yet handed back.
     #[error("256 receive buffers are posted and not yet handed back")]
     Full,
-    #[error("out of memory")]
+    #[error("no memory")]
     NoMemory,
     #[error("the stream has ended")]
     Ended,
