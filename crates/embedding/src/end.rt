@@ -3,7 +3,7 @@ ghost use Rattle.iw_stream.specs.Kept.{IsWithinBuffer};
 use anyhow::{Result, bail};
 use bytes::Bytes;
 use iw_endpoint::{
-    Config, Emission, Endpoint, Octets, PrivateData, Request, Rights, Role, Stag, Step,
+    Config, Emission, Endpoint, MAX_PLACE, Octets, PrivateData, Request, Rights, Role, Stag, Step,
 };
 use std::alloc::Global;
 use std::rt::Runtime;
@@ -12,9 +12,6 @@ use std::str::from_utf8;
 const DOMAIN: u8 = 1;
 
 const STREAM: u8 = 0;
-
-// `emit` and `work` ask that a stream has emitted, and come through, no more octets. No connection does.
-const MAX_PLACE: u64 = 1 << 62;
 
 /// One end of a connection: an endpoint with one stream, and how many octets came for it.
 #[derive(Drop)]

@@ -1,11 +1,8 @@
 //! What bench/c calls: the same calls on an endpoint as it makes through the C interface, from Rattle.
 #![tactic(auto)]
 
-use iw_endpoint::{Config, Endpoint, PrivateData, Rights, Role, Step};
+use iw_endpoint::{Config, Endpoint, MAX_PLACE, PrivateData, Rights, Role, Step};
 use std::alloc::Global;
-
-// `work` asks that a stream has come no further.
-const MAX_PLACE: u64 = 1 << 62;
 
 const STREAM: u8 = 0;
 

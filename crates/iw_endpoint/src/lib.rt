@@ -31,10 +31,11 @@ pub use endpoint::Endpoint;
 pub use iw_memory::{
     DomainRefusal, Facts, Memory, NoRegion, RegisterRefusal, Right, Rights, Stag, StoreRefusal,
 };
-pub use iw_octets::{Fault, Message, Octets, ReadRequest};
+pub use iw_octets::{Fault, MAX_PLACE, MAX_PRIVATE, Message, Octets, ReadRequest};
 pub use iw_stream::{
     Agreed, Config, Delivery, Emission, Kind, NotAsked, OpenRefusal, PostRefusal, PrivateData,
     RecvRefusal, Request, Role, SizeRefusal, StartupFault, Step,
 };
 pub use laws::{calls_concern_one_domain, domains_are_alone};
 pub use refusal::{CallRefusal, NoSuchStream};
+pub use streams::STREAM_NUMBERS;

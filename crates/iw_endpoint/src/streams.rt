@@ -7,7 +7,7 @@ use std::alloc::{AllocError, Allocator, Global};
 use std::marker::Model;
 
 /// How many numbers there are for streams, from 0 on.
-pub(crate) const STREAM_NUMBERS: usize = 64;
+pub const STREAM_NUMBERS: usize = 64;
 
 /// The streams by number: a place for each number, which is empty before a stream is opened under it.
 #[derive(Drop)]

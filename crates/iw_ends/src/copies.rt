@@ -2,11 +2,8 @@
 
 use crate::meter::Heap;
 use bytes::Bytes;
-use iw_endpoint::{Memory, Message, Octets, PrivateData, Request, Stag};
+use iw_endpoint::{MAX_PRIVATE, Memory, Message, Octets, PrivateData, Request, Stag};
 use std::alloc::{AllocError, AllocFailed};
-
-/// The most octets of private data.
-const MAX_PRIVATE: usize = 512;
 
 /// The same request; its octets are shared, not copied.
 pub(crate) fn shared<'h>(

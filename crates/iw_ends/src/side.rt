@@ -5,16 +5,12 @@ use crate::meter::{Call, Heap, MOST_TRIES, Meter, Stopped};
 use crate::wire::Wire;
 use bytes::Bytes;
 use iw_endpoint::{
-    Agreed, CallRefusal, Config, Delivery, Emission, Endpoint, NoSuchStream, Octets, OpenRefusal,
-    PostRefusal, RecvRefusal, RegisterRefusal, Request, Right, Rights, Role, Stag, Step,
+    Agreed, CallRefusal, Config, Delivery, Emission, Endpoint, MAX_PLACE, NoSuchStream, Octets,
+    OpenRefusal, PostRefusal, RecvRefusal, RegisterRefusal, Request, Right, Rights, Role,
+    STREAM_NUMBERS, Stag, Step,
 };
 use iw_events::{Act, Options, Seen, Shown, StreamAct, StreamCall};
 use std::alloc::AllocError;
-
-const STREAM_NUMBERS: usize = 64;
-
-// `work` and `emit` ask that a stream has come no further.
-const MAX_PLACE: u64 = 1 << 62;
 
 #[derive(Drop)]
 pub(crate) struct Side<'h> {

@@ -3,11 +3,11 @@ ghost use Rattle.iw_fpdu.specs.Frame.{pad_len, frame_end};
 ghost use Rattle.iw_fpdu.specs.Laying.{IsRun};
 ghost use Rattle.iw_fpdu.specs.Places.{data_place, data_index, frame_start, in_marker, span_start};
 
-/// From one marker to the next, in octets.
-pub(crate) const SPACING: u64 = 512;
+/// From one marker to the next, in octets (RFC 5044 4.3).
+pub const SPACING: u64 = 512;
 
-/// The octets of a marker.
-pub(crate) const MARKER: u64 = 4;
+/// The octets of a marker (RFC 5044 4.3).
+pub const MARKER: u64 = 4;
 
 /// What a direction of a connection has beside the ULPDUs.
 #[derive(Clone, Copy, Debug, PartialEq, Eq)]
@@ -70,9 +70,11 @@ pub(crate) fn index_of(markers: bool, place: u64) -> u64
     }
 }
 
-/// Where the span of a frame begins: with the marker directly before it, or with the frame.
+/// Where the span of a frame begins that begins at frame place `start`: with the marker directly before it, or with the
+/// frame.
 #[tactic(auto, unfolding(crate::specs::Places::span_start))]
-pub(crate) fn span_of(markers: bool, start: u64) -> u64
+#[inline]
+pub fn span_of(markers: bool, start: u64) -> u64
     ensures value { result ≡ span_start markers start }
     ensures bound { result ≤ start }
 {

@@ -14,6 +14,6 @@ mod write;
 mod writer;
 
 pub use fpdu::{Fpdu, Mismatch};
-pub use layout::Layout;
+pub use layout::{Layout, MARKER, SPACING, span_of};
 pub use pieces::Pieces;
 pub use write::{WriteRefusal, write_bare, write_fpdu};

@@ -8,8 +8,7 @@ ghost use Rattle.iw_handle.specs.Streams.{refusal_to_emit, due_shown};
 use crate::event::{Emitted, emitted_of};
 use crate::handle::Handle;
 use crate::refusal::Refusal;
-use crate::working::MAX_PLACE;
-use iw_endpoint::{CallRefusal, Endpoint};
+use iw_endpoint::{CallRefusal, Endpoint, MAX_PLACE};
 use std::alloc::Global;
 
 // Emits a frame into a buffer, where there is room for it.

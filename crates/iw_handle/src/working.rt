@@ -14,11 +14,8 @@ use crate::event::{Event, event_of, is_quiet};
 use crate::handle::Handle;
 use crate::held::Held;
 use crate::refusal::Refusal;
-use iw_endpoint::{CallRefusal, Delivery, Endpoint, Octets, Step};
+use iw_endpoint::{CallRefusal, Delivery, Endpoint, MAX_PLACE, Octets, Step};
 use std::alloc::Global;
-
-/// A stream goes through, and emits, no more octets than this.
-pub(crate) const MAX_PLACE: u64 = 1 << 62;
 
 /// [`Handle::work_on`] does at most so many steps before the one that it answers.
 pub const QUIET_STEPS: u32 = 4_095;

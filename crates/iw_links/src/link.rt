@@ -8,7 +8,9 @@ ghost use Rattle.iw_links.specs.Standing.{standing, told_in};
 
 use crate::report::{Ended, Report};
 use bytes::Bytes;
-use iw_endpoint::{Emission, Endpoint, Octets, PrivateData, Request, Rights, Stag, Step};
+use iw_endpoint::{
+    Emission, Endpoint, MAX_PLACE, Octets, PrivateData, Request, Rights, Stag, Step,
+};
 use std::alloc::{AllocError, Global};
 
 /// The protection domain of all connections.
@@ -22,9 +24,6 @@ pub const MOST_TEXT: usize = 4_096;
 
 // How many octets the region of a listening end has.
 const REGION: usize = 65_536;
-
-// `work` and `emit` ask that a stream has come through, and has emitted, no more octets.
-const MAX_PLACE: u64 = 1 << 62;
 
 /// The stream goes no further: a reader or writer failed, the peer did not do its part, or there is no memory.
 #[derive(Clone, Copy, Debug, PartialEq, Eq)]

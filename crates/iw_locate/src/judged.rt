@@ -9,6 +9,7 @@ ghost use Rattle.std.specs.Prelude.{nat_lt, nat_le};
 ghost use Rattle.std.specs.Bool.{OnTrue};
 
 use crate::frame::Frame;
+use iw_fpdu::span_of;
 use std::alloc::{AllocError, Allocator, Global};
 use std::collections::VecDeque;
 use std::marker::Model;
@@ -147,7 +148,7 @@ impl<T, A: Allocator> Judged<T, A> {
         let at = first_ending_past(&self.records, place);
         match self.records.get(at) {
             Some(record) => {
-                if span_of(record.start) < place {
+                if span_of(true, record.start) < place {
                     return true;
                 }
                 false
@@ -188,9 +189,9 @@ impl<T, A: Allocator> Judged<T, A> {
         ensures clear { (end : ℕ) → end ≤ result → IsClear self.now.records start end }
         ensures over { (end : ℕ) → result < end → end < 2 ^ 64 → OverlapsOne self.now.records start end }
     {
-        let at = first_ending_past(&self.records, span_of(start));
+        let at = first_ending_past(&self.records, span_of(true, start));
         match self.records.get(at) {
-            Some(record) => span_of(record.start),
+            Some(record) => span_of(true, record.start),
             None => u64::MAX,
         }
     }
@@ -199,10 +200,10 @@ impl<T, A: Allocator> Judged<T, A> {
     pub fn overlaps(&self, start: u64, end: u64) -> bool
         ensures { MatchBool result (OverlapsOne self.now.records start end) (IsClear self.now.records start end) }
     {
-        let at = first_ending_past(&self.records, span_of(start));
+        let at = first_ending_past(&self.records, span_of(true, start));
         match self.records.get(at) {
             Some(record) => {
-                if span_of(record.start) < end {
+                if span_of(true, record.start) < end {
                     return true;
                 }
                 false
@@ -215,7 +216,7 @@ impl<T, A: Allocator> Judged<T, A> {
     pub fn overlaps_placed(&self, start: u64, end: u64) -> bool
         ensures { MatchBool result (OverlapsPlaced self.now.records start end) (IsClearOfPlaced self.now.records start end) }
     {
-        let first = first_ending_past(&self.records, span_of(start));
+        let first = first_ending_past(&self.records, span_of(true, start));
         has_placed(&self.records, start, end, first)
     }
 
@@ -250,14 +251,6 @@ impl<T, A: Allocator> Judged<T, A> {
         };
         insert_in_room(&mut self.records, at, record);
     }
-}
-
-/// Where the span of a frame begins that begins at `start`: with the marker directly before it, or with the frame.
-#[tactic(auto, unfolding(iw_fpdu::specs::Places::span_start))]
-pub(crate) fn span_of(start: u64) -> u64
-    ensures { result ≡ span_start true start }
-{
-    if start % 512 == 4 { start - 4 } else { start }
 }
 
 /// The first record that ends past `place`, or the number of records if there is none.
@@ -337,7 +330,7 @@ fn has_placed<T, A: Allocator>(
     let mut at = first;
     'overlapping: while at < records.len() {
         let found = &records[at];
-        if end <= span_of(found.start) {
+        if end <= span_of(true, found.start) {
             return false;
         }
         if is_placed(&found.state) {
@@ -364,7 +357,7 @@ fn end_of_run<T, A: Allocator>(
     let mut to = place;
     'run: while at < records.len() && to < limit {
         let found = &records[at];
-        if to < span_of(found.start) {
+        if to < span_of(true, found.start) {
             return to;
         }
         to = found.end;
@@ -391,7 +384,7 @@ fn forget<T: Drop, A: Allocator>(records: &mut VecDeque<Record<T>, A>, place: u6
     ensures capacity { deque_capacity records.new ≡ deque_capacity records.old }
     ensures len { deque_len records.new ≤ deque_len records.old }
 {
-    'passed: while !records.is_empty() && span_of(records[0].start) < place {
+    'passed: while !records.is_empty() && span_of(true, records[0].start) < place {
         drop_first(records);
     }
 }

@@ -4,9 +4,8 @@ ghost use Rattle.iw_locate.specs.Next.{CanBeEarly, IsFrontWhole, IsLowest, IsNon
 
 use crate::frame::{Frame, Next, frame_of};
 use crate::judged::{Judged, MAX_RECORDS};
-use crate::searching::WINDOW;
 use iw_fpdu::{Fpdu, Layout};
-use iw_ranges::Islands;
+use iw_ranges::{Islands, WINDOW};
 use std::alloc::Allocator;
 
 /// Finds the frames of one direction that can be judged.

@@ -11,20 +11,11 @@ ghost use Rattle.iw_locate.specs.Among.{IsWithin, IsLowestAmong, lower_of};
 ghost use Rattle.iw_locate.specs.Among.{IsPointedWithin, IsPastWithin, IsFoundWithin};
 
 use crate::frame::{Frame, frame_of};
-use crate::judged::{Judged, span_of};
+use crate::judged::Judged;
 use crate::locator::Locator;
-use iw_fpdu::Fpdu;
+use iw_fpdu::{Fpdu, MARKER, SPACING, span_of};
 use iw_ranges::Islands;
 use std::alloc::Allocator;
-
-/// From one marker to the next, in octets.
-pub(crate) const SPACING: u64 = 512;
-
-/// The octets of a marker.
-pub(crate) const MARKER: u64 = 4;
-
-/// How far past the in-order point an octet may lie, in octets.
-pub(crate) const WINDOW: u64 = 262_144;
 
 impl Locator {
     /// The frame at the lowest free place from `low` up to `high`. No marker from `end` on points to a lower one than `high`.
@@ -199,7 +190,7 @@ impl Locator {
         if start >= 1 << 63 || start % 4 != 0 || start % SPACING < MARKER {
             return None;
         }
-        let span = span_of(start);
+        let span = span_of(true, start);
         if span <= point {
             return None;
         }

@@ -8,9 +8,10 @@ ghost use Rattle.iw_locate.specs.Unsearched.{Tells, IsTouched, IsFollowed, IsLef
 use crate::frame::{Frame, Next};
 use crate::judged::{Judged, MAX_RECORDS};
 use crate::locator::Locator;
-use crate::searching::{MARKER, SPACING, WINDOW, round_up, start_or, start_past};
+use crate::searching::{round_up, start_or, start_past};
 use crate::unsearched::Unsearched;
-use iw_ranges::Islands;
+use iw_fpdu::{MARKER, SPACING};
+use iw_ranges::{Islands, WINDOW};
 use std::alloc::Allocator;
 
 /// More than any frame reaches past its first octet, or any pointer back, in octets.

@@ -1,8 +1,8 @@
 //! Reads at both ends, worked by hand, with the faults in the numbers of RFC 5040 4.8.
 use arrayvec::ArrayVec;
 use iw_memory::{Memory, Rights};
-use iw_octets::{Fault, ReadRequest, Stag, TaggedHead};
-use iw_reads::{Asked, MAX_UNANSWERED, Reads, Requests, ResponsePart, check_source, fetch};
+use iw_octets::{Fault, MAX_UNANSWERED, ReadRequest, Stag, TaggedHead};
+use iw_reads::{Asked, Reads, Requests, ResponsePart, check_source, fetch};
 use std::alloc::Global;
 use std::test::Fail;
 

@@ -1,14 +1,11 @@
 //! Streams as a program calls them: what one end emits comes to the other, which tells each step of its work.
 use bytes::Bytes;
 use iw_memory::{Memory, Rights};
-use iw_octets::{Message, Octets, Stag};
+use iw_octets::{MAX_PLACE, Message, Octets, Stag};
 use iw_stream::{Config, PrivateData, Request, Role, Step, Stream};
 use std::alloc::Global;
 use std::fmt::Write;
 use std::test::Fail;
-
-// `emit` and `work` ask that a stream has emitted, and come through, no more octets. No connection does.
-const MAX_PLACE: u64 = 1 << 62;
 
 pub(crate) const WRITES: Rights = Rights {
     write: true,

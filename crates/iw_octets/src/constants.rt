@@ -21,5 +21,11 @@ pub const MAX_ULPDU: usize = 64_512;
 /// How many octets a message has at most, or a Read asks for, or a region holds.
 pub const MAX_OCTETS: usize = 16_777_216;
 
+/// How many Read Requests may be unanswered: those of this end, and those of the peer (RFC 5040 6.1).
+pub const MAX_UNANSWERED: usize = 16;
+
+/// The place of a stream up to which octets are taken in and sent: the sums of all places past it stay below 2^63.
+pub const MAX_PLACE: u64 = 1 << 62;
+
 /// How many octets of private data a start-up frame holds at most (RFC 5044 7.1.1).
 pub const MAX_PRIVATE: usize = 512;

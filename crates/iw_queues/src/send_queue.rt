@@ -98,6 +98,13 @@ impl<A: Allocator> SendQueue<A> {
         self.len() == 0
     }
 
+    /// The limits that the queue keeps: at most 256 messages, those left to be sent of at most 16,777,216 octets each.
+    pub fn limits(&self)
+        ensures { IsWithinLimits self.now }
+    {
+        let _ = &self.sent;
+    }
+
     /// Whether a part of the message that is next was sent, and not its last.
     pub fn is_begun(&self) -> bool
         ensures { result ≡ nat_lt 0 self.now.offset }

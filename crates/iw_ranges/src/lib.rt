@@ -22,7 +22,7 @@ use std::collections::VecDeque;
 use std::marker::Model;
 
 /// How far past the in-order point an octet may lie, in octets.
-const WINDOW: u64 = 262_144;
+pub const WINDOW: u64 = 262_144;
 
 /// No memory could be had, and nothing changed: the call may be made again.
 pub type NoMemory = AllocError;

@@ -8,9 +8,9 @@ ghost use Rattle.iw_rdmap.specs.Terminate.{FitsFault, HasCause, HasHeaders};
 use crate::head::Head;
 use crate::sizes::{FIRST_OCTETS, MAX_TERMINATE};
 use iw_octets::{
-    DDP_VERSION, Fault, RDMAP_VERSION, READ_REQUEST_HEADER, ReadRequest, Segment, Short,
-    TaggedHead, TaggedOperation, TerminateWord, UNTAGGED_HEADER, UntaggedHead, UntaggedOperation,
-    is_tagged, rdmap_version,
+    DDP_VERSION, Fault, MAX_UNANSWERED, RDMAP_VERSION, READ_REQUEST_HEADER, ReadRequest, Segment,
+    Short, TaggedHead, TaggedOperation, TerminateWord, UNTAGGED_HEADER, UntaggedHead,
+    UntaggedOperation, is_tagged, rdmap_version,
 };
 
 // The number of a queue's first message.
@@ -18,9 +18,6 @@ const FIRST_MSN: u32 = 1;
 
 // The highest queue number.
 const LAST_QUEUE: u32 = 2;
-
-// How many Read Requests may be unanswered.
-const MAX_UNANSWERED: usize = 16;
 
 /// The checks of a tagged header up to that of its opcode: the operation, or the first fault.
 #[inline(always)]

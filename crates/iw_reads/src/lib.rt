@@ -15,6 +15,6 @@ pub use laws::{
     responses_are_whole,
 };
 pub use reads::{MAX_READS, Outstanding, Reads};
-pub use requests::{Asked, MAX_UNANSWERED, REQUEST_HEADERS, Requests};
+pub use requests::{Asked, REQUEST_HEADERS, Requests};
 pub use response::{ResponsePart, fetch};
 pub use source::check_source;

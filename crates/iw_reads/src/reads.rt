@@ -86,6 +86,13 @@ impl Reads {
         self.reads.is_empty()
     }
 
+    /// The limits that the Reads keep: at most 16, and only of the oldest had octets their turn.
+    pub fn limits(&self)
+        ensures { HoldsLimits self.now }
+    {
+        let _ = &self.reads;
+    }
+
     /// Whether as many Reads are outstanding as may be: no request may be sent.
     pub fn is_full(&self) -> bool
         ensures { result ≡ nat_le most_reads (length self.now) }

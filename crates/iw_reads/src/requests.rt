@@ -8,11 +8,10 @@ ghost use Rattle.iw_reads.specs.Source.{IsInRange};
 use crate::reads::no_request;
 use crate::response::{ResponsePart, part_of_response};
 use arrayvec::ArrayVec;
-use iw_octets::{Part, READ_REQUEST_HEADER, ReadRequest, TAGGED_HEADER, UNTAGGED_HEADER};
+use iw_octets::{
+    MAX_UNANSWERED, Part, READ_REQUEST_HEADER, ReadRequest, TAGGED_HEADER, UNTAGGED_HEADER,
+};
 use std::marker::Model;
-
-/// How many Read Requests may wait for their responses at one end of a stream.
-pub const MAX_UNANSWERED: usize = 16;
 
 /// How many octets the headers of a Read Request have: DDP's, and its own after it.
 pub const REQUEST_HEADERS: usize = UNTAGGED_HEADER + READ_REQUEST_HEADER;
@@ -86,6 +85,13 @@ impl Requests {
         ensures { IsTrue result ↔ (self.now.unanswered ≡ []) }
     {
         self.unanswered.is_empty()
+    }
+
+    /// The limits that the requests keep: at most 16 wait, each with a whole header and offsets that don't wrap.
+    pub fn limits(&self)
+        ensures { HoldsLimits self.now }
+    {
+        let _ = &self.unanswered;
     }
 
     /// The headers of the request that has waited longest, 46 octets: DDP's, as it came, and the Read Request's after

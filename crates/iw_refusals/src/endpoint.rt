@@ -1,7 +1,7 @@
 use bytes::Bytes;
 use iw_endpoint::{
-    CallRefusal, Config, Emission, Endpoint, Message, OpenRefusal, PostRefusal, PrivateData,
-    RecvRefusal, RegisterRefusal, Request, Rights, Role, Stag, Step,
+    CallRefusal, Config, Emission, Endpoint, MAX_PLACE, Message, OpenRefusal, PostRefusal,
+    PrivateData, RecvRefusal, RegisterRefusal, Request, Rights, Role, Stag, Step,
 };
 use iw_testing::FailsAt;
 use std::alloc::{AllocError, Allocator};
@@ -10,9 +10,6 @@ use std::test::Fail;
 const DOMAIN: u8 = 1;
 
 const NUMBER: u8 = 0;
-
-// `emit` and `work` ask that a stream has come no further.
-const MAX_PLACE: u64 = 1 << 62;
 
 const TEXT: &[u8] = b"remote memory";
 

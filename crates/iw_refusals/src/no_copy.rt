@@ -3,16 +3,13 @@
 
 use bytes::Bytes;
 use iw_memory::{Memory, Rights};
-use iw_octets::{Message, Stag};
+use iw_octets::{MAX_PLACE, Message, Stag};
 use iw_stream::{Config, PrivateData, Request, Role, Step, Stream};
 use iw_testing::FailsAt;
 use std::alloc::{AllocError, Global};
 use std::test::Fail;
 
 type Heap<'h> = &'h FailsAt<Global>;
-
-// `emit` and `work` ask that a stream has come no further.
-const MAX_PLACE: u64 = 1 << 62;
 
 // How many octets a frame has, the marker before it among them, and its payload.
 const FRAME: usize = 512;

@@ -16,16 +16,11 @@ ghost use Rattle.iw_stream.specs.Incoming.{IsClearAt};
 ghost use Rattle.iw_stream.specs.Frames.{IsNext as IsNextFrame, frame_at, frame_by, placed_at, without};
 
 use crate::judging::{Header, PlacedFrame, copy_of};
-use iw_fpdu::{Fpdu, Layout};
+use iw_fpdu::{Fpdu, Layout, span_of};
 use iw_locate::{Frame, Judged, Locator, Next, RecordRefusal, State, Unsearched};
 use iw_ranges::{Delivery, Islands};
 use std::alloc::{AllocError, Allocator};
 use std::marker::Model;
-
-// The octets of a marker, and from one to the next.
-const MARKER: u64 = 4;
-
-const MARKER_SPACING: u64 = 512;
 
 /// What came from the peer, from the in-order point on, and the frames among it that were judged before their turn.
 #[derive(Drop)]
@@ -280,23 +275,9 @@ impl<A: Allocator> Incoming<A> {
                 self.judged.add(frame, State::Placed(header));
                 let Locator { base, .. } = self.locator;
                 self.islands
-                    .release(base + span_of(frame.start), base + frame.end);
+                    .release(base + span_of(true, frame.start), base + frame.end);
             }
         }
-    }
-}
-
-// Where the span of a frame begins that begins at frame place `start`, where there are markers: with the marker directly
-// before it, or with the frame.
-#[tactic(auto, unfolding(iw_fpdu::specs::Places::span_start))]
-fn span_of(start: u64) -> u64
-    ensures value { result ≡ span_start true start }
-    ensures bound { result ≤ start }
-{
-    if start % MARKER_SPACING == MARKER {
-        start - MARKER
-    } else {
-        start
     }
 }
 

@@ -17,6 +17,7 @@ use crate::incoming::Incoming;
 use crate::judging::PlacedFrame;
 use crate::starting::Start;
 use bytes::Bytes;
+use iw_octets::MAX_ULPDU;
 use iw_queues::{Refusal, Request, SendQueue};
 use iw_ranges::Delivery;
 use iw_reads::{Reads, Requests};
@@ -30,7 +31,7 @@ const FIRST_MULPDU: usize = 1400;
 
 const MIN_MULPDU: u32 = 128;
 
-const MAX_MULPDU: u32 = 64_512;
+const MAX_MULPDU: u32 = MAX_ULPDU as u32;
 
 /// One stream of a domain: what was posted at it, and what came.
 #[derive(Drop)]
@@ -125,10 +126,10 @@ impl<A: Allocator> Stream<A> {
         ensures { IsWithin self.now }
     {
         self.arrived.limits();
-        let _ = self.queue.len();
+        self.queue.limits();
         self.receiving.limits();
-        let _ = self.reads.len();
-        let _ = self.asked.len();
+        self.reads.limits();
+        self.asked.limits();
     }
 
     /// How many octets were emitted: the place past them in the stream.

@@ -12,14 +12,12 @@ use crate::copies::private_data;
 use crate::fault::Failure;
 use crate::wire::Wire;
 use bytes::Bytes;
-use iw_endpoint::Endpoint;
+use iw_endpoint::{Endpoint, STREAM_NUMBERS};
 use iw_events::{Act, Call, Options};
 use iw_memory::{RegisterRefusal, Rights, Stag};
 use iw_stream::{Config, OpenRefusal, Role};
 use std::alloc::{AllocError, Allocator, Global};
 use std::marker::Model;
-
-const STREAM_NUMBERS: usize = 64;
 
 /// One end: its endpoint, and what each stream emitted, by its number.
 #[derive(Drop)]

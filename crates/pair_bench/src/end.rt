@@ -1,5 +1,5 @@
 use anyhow::{Result, bail};
-use iw_endpoint::{Config, Emission, Endpoint, PrivateData, Rights, Role, Stag, Step};
+use iw_endpoint::{Config, Emission, Endpoint, MAX_PLACE, PrivateData, Rights, Role, Stag, Step};
 use std::alloc::Global;
 
 pub(crate) const DOMAIN: u8 = 1;
@@ -9,9 +9,6 @@ pub(crate) const STREAM: u8 = 0;
 /// How many blocks the region has that is written to, again and again: few, so that it stays in the processor's caches,
 /// as the buffer of a plain copy does.
 pub(crate) const REGION_BLOCKS: u32 = 2;
-
-// `emit` and `work` ask that a stream has emitted, and come through, no more octets.
-const MAX_PLACE: u64 = 1 << 62;
 
 /// An end, open at once, with a buffer for a message.
 pub(crate) fn end(alloc: Global, mulpdu: u32, is_framed: bool) -> Result<Endpoint> {

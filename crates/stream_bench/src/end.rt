@@ -1,15 +1,12 @@
 use crate::load::Load;
 use bytes::Bytes;
 use iw_memory::{Memory, Stag};
-use iw_octets::{Message, Octets, ReadRequest};
+use iw_octets::{MAX_PLACE, Message, Octets, ReadRequest};
 use iw_stream::{Config, Delivery, Emission, PrivateData, Request, Role, Step, Stream};
 use std::alloc::{AllocError, AllocFailed, Global};
 
 /// The domain of all streams and regions.
 pub(crate) const DOMAIN: u8 = 1;
-
-// How many octets a stream emits at most before its last frame, and takes at most before its last step.
-const MAX_PLACE: u64 = 1 << 62;
 
 // How many steps are done at most for one delivery.
 const MAX_STEPS: u32 = 10_000;

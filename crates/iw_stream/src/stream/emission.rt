@@ -218,8 +218,7 @@ impl<A: Allocator> Stream<A> {
         ensures memory { part_due self.old ≡ None → is_ok result ≡ true }
     {
         let place = self.sent - self.start.first_place_out();
-        // Its contract has the queue's limits.
-        let _ = self.queue.len();
+        self.queue.limits();
         let Some(part) = self.queue.next_part(self.mulpdu) else {
             return Ok(Emission::Nothing);
         };

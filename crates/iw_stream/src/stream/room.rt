@@ -13,13 +13,10 @@ use super::emission::must_wait;
 use crate::ending::Ending;
 use bytes::Bytes;
 use iw_memory::Memory;
-use iw_octets::{Message, TAGGED_HEADER, UNTAGGED_HEADER};
+use iw_octets::{Message, READ_REQUEST_HEADER, TAGGED_HEADER, UNTAGGED_HEADER};
 use iw_queues::{Part, Request};
 use iw_reads::{ResponsePart, fetch};
 use std::alloc::Allocator;
-
-// How many octets a Read Request has past its header.
-const READ_REQUEST: usize = 28;
 
 // The length of the ULPDU that carries a part.
 fn ulpdu_len<A: Allocator>(part: &Part<&Request<Bytes<A>>>) -> usize
@@ -31,7 +28,7 @@ fn ulpdu_len<A: Allocator>(part: &Part<&Request<Bytes<A>>>) -> usize
     match part.message {
         Request::Message(Message::Write { .. }) => TAGGED_HEADER + part.n,
         Request::Message(Message::Send { .. }) => UNTAGGED_HEADER + part.n,
-        Request::Read(_) => UNTAGGED_HEADER + READ_REQUEST,
+        Request::Read(_) => UNTAGGED_HEADER + READ_REQUEST_HEADER,
     }
 }
 
@@ -88,8 +85,7 @@ impl<A: Allocator> Stream<A> {
         requires { self.now.sent ≤ 2 ^ 62 }
         ensures { (table : Table) → result ≡ length (octets_due table self.now (option_map_or NextPart (part_due self.now) NoneDue)) }
     {
-        // Its contract has the queue's limits.
-        let _ = self.queue.len();
+        self.queue.limits();
         let Some(part) = self.queue.next_part(self.mulpdu) else {
             return 0;
         };

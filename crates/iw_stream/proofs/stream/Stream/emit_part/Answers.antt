@@ -37,7 +37,7 @@ returns-clause-after g c = λ table.
     (λ i. frame_octets (c.sending.ensures i) (s.sent - c.first_place_out.ensures.place i) u) in
     let long : length c.write_part.new.out.items ≡ length c.args.out.now.items + length (frame_of_part s part) =
     ap length c.in_ok-write_part.ensures.ok ∙ length-append c.args.out.now.items _ ∙ ap (λ xs. length c.args.out.now.items + length xs) frame in
-    let sent : s.sent + (c.len-2.result - c.len-before.result) ≡ s.sent + length (frame_of_part s part) = omega (arith, long, c.len-2.ensures, c.len-before.ensures) in
+    let sent : s.sent + (c.len.result - c.len-before.result) ≡ s.sent + length (frame_of_part s part) = omega (arith, long, c.len.ensures, c.len-before.ensures) in
     (λ i. record s { queue = queue i; numbers = c.beyond-self-inside.ensures i; sent = sent i; reads = c.read_sent.ensures i })
     ∙ ap (λ o. left_due table s (option_map_or NextPart o NoneDue)) (sym due)
     ∙ ap (λ (t : StreamState). left_due table t (option_map_or NextPart (part_due t) NoneDue)) c.self.view_is
@@ -54,13 +54,13 @@ invariant_of-self g c = record {
       let low : first_place_out (state_of c.self.inside).start ≤ (state_of c.self.inside).sent = subst (λ (t : StreamState). first_place_out t.start ≤ t.sent) (sym c.self.view_is) c.requires.owed in
       let at : c.first_place_out.result ≡ first_place_out (state_of c.self.inside).start = c.first_place_out.ensures.place in
       let long : length c.write_part.new.out.items ≡ length c.args.out.now.items + length frame = ap length c.in_ok-write_part.ensures.ok ∙ length-append c.args.out.now.items frame in
-      let all : s.sent - first_place_out (state_of c.self.inside).start + (c.len-2.result - c.len-before.result) ≡ s.sent - first + length frame = omega (arith, long, c.len-2.ensures, c.len-before.ensures, at) in
+      let all : s.sent - first_place_out (state_of c.self.inside).start + (c.len.result - c.len-before.result) ≡ s.sent - first + length frame = omega (arith, long, c.len.ensures, c.len-before.ensures, at) in
       let after : c.part_sent.new.self ≡ part_sent c.self.inside.queue (Some (shown_part c.in-Some.part)) = c.part_sent.ensures (record { max = c.self.inside.mulpdu; least = c.self.invariant.keeps.enough; part = part; shown = sym c.in-Some.ensures.part; octets = refl; ends = refl }) in
-      keeps_sent (state_of s) c.part_sent.new.self (numbers_of c.beyond-self-inside.result) (c.len-2.result - c.len-before.result) c.read_sent.new.reads s.asked running low
+      keeps_sent (state_of s) c.part_sent.new.self (numbers_of c.beyond-self-inside.result) (c.len.result - c.len-before.result) c.read_sent.new.reads s.asked running low
       (ap (λ n. n % 4) all ∙ aligned_past c.sending.result (s.sent - first) u (ap (λ n. (s.sent - n) % 4) at ∙ c.self.invariant.keeps.aligned))
       (subst (λ (q : Queue). q.sent.first < 2 ^ 64) (sym after) (first_sent s.queue (Some part) c.self.invariant.keeps.first))
       (λ runs. subst (λ (q : Queue). AreAwaited q.sent c.read_sent.new.reads) (sym after)
-      (subst (AreAwaited (part_sent c.self.inside.queue (Some (shown_part c.in-Some.part))).sent) (sym c.read_sent.ensures) (awaited_sent s.queue _ part s.reads c.len.ensures.limits c.self.invariant.keeps.first (sym c.in-Some.ensures.part) (c.self.invariant.keeps.awaited runs))))
+      (subst (AreAwaited (part_sent c.self.inside.queue (Some (shown_part c.in-Some.part))).sent) (sym c.read_sent.ensures) (awaited_sent s.queue _ part s.reads c.limits.ensures c.self.invariant.keeps.first (sym c.in-Some.ensures.part) (c.self.invariant.keeps.awaited runs))))
       c.self.invariant.keeps;
   layout = c.self.invariant.layout;
   base = c.self.invariant.base;
