@@ -1,6 +1,7 @@
 //! The calls of an end's streams.
 
-ghost use Rattle.std.specs.Prelude.{◌≡◌, ◌≢◌, ◌+◌, ◌<◌, ◌≤◌, ◌^◌, true, false, length, is_some, IfOk, IfErr, OnOk};
+ghost use Rattle.std.specs.Prelude.{◌≡◌, ◌≢◌, ◌+◌, ◌<◌, ◌≤◌, ◌^◌, true, false, length, take, is_some, IfOk, IfErr, OnOk};
+ghost use Rattle.iw_events.specs.declared.act.Seen.TheVariants.{Received};
 ghost use Rattle.iw_events.specs.Events.{stream_call_of};
 ghost use Rattle.iw_endpoint.specs.Endpoint.{has_stream, stream_at, private_at};
 ghost use Rattle.iw_laws.specs.Bounds.{IsShort};
@@ -15,7 +16,7 @@ use crate::stream;
 use bytes::Bytes;
 use iw_endpoint::Endpoint;
 use iw_events::{Seen, StreamAct, StreamCall};
-use iw_octets::Octets;
+use iw_octets::{Octets, Stag};
 use iw_stream::{Request, Step};
 use std::alloc::{AllocError, Allocator};
 
@@ -308,15 +309,27 @@ fn seen<A: Allocator + Copy>(
             len,
             solicited,
             invalidate,
-        } => Ok(Seen::Received {
-            octets: message_in(buffer, len)?,
-            solicited,
-            invalidate,
-        }),
+        } => received(buffer, len, solicited, invalidate),
         Step::Terminated(fault) => Ok(Seen::Terminated(fault)),
         Step::Fault(fault) => Ok(Seen::Fault(fault)),
         Step::Idle => Ok(Seen::Idle),
     }
+}
+
+// What is shown of a message that was received.
+fn received<A: Allocator + Copy>(
+    buffer: Octets<A>,
+    len: usize,
+    solicited: bool,
+    invalidate: Option<Stag>,
+) -> Result<Seen<Bytes<A>>, AllocError>
+    ensures { IfOk result (λ seen. seen ≡ Received (take len buffer) solicited invalidate) }
+{
+    Ok(Seen::Received {
+        octets: message_in(buffer, len)?,
+        solicited,
+        invalidate,
+    })
 }
 
 // The private data of the peer's start-up frame, once that was read.

@@ -13,6 +13,6 @@ run-preserved g c =
       covered = λ q low high.
           elim (cases_lt q c.run.to) [
             | inl before ↦ c.run.invariant.covered q low before
-            | inr from ↦ (r, (at, inside, sym c.index-found.ensures), omega (arith, c.if-to-span_of.false, c.span_of.ensures), high)
+            | inr from ↦ (r, (at, inside, sym c.index-found.ensures), omega (arith, c.if-to-span_of.false, c.span_of.ensures.value), high)
           ];
     }

@@ -10,4 +10,4 @@ returns-else-span_of-place g c =
     let rs = c.self.inside.records.items in
     subst (λ xs. (r : Record g.row.T.Denot) → Contains xs r → from_of r < c.args.place → r.end ≤ c.args.place) (ap (λ h. h.records) c.self.view_is)
     (none_over rs c.self.invariant.apart c.args.place c.first_ending_past-at.result c.in-Some.record.now c.first_ending_past-at.ensures (omega (arith, c.in-Some.ensures.variant.0 refl, c.self.inside.records.ok.0)) c.in-Some.ensures.lookup
-    (omega (arith, c.if-span_of-place.false, c.span_of.ensures)))
+    (omega (arith, c.if-span_of-place.false, c.span_of.ensures.value)))

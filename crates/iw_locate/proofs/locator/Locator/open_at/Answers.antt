@@ -20,7 +20,7 @@ returns-then-start g c =
 pub returns-then-span-point : goal.returns-then-span-point
 returns-then-span-point g c =
     let v : Scene g.row.T.Denot = scene_of c.args.self.now.layout c.args.self.now.base c.args.islands.now.arrived c.args.judged.now.records in
-    λ open_. not_open_low v c.requires.can c.requires.markers c.args.start (omega (arith, c.span_of-span.ensures, c.if-span-point.true, c.requires.point)) open_
+    λ open_. not_open_low v c.requires.can c.requires.markers c.args.start (omega (arith, c.span_of-span.ensures.value, c.if-span-point.true, c.requires.point)) open_
 
 pub returns-then-clear-start : goal.returns-then-clear-start
 returns-then-clear-start g c =
@@ -33,7 +33,7 @@ read-requires-clause-start g c = start_from c.args.self.now.layout.markers c.arg
 pub read-requires-clause-length_kept : goal.read-requires-clause-length_kept
 read-requires-clause-length_kept g c =
     let v : Scene g.row.T.Denot = scene_of c.args.self.now.layout c.args.self.now.base c.args.islands.now.arrived c.args.judged.now.records in
-    length_kept v c.requires.can c.requires.markers c.args.start (c.clear_to-clear.ensures.clear (c.args.start + 2) (omega (arith, c.if-clear-start.false))) (omega (arith, c.if-span-point.false, c.span_of-span.ensures, c.requires.point))
+    length_kept v c.requires.can c.requires.markers c.args.start (c.clear_to-clear.ensures.clear (c.args.start + 2) (omega (arith, c.if-clear-start.false))) (omega (arith, c.if-span-point.false, c.span_of-span.ensures.value, c.requires.point))
 
 pub returns-then-clear-end : goal.returns-then-clear-end
 returns-then-clear-end g c =
