@@ -78,7 +78,6 @@ sound_put f after ok from to octets some near room puts few = record {
   reached = omega (arith, ok.reached, puts.floor, add_first from to f.spans ok.order, ap first_end puts.spans);
   within = λ p t. inside p (sym (in_after f after ok from to octets some puts p) ∙ t);
   windowed = omega (arith, ok.windowed, ok.base, puts.base, puts.floor, puts.len);
-  quarter = omega (arith, ok.quarter, puts.base, puts.floor, puts.len);
   held = omega (arith, ok.held, room, puts.len);
   few = omega (arith, few, ap length puts.spans);
   low = omega (arith, ok.low, puts.floor);

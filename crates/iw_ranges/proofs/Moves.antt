@@ -1,5 +1,5 @@
 -- What `advance` and `release` leave, and what is handed out.
-use Rattle.std.proofs.Common.{◌≡◌, ℕ, ◌+◌, ◌-◌, ◌*◌, ◌<◌, ◌≤◌, ◌^◌, zero, suc, Bool, true, false, ◌&&◌, ◌||◌, cond, ltb, leb, List, [], ◌∷◌, map, take, drop, length, get_or, max, refl, sym, ap, ◌∙◌, subst, arith, inl, inr}
+use Rattle.std.proofs.Common.{◌≡◌, ℕ, ◌+◌, ◌-◌, ◌<◌, ◌≤◌, ◌^◌, zero, suc, Bool, true, false, ◌&&◌, ◌||◌, cond, ltb, leb, List, [], ◌∷◌, map, take, drop, length, get_or, max, refl, sym, ap, ◌∙◌, subst, arith, inl, inr}
 use Rattle.std.proofs.lemmas.List.{get_or-drop, length-drop, drop-map, same_lists, length-map, length-take-le, get_or-map, get_or-take, append-nil}
 use Rattle.std.proofs.lemmas.List.FromFn.{get_or-map-range_with_len, length-map-range_with_len}
 use Rattle.std.proofs.lemmas.Bool.{cases_lt}
@@ -93,7 +93,6 @@ pub record MovesTo (f after : Fields) (to : ℕ) : Type 0 where
   pub octets : after.octets ≡ drop (after.base - f.base) f.octets
   pub low : f.base ≤ after.base
   pub high : after.base ≤ to
-  pub quarter : 4 * (to - after.base) ≤ 3 * length after.octets
 
 pub sound_moved : (f after : Fields) → IsSound f → (to : ℕ) → f.floor ≤ to → to ≤ first_end f.spans → to ≤ 2 ^ 63 → MovesTo f after to → IsSound after
 sound_moved f after ok to low high small moves = record {
@@ -103,7 +102,6 @@ sound_moved f after ok to low high small moves = record {
   reached = omega (arith, moves.floor, ap first_end moves.spans);
   within = λ p t. omega (arith, end, ok.within p (sym (ap (in_spans p) moves.spans) ∙ t));
   windowed = omega (arith, end, ok.windowed, moves.floor);
-  quarter = subst (λ n. 4 * (n - after.base) ≤ 3 * length after.octets) (sym moves.floor) moves.quarter;
   held = omega (arith, ok.held, ap length moves.octets, length-drop (after.base - f.base) f.octets);
   few = omega (arith, ok.few, ap length moves.spans);
   low = omega (arith, moves.floor);
@@ -151,9 +149,8 @@ advanced_back a to back =
 abbrev pub shorter : Fields → List ℕ → ℕ → Fields
 shorter f octets base = record { base = base; floor = f.floor; missing = f.missing; octets = octets; spans = f.spans; gone = f.gone }
 
-shorter_moves : (f : Fields) → IsSound f → (octets : List ℕ) (base : ℕ) → octets ≡ drop (base - f.base) f.octets → f.base ≤ base → base ≤ f.floor
-    → 4 * (f.floor - base) ≤ 3 * length octets → MovesTo f (shorter f octets base) f.floor
-shorter_moves f ok octets base cut low high quarter = record {
+shorter_moves : (f : Fields) → IsSound f → (octets : List ℕ) (base : ℕ) → octets ≡ drop (base - f.base) f.octets → f.base ≤ base → base ≤ f.floor → MovesTo f (shorter f octets base) f.floor
+shorter_moves f ok octets base cut low high = record {
   floor = refl;
   missing = refl;
   spans = refl;
@@ -161,19 +158,16 @@ shorter_moves f ok octets base cut low high quarter = record {
   octets = cut;
   low = low;
   high = high;
-  quarter = quarter;
 }
 
-pub shorter_sound : (f : Fields) → IsSound f → (octets : List ℕ) (base : ℕ) → octets ≡ drop (base - f.base) f.octets → f.base ≤ base → base ≤ f.floor
-    → 4 * (f.floor - base) ≤ 3 * length octets → IsSound (shorter f octets base)
-shorter_sound f ok octets base cut low high quarter =
-    sound_moved f (shorter f octets base) ok f.floor (omega arith) ok.reached ok.low (shorter_moves f ok octets base cut low high quarter)
+pub shorter_sound : (f : Fields) → IsSound f → (octets : List ℕ) (base : ℕ) → octets ≡ drop (base - f.base) f.octets → f.base ≤ base → base ≤ f.floor → IsSound (shorter f octets base)
+shorter_sound f ok octets base cut low high =
+    sound_moved f (shorter f octets base) ok f.floor (omega arith) ok.reached ok.low (shorter_moves f ok octets base cut low high)
 
 -- and nothing changed
-pub shorter_same : (f : Fields) → IsSound f → (octets : List ℕ) (base : ℕ) → octets ≡ drop (base - f.base) f.octets → f.base ≤ base → base ≤ f.floor
-    → 4 * (f.floor - base) ≤ 3 * length octets → arrived_in (shorter f octets base) ≡ arrived_in f
-shorter_same f ok octets base cut low high quarter =
-    advanced_to f (shorter f octets base) ok f.floor (omega arith) ok.reached (shorter_moves f ok octets base cut low high quarter)
+pub shorter_same : (f : Fields) → IsSound f → (octets : List ℕ) (base : ℕ) → octets ≡ drop (base - f.base) f.octets → f.base ≤ base → base ≤ f.floor → arrived_in (shorter f octets base) ≡ arrived_in f
+shorter_same f ok octets base cut low high =
+    advanced_to f (shorter f octets base) ok f.floor (omega arith) ok.reached (shorter_moves f ok octets base cut low high)
     ∙ advanced_back (arrived_in f) f.floor (omega arith)
 
 -- fields that are the same are as sound
@@ -201,7 +195,6 @@ sound_release f after ok from to some came gives = record {
   reached = omega (arith, ok.reached, gives.floor, ap first_end gives.spans);
   within = λ p t. omega (arith, gives.base, ap length gives.octets, ok.within p (sym (ap (in_spans p) gives.spans) ∙ t));
   windowed = omega (arith, ok.windowed, gives.base, gives.floor, ap length gives.octets);
-  quarter = omega (arith, ok.quarter, gives.base, gives.floor, ap length gives.octets);
   held = omega (arith, ok.held, ap length gives.octets);
   few = omega (arith, ok.few, ap length gives.spans);
   low = omega (arith, ok.low, gives.floor);

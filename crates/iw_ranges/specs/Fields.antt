@@ -1,5 +1,5 @@
 -- What the fields of an `Islands` mean, and what they keep.
-use Rattle.std.specs.Prelude.{ℕ, ◌≡◌, ◌≤◌, ◌<◌, ◌+◌, ◌-◌, ◌*◌, ◌^◌, true, List, length, if◌then◌else◌, slice_index}
+use Rattle.std.specs.Prelude.{ℕ, ◌≡◌, ◌≤◌, ◌<◌, ◌+◌, ◌-◌, ◌^◌, true, List, length, if◌then◌else◌, slice_index}
 use Rattle.std.specs.VecDeque.{deque_len, deque_capacity}
 use Rattle.iw_ranges.specs.Spans.{in_spans, IsFromStart, AreSpans, first_end}
 use Rattle.iw_ranges.specs.Arrived.{Cell, Missing, Here, Gone, Arrived, Held, drawn, window}
@@ -27,7 +27,7 @@ arrived_in f = drawn f.floor (f.base + length f.octets) (cell_of f)
 abbrev pub held_by : {A : Type 0} → Inside A → Held
 held_by {A} a = record { arrived = arrived_in (fields_of a); room = deque_capacity a.gone - deque_len a.gone }
 
--- a buffer holds a window, and a quarter of one that lies before the in-order point
+-- a buffer holds a window, and up to a quarter of one that lies before the in-order point
 abbrev pub max_held : ℕ
 max_held = 327680
 
@@ -38,7 +38,6 @@ pub record IsSound (f : Fields) : Type 0 where
   pub reached : f.floor ≤ first_end f.spans
   pub within : (p : ℕ) → in_spans p f.spans ≡ true → p < f.base + length f.octets
   pub windowed : f.base + length f.octets ≤ f.floor + window
-  pub quarter : 4 * (f.floor - f.base) ≤ 3 * length f.octets
   pub held : length f.octets ≤ max_held
   pub few : length f.spans ≤ 1025
   pub low : f.floor ≤ 2 ^ 63

@@ -193,31 +193,7 @@ pub(crate) fn put<A: Allocator>(
     Ok(())
 }
 
-/// Copies the octets from index `n` on to the front, where they have room.
-fn copy_to_front(octets: &mut [u8], n: usize)
-    requires within { n ≤ length octets.old }
-    requires room { length octets.old ≤ 2 * n }
-    ensures { take (length octets.old - n) octets.new ≡ drop n octets.old }
-{
-    let (front, back) = octets.split_at_mut(n);
-    front[..back.len()].copy_from_slice(back);
-}
-
-/// Lets the first `n` octets go, at least half of them.
-#[inline(never)]
-fn drop_front<A: Allocator>(octets: &mut Vec<u8, A>, n: usize)
-    requires within { n ≤ vec_len octets.old }
-    requires half { vec_len octets.old ≤ 2 * n }
-    ensures items { octets.new.items ≡ drop n octets.old.items }
-    ensures len { vec_len octets.new + n ≡ vec_len octets.old }
-{
-    let kept = octets.len() - n;
-    copy_to_front(octets, n);
-    octets.truncate(kept);
-}
-
-/// Lets octets before place `to` go: where none stands past them, or where they are three quarters of the buffer, which
-/// begins at place `base`. One octet is moved at most for each three that the in-order point passed.
+/// Lets the octets before place `to` go where none stands past them. No octet is moved.
 #[inline]
 pub(crate) fn let_go<A: Allocator>(octets: &mut Vec<u8, A>, base: &mut u64, to: u64)
     requires low { base.old ≤ to }
@@ -225,14 +201,9 @@ pub(crate) fn let_go<A: Allocator>(octets: &mut Vec<u8, A>, base: &mut u64, to: 
     ensures octets { octets.new.items ≡ drop (base.new - base.old) octets.old.items }
     ensures low { base.old ≤ base.new }
     ensures high { base.new ≤ to }
-    ensures quarter { 4 * (to - base.new) ≤ 3 * vec_len octets.new }
 {
-    let dead = (to - *base) as usize;
-    if dead == octets.len() {
+    if to - *base == octets.len() as u64 {
         octets.clear();
-        *base = to;
-    } else if dead / 3 >= octets.len() - dead {
-        drop_front(octets, dead);
         *base = to;
     }
 }
@@ -265,7 +236,7 @@ fn move_to_front(octets: &mut [u8], n: usize)
 
 /// Lets the first `n` octets go, however many stand past them.
 #[inline(never)]
-fn drop_few<A: Allocator>(octets: &mut Vec<u8, A>, n: usize)
+fn drop_front<A: Allocator>(octets: &mut Vec<u8, A>, n: usize)
     requires some { 0 < n }
     requires within { n ≤ vec_len octets.old }
     ensures items { octets.new.items ≡ drop n octets.old.items }
@@ -277,24 +248,25 @@ fn drop_few<A: Allocator>(octets: &mut Vec<u8, A>, n: usize)
 }
 
 /// Lets the octets before the in-order point `floor` go, if the buffer, which begins at place `base`, would have to
-/// hold more than 327,680 octets to reach place `to`.
+/// grow to reach place `to` and they are half of it or more, or if it would have to hold more than 327,680 octets.
 ///
-/// They are then more than 65,536, and no more than 262,144 stand past them: four octets are moved at most for each
-/// that the in-order point passed.
+/// In the first case no more octets are moved than the in-order point passed since the last move. In the second it
+/// passed more than 65,536, and no more than 262,144 stand past them: four are moved at most for each.
 pub(crate) fn shorten<A: Allocator>(octets: &mut Vec<u8, A>, base: &mut u64, floor: u64, to: u64)
     requires low { base.old ≤ floor }
     requires high { floor ≤ base.old + vec_len octets.old }
-    requires quarter { 4 * (floor - base.old) ≤ 3 * vec_len octets.old }
     requires ahead { floor ≤ to }
     requires near { to ≤ floor + 262144 }
     ensures octets { octets.new.items ≡ drop (base.new - base.old) octets.old.items }
     ensures low { base.old ≤ base.new }
     ensures high { base.new ≤ floor }
-    ensures quarter { 4 * (floor - base.new) ≤ 3 * vec_len octets.new }
     ensures room { to ≤ base.new + 327680 }
 {
-    if to - *base > MAX_HELD as u64 {
-        drop_few(octets, (floor - *base) as usize);
+    let passed = (floor - *base) as usize;
+    let needed = (to - *base) as usize;
+    let is_half = octets.len() - passed <= passed;
+    if passed > 0 && (needed > MAX_HELD || needed > octets.capacity() && is_half) {
+        drop_front(octets, passed);
         *base = floor;
     }
 }

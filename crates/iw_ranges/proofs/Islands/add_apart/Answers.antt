@@ -1,4 +1,4 @@
-use Rattle.std.proofs.Common.{◌*◌, ◌-◌, ◌≡◌, ◌≤◌, ◌<◌, ◌+◌, List, ℕ, length, drop, true, false, sym, ap, subst, ◌∙◌, refl, arith, rules}
+use Rattle.std.proofs.Common.{◌≡◌, ◌≤◌, ◌<◌, ◌+◌, List, ℕ, length, drop, true, false, sym, ap, subst, ◌∙◌, refl, arith, rules}
 use Rattle.iw_ranges.specs.Arrived.{Arrived, Held, is_dropped, window, delivery, delivered, BringsOctets}
 use Rattle.iw_ranges.specs.declared.Delivery.TheVariants.{Kept}
 use Rattle.iw_ranges.specs.Spans.{add_span, IsFromStart}
@@ -88,8 +88,7 @@ pub invariant_of-self-2 : goal.invariant_of-self-2
 invariant_of-self-2 g c =
     let start : Fields = fields_of c.self.inside in
     let f : Fields = shorter start c.shorten.new.octets.items c.shorten.new.base in
-    let quarter : 4 * (start.floor - c.shorten.new.base) ≤ 3 * length c.shorten.new.octets.items = omega (arith, c.shorten.ensures.quarter, c.shorten.new.octets.ok.0) in
-    let sound : IsSound f = shorter_sound start c.self.invariant _ _ c.shorten.ensures.octets c.shorten.ensures.low c.shorten.ensures.high quarter in
+    let sound : IsSound f = shorter_sound start c.self.invariant _ _ c.shorten.ensures.octets c.shorten.ensures.low c.shorten.ensures.high in
     let n = length c.args.octets.now in
     let from = c.args.place + c.saturating_sub-before.result in
     let some : 0 < n = c.requires.some in
@@ -122,10 +121,9 @@ pub returns-clause-ok : goal.returns-clause-ok
 returns-clause-ok g c =
     let start : Fields = fields_of c.self.inside in
     let f : Fields = shorter start c.shorten.new.octets.items c.shorten.new.base in
-    let quarter : 4 * (start.floor - c.shorten.new.base) ≤ 3 * length c.shorten.new.octets.items = omega (arith, c.shorten.ensures.quarter, c.shorten.new.octets.ok.0) in
-    let sound : IsSound f = shorter_sound start c.self.invariant _ _ c.shorten.ensures.octets c.shorten.ensures.low c.shorten.ensures.high quarter in
+    let sound : IsSound f = shorter_sound start c.self.invariant _ _ c.shorten.ensures.octets c.shorten.ensures.low c.shorten.ensures.high in
     let same : arrived_in f ≡ c.args.self.now.arrived =
-    shorter_same start c.self.invariant _ _ c.shorten.ensures.octets c.shorten.ensures.low c.shorten.ensures.high quarter ∙ ap (λ (h : Held). h.arrived) c.self.view_is in
+    shorter_same start c.self.invariant _ _ c.shorten.ensures.octets c.shorten.ensures.low c.shorten.ensures.high ∙ ap (λ (h : Held). h.arrived) c.self.view_is in
     let n = length c.args.octets.now in
     let from = c.args.place + c.saturating_sub-before.result in
     let some : 0 < n = c.requires.some in
@@ -163,18 +161,16 @@ pub invariant_of-self : goal.invariant_of-self
 invariant_of-self g c =
     let start : Fields = fields_of c.self.inside in
     let f : Fields = shorter start c.shorten.new.octets.items c.shorten.new.base in
-    let quarter : 4 * (start.floor - c.shorten.new.base) ≤ 3 * length c.shorten.new.octets.items = omega (arith, c.shorten.ensures.quarter, c.shorten.new.octets.ok.0) in
-    let sound : IsSound f = shorter_sound start c.self.invariant _ _ c.shorten.ensures.octets c.shorten.ensures.low c.shorten.ensures.high quarter in
+    let sound : IsSound f = shorter_sound start c.self.invariant _ _ c.shorten.ensures.octets c.shorten.ensures.low c.shorten.ensures.high in
     sound_same f _ _ c.in_err-put.ensures.err_octets c.in_err-put.ensures.err_spans sound
 
 pub returns-in_err-put-clause-err : goal.returns-in_err-put-clause-err
 returns-in_err-put-clause-err g c =
     let start : Fields = fields_of c.self.inside in
     let f : Fields = shorter start c.shorten.new.octets.items c.shorten.new.base in
-    let quarter : 4 * (start.floor - c.shorten.new.base) ≤ 3 * length c.shorten.new.octets.items = omega (arith, c.shorten.ensures.quarter, c.shorten.new.octets.ok.0) in
-    let sound : IsSound f = shorter_sound start c.self.invariant _ _ c.shorten.ensures.octets c.shorten.ensures.low c.shorten.ensures.high quarter in
+    let sound : IsSound f = shorter_sound start c.self.invariant _ _ c.shorten.ensures.octets c.shorten.ensures.low c.shorten.ensures.high in
     let same : arrived_in f ≡ c.args.self.now.arrived =
-    shorter_same start c.self.invariant _ _ c.shorten.ensures.octets c.shorten.ensures.low c.shorten.ensures.high quarter ∙ ap (λ (h : Held). h.arrived) c.self.view_is in
+    shorter_same start c.self.invariant _ _ c.shorten.ensures.octets c.shorten.ensures.low c.shorten.ensures.high ∙ ap (λ (h : Held). h.arrived) c.self.view_is in
     search (rules, same)
 
 pub shorten-requires-clause-high : goal.shorten-requires-clause-high
@@ -186,6 +182,5 @@ pub put-requires-clause-within : goal.put-requires-clause-within
 put-requires-clause-within g c =
     let start : Fields = fields_of c.self.inside in
     let f : Fields = shorter start c.shorten.new.octets.items c.shorten.new.base in
-    let quarter : 4 * (start.floor - c.shorten.new.base) ≤ 3 * length c.shorten.new.octets.items = omega (arith, c.shorten.ensures.quarter, c.shorten.new.octets.ok.0) in
-    let sound : IsSound f = shorter_sound start c.self.invariant _ _ c.shorten.ensures.octets c.shorten.ensures.low c.shorten.ensures.high quarter in
+    let sound : IsSound f = shorter_sound start c.self.invariant _ _ c.shorten.ensures.octets c.shorten.ensures.low c.shorten.ensures.high in
     λ p t. omega (arith, sound.within p t, c.shorten.new.octets.ok.0)

@@ -26,7 +26,6 @@ invariant_of-self g c =
       octets = c.let_go.ensures.octets;
       low = c.let_go.ensures.low;
       high = c.let_go.ensures.high;
-      quarter = omega (arith, c.let_go.ensures.quarter, c.let_go.new.octets.ok.0);
     })
 
 pub returns-clause-arrived : goal.returns-clause-arrived
@@ -41,6 +40,5 @@ returns-clause-arrived g c =
       octets = c.let_go.ensures.octets;
       low = c.let_go.ensures.low;
       high = c.let_go.ensures.high;
-      quarter = omega (arith, c.let_go.ensures.quarter, c.let_go.new.octets.ok.0);
     })
     ∙ ap (λ (h : Held). advanced h.arrived c.args.to) c.self.view_is
