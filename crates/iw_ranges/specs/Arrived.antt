@@ -15,10 +15,11 @@ pub record Arrived : Type 0 where
   pub floor : ℕ
   pub cells : List Cell
 
--- an `Islands`: what came, and how many releases there is room for
+-- an `Islands`: what came, how many releases there is room for, and for how many octets there is memory
 pub record Held : Type 0 where
   pub arrived : Arrived
   pub room : ℕ
+  pub memory : ℕ
 
 abbrev pub nothing : Arrived
 nothing = record { floor = 0; cells = [] }
@@ -130,3 +131,10 @@ pub record IsWithinLimits (a : Arrived) : Type 0 where
   pub octets : (p : ℕ) → a.floor + window ≤ p → cell_at a p ≡ Missing
   pub islands : island_count (has_come a) a.floor ≤ max_islands
   pub floor : a.floor ≤ 2 ^ 63
+
+-- the memory for octets, in octets, that is kept where nothing came past the in-order point
+abbrev pub max_idle : ℕ
+max_idle = 131072
+
+abbrev pub IsIdleWithin : Held → Type 0
+IsIdleWithin h = h.arrived.cells ≡ [] → h.memory ≤ max_idle

@@ -1,8 +1,8 @@
 -- What the fields of an `Islands` mean, and what they keep.
-use Rattle.std.specs.Prelude.{ℕ, ◌≡◌, ◌≤◌, ◌<◌, ◌+◌, ◌-◌, ◌^◌, true, List, length, if◌then◌else◌, slice_index}
+use Rattle.std.specs.Prelude.{ℕ, ◌≡◌, ◌≤◌, ◌<◌, ◌+◌, ◌-◌, ◌^◌, true, List, length, if◌then◌else◌, slice_index, vec_capacity}
 use Rattle.std.specs.VecDeque.{deque_len, deque_capacity}
 use Rattle.iw_ranges.specs.Spans.{in_spans, IsFromStart, AreSpans, first_end}
-use Rattle.iw_ranges.specs.Arrived.{Cell, Missing, Here, Gone, Arrived, Held, drawn, window}
+use Rattle.iw_ranges.specs.Arrived.{Cell, Missing, Here, Gone, Arrived, Held, drawn, window, max_idle}
 use Rattle.iw_ranges.specs.declared.spans.Span.{Span}
 use Rattle.iw_ranges.specs.declared.Islands.TheInside.{Inside}
 
@@ -25,7 +25,7 @@ abbrev pub arrived_in : Fields → Arrived
 arrived_in f = drawn f.floor (f.base + length f.octets) (cell_of f)
 
 abbrev pub held_by : {A : Type 0} → Inside A → Held
-held_by {A} a = record { arrived = arrived_in (fields_of a); room = deque_capacity a.gone - deque_len a.gone }
+held_by {A} a = record { arrived = arrived_in (fields_of a); room = deque_capacity a.gone - deque_len a.gone; memory = vec_capacity a.octets }
 
 -- a buffer holds a window, and up to a quarter of one that lies before the in-order point
 abbrev pub max_held : ℕ
@@ -43,3 +43,8 @@ pub record IsSound (f : Fields) : Type 0 where
   pub low : f.floor ≤ 2 ^ 63
   pub gone_order : AreSpans f.gone
   pub gone_came : (p : ℕ) → in_spans p f.gone ≡ true → in_spans p f.spans ≡ true
+
+-- and with it the memory of the buffer
+pub record IsKept (f : Fields) (memory : ℕ) : Type 0 where
+  pub sound : IsSound f
+  pub idle : f.floor ≡ f.base + length f.octets → memory ≤ max_idle

@@ -1,5 +1,5 @@
 ghost use Rattle.std.specs.Prelude.{◌≡◌, ◌<◌, ◌≤◌, ◌+◌, ◌-◌, ◌*◌, ◌^◌, ◌&&◌, nat_le, nat_lt, max, true};
-ghost use Rattle.std.specs.Prelude.{ℕ, ◌++◌, length, take, drop, slice_index, vec_len, vec_capacity};
+ghost use Rattle.std.specs.Prelude.{ℕ, [], ◌++◌, length, take, drop, slice_index, vec_len, vec_capacity};
 ghost use Rattle.std.specs.Prelude.{if◌then◌else◌, OnOk, OnErr};
 ghost use Rattle.std.specs.Bool.{OnTrue};
 ghost use Rattle.std.specs.VecDeque.{deque_len, deque_capacity};
@@ -11,6 +11,9 @@ use std::collections::VecDeque;
 
 /// How many octets a buffer may hold: 262,144 from the in-order point on, and 65,536 before it.
 const MAX_HELD: usize = 327_680;
+
+/// For how many octets an empty buffer may have memory.
+const MAX_IDLE: usize = 131_072;
 
 /// Writes the octets over those that stand at `at`.
 fn write_at(buffer: &mut [u8], at: usize, octets: &[u8])
@@ -93,6 +96,7 @@ fn append<A: Allocator>(buffer: &mut Vec<u8, A>, at: usize, octets: &[u8]) -> Re
     ensures len { OnOk result (vec_len buffer.new
         ≡ (if nat_lt 0 (length octets.now) then at + length octets.now else vec_len buffer.old)) }
     ensures err { OnErr result (buffer.new.items ≡ buffer.old.items) }
+    ensures err_memory { OnErr result (vec_capacity buffer.new ≡ vec_capacity buffer.old) }
 {
     if octets.is_empty() {
         return Ok(());
@@ -182,6 +186,7 @@ pub(crate) fn put<A: Allocator>(
         → slice_index buffer.new.items i ≡ octet_after base spans.old.items from octets.now buffer.old.items i) }
     ensures err_spans { OnErr result (spans.new.items ≡ spans.old.items) }
     ensures err_octets { OnErr result (buffer.new.items ≡ buffer.old.items) }
+    ensures err_memory { OnErr result (vec_capacity buffer.new ≡ vec_capacity buffer.old) }
 {
     let at = (from - base) as usize;
     let inside = octets.len().min(buffer.len().saturating_sub(at));
@@ -193,6 +198,18 @@ pub(crate) fn put<A: Allocator>(
     Ok(())
 }
 
+/// Lets all octets go, and gives their memory back where it is for more than 131,072 of them.
+#[inline]
+fn empty<A: Allocator>(octets: &mut Vec<u8, A>)
+    ensures items { octets.new.items ≡ [] }
+    ensures memory { vec_capacity octets.new ≤ 131072 }
+{
+    octets.clear();
+    if octets.capacity() > MAX_IDLE {
+        octets.shrink_to_fit();
+    }
+}
+
 /// Lets the octets before place `to` go where none stands past them. No octet is moved.
 #[inline]
 pub(crate) fn let_go<A: Allocator>(octets: &mut Vec<u8, A>, base: &mut u64, to: u64)
@@ -201,9 +218,10 @@ pub(crate) fn let_go<A: Allocator>(octets: &mut Vec<u8, A>, base: &mut u64, to: 
     ensures octets { octets.new.items ≡ drop (base.new - base.old) octets.old.items }
     ensures low { base.old ≤ base.new }
     ensures high { base.new ≤ to }
+    ensures idle { to ≡ base.old + vec_len octets.old → vec_capacity octets.new ≤ 131072 }
 {
     if to - *base == octets.len() as u64 {
-        octets.clear();
+        empty(octets);
         *base = to;
     }
 }
@@ -241,6 +259,7 @@ fn drop_front<A: Allocator>(octets: &mut Vec<u8, A>, n: usize)
     requires within { n ≤ vec_len octets.old }
     ensures items { octets.new.items ≡ drop n octets.old.items }
     ensures len { vec_len octets.new + n ≡ vec_len octets.old }
+    ensures memory { vec_capacity octets.new ≡ vec_capacity octets.old }
 {
     let kept = octets.len() - n;
     move_to_front(octets, n);
@@ -261,6 +280,7 @@ pub(crate) fn shorten<A: Allocator>(octets: &mut Vec<u8, A>, base: &mut u64, flo
     ensures low { base.old ≤ base.new }
     ensures high { base.new ≤ floor }
     ensures room { to ≤ base.new + 327680 }
+    ensures memory { vec_capacity octets.new ≡ vec_capacity octets.old }
 {
     let passed = (floor - *base) as usize;
     let needed = (to - *base) as usize;

@@ -9,7 +9,8 @@ ghost use Rattle.std.specs.Prelude.{true, false, MatchBool, IfOk, OnOk, OnErr};
 ghost use Rattle.std.specs.List.{concat};
 ghost use Rattle.std.specs.Iterator.{YieldsFirstBy, item_count};
 ghost use Rattle.iw_ranges.specs.Arrived.{nothing, cell_at, has_come, cells_between, window, IsHere, Here, Missing};
-ghost use Rattle.iw_ranges.specs.Arrived.{delivery, delivered, advanced, released, BringsOctets, IsWithinLimits};
+ghost use Rattle.iw_ranges.specs.Arrived.{delivery, delivered, advanced, released, BringsOctets};
+ghost use Rattle.iw_ranges.specs.Arrived.{IsWithinLimits, IsIdleWithin};
 
 mod buffer;
 pub mod laws;
@@ -60,11 +61,12 @@ impl<A: Allocator> Model for Islands<A> {
 
     ghost Value = { Held };
 
-    ghost use Rattle.iw_ranges.specs.Fields.{held_by, fields_of, IsSound};
+    ghost use Rattle.iw_ranges.specs.Fields.{held_by, fields_of, IsKept};
+    ghost use Rattle.std.specs.Prelude.{vec_capacity};
 
     ghost view = { λ a. held_by a };
 
-    ghost invariant = { λ a. IsSound (fields_of a) };
+    ghost invariant = { λ a. IsKept (fields_of a) (vec_capacity a.octets) };
 }
 
 impl<A: Allocator> Islands<A> {
@@ -178,6 +180,14 @@ impl<A: Allocator> Islands<A> {
         let _ = &self.spans;
     }
 
+    /// For how many octets there is memory: for 131,072 at most where nothing came past the in-order point.
+    pub fn memory(&self) -> usize
+        ensures memory { result ≡ self.now.memory }
+        ensures idle { IsIdleWithin self.now }
+    {
+        self.octets.capacity()
+    }
+
     /// Whether all octets from place `from` up to place `to` came, given up or not.
     pub fn came(&self, from: u64, to: u64) -> bool
         ensures { MatchBool result ((p : ℕ) → from ≤ p → p < to → has_come self.now.arrived p ≡ true)
@@ -263,7 +273,7 @@ impl<A: Allocator> Islands<A> {
     }
 
     /// Moves the in-order point on to `to`, before which all came, and gives up what lies before it. An in-order point
-    /// that lies further on stays.
+    /// that lies further on stays. Where nothing came past it, memory for more than 131,072 octets is given back.
     #[inline]
     pub fn advance(&mut self, to: u64)
         requires come { (p : ℕ) → p < to → has_come self.old.arrived p ≡ true }

@@ -4,6 +4,7 @@ use Rattle.iw_ranges.specs.Arrived.{Held, is_dropped, window}
 use Rattle.iw_ranges.specs.Spans.{first_end, IsFromStart}
 use Rattle.iw_ranges.proofs.Adds.{add_from_start}
 use Rattle.iw_ranges.specs.Fields.{Fields, fields_of}
+use Rattle.iw_ranges.proofs.Cells.{top_reaches}
 use Rattle.iw_ranges.proofs.Counts.{dropped_none, dropped_far}
 use Rattle.iw_ranges.proofs.Keeps.{taken_none, sound_put, put_delivers, PutsIn, kept_is, dropped_is, delivered_kept, delivered_dropped, kept_after}
 use Rattle.iw_ranges.proofs.Islands.add.Given as given
@@ -53,7 +54,10 @@ invariant_of-self g c =
       len = omega (arith, c.put_after.ensures.len, c.if-fits_after.ensures.0, c.put_after.new.buffer.ok.0, c.self.inside.octets.ok.0);
       written = c.put_after.ensures.octets;
     } in
-    sound_put f after c.self.invariant from (c.args.place + n) c.args.octets.now (omega (arith, some)) (omega (arith, c.if-is_beyond.ensures)) (omega (arith, c.if-fits_after.ensures)) puts (omega (arith, c.put_after.ensures.few, ap length c.put_after.ensures.spans, c.self.invariant.few))
+    record {
+      sound = sound_put f after c.self.invariant.sound from (c.args.place + n) c.args.octets.now (omega (arith, some)) (omega (arith, c.if-is_beyond.ensures)) (omega (arith, c.if-fits_after.ensures)) puts (omega (arith, c.put_after.ensures.few, ap length c.put_after.ensures.spans, c.self.invariant.sound.few));
+      idle = λ e. absurd (omega (arith, e, some, c.put_after.ensures.len, c.if-fits_after.ensures.0, c.put_after.new.buffer.ok.0, top_reaches f c.self.invariant.sound, c.self.invariant.sound.reached, c.self.inside.octets.ok.0));
+    }
 
 pub returns-then-fits_after-clause-answer : goal.returns-then-fits_after-clause-answer
 returns-then-fits_after-clause-answer g c =
@@ -62,7 +66,7 @@ returns-then-fits_after-clause-answer g c =
     let from = c.args.place in
     let some : 0 < n = grind (arith, nat_tests, c.is_empty.ensures, c.if-is_empty.false) in
     kept_is c.args.self.now.arrived c.args.place n
-    (kept_after f c.self.invariant c.args.self.now.arrived (ap (λ (h : Held). h.arrived) c.self.view_is) c.args.place n from (omega (arith, c.if-place-self.true, c.self.invariant.missing)) (omega (arith, c.if-place-self.true, some, c.self.invariant.missing)) (omega (arith, c.if-is_beyond.ensures)) some (omega (arith, c.put_after.ensures.few, ap length c.put_after.ensures.spans, c.self.invariant.few)))
+    (kept_after f c.self.invariant.sound c.args.self.now.arrived (ap (λ (h : Held). h.arrived) c.self.view_is) c.args.place n from (omega (arith, c.if-place-self.true, c.self.invariant.sound.missing)) (omega (arith, c.if-place-self.true, some, c.self.invariant.sound.missing)) (omega (arith, c.if-is_beyond.ensures)) some (omega (arith, c.put_after.ensures.few, ap length c.put_after.ensures.spans, c.self.invariant.sound.few)))
 
 pub returns-then-fits_after-clause-ok : goal.returns-then-fits_after-clause-ok
 returns-then-fits_after-clause-ok g c =
@@ -70,7 +74,7 @@ returns-then-fits_after-clause-ok g c =
     let n = length c.args.octets.now in
     let from = c.args.place in
     let some : 0 < n = grind (arith, nat_tests, c.is_empty.ensures, c.if-is_empty.false) in
-    let none : 0 ≡ first_end f.spans - from = omega (arith, c.if-place-self.true, c.self.invariant.missing) in
+    let none : 0 ≡ first_end f.spans - from = omega (arith, c.if-place-self.true, c.self.invariant.sound.missing) in
     let after : Fields = record { base = f.base; floor = f.floor; missing = c.end_of_first-self-inside.result; octets = c.put_after.new.buffer.items; spans = c.put_after.new.spans.items; gone = f.gone } in
     let puts : PutsIn f after from (c.args.place + n) c.args.octets.now = record {
       base = refl;
@@ -82,8 +86,8 @@ returns-then-fits_after-clause-ok g c =
       len = omega (arith, c.put_after.ensures.len, c.if-fits_after.ensures.0, c.put_after.new.buffer.ok.0, c.self.inside.octets.ok.0);
       written = c.put_after.ensures.octets;
     } in
-    put_delivers f after c.self.invariant c.args.self.now.arrived (ap (λ (h : Held). h.arrived) c.self.view_is) c.args.place from c.args.octets.now c.args.octets.now
-    (omega (arith, c.if-place-self.true, some, c.self.invariant.missing)) some (omega (arith, c.if-place-self.true, c.self.invariant.missing)) (ap (λ k. drop k c.args.octets.now) none) (omega (arith, c.if-is_beyond.ensures)) (omega (arith, c.put_after.ensures.few, ap length c.put_after.ensures.spans, c.self.invariant.few)) puts
+    put_delivers f after c.self.invariant.sound c.args.self.now.arrived (ap (λ (h : Held). h.arrived) c.self.view_is) c.args.place from c.args.octets.now c.args.octets.now
+    (omega (arith, c.if-place-self.true, some, c.self.invariant.sound.missing)) some (omega (arith, c.if-place-self.true, c.self.invariant.sound.missing)) (ap (λ k. drop k c.args.octets.now) none) (omega (arith, c.if-is_beyond.ensures)) (omega (arith, c.put_after.ensures.few, ap length c.put_after.ensures.spans, c.self.invariant.sound.few)) puts
 
 pub end_of_first-self-inside-requires : goal.end_of_first-self-inside-requires
 end_of_first-self-inside-requires g c =
@@ -92,4 +96,4 @@ end_of_first-self-inside-requires g c =
     let from = c.args.place in
     let some : 0 < n = grind (arith, nat_tests, c.is_empty.ensures, c.if-is_empty.false) in
     subst IsFromStart (sym c.put_after.ensures.spans)
-    (add_from_start from (from + n) f.spans (omega (arith, some)) c.self.invariant.order)
+    (add_from_start from (from + n) f.spans (omega (arith, some)) c.self.invariant.sound.order)

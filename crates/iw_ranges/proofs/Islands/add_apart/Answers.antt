@@ -1,4 +1,5 @@
-use Rattle.std.proofs.Common.{◌≡◌, ◌≤◌, ◌<◌, ◌+◌, List, ℕ, length, drop, true, false, sym, ap, subst, ◌∙◌, refl, arith, rules}
+use Rattle.std.proofs.Common.{◌-◌, ◌≡◌, ◌≤◌, ◌<◌, ◌+◌, List, ℕ, length, drop, true, false, sym, ap, subst, ◌∙◌, refl, arith, rules}
+use Rattle.std.proofs.lemmas.List.{length-drop}
 use Rattle.iw_ranges.specs.Arrived.{Arrived, Held, is_dropped, window, delivery, delivered, BringsOctets}
 use Rattle.iw_ranges.specs.declared.Delivery.TheVariants.{Kept}
 use Rattle.iw_ranges.specs.Spans.{add_span, IsFromStart}
@@ -24,30 +25,30 @@ came_same f ok a e place octets some near all =
 pub returns-then-to-self-clause-answer : goal.returns-then-to-self-clause-answer
 returns-then-to-self-clause-answer g c =
     let f : Fields = fields_of c.self.inside in
-    came_kept f c.self.invariant c.args.self.now.arrived (ap (λ (h : Held). h.arrived) c.self.view_is) c.args.place (length c.args.octets.now) (omega (arith, c.requires.near, ap (λ (h : Held). h.arrived.floor) c.self.view_is))
-    (all_low f c.self.invariant c.args.place (c.args.place + length c.args.octets.now) (omega (arith, c.if-to-self.true, c.self.invariant.missing)))
+    came_kept f c.self.invariant.sound c.args.self.now.arrived (ap (λ (h : Held). h.arrived) c.self.view_is) c.args.place (length c.args.octets.now) (omega (arith, c.requires.near, ap (λ (h : Held). h.arrived.floor) c.self.view_is))
+    (all_low f c.self.invariant.sound c.args.place (c.args.place + length c.args.octets.now) (omega (arith, c.if-to-self.true, c.self.invariant.sound.missing)))
 
 pub returns-then-to-self-clause-ok : goal.returns-then-to-self-clause-ok
 returns-then-to-self-clause-ok g c =
     let f : Fields = fields_of c.self.inside in
-    came_same f c.self.invariant c.args.self.now.arrived (ap (λ (h : Held). h.arrived) c.self.view_is) c.args.place c.args.octets.now
+    came_same f c.self.invariant.sound c.args.self.now.arrived (ap (λ (h : Held). h.arrived) c.self.view_is) c.args.place c.args.octets.now
     c.requires.some (omega (arith, c.requires.near, ap (λ (h : Held). h.arrived.floor) c.self.view_is))
-    (all_low f c.self.invariant c.args.place (c.args.place + length c.args.octets.now) (omega (arith, c.if-to-self.true, c.self.invariant.missing)))
+    (all_low f c.self.invariant.sound c.args.place (c.args.place + length c.args.octets.now) (omega (arith, c.if-to-self.true, c.self.invariant.sound.missing)))
 
 pub returns-then-holds_all-clause-answer : goal.returns-then-holds_all-clause-answer
 returns-then-holds_all-clause-answer g c =
     let f : Fields = fields_of c.self.inside in
-    came_kept f c.self.invariant c.args.self.now.arrived (ap (λ (h : Held). h.arrived) c.self.view_is) c.args.place (length c.args.octets.now) (omega (arith, c.requires.near, ap (λ (h : Held). h.arrived.floor) c.self.view_is))
-    (all_from f c.self.invariant c.args.place (c.args.place + c.saturating_sub-before.result) (c.args.place + length c.args.octets.now)
-    (omega (arith, c.saturating_sub-before.ensures, c.self.invariant.missing)) c.if-holds_all.ensures)
+    came_kept f c.self.invariant.sound c.args.self.now.arrived (ap (λ (h : Held). h.arrived) c.self.view_is) c.args.place (length c.args.octets.now) (omega (arith, c.requires.near, ap (λ (h : Held). h.arrived.floor) c.self.view_is))
+    (all_from f c.self.invariant.sound c.args.place (c.args.place + c.saturating_sub-before.result) (c.args.place + length c.args.octets.now)
+    (omega (arith, c.saturating_sub-before.ensures, c.self.invariant.sound.missing)) c.if-holds_all.ensures)
 
 pub returns-then-holds_all-clause-ok : goal.returns-then-holds_all-clause-ok
 returns-then-holds_all-clause-ok g c =
     let f : Fields = fields_of c.self.inside in
-    came_same f c.self.invariant c.args.self.now.arrived (ap (λ (h : Held). h.arrived) c.self.view_is) c.args.place c.args.octets.now
+    came_same f c.self.invariant.sound c.args.self.now.arrived (ap (λ (h : Held). h.arrived) c.self.view_is) c.args.place c.args.octets.now
     c.requires.some (omega (arith, c.requires.near, ap (λ (h : Held). h.arrived.floor) c.self.view_is))
-    (all_from f c.self.invariant c.args.place (c.args.place + c.saturating_sub-before.result) (c.args.place + length c.args.octets.now)
-    (omega (arith, c.saturating_sub-before.ensures, c.self.invariant.missing)) c.if-holds_all.ensures)
+    (all_from f c.self.invariant.sound c.args.place (c.args.place + c.saturating_sub-before.result) (c.args.place + length c.args.octets.now)
+    (omega (arith, c.saturating_sub-before.ensures, c.self.invariant.sound.missing)) c.if-holds_all.ensures)
 
 -- one island too many
 many : (g : given.Over) (c : goal.Then-is_one_too_many g) → is_dropped c.args.self.now.arrived c.args.place (length c.args.octets.now) ≡ true
@@ -56,8 +57,8 @@ many g c =
     let n = length c.args.octets.now in
     let some : 0 < n = c.requires.some in
     subst (λ (h : Held). is_dropped h.arrived c.args.place n ≡ true) c.self.view_is
-    (dropped_put f c.self.invariant c.args.place n (c.args.place + c.saturating_sub-before.result)
-    (omega (arith, c.saturating_sub-before.ensures, c.self.invariant.missing)) (omega (arith, c.if-to-self.false, c.self.invariant.missing))
+    (dropped_put f c.self.invariant.sound c.args.place n (c.args.place + c.saturating_sub-before.result)
+    (omega (arith, c.saturating_sub-before.ensures, c.self.invariant.sound.missing)) (omega (arith, c.if-to-self.false, c.self.invariant.sound.missing))
     (omega (arith, c.requires.near, ap (λ (h : Held). h.arrived.floor) c.self.view_is)) some c.if-is_one_too_many.ensures)
 
 pub returns-then-is_one_too_many-clause-answer : goal.returns-then-is_one_too_many-clause-answer
@@ -76,10 +77,10 @@ returns-in_err-put-clause-memory g c =
     let from = c.args.place + c.saturating_sub-before.result in
     let lacking = c.if-holds_all.ensures in
     let brings : BringsOctets a c.args.place n = (
-      sym (kept_is a c.args.place n (kept_after f c.self.invariant a e c.args.place n from
-          (omega (arith, c.saturating_sub-before.ensures, c.self.invariant.missing)) (omega (arith, c.if-to-self.false, c.self.invariant.missing))
+      sym (kept_is a c.args.place n (kept_after f c.self.invariant.sound a e c.args.place n from
+          (omega (arith, c.saturating_sub-before.ensures, c.self.invariant.sound.missing)) (omega (arith, c.if-to-self.false, c.self.invariant.sound.missing))
           (omega (arith, c.requires.near, ap (λ (h : Held). h.arrived.floor) c.self.view_is)) c.requires.some c.if-is_one_too_many.ensures)),
-      (lacking.0, omega (arith, lacking.1), lacking.2, come_via f c.self.invariant a e lacking.0 ∙ lacking.3),
+      (lacking.0, omega (arith, lacking.1), lacking.2, come_via f c.self.invariant.sound a e lacking.0 ∙ lacking.3),
     ) in
     search (rules, brings)
 
@@ -88,7 +89,7 @@ pub invariant_of-self-2 : goal.invariant_of-self-2
 invariant_of-self-2 g c =
     let start : Fields = fields_of c.self.inside in
     let f : Fields = shorter start c.shorten.new.octets.items c.shorten.new.base in
-    let sound : IsSound f = shorter_sound start c.self.invariant _ _ c.shorten.ensures.octets c.shorten.ensures.low c.shorten.ensures.high in
+    let sound : IsSound f = shorter_sound start c.self.invariant.sound _ _ c.shorten.ensures.octets c.shorten.ensures.low c.shorten.ensures.high in
     let n = length c.args.octets.now in
     let from = c.args.place + c.saturating_sub-before.result in
     let some : 0 < n = c.requires.some in
@@ -105,7 +106,10 @@ invariant_of-self-2 g c =
       len = omega (arith, c.in_ok-put.ensures.len, end, c.put.new.buffer.ok.0, c.shorten.new.octets.ok.0);
       written = c.in_ok-put.ensures.octets;
     } in
-    sound_put f after sound from (c.args.place + n) c.split_at.result.1.now (omega (arith, some, c.saturating_sub-before.ensures, c.if-to-self.false)) (omega (arith, c.requires.near, ap (λ (h : Held). h.arrived.floor) c.self.view_is)) (omega (arith, c.shorten.ensures.room)) puts c.if-is_one_too_many.ensures
+    record {
+      sound = sound_put f after sound from (c.args.place + n) c.split_at.result.1.now (omega (arith, some, c.saturating_sub-before.ensures, c.if-to-self.false)) (omega (arith, c.requires.near, ap (λ (h : Held). h.arrived.floor) c.self.view_is)) (omega (arith, c.shorten.ensures.room)) puts c.if-is_one_too_many.ensures;
+      idle = λ e. absurd (omega (arith, e, c.in_ok-put.ensures.len, end, c.put.new.buffer.ok.0, c.if-to-self.false, c.self.invariant.sound.missing, c.self.invariant.sound.reached, c.shorten.ensures.low, c.shorten.ensures.high));
+    }
 
 pub returns-clause-answer : goal.returns-clause-answer
 returns-clause-answer g c =
@@ -115,15 +119,15 @@ returns-clause-answer g c =
     let some : 0 < n = c.requires.some in
     let end : from + length c.split_at.result.1.now ≡ c.args.place + n = omega (arith, c.split_at.ensures.back_len) in
     kept_is c.args.self.now.arrived c.args.place n
-    (kept_after f c.self.invariant c.args.self.now.arrived (ap (λ (h : Held). h.arrived) c.self.view_is) c.args.place n from (omega (arith, c.saturating_sub-before.ensures, c.self.invariant.missing)) (omega (arith, c.if-to-self.false, c.self.invariant.missing)) (omega (arith, c.requires.near, ap (λ (h : Held). h.arrived.floor) c.self.view_is)) some c.if-is_one_too_many.ensures)
+    (kept_after f c.self.invariant.sound c.args.self.now.arrived (ap (λ (h : Held). h.arrived) c.self.view_is) c.args.place n from (omega (arith, c.saturating_sub-before.ensures, c.self.invariant.sound.missing)) (omega (arith, c.if-to-self.false, c.self.invariant.sound.missing)) (omega (arith, c.requires.near, ap (λ (h : Held). h.arrived.floor) c.self.view_is)) some c.if-is_one_too_many.ensures)
 
 pub returns-clause-ok : goal.returns-clause-ok
 returns-clause-ok g c =
     let start : Fields = fields_of c.self.inside in
     let f : Fields = shorter start c.shorten.new.octets.items c.shorten.new.base in
-    let sound : IsSound f = shorter_sound start c.self.invariant _ _ c.shorten.ensures.octets c.shorten.ensures.low c.shorten.ensures.high in
+    let sound : IsSound f = shorter_sound start c.self.invariant.sound _ _ c.shorten.ensures.octets c.shorten.ensures.low c.shorten.ensures.high in
     let same : arrived_in f ≡ c.args.self.now.arrived =
-    shorter_same start c.self.invariant _ _ c.shorten.ensures.octets c.shorten.ensures.low c.shorten.ensures.high ∙ ap (λ (h : Held). h.arrived) c.self.view_is in
+    shorter_same start c.self.invariant.sound _ _ c.shorten.ensures.octets c.shorten.ensures.low c.shorten.ensures.high ∙ ap (λ (h : Held). h.arrived) c.self.view_is in
     let n = length c.args.octets.now in
     let from = c.args.place + c.saturating_sub-before.result in
     let some : 0 < n = c.requires.some in
@@ -141,7 +145,7 @@ returns-clause-ok g c =
       written = c.in_ok-put.ensures.octets;
     } in
     put_delivers f after sound c.args.self.now.arrived same c.args.place from c.args.octets.now c.split_at.result.1.now
-    (omega (arith, c.if-to-self.false, c.self.invariant.missing)) some (omega (arith, c.saturating_sub-before.ensures, c.self.invariant.missing)) (c.split_at.ensures.back ∙ ap (λ k. drop k c.args.octets.now) (omega (arith, c.saturating_sub-before.ensures, c.self.invariant.missing))) (omega (arith, c.requires.near, ap (λ (h : Held). h.arrived.floor) c.self.view_is)) c.if-is_one_too_many.ensures puts
+    (omega (arith, c.if-to-self.false, c.self.invariant.sound.missing)) some (omega (arith, c.saturating_sub-before.ensures, c.self.invariant.sound.missing)) (c.split_at.ensures.back ∙ ap (λ k. drop k c.args.octets.now) (omega (arith, c.saturating_sub-before.ensures, c.self.invariant.sound.missing))) (omega (arith, c.requires.near, ap (λ (h : Held). h.arrived.floor) c.self.view_is)) c.if-is_one_too_many.ensures puts
 
 pub end_of_first-self-inside-requires : goal.end_of_first-self-inside-requires
 end_of_first-self-inside-requires g c =
@@ -151,36 +155,39 @@ end_of_first-self-inside-requires g c =
     let some : 0 < n = c.requires.some in
     let end : from + length c.split_at.result.1.now ≡ c.args.place + n = omega (arith, c.split_at.ensures.back_len) in
     subst IsFromStart (sym c.in_ok-put.ensures.spans)
-    (add_from_start from (from + length c.split_at.result.1.now) f.spans (omega (arith, end, some, c.saturating_sub-before.ensures, c.if-to-self.false)) c.self.invariant.order)
+    (add_from_start from (from + length c.split_at.result.1.now) f.spans (omega (arith, end, some, c.saturating_sub-before.ensures, c.if-to-self.false)) c.self.invariant.sound.order)
 
 pub overflow_add-to : goal.overflow_add-to
-overflow_add-to g c = omega (arith, c.requires.near, ap (λ (h : Held). h.arrived.floor) c.self.view_is, c.self.invariant.low)
+overflow_add-to g c = omega (arith, c.requires.near, ap (λ (h : Held). h.arrived.floor) c.self.view_is, c.self.invariant.sound.low)
 
 -- what stood before the in-order point was let go, and that is all
 pub invariant_of-self : goal.invariant_of-self
 invariant_of-self g c =
     let start : Fields = fields_of c.self.inside in
     let f : Fields = shorter start c.shorten.new.octets.items c.shorten.new.base in
-    let sound : IsSound f = shorter_sound start c.self.invariant _ _ c.shorten.ensures.octets c.shorten.ensures.low c.shorten.ensures.high in
-    sound_same f _ _ c.in_err-put.ensures.err_octets c.in_err-put.ensures.err_spans sound
+    let sound : IsSound f = shorter_sound start c.self.invariant.sound _ _ c.shorten.ensures.octets c.shorten.ensures.low c.shorten.ensures.high in
+    record {
+      sound = sound_same f _ _ c.in_err-put.ensures.err_octets c.in_err-put.ensures.err_spans sound;
+      idle = λ e. omega (arith, c.in_err-put.ensures.err_memory, c.shorten.ensures.memory, c.self.invariant.idle (omega (arith, e, ap length c.in_err-put.ensures.err_octets, ap length c.shorten.ensures.octets, length-drop (c.shorten.new.base - start.base) start.octets, c.shorten.ensures.low, c.shorten.ensures.high, top_reaches start c.self.invariant.sound, c.self.invariant.sound.reached)));
+    }
 
 pub returns-in_err-put-clause-err : goal.returns-in_err-put-clause-err
 returns-in_err-put-clause-err g c =
     let start : Fields = fields_of c.self.inside in
     let f : Fields = shorter start c.shorten.new.octets.items c.shorten.new.base in
-    let sound : IsSound f = shorter_sound start c.self.invariant _ _ c.shorten.ensures.octets c.shorten.ensures.low c.shorten.ensures.high in
+    let sound : IsSound f = shorter_sound start c.self.invariant.sound _ _ c.shorten.ensures.octets c.shorten.ensures.low c.shorten.ensures.high in
     let same : arrived_in f ≡ c.args.self.now.arrived =
-    shorter_same start c.self.invariant _ _ c.shorten.ensures.octets c.shorten.ensures.low c.shorten.ensures.high ∙ ap (λ (h : Held). h.arrived) c.self.view_is in
+    shorter_same start c.self.invariant.sound _ _ c.shorten.ensures.octets c.shorten.ensures.low c.shorten.ensures.high ∙ ap (λ (h : Held). h.arrived) c.self.view_is in
     search (rules, same)
 
 pub shorten-requires-clause-high : goal.shorten-requires-clause-high
 shorten-requires-clause-high g c =
     let f : Fields = fields_of c.self.inside in
-    omega (arith, c.self.invariant.reached, top_reaches f c.self.invariant, c.self.inside.octets.ok.0)
+    omega (arith, c.self.invariant.sound.reached, top_reaches f c.self.invariant.sound, c.self.inside.octets.ok.0)
 
 pub put-requires-clause-within : goal.put-requires-clause-within
 put-requires-clause-within g c =
     let start : Fields = fields_of c.self.inside in
     let f : Fields = shorter start c.shorten.new.octets.items c.shorten.new.base in
-    let sound : IsSound f = shorter_sound start c.self.invariant _ _ c.shorten.ensures.octets c.shorten.ensures.low c.shorten.ensures.high in
+    let sound : IsSound f = shorter_sound start c.self.invariant.sound _ _ c.shorten.ensures.octets c.shorten.ensures.low c.shorten.ensures.high in
     λ p t. omega (arith, sound.within p t, c.shorten.new.octets.ok.0)

@@ -13,22 +13,22 @@ pub returns : goal.returns
 returns g c =
     let f : Fields = fields_of c.self.inside in
     answer_via (nat_le c.args.to c.in-Some.last.now.to) (has_come c.args.self.now.arrived) (λ p. in_spans p f.spans) c.args.from c.args.to
-    (λ p low. come_via f c.self.invariant c.args.self.now.arrived (ap (λ (h : Held). h.arrived) c.self.view_is) p)
-    (answer_at_last f.spans (deque_len c.self.inside.spans) c.in-Some.last.now c.args.from c.args.to (in_order_start f.spans c.self.invariant.order) (omega (arith, c.self.inside.spans.ok.0)) (c.in-Some.ensures.variant.0 refl)
+    (λ p low. come_via f c.self.invariant.sound c.args.self.now.arrived (ap (λ (h : Held). h.arrived) c.self.view_is) p)
+    (answer_at_last f.spans (deque_len c.self.inside.spans) c.in-Some.last.now c.args.from c.args.to (in_order_start f.spans c.self.invariant.sound.order) (omega (arith, c.self.inside.spans.ok.0)) (c.in-Some.ensures.variant.0 refl)
     c.in-Some.ensures.lookup c.if-last-from.true c.if-to-from.false)
 
 pub returns-2 : goal.returns-2
 returns-2 g c =
     let f : Fields = fields_of c.self.inside in
     answer_via c.holds_all.result (has_come c.args.self.now.arrived) (λ p. in_spans p f.spans) c.args.from c.args.to
-    (λ p low. come_via f c.self.invariant c.args.self.now.arrived (ap (λ (h : Held). h.arrived) c.self.view_is) p) c.holds_all.ensures
+    (λ p low. come_via f c.self.invariant.sound c.args.self.now.arrived (ap (λ (h : Held). h.arrived) c.self.view_is) p) c.holds_all.ensures
 
 pub returns-then-to-self : goal.returns-then-to-self
 returns-then-to-self g c = λ p low high.
     let f : Fields = fields_of c.self.inside in
     elim (c.then-to-self.branch) [
       | then-to-self-via-then-to-self w ↦
-          come_via f c.self.invariant c.args.self.now.arrived (ap (λ (h : Held). h.arrived) c.self.view_is) p
-          ∙ first_covers f.spans p c.self.invariant.order (omega (arith, w.if-to-self.true, c.self.invariant.missing))
+          come_via f c.self.invariant.sound c.args.self.now.arrived (ap (λ (h : Held). h.arrived) c.self.view_is) p
+          ∙ first_covers f.spans p c.self.invariant.sound.order (omega (arith, w.if-to-self.true, c.self.invariant.sound.missing))
       | then-to-self-via-else-to-self+then-to-from w ↦ absurd (omega (arith, w.if-to-from.true))
     ]

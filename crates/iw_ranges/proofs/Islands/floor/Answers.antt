@@ -5,4 +5,4 @@ use Rattle.iw_ranges.proofs.Counts.{within_limits}
 use Rattle.iw_ranges.proofs.Islands.floor.Goals as goal
 
 pub returns-clause-limits : goal.returns-clause-limits
-returns-clause-limits g c = subst (λ (h : Held). IsWithinLimits h.arrived) c.self.view_is (within_limits (fields_of c.self.inside) c.self.invariant)
+returns-clause-limits g c = subst (λ (h : Held). IsWithinLimits h.arrived) c.self.view_is (within_limits (fields_of c.self.inside) c.self.invariant.sound)
