@@ -20,3 +20,4 @@ pub mod Sublists
 pub mod Recorded
 pub mod GivesUp
 pub mod Left
+pub mod PastHole

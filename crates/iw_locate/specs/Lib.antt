@@ -7,3 +7,4 @@ pub mod Keeping
 pub mod Lowest
 pub mod Laws
 pub mod Known
+pub mod Hole

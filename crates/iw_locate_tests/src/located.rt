@@ -1,5 +1,5 @@
 ghost use Rattle.std.specs.Prelude.{◌≡◌, ◌<◌, ◌≤◌, ◌^◌, length, IfOk};
-ghost use Rattle.iw_locate_tests.specs.Hole.{IsPastHole};
+ghost use Rattle.iw_locate.specs.Hole.{IsPastHole};
 
 use iw_fpdu::Layout;
 use iw_locate::{Frame, Judged, Locator, Next, State, Unsearched};

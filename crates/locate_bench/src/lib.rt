@@ -2,7 +2,7 @@
 #![tactic(auto)]
 
 ghost use Rattle.std.specs.Prelude.{◌≡◌, ◌<◌, ◌≤◌, ◌+◌, ◌*◌, ◌^◌, length, IfOk};
-ghost use Rattle.locate_bench.specs.Hole.{IsPastHole};
+ghost use Rattle.iw_locate.specs.Hole.{IsPastHole};
 
 use iw_fpdu::Layout;
 use iw_locate::{Judged, Locator, Next, State, Unsearched};

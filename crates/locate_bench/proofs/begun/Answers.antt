@@ -1,4 +1,4 @@
-use Rattle.locate_bench.proofs.PastHole.{begun_past}
+use Rattle.iw_locate.proofs.PastHole.{begun_past}
 use Rattle.locate_bench.proofs.begun.Goals as goal
 
 pub returns : goal.returns

@@ -3,8 +3,8 @@ use Rattle.std.specs.Prelude.{◌≡◌}
 use Rattle.iw_ranges.specs.declared.Delivery.TheVariants.{Kept}
 use Rattle.iw_ranges.specs.Arrived.{Arrived, delivery, delivered}
 use Rattle.iw_locate.specs.declared.unsearched.Unsearched.{Unsearched}
-use Rattle.locate_bench.specs.Hole.{IsPastHole}
-use Rattle.locate_bench.proofs.PastHole.{delivered_past}
+use Rattle.iw_locate.specs.Hole.{IsPastHole}
+use Rattle.iw_locate.proofs.PastHole.{delivered_past}
 use Rattle.locate_bench.proofs.deliver.Goals as goal
 
 pub returns-in-Kept : goal.returns-in-Kept

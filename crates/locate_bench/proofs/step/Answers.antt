@@ -7,8 +7,8 @@ use Rattle.iw_locate.specs.Free.{scene_of, CanLocate}
 use Rattle.iw_locate.specs.Next.{IsNext}
 use Rattle.iw_locate.specs.Unsearched.{Tells}
 use Rattle.iw_locate.specs.Keeping.{record_of}
-use Rattle.locate_bench.specs.Hole.{IsPastHole}
-use Rattle.locate_bench.proofs.PastHole.{can_locate, judged_past, early_fits, searched_past, not_false}
+use Rattle.iw_locate.specs.Hole.{IsPastHole}
+use Rattle.iw_locate.proofs.PastHole.{can_locate, judged_past, early_fits, searched_past, not_false}
 use Rattle.locate_bench.proofs.step.Goals as goal
 
 pub next_since-next-requires-clause-can : goal.next_since-next-requires-clause-can

@@ -1,5 +1,5 @@
 use Rattle.std.proofs.Common.{◌-◌}
-use Rattle.locate_bench.specs.Hole.{IsPastHole}
+use Rattle.iw_locate.specs.Hole.{IsPastHole}
 use Rattle.locate_bench.proofs.window.Given as goal
 
 abbrev pub invariant-loop-number : goal.invariant-loop-number

@@ -1,4 +1,4 @@
-use Rattle.locate_bench.specs.Hole.{IsPastHole}
+use Rattle.iw_locate.specs.Hole.{IsPastHole}
 use Rattle.locate_bench.proofs.work.Given as goal
 
 abbrev pub invariant-loop : goal.invariant-loop

@@ -1,4 +1,4 @@
-use Rattle.iw_locate_tests.proofs.PastHole.{begun_past}
+use Rattle.iw_locate.proofs.PastHole.{begun_past}
 use Rattle.iw_locate_tests.proofs.located.begun.Goals as goal
 
 pub returns : goal.returns

@@ -3,8 +3,8 @@ use Rattle.std.specs.Prelude.{◌≡◌}
 use Rattle.iw_ranges.specs.declared.Delivery.TheVariants.{Kept}
 use Rattle.iw_ranges.specs.Arrived.{Arrived, delivery, delivered}
 use Rattle.iw_locate.specs.declared.unsearched.Unsearched.{Unsearched}
-use Rattle.iw_locate_tests.specs.Hole.{IsPastHole}
-use Rattle.iw_locate_tests.proofs.PastHole.{delivered_past}
+use Rattle.iw_locate.specs.Hole.{IsPastHole}
+use Rattle.iw_locate.proofs.PastHole.{delivered_past}
 use Rattle.iw_locate_tests.proofs.located.deliver.Goals as goal
 
 pub returns-in-Kept : goal.returns-in-Kept

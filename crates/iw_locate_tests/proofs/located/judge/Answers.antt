@@ -7,8 +7,8 @@ use Rattle.iw_locate.specs.Free.{scene_of, CanLocate}
 use Rattle.iw_locate.specs.Next.{IsNext}
 use Rattle.iw_locate.specs.Unsearched.{Tells}
 use Rattle.iw_locate.specs.Keeping.{record_of}
-use Rattle.iw_locate_tests.specs.Hole.{IsPastHole}
-use Rattle.iw_locate_tests.proofs.PastHole.{can_locate, judged_past, early_fits, searched_past, not_false}
+use Rattle.iw_locate.specs.Hole.{IsPastHole}
+use Rattle.iw_locate.proofs.PastHole.{can_locate, judged_past, early_fits, searched_past, not_false}
 use Rattle.iw_locate_tests.proofs.located.judge.Goals as goal
 
 pub next-everywhere-requires : goal.next-everywhere-requires

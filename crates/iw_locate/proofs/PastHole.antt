@@ -24,7 +24,7 @@ use Rattle.iw_locate.proofs.Starting.{kept_can_locate, no_record_keeps, nothing_
 use Rattle.iw_locate.proofs.Adding.{judging_keeps, early_is}
 use Rattle.iw_locate.proofs.Delivering.{delivery_keeps, delivered_floor}
 use Rattle.iw_locate.proofs.Holds.{adds_one}
-use Rattle.iw_locate_tests.specs.Hole.{scene, IsPastHole}
+use Rattle.iw_locate.specs.Hole.{scene, IsPastHole}
 
 front_is : (at : ℕ) → at ≡ 0 → frame_start true at ≡ 4
 unfolding data_place data_index
