@@ -129,18 +129,20 @@ fn begun(alloc: Global) -> Result<(Islands, Judged<u32>, Unsearched), NoMemory>
     Ok((islands, Judged::new(alloc), Unsearched::nothing()))
 }
 
-/// The segments of a window from its `first` on, every `stride`th, forwards or backwards.
+/// The segments of a window from its `first` on, every `stride`th but for each `gap`th, forwards or backwards.
 fn window(
     alloc: Global,
     octets: &[u8],
     segment: usize,
     first: usize,
     stride: usize,
+    gap: usize,
     back: bool,
     look: bool,
 ) -> Result<u64, NoMemory>
     requires segment { (0 < segment) × (segment < 2 ^ 16) }
     requires stride { (0 < stride) × (stride < 2 ^ 16) }
+    requires gap { (0 < gap) × (gap < 2 ^ 16) }
     requires short { length octets.now < 2 ^ 20 }
 {
     let (mut islands, mut judged, mut unsearched) = begun(alloc)?;
@@ -156,7 +158,7 @@ fn window(
             octets,
             segment,
             at,
-            first <= at && (at - first) % stride == 0,
+            first <= at && (at - first) % stride == 0 && at % gap != 0,
             look,
         )?;
         count = count.wrapping_add(taken);
@@ -172,12 +174,14 @@ pub extern "C" fn locate_window(
     segment: usize,
     first: usize,
     stride: usize,
+    gap: usize,
     back: bool,
     look: bool,
 ) -> u64
     requires segment { (0 < segment) × (segment < 2 ^ 16) }
     requires stride { (0 < stride) × (stride < 2 ^ 16) }
+    requires gap { (0 < gap) × (gap < 2 ^ 16) }
     requires short { length octets.now < 2 ^ 20 }
 {
-    window(alloc, octets, segment, first, stride, back, look).unwrap_or(0)
+    window(alloc, octets, segment, first, stride, gap, back, look).unwrap_or(0)
 }
