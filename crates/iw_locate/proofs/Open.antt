@@ -6,7 +6,7 @@ use Rattle.std.specs.List.{Contains}
 use Rattle.iw_ranges.specs.Arrived.{Cell, Missing, Here, Gone, cell_at, is_missing, has_come, IsHere, IsWithinLimits}
 use Rattle.iw_fpdu.specs.Places.{IsStart, in_marker, span_start}
 use Rattle.iw_fpdu.specs.Reading.{length_at, pointer_at}
-use Rattle.iw_fpdu.specs.Found.{IsKept}
+use Rattle.iw_fpdu.specs.Found.{IsKept, LacksOctet}
 use Rattle.iw_fpdu.proofs.Octets.{span_low, length_within}
 use Rattle.iw_locate.specs.declared.judged.Record.{Record}
 use Rattle.iw_locate.specs.Records.{from_of, IsPlaced, OverlapsOne, IsClear, IsClearOfPlaced}
@@ -68,6 +68,23 @@ module _ {T : Type 0} (v : Scene T) (can : CanLocate v) (m : v.layout.markers �
       go Gone e =
           let w = can.released q (omega (arith, span_low true s)) e in
           clear w.0 w.1 (omega (arith, w.3), omega (arith, w.4, span_low true s))
+
+  -- where a frame may be judged its length is held
+  pub length_here : (s : ℕ) → IsOpen v s → (q : ℕ) → s ≤ q → q < s + 2 → IsHere (cell_at v.arrived (v.base + q))
+  length_here s open_ q low high = go (cell_at v.arrived (v.base + q)) refl
+    where
+      go : (c : Cell) → cell_at v.arrived (v.base + q) ≡ c → IsHere c
+      go Missing e = absurd (come_not_missing (cell_at v.arrived (v.base + q)) (open_.whole q (omega (arith, low, span_low v.layout.markers s)) (omega (arith, high, two_octets s open_))) e)
+      go (Here x) e = tt
+      go Gone e =
+          let w = can.released q (omega (arith, low, open_.past, span_low v.layout.markers s)) e in
+          absurd (open_.clear w.0 w.1 (omega (arith, w.3, high, two_octets s open_), omega (arith, w.4, low, span_low true s)))
+
+  -- so none may where one lacks an octet if it is held
+  pub not_open_cut : (s : ℕ) → (IsHere (cell_at v.arrived (v.base + s)) → IsHere (cell_at v.arrived (v.base + (s + 1))) → LacksOctet v.arrived v.layout.markers v.base s) → IsOpen v s → ⊥
+  not_open_cut s lacks open_ =
+      let w = lacks (length_here s open_ s (omega arith) (omega arith)) (length_here s open_ (s + 1) (omega arith) (omega arith)) in
+      let e = sym (open_.whole w.0 w.1 w.2) ∙ w.3 in cc e
 
   -- past the window nothing came, so no marker
   pub not_seen_far : (p : ℕ) → IsWithinLimits v.arrived → point_of v + 262144 ≤ p → IsMarkerSeen v p → ⊥

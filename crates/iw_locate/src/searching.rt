@@ -1,8 +1,8 @@
-ghost use Rattle.std.specs.Prelude.{◌≡◌, ◌<◌, ◌≤◌, ◌+◌, ◌%◌, ◌^◌, ℕ, true, MatchBool, MatchOption};
+ghost use Rattle.std.specs.Prelude.{◌≡◌, ◌<◌, ◌≤◌, ◌+◌, ◌%◌, ◌^◌, ℕ, true, MatchBool, MatchOption, IsTrue};
 ghost use Rattle.std.specs.List.{Contains};
 ghost use Rattle.iw_ranges.specs.Arrived.{IsHere, cell_at};
-ghost use Rattle.iw_fpdu.specs.Reading.{pointer_at};
-ghost use Rattle.iw_fpdu.specs.Found.{octet_in};
+ghost use Rattle.iw_fpdu.specs.Reading.{length_at, pointer_at};
+ghost use Rattle.iw_fpdu.specs.Found.{octet_in, LacksOctet};
 ghost use Rattle.iw_locate.specs.declared.judged.Record.{Record};
 ghost use Rattle.iw_locate.specs.Free.{scene_of, point_of, front_of, IsOpen, CanLocate};
 ghost use Rattle.iw_locate.specs.Free.{IsMarkerSeen, PointsTo, EndsBefore, IsFound};
@@ -13,7 +13,7 @@ ghost use Rattle.iw_locate.specs.Among.{IsPointedWithin, IsPastWithin, IsFoundWi
 use crate::frame::{Frame, frame_of};
 use crate::judged::Judged;
 use crate::locator::Locator;
-use iw_fpdu::{Fpdu, MARKER, SPACING, span_of};
+use iw_fpdu::{Fpdu, Layout, MARKER, SPACING, span_of};
 use iw_ranges::Islands;
 use std::alloc::Allocator;
 
@@ -135,6 +135,12 @@ impl Locator {
         if start < low || high <= start {
             return None;
         }
+        if start % SPACING < MARKER {
+            return None;
+        }
+        if is_cut(islands, self.layout, self.base, start) {
+            return None;
+        }
         let at = self.base + place;
         if !islands.came(at, at + MARKER) {
             return None;
@@ -219,6 +225,33 @@ fn pointer<A: Allocator>(islands: &Islands<A>, base: u64, place: u64) -> u64
 {
     let at = base + place;
     u64::from(u16::from_be_bytes([islands.peek(at + 2), islands.peek(at + 3)])) / 4 * 4
+}
+
+/// Whether an octet of the frame that begins at `start` hasn't come, where its length was not given up.
+#[inline(always)]
+fn is_cut<A: Allocator>(islands: &Islands<A>, layout: Layout, base: u64, start: u64) -> bool
+    requires low { start < 2 ^ 63 }
+    requires fits { base + start + 2 < 2 ^ 64 }
+    ensures { IsTrue result → IsHere (cell_at islands.now.arrived (base + start)) → IsHere (cell_at islands.now.arrived (base + (start + 1)))
+        → LacksOctet islands.now.arrived layout.markers base start }
+{
+    let len = length(islands, base, start);
+    let end = base.saturating_add(layout.end_of(start, len));
+    if islands.came(base + start, end) {
+        return false;
+    }
+    true
+}
+
+/// The length of the ULPDU in the frame that begins at `start`, where it came and was not given up.
+#[inline(always)]
+fn length<A: Allocator>(islands: &Islands<A>, base: u64, start: u64) -> u16
+    requires fits { base + start + 2 < 2 ^ 64 }
+    ensures { IsHere (cell_at islands.now.arrived (base + start)) → IsHere (cell_at islands.now.arrived (base + (start + 1)))
+        → result ≡ length_at (octet_in islands.now.arrived base) start }
+{
+    let at = base + start;
+    u16::from_be_bytes([islands.peek(at), islands.peek(at + 1)])
 }
 
 /// Where the marker at `place` points that says `back`.

@@ -1,7 +1,7 @@
-use Rattle.std.proofs.Common.{◌≡◌, ◌+◌, ◌-◌, ap, ◌∙◌, sym, arith}
+use Rattle.std.proofs.Common.{◌≡◌, ◌+◌, ◌-◌, ◌%◌, ap, ◌∙◌, sym, subst, arith}
 use Rattle.iw_ranges.specs.Arrived.{has_come}
-use Rattle.iw_locate.specs.Free.{Scene, scene_of, IsMarkerSeen}
-use Rattle.iw_locate.proofs.Open.{pointer_seen}
+use Rattle.iw_locate.specs.Free.{Scene, scene_of, IsMarkerSeen, IsOpen}
+use Rattle.iw_locate.proofs.Open.{pointer_seen, start_high, not_open_cut}
 use Rattle.iw_locate.proofs.Lowest.{among_one, IsPointedAt, points_one, points_there, points_before}
 use Rattle.iw_locate.proofs.locator.Locator.pointed_by.Goals as goal
 use Rattle.iw_locate.proofs.locator.Locator.pointed_by.Goals.{then-start-low-via-then-start-low, then-start-low-via-else-start-low+then-high-start}
@@ -32,6 +32,22 @@ returns-then-start-low g c =
       | then-start-low-via-then-start-low w ↦ omega (arith, same, w.if-start-low.true, q.0.low)
       | then-start-low-via-else-start-low+then-high-start w ↦ omega (arith, same, w.if-high-start.true, q.0.high)
     ]
+
+pub returns-then-start-lt-MARKER : goal.returns-then-start-lt-MARKER
+returns-then-start-lt-MARKER g c =
+    let v : Scene g.row.T.Denot = scene_of c.args.self.now.layout c.args.self.now.base c.args.islands.now.arrived c.args.judged.now.records in
+    let start = c.pointed_from-start.ensures in
+    λ s q open_.
+    let same = points_one v c.args.place c.pointer-back.result c.pointed_from-start.result (pointer_seen v c.requires.can c.requires.markers c.args.place c.pointer-back.result (omega (arith, c.requires.past, c.requires.point)) c.pointer-back.ensures.value q.1) start.none start.some s q.2 in
+    omega (arith, ap (λ x. x % 512) same, c.if-start-lt-MARKER.true, start_high v.layout.markers s c.requires.markers open_.start)
+
+pub returns-then-is_cut : goal.returns-then-is_cut
+returns-then-is_cut g c =
+    let v : Scene g.row.T.Denot = scene_of c.args.self.now.layout c.args.self.now.base c.args.islands.now.arrived c.args.judged.now.records in
+    let start = c.pointed_from-start.ensures in
+    λ s q open_.
+    let same = points_one v c.args.place c.pointer-back.result c.pointed_from-start.result (pointer_seen v c.requires.can c.requires.markers c.args.place c.pointer-back.result (omega (arith, c.requires.past, c.requires.point)) c.pointer-back.ensures.value q.1) start.none start.some s q.2 in
+    not_open_cut v c.requires.can c.requires.markers c.pointed_from-start.result (c.is_cut.ensures c.if-is_cut.true) (subst (IsOpen v) same open_)
 
 pub returns : goal.returns
 returns g c =
