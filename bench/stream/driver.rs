@@ -25,6 +25,10 @@ const TURNS: usize = 300;
 const MAX_GROWTH: f64 = 1.15;
 const MAX_GROWTH_APART: f64 = 1.3;
 
+/// What the two copies and the CRC of the receiving side are to be of its time: in order, and in every other order.
+const RECEIVED: f64 = 0.72;
+const RECEIVED_EARLY: f64 = 0.48;
+
 /// How much more a frame may take that is placed before its turn, and a delivery whose markers lie.
 const MAX_EARLY: f64 = 1.5;
 const MAX_LYING: f64 = 10.0;
@@ -93,6 +97,7 @@ fn judge_rows(rows: &[Row], wanted: &mut Wanted) {
     for name in ["receiving side, plain", "receiving side, markers", "receiving side, markers and CRCs"] {
         wanted.at_least(&format!("peer's time to ours, {name}"), row(rows, name).to_peer(), 0.85);
     }
+    wanted.at_least("two copies' time to ours, receiving side, plain", row(rows, "receiving side, plain").to_copies(), 0.42);
     for (name, without) in [
         ("start-up frames, plain", "plain"),
         ("start-up frames, markers", "markers"),
@@ -104,6 +109,22 @@ fn judge_rows(rows: &[Row], wanted: &mut Wanted) {
     wanted.at_least("two copies' and CRCs' time to ours, markers and CRCs", framed.to_cache(), 0.72);
     wanted.at_least("three copies' time to the peer's, plain", plain.peer_to_copies(), 0.55);
     wanted.at_least("three copies' and two CRCs' time to the peer's, markers and CRCs", framed.peer_to_copies(), 0.75);
+}
+
+/// The receiving side alone, with markers and CRCs: in order, and in the orders in which frames are placed before their turn.
+fn judge_received(rows: &[Row], early: &[Row], wanted: &mut Wanted) {
+    let in_order = row(rows, "receiving side, markers and CRCs");
+    let all = || [(in_order, "in order", RECEIVED)].into_iter().chain(early.iter().map(|row| (row, row.name, RECEIVED_EARLY)));
+    println!("The receiving side, with markers and CRCs:\n");
+    println!("| | ns a frame | peer | two copies and a CRC | of the {RECEIVED} wanted in order |\n|---|---|---|---|---|");
+    for (row, name, _) in all() {
+        let ratio = row.to_copies();
+        println!("| {name} | {:.0} | {:.2} | {ratio:.2} | {:.2} |", row.a_frame(), row.to_peer(), ratio / RECEIVED);
+    }
+    println!();
+    for (row, name, least) in all() {
+        wanted.at_least(&format!("two copies' and a CRC's time to ours, receiving side, {name}"), row.to_copies(), least);
+    }
 }
 
 fn judge_limits(rows: &[Row], limits: &[Row], wanted: &mut Wanted) {
@@ -243,12 +264,12 @@ fn judge_crc(turns: usize, wanted: &mut Wanted) {
 
 fn main() {
     let turns = std::env::args().nth(1).map_or(TURNS, |word| word.parse().expect("a number of turns"));
-    let (mut rows, mut limits) = (rows::rows(), rows::limits());
-    for row in rows.iter().chain(&limits) {
+    let (mut rows, mut limits, mut early) = (rows::rows(), rows::limits(), rows::received_early());
+    for row in rows.iter().chain(&limits).chain(&early) {
         row.try_out();
     }
     for turn in 0..turns {
-        for row in rows.iter_mut().chain(&mut limits) {
+        for row in rows.iter_mut().chain(&mut limits).chain(&mut early) {
             row.turn(turn);
         }
     }
@@ -263,6 +284,7 @@ fn main() {
     println!();
     let mut wanted = Wanted { missed: 0 };
     judge_rows(&rows, &mut wanted);
+    judge_received(&rows, &early, &mut wanted);
     for held in &idle {
         wanted.at_most(&format!("octets of {}", held.name), held.ours, MAX_IDLE);
     }

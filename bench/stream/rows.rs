@@ -42,9 +42,18 @@ fn by_turns(load: Load) -> Load {
     Load { pairs: 64, ..load }.carrying(4 << 20)
 }
 
-/// Writes whose frames have 31 times 512 octets, markers among them: the same octets can come again behind.
-fn again(load: Load) -> Load {
-    Load { message: 15_486, ..load }.carrying(4 << 20)
+/// From one marker to the next without the first, a full frame without its markers, and what a frame has beside its payload, in
+/// octets.
+const MARKED: usize = 508;
+const FULL_FRAME: usize = 1_408;
+const AROUND: usize = 20;
+
+/// Writes of so many frames, the last as long as it takes for all to have a multiple of 512 octets, markers among them: the same
+/// octets can come again behind.
+fn again(load: Load, frames: usize) -> Load {
+    let full = frames - 1;
+    let last = MARKED - full * FULL_FRAME % MARKED - AROUND;
+    Load { message: full * load.piece() + last, batch: usize::MAX, ..load }.carrying(4 << 20)
 }
 
 /// All frames of a message are emitted, and the first is delivered last.
@@ -57,32 +66,65 @@ fn scattered(load: Load, mulpdu: u32, message: usize) -> Load {
     Load { batch: usize::MAX, late: 2, ..sized(load, mulpdu, message) }
 }
 
-/// All frames of a message are emitted, and the last is delivered first.
-fn backwards(load: Load) -> Load {
-    Load { late: 1, reversed: true, ..load }
-}
-
-/// As many frames as 128 KiB have, and as many as the window has, with markers and CRCs.
+/// As many frames as a Write of 16 KiB has, as 128 KiB have, and as the window has, with markers and CRCs.
+const FRAMES_FEW: usize = 12;
 const FRAMES_NEAR: usize = 92;
 const FRAMES_FAR: usize = 183;
 
-/// All frames of a message of so many are emitted, and delivered in order.
-fn together(frames: usize) -> Load {
-    Load { batch: usize::MAX, ..sized(FRAMED, 1_400, frames * FRAMED.piece()) }
+/// An order in which the frames of a message are delivered.
+struct Order {
+    name: &'static str,
+    /// How many frames the message has.
+    frames: usize,
+    batch: usize,
+    late: usize,
+    reversed: bool,
 }
 
-/// Orders in which frames are placed before their turn: names, the load in order, and the load.
+/// Orders in which frames are placed before their turn.
+const ORDERS: [Order; 4] = [
+    Order { name: "pairs swapped", frames: FRAMES_FEW, batch: 2, late: 2, reversed: false },
+    Order {
+        name: "every second frame first within 128 KiB",
+        frames: FRAMES_NEAR,
+        batch: usize::MAX,
+        late: 2,
+        reversed: false,
+    },
+    Order {
+        name: "the last frame of a window first",
+        frames: FRAMES_FAR,
+        batch: usize::MAX,
+        late: 1,
+        reversed: true,
+    },
+    Order {
+        name: "the first frame of a window last",
+        frames: FRAMES_FAR,
+        batch: usize::MAX,
+        late: usize::MAX,
+        reversed: false,
+    },
+];
+
+impl Order {
+    fn of(&self, load: Load) -> Load {
+        Load { batch: self.batch, late: self.late, reversed: self.reversed, ..load }
+    }
+}
+
+/// Each of these orders, with markers and CRCs: the load in order, and in that order.
 pub fn early() -> Vec<(Row, Row)> {
-    let (near, far) = (together(FRAMES_NEAR), together(FRAMES_FAR));
-    vec![
-        (Row::new("pairs in order", Load { batch: 2, ..FRAMED }), Row::new("pairs swapped", swapped(FRAMED))),
-        (
-            Row::new("128 KiB in order", near),
-            Row::new("every second frame first within 128 KiB", Load { late: 2, ..near }),
-        ),
-        (Row::new("a window in order", far), Row::new("the last frame of a window first", backwards(far))),
-        (Row::new("a window in order", far), Row::new("the first frame of a window last", Load { late: usize::MAX, ..far })),
-    ]
+    let rows = |order: &Order| {
+        let load = Load { batch: order.batch, ..sized(FRAMED, 1_400, order.frames * FRAMED.piece()) };
+        (Row::new("in order", load), Row::new(order.name, order.of(load)))
+    };
+    ORDERS.iter().map(rows).collect()
+}
+
+/// The receiving side alone in each of these orders, with markers and CRCs.
+pub fn received_early() -> Vec<Row> {
+    ORDERS.iter().map(|order| Row::receiving(order.name, order.of(again(FRAMED, order.frames)))).collect()
 }
 
 /// A window of frames with markers, of which all but the first delivery come, in order.
@@ -103,9 +145,9 @@ pub fn rows() -> Vec<Row> {
         Row::new("start-up frames, markers and CRCs", started(FRAMED)),
         Row::new("work by turns from two places, plain", by_two(PLAIN)),
         Row::new("work by turns from two places, markers and CRCs", by_two(FRAMED)),
-        Row::receiving("receiving side, plain", again(PLAIN)),
-        Row::receiving("receiving side, markers", again(MARKERS)),
-        Row::receiving("receiving side, markers and CRCs", again(FRAMED)),
+        Row::receiving("receiving side, plain", again(PLAIN, FRAMES_FEW)),
+        Row::receiving("receiving side, markers", again(MARKERS, FRAMES_FEW)),
+        Row::receiving("receiving side, markers and CRCs", again(FRAMED, FRAMES_FEW)),
         Row::new("Sends, plain", sends(PLAIN)),
         Row::new("Sends, markers and CRCs", sends(FRAMED)),
         Row::new("ULPDU 128, plain", sized(PLAIN, 128, 16_384)),

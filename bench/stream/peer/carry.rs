@@ -5,6 +5,7 @@ use super::memory::{Memory, Stag};
 use super::send_queue::{Message, Payload};
 use super::stream::{Step, Stream};
 use crate::load::{Load, SHIFT};
+use std::mem;
 use std::sync::Arc;
 
 const DOMAIN: u8 = 1;
@@ -24,6 +25,8 @@ struct Frame {
 struct Wire {
     octets: Vec<u8>,
     frames: Vec<Frame>,
+    /// Room for the frames while they change their order.
+    emitted: Vec<Frame>,
 }
 
 impl Wire {
@@ -49,6 +52,23 @@ impl Wire {
 
     fn octets_of(&self, frame: Frame) -> &[u8] {
         &self.octets[frame.at..frame.at + frame.len]
+    }
+
+    /// Puts the frames that were emitted in the order in which the load has them delivered: the last first, or batch by batch,
+    /// of each `late` the first behind all others of its batch.
+    fn arrange(&mut self, load: &Load) {
+        if load.reversed {
+            self.frames.reverse();
+        }
+        if load.late > 1 {
+            mem::swap(&mut self.frames, &mut self.emitted);
+            self.frames.clear();
+            for batch in self.emitted.chunks(load.batch) {
+                let parts = batch.chunks(load.late);
+                self.frames.extend(parts.clone().flat_map(|part| &part[1..]));
+                self.frames.extend(parts.map(|part| part[0]));
+            }
+        }
     }
 }
 
@@ -121,24 +141,11 @@ impl Receiving {
         placed
     }
 
-    /// Delivers frames: the last first, or of each `late` the first behind all others.
-    fn take_all(&mut self, stream: &mut Stream, wire: &Wire, load: &Load) -> u64 {
-        if load.reversed {
-            return wire.frames.iter().rev().map(|frame| self.take(stream, frame.from, wire.octets_of(*frame))).sum();
-        }
-        let others = if load.late > 1 { self.take_some(stream, wire, load.late, false) } else { 0 };
-        others + self.take_some(stream, wire, load.late, true)
-    }
-
-    /// Delivers frames: of each `late` the first, or all others.
-    fn take_some(&mut self, stream: &mut Stream, wire: &Wire, late: usize, first: bool) -> u64 {
+    /// Delivers frames, so many octets further on than they were emitted, and tells how many octets were placed.
+    fn take_all(&mut self, stream: &mut Stream, wire: &Wire, further: u64) -> u64 {
         let mut placed = 0;
-        let mut index = 0;
         for frame in &wire.frames {
-            if (index == 0) == first {
-                placed += self.take(stream, frame.from, wire.octets_of(*frame));
-            }
-            index = if index + 1 >= late { 0 } else { index + 1 };
+            placed += self.take(stream, frame.from + further, wire.octets_of(*frame));
         }
         placed
     }
@@ -203,7 +210,8 @@ impl<'a> Ends<'a> {
                 }
             } else {
                 self.wire.fill(&mut pair.sender, self.load.batch);
-                placed += self.receiving.take_all(&mut pair.receiver, &self.wire, self.load);
+                self.wire.arrange(self.load);
+                placed += self.receiving.take_all(&mut pair.receiver, &self.wire, 0);
             }
         }
         placed
@@ -245,12 +253,7 @@ impl<'a> Ends<'a> {
     /// Delivers the frames of a round again, so many octets further on.
     fn repeat(&mut self, round: u64) -> u64 {
         let further = round * self.wire.octets.len() as u64;
-        let mut placed = 0;
-        for frame in &self.wire.frames {
-            let octets = self.wire.octets_of(*frame);
-            placed += self.receiving.take(&mut self.pairs[0].receiver, frame.from + further, octets);
-        }
-        placed
+        self.receiving.take_all(&mut self.pairs[0].receiver, &self.wire, further)
     }
 }
 
@@ -273,6 +276,7 @@ pub fn receive(load: &Load, octets: &[u8]) -> u64 {
     let mut ends = Ends::new(load);
     ends.post(&payloads[0]);
     ends.wire.fill(&mut ends.pairs[0].sender, usize::MAX);
+    ends.wire.arrange(load);
     let placed = (0..load.rounds).map(|round| ends.repeat(round as u64)).sum();
     ends.compare(payloads[0].as_slice());
     placed

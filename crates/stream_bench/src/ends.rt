@@ -88,24 +88,12 @@ impl Receiving {
         Ok(placed)
     }
 
-    // Delivers frames: the last first, or of each `late` the first behind all others.
-    fn take_all(&mut self, end: &mut End, wire: &Wire, load: Load) -> Result<u64, Stop> {
-        if load.reversed {
-            return self.take_back(end, wire);
-        }
-        let mut others = 0u64;
-        if load.late > 1 {
-            others = self.take_some(end, wire, load.late, false)?;
-        }
-        let first = self.take_some(end, wire, load.late, true)?;
-        Ok(others.wrapping_add(first))
-    }
-
-    // Delivers frames, the last first.
-    fn take_back(&mut self, end: &mut End, wire: &Wire) -> Result<u64, Stop> {
+    // Delivers frames, so many octets further on than they were emitted, and tells how many octets were placed.
+    fn take_all(&mut self, end: &mut End, wire: &Wire, further: u64) -> Result<u64, Stop> {
         let mut placed = 0u64;
-        for frame in wire.frames().iter().rev() {
-            let more = self.take(end, frame.from, wire.octets_of(*frame)?)?;
+        for frame in wire.frames() {
+            let from = frame.from.wrapping_add(further);
+            let more = self.take(end, from, wire.octets_of(*frame)?)?;
             placed = placed.wrapping_add(more);
         }
         Ok(placed)
@@ -123,30 +111,6 @@ impl Receiving {
             place = place.wrapping_add(piece.len() as u64);
         }
         Ok(deliveries)
-    }
-
-    // Delivers frames: of each `late` the first, or all others.
-    fn take_some(
-        &mut self,
-        end: &mut End,
-        wire: &Wire,
-        late: usize,
-        first: bool,
-    ) -> Result<u64, Stop> {
-        let mut placed = 0u64;
-        let mut index = 0usize;
-        for frame in wire.frames() {
-            if (index == 0) == first {
-                let more = self.take(end, frame.from, wire.octets_of(*frame)?)?;
-                placed = placed.wrapping_add(more);
-            }
-            index = if index.wrapping_add(1) >= late {
-                0
-            } else {
-                index.wrapping_add(1)
-            };
-        }
-        Ok(placed)
     }
 
     // Has room for a message that is sent.
@@ -227,7 +191,8 @@ fn carry_batch(
     load: Load,
 ) -> Result<u64, Stop> {
     wire.fill(&mut pair.sender, source, load.batch)?;
-    receiving.take_all(&mut pair.receiver, wire, load)
+    wire.arrange(load)?;
+    receiving.take_all(&mut pair.receiver, wire, 0)
 }
 
 /// Streams, the regions and buffers of those that receive, and frames under way.
@@ -299,13 +264,11 @@ impl Ends {
     // The two ends exchange start-up frames.
     fn start_up(&mut self, pair: &mut Pair) -> Result<(), Stop> {
         self.wire.fill(&mut pair.sender, &self.source, 1)?;
-        self.receiving
-            .take_some(&mut pair.receiver, &self.wire, 1, true)?;
+        self.receiving.take_all(&mut pair.receiver, &self.wire, 0)?;
         pair.receiver.accept()?;
         self.wire
             .fill(&mut pair.receiver, &self.receiving.memory, 1)?;
-        self.receiving
-            .take_some(&mut pair.sender, &self.wire, 1, true)?;
+        self.receiving.take_all(&mut pair.sender, &self.wire, 0)?;
         Ok(())
     }
 
@@ -405,10 +368,11 @@ impl Ends {
     /// Emits a round of messages, for `repeat`.
     pub(crate) fn emit(&mut self, octets: &Bytes) -> Result<(), Stop> {
         self.post(octets)?;
-        match self.pairs.get_mut(0) {
-            Some(pair) => self.wire.fill(&mut pair.sender, &self.source, MAX_FRAMES),
-            None => Err(Stop),
-        }
+        let Some(pair) = self.pairs.get_mut(0) else {
+            return Err(Stop);
+        };
+        self.wire.fill(&mut pair.sender, &self.source, MAX_FRAMES)?;
+        self.wire.arrange(self.load)
     }
 
     /// Delivers the frames that were emitted, so many octets further on, and tells how many octets were placed.
@@ -417,14 +381,8 @@ impl Ends {
         let Some(pair) = self.pairs.get_mut(0) else {
             return Err(Stop);
         };
-        let mut placed = 0u64;
-        for frame in self.wire.frames() {
-            let octets = self.wire.octets_of(*frame)?;
-            let from = frame.from.wrapping_add(further);
-            let more = self.receiving.take(&mut pair.receiver, from, octets)?;
-            placed = placed.wrapping_add(more);
-        }
-        Ok(placed)
+        self.receiving
+            .take_all(&mut pair.receiver, &self.wire, further)
     }
 
     /// Delivers the octets that were emitted, but for those of the first delivery, to a new stream, and tells how many

@@ -1,6 +1,8 @@
 use crate::end::{End, Stop};
+use crate::load::Load;
 use iw_memory::Memory;
 use std::alloc::Global;
+use std::mem;
 
 // From one marker to the next, and of a marker, in octets.
 const MARKER_SPACING: usize = 512;
@@ -20,6 +22,8 @@ pub(crate) struct Frame {
 pub(crate) struct Wire {
     octets: Vec<u8>,
     frames: Vec<Frame>,
+    /// Room for the frames while they change their order.
+    emitted: Vec<Frame>,
 }
 
 impl Wire {
@@ -27,9 +31,11 @@ impl Wire {
         Wire {
             octets: Vec::new(alloc),
             frames: Vec::new(alloc),
+            emitted: Vec::new(alloc),
         }
     }
 
+    /// The frames, in the order of their delivery.
     pub(crate) fn frames(&self) -> &[Frame] {
         self.frames.as_slice()
     }
@@ -82,15 +88,46 @@ impl Wire {
                 return Ok(());
             };
             let len = self.octets.len().saturating_sub(at);
-            self.add(Frame { from, at, len })?;
+            add(&mut self.frames, Frame { from, at, len })?;
         }
         Ok(())
     }
 
-    fn add(&mut self, frame: Frame) -> Result<(), Stop> {
-        match self.frames.push(frame) {
-            Ok(()) => Ok(()),
-            Err(_) => Err(Stop),
+    /// Puts the frames that were emitted in the order in which the load has them delivered: the last first, or batch by batch,
+    /// of each `late` the first behind all others of its batch.
+    pub(crate) fn arrange(&mut self, load: Load) -> Result<(), Stop> {
+        if load.reversed {
+            self.frames.reverse();
+        }
+        if load.late > 1 {
+            mem::swap(&mut self.frames, &mut self.emitted);
+            self.frames.clear();
+            for batch in self.emitted.chunks(load.batch.max(1)) {
+                add_late(&mut self.frames, batch, load.late)?;
+            }
+        }
+        Ok(())
+    }
+}
+
+fn add(frames: &mut Vec<Frame>, frame: Frame) -> Result<(), Stop> {
+    match frames.push(frame) {
+        Ok(()) => Ok(()),
+        Err(_) => Err(Stop),
+    }
+}
+
+// Adds the frames of a batch: of each `late` the first behind all others.
+fn add_late(ordered: &mut Vec<Frame>, batch: &[Frame], late: usize) -> Result<(), Stop> {
+    for part in batch.chunks(late.max(1)) {
+        if let Some((_, others)) = part.split_first() {
+            ordered.extend_from_slice(others)?;
         }
     }
+    for part in batch.chunks(late.max(1)) {
+        if let Some((first, _)) = part.split_first() {
+            add(ordered, *first)?;
+        }
+    }
+    Ok(())
 }
