@@ -27,13 +27,15 @@ pub struct Copies {
     window: Vec<u8>,
     region: Vec<u8>,
     place: Vec<u8>,
+    wire: Vec<u8>,
 }
 
 impl Copies {
     pub fn new(octets: Vec<u8>) -> Copies {
         // No page is touched for the first time while it is timed.
         let room = || vec![1; octets.len() + AROUND + PAGE];
-        Copies { frame: room(), window: room(), region: room(), place: room(), octets, frame_at: 0, window_at: 0 }
+        let (frame, window, region, place) = (room(), room(), room(), room());
+        Copies { frame, window, region, place, wire: Vec::new(), octets, frame_at: 0, window_at: 0 }
     }
 
     /// Moves the buffers against each other.
@@ -60,8 +62,8 @@ impl Copies {
 
     /// The last two of these, the frames of a message lying one behind the other.
     pub fn received(&mut self, load: &Load) {
-        let mut wire = vec![0; PAGE + load.message + load.message.div_ceil(load.piece()) * AROUND];
-        let wire = black_box(&mut wire[self.frame_at..]);
+        self.wire.resize(PAGE + load.message + load.message.div_ceil(load.piece()) * AROUND, 1);
+        let wire = &self.wire[self.frame_at..];
         let window = &mut self.window[self.window_at..];
         for _ in 0..load.messages() {
             let frames = wire.chunks(load.piece() + AROUND);

@@ -53,7 +53,7 @@ const AROUND: usize = 20;
 fn again(load: Load, frames: usize) -> Load {
     let full = frames - 1;
     let last = MARKED - full * FULL_FRAME % MARKED - AROUND;
-    Load { message: full * load.piece() + last, batch: usize::MAX, ..load }.carrying(4 << 20)
+    Load { message: full * load.piece() + last, batch: usize::MAX, ..load }.carrying(16 << 20)
 }
 
 /// All frames of a message are emitted, and the first is delivered last.

@@ -1,7 +1,8 @@
-//! Carries loads between two processes over loopback TCP, as Writes and as a plain copy, and tells how long each took.
+//! Carries loads between two processes over loopback TCP, as Writes and as a plain copy.
 //!
-//! `pair_bench measure BLOCKS TURNS` prints a line for each load and turn: its name and the nanoseconds. With no words
-//! it carries a few blocks each way, and prints which came.
+//! `pair_bench send NAME BLOCKS` prints its port and, once a load has gone over the first connection, the nanoseconds that
+//! this took; `pair_bench receive PORT NAME BLOCKS` takes it in. With no words it carries a few blocks each way between two
+//! processes, and prints which came.
 #![tactic(auto)]
 
 mod carry;
@@ -27,6 +28,10 @@ fn load_of(name: &str, blocks: u32) -> Result<Load> {
         Some(way) => Ok(Load { way, blocks }),
         None => bail!("no load is named {name}"),
     }
+}
+
+fn number(word: &str) -> Result<u32> {
+    Ok(word.parse::<u32>().context(format_args!("{word:?}"))?)
 }
 
 fn payload<R: AllocGlobal>(rt: &R) -> Result<Bytes> {
@@ -67,22 +72,30 @@ fn carry_over<R: Runtime + AllocGlobal + Net>(
     Ok(start.elapsed(rt)?.as_nanos())
 }
 
-// Carries a load to a second process.
-fn measure<R: Runtime + AllocGlobal + Net + Processes>(
-    rt: &R,
-    name: &str,
-    blocks: u32,
-) -> Result<u128> {
-    let load = load_of(name, blocks)?;
+// Carries a load to the process that connects to the port which is printed, and prints the time.
+fn send<R: Runtime + AllocGlobal + Net>(rt: &R, name: &str, blocks: &str) -> Result<()> {
+    let load = load_of(name, number(blocks)?)?;
     let listener = TcpListener::bind(rt, (Ipv4Addr::LOCALHOST, 0u16))?;
     let port = listener.local_addr()?.port();
-    let mut child = start(rt, port, name, blocks)?;
+    println!(rt; "{port}")?;
     let time = carry_over(rt, &listener, &load)?;
+    println!(rt; "{time}")?;
+    Ok(())
+}
+
+// Carries a few blocks to a second process.
+fn try_out<R: Runtime + AllocGlobal + Net + Processes>(rt: &R, name: &str) -> Result<()> {
+    let load = load_of(name, FEW)?;
+    let listener = TcpListener::bind(rt, (Ipv4Addr::LOCALHOST, 0u16))?;
+    let port = listener.local_addr()?.port();
+    let mut child = start(rt, port, name, FEW)?;
+    carry_over(rt, &listener, &load)?;
     ensure!(
         child.wait()?.success(),
         "{name}: the receiving process failed"
     );
-    Ok(time)
+    println!(rt; "{name}: {FEW} blocks came")?;
+    Ok(())
 }
 
 fn receive<R: Runtime + AllocGlobal + Net>(
@@ -91,10 +104,7 @@ fn receive<R: Runtime + AllocGlobal + Net>(
     name: &str,
     blocks: &str,
 ) -> Result<()> {
-    let load = load_of(
-        name,
-        blocks.parse::<u32>().context(format_args!("{blocks:?}"))?,
-    )?;
+    let load = load_of(name, number(blocks)?)?;
     let port = port.parse::<u16>().context(format_args!("{port:?}"))?;
     let octets = payload(rt)?;
     let mut stream = TcpStream::connect(rt, (Ipv4Addr::LOCALHOST, port))?;
@@ -103,24 +113,9 @@ fn receive<R: Runtime + AllocGlobal + Net>(
     carry::receive(rt.alloc(), &load, &octets, &mut stream, &mut output)
 }
 
-fn measure_all<R: Runtime + AllocGlobal + Net + Processes>(
-    rt: &R,
-    blocks: u32,
-    turns: u32,
-) -> Result<()> {
-    for _ in 0..turns {
-        for name in WAYS {
-            let time = measure(rt, name, blocks)?;
-            println!(rt; "{name} {time}")?;
-        }
-    }
-    Ok(())
-}
-
 fn try_all<R: Runtime + AllocGlobal + Net + Processes>(rt: &R) -> Result<()> {
     for name in WAYS {
-        measure(rt, name, FEW)?;
-        println!(rt; "{name}: {FEW} blocks came")?;
+        try_out(rt, name)?;
     }
     Ok(())
 }
@@ -129,13 +124,9 @@ fn run<R: Runtime + AllocGlobal + Net + Processes>(rt: &R) -> Result<()> {
     let words: Vec<String> = std::env::args(rt)?.collect(rt.alloc())?;
     match words.as_slice() {
         [_] => try_all(rt),
-        [_, _, blocks, turns] => measure_all(
-            rt,
-            blocks.as_str().parse::<u32>()?,
-            turns.as_str().parse::<u32>()?,
-        ),
+        [_, _, name, blocks] => send(rt, name.as_str(), blocks.as_str()),
         [_, _, port, name, blocks] => receive(rt, port.as_str(), name.as_str(), blocks.as_str()),
-        _ => bail!("measure BLOCKS TURNS"),
+        _ => bail!("send NAME BLOCKS, or receive PORT NAME BLOCKS"),
     }
 }
 
