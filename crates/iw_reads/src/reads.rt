@@ -5,24 +5,13 @@ ghost use Rattle.iw_reads.specs.Outstanding.{most_reads, asked_for, HoldsLimits}
 ghost use Rattle.iw_reads.specs.Outstanding.{same_stag, is_inside, asks_for, is_asked, sink_fault};
 ghost use Rattle.iw_reads.specs.Outstanding.{goes_on, response_turn_fault, reads_turned, finished_read};
 
+use crate::response::past_part;
 use arrayvec::ArrayVec;
 use iw_octets::{Fault, ReadRequest, Stag, TaggedHead};
 use std::marker::Model;
 
 /// How many Reads may be outstanding at one end of a stream.
 pub const MAX_READS: usize = 16;
-
-// What a place of a list holds that no request was put in.
-pub(crate) fn no_request() -> ReadRequest {
-    let stag = Stag::new(0, 0, 0);
-    ReadRequest {
-        sink: stag,
-        sink_to: 0,
-        size: 0,
-        source: stag,
-        source_to: 0,
-    }
-}
 
 /// A Read whose request was sent, and the last segment of whose response had no turn yet.
 #[derive(Clone, Copy, Debug, PartialEq, Eq)]
@@ -34,12 +23,41 @@ pub struct Outstanding {
     pub turned: u32,
 }
 
-impl Default for Outstanding {
-    fn default() -> Outstanding {
-        Outstanding {
+// An outstanding Read as it is kept: the numbers of 64 bits stand first, so that no octets are lost between fields.
+#[derive(Drop)]
+struct Kept {
+    ticket: u64,
+    sink_to: u64,
+    source_to: u64,
+    size: u32,
+    turned: u32,
+    sink: Stag,
+    source: Stag,
+}
+
+impl Model for Kept {
+    ghost use Rattle.iw_reads.specs.declared.reads.Outstanding.{Outstanding};
+
+    ghost Value = { Outstanding };
+
+    ghost view = { λ r. record {
+      ticket = r.ticket;
+      request = record { sink = r.sink; sink_to = r.sink_to; size = r.size; source = r.source; source_to = r.source_to };
+      turned = r.turned;
+    } };
+}
+
+// What a place holds that no Read was put in.
+impl Default for Kept {
+    fn default() -> Kept {
+        Kept {
             ticket: 0,
-            request: no_request(),
+            sink_to: 0,
+            source_to: 0,
+            size: 0,
             turned: 0,
+            sink: Stag::new(0, 0, 0),
+            source: Stag::new(0, 0, 0),
         }
     }
 }
@@ -47,7 +65,7 @@ impl Default for Outstanding {
 /// The outstanding Reads of one end of a stream, oldest first, at most [`MAX_READS`].
 #[derive(Drop)]
 pub struct Reads {
-    reads: ArrayVec<Outstanding, MAX_READS>,
+    reads: ArrayVec<Kept, MAX_READS>,
 }
 
 impl Model for Reads {
@@ -105,10 +123,14 @@ impl Reads {
         requires { length self.old < most_reads }
         ensures { self.new ≡ asked_for self.old ticket request }
     {
-        self.reads.push(Outstanding {
+        self.reads.push(Kept {
             ticket,
-            request,
+            sink_to: request.sink_to,
+            source_to: request.source_to,
+            size: request.size,
             turned: 0,
+            sink: request.sink,
+            source: request.source,
         });
     }
 
@@ -150,20 +172,25 @@ impl Reads {
             let _ = self.reads.remove(0);
             return Ok(Some(ticket));
         }
-        self.reads[0] = turned_by(*read, n);
+        self.reads[0] = turned_by(read, n);
         Ok(None)
     }
 }
 
-// The Read with `n` octets more that had their turn.
+// The Read with `n` octets more of its response that had their turn.
 #[inline(always)]
-fn turned_by(read: Outstanding, n: usize) -> Outstanding
-    requires { read.turned + n ≤ read.request.size }
-    ensures { result ≡ record read { turned = read.turned + n } }
+fn turned_by(read: &Kept, n: usize) -> Kept
+    requires { read.now.turned + n ≤ read.now.request.size }
+    ensures { result ≡ record read.now { turned = read.now.turned + n } }
 {
-    Outstanding {
-        turned: read.turned + n as u32,
-        ..read
+    Kept {
+        ticket: read.ticket,
+        sink_to: read.sink_to,
+        source_to: read.source_to,
+        size: read.size,
+        turned: past_part(read.size, read.turned, n),
+        sink: read.sink,
+        source: read.source,
     }
 }
 
@@ -175,25 +202,25 @@ fn same_stag(a: &Stag, b: &Stag) -> bool
 }
 
 // The `n` octets from tagged offset `to` on lie inside the sink.
-fn is_inside(request: &ReadRequest, to: u64, n: usize) -> bool
-    ensures { result ≡ is_inside request.now to n }
+fn is_inside(read: &Kept, to: u64, n: usize) -> bool
+    ensures { result ≡ is_inside read.now.request to n }
 {
-    let size = request.size as u64;
-    let offset = to.wrapping_sub(request.sink_to);
+    let size = read.size as u64;
+    let offset = to.wrapping_sub(read.sink_to);
     n == 0 || (offset <= size && n as u64 <= size - offset)
 }
 
 // The response of the Read goes on with this segment.
 #[inline(always)]
-fn goes_on(read: &Outstanding, head: &TaggedHead, n: usize) -> bool
+fn goes_on(read: &Kept, head: &TaggedHead, n: usize) -> bool
     requires { read.now.turned ≤ read.now.request.size }
     ensures goes_on { result ≡ goes_on read.now head.now n }
     ensures small { IsTrue result → n < 2 ^ 32 }
 {
-    let next = read.request.sink_to.wrapping_add(read.turned as u64);
-    same_stag(&read.request.sink, &head.stag)
+    let next = read.sink_to.wrapping_add(read.turned as u64);
+    same_stag(&read.sink, &head.stag)
         && head.to == next
-        && fits(read.request.size, read.turned, head.last, n)
+        && fits(read.size, read.turned, head.last, n)
 }
 
 // The `n` octets after those that had their turn are not past the size, and reach it where they are the last.
@@ -208,13 +235,13 @@ fn fits(size: u32, turned: u32, last: bool, n: usize) -> bool
 }
 
 // The Read asked for what the segment brings.
-fn asks_for(head: &TaggedHead, n: usize, read: &Outstanding) -> bool
+fn asks_for(head: &TaggedHead, n: usize, read: &Kept) -> bool
     ensures { result ≡ asks_for head.now n read.now }
 {
-    same_stag(&read.request.sink, &head.stag) && is_inside(&read.request, head.to, n)
+    same_stag(&read.sink, &head.stag) && is_inside(read, head.to, n)
 }
 
-fn is_asked(reads: &[Outstanding], head: &TaggedHead, n: usize) -> bool
+fn is_asked(reads: &[Kept], head: &TaggedHead, n: usize) -> bool
     ensures { result ≡ is_asked reads.now head.now n }
 {
     for read in reads {

@@ -5,11 +5,10 @@ ghost use Rattle.iw_reads.specs.Requests.{most_unanswered, nothing_asked, taken_
 ghost use Rattle.iw_reads.specs.Requests.{response_part, part_fetched, oldest_headers};
 ghost use Rattle.iw_reads.specs.Source.{IsInRange};
 
-use crate::reads::no_request;
-use crate::response::{ResponsePart, part_of_response};
+use crate::response::{ResponsePart, part_of_response, past_part};
 use arrayvec::ArrayVec;
 use iw_octets::{
-    MAX_UNANSWERED, Part, READ_REQUEST_HEADER, ReadRequest, TAGGED_HEADER, UNTAGGED_HEADER,
+    MAX_UNANSWERED, Part, READ_REQUEST_HEADER, ReadRequest, Stag, TAGGED_HEADER, UNTAGGED_HEADER,
 };
 use std::marker::Model;
 
@@ -24,11 +23,53 @@ pub struct Asked {
     pub request: ReadRequest,
 }
 
-impl Default for Asked {
-    fn default() -> Asked {
-        Asked {
-            header: ArrayVec::new(),
-            request: no_request(),
+// A request as it is kept: the numbers of 64 bits stand first, so that no octets are lost between fields.
+#[derive(Drop)]
+struct Kept {
+    sink_to: u64,
+    source_to: u64,
+    size: u32,
+    sink: Stag,
+    source: Stag,
+    header: [u8; UNTAGGED_HEADER],
+}
+
+impl Model for Kept {
+    ghost use Rattle.iw_reads.specs.declared.requests.Asked.{Asked};
+
+    ghost Value = { Asked };
+
+    ghost view = { λ k. record {
+      header = record { items = k.header };
+      request = record { sink = k.sink; sink_to = k.sink_to; size = k.size; source = k.source; source_to = k.source_to };
+    } };
+}
+
+// What a place holds that no request was put in.
+impl Default for Kept {
+    fn default() -> Kept {
+        Kept {
+            sink_to: 0,
+            source_to: 0,
+            size: 0,
+            sink: Stag::new(0, 0, 0),
+            source: Stag::new(0, 0, 0),
+            header: [0; UNTAGGED_HEADER],
+        }
+    }
+}
+
+impl Kept {
+    // The Read Request.
+    fn request(&self) -> ReadRequest
+        ensures { result ≡ self.now.request }
+    {
+        ReadRequest {
+            sink: self.sink,
+            sink_to: self.sink_to,
+            size: self.size,
+            source: self.source,
+            source_to: self.source_to,
         }
     }
 }
@@ -39,9 +80,9 @@ impl Default for Asked {
 pub struct Requests {
     // The message sequence number that is due on queue number 1.
     next: u32,
-    unanswered: ArrayVec<Asked, MAX_UNANSWERED>,
     // How many octets were fetched for the oldest.
-    fetched: usize,
+    fetched: u32,
+    unanswered: ArrayVec<Kept, MAX_UNANSWERED>,
 }
 
 impl Model for Requests {
@@ -61,8 +102,8 @@ impl Requests {
     {
         Requests {
             next: 1,
-            unanswered: ArrayVec::new(),
             fetched: 0,
+            unanswered: ArrayVec::new(),
         }
     }
 
@@ -102,8 +143,8 @@ impl Requests {
     {
         let mut headers = ArrayVec::new();
         if let Some(asked) = self.unanswered.as_slice().first() {
-            let _ = headers.try_extend_from_slice(asked.header.as_slice());
-            let _ = headers.try_extend_from_slice(asked.request.write().as_slice());
+            let _ = headers.try_extend_from_slice(&asked.header);
+            let _ = headers.try_extend_from_slice(asked.request().write().as_slice());
         }
         headers
     }
@@ -117,8 +158,9 @@ impl Requests {
         requires range { IsInRange asked.request }
         ensures { self.new ≡ taken_up self.old asked }
     {
+        let Asked { header, request } = asked;
         self.next = self.next.wrapping_add(1);
-        self.unanswered.push(asked);
+        self.unanswered.push(to_keep(header, request));
     }
 
     /// The part that is to be fetched next, of the response to the oldest request, if one waits. It only looks.
@@ -132,14 +174,8 @@ impl Requests {
         ensures fits { IfSome result (λ part. FitsTagged part.head) }
     {
         let asked = self.unanswered.as_slice().first()?;
-        Some(part_of_response(
-            &asked.request,
-            part_at(
-                asked.request.size as usize,
-                max - TAGGED_HEADER,
-                self.fetched,
-            ),
-        ))
+        let part = part_at(asked.size, max - TAGGED_HEADER, self.fetched);
+        Some(part_of_response(&asked.request(), part))
     }
 
     /// Says that the part that `next_part(max)` shows was fetched and sent. The last part answers the oldest request.
@@ -151,28 +187,42 @@ impl Requests {
         let Some(asked) = self.unanswered.as_slice().first() else {
             return;
         };
-        let part = part_at(
-            asked.request.size as usize,
-            max - TAGGED_HEADER,
-            self.fetched,
-        );
+        let part = part_at(asked.size, max - TAGGED_HEADER, self.fetched);
         if part.last {
             let _ = self.unanswered.remove(0);
             self.fetched = 0;
             return;
         }
-        self.fetched += part.n;
+        self.fetched = past_part(asked.size, self.fetched, part.n);
+    }
+}
+
+// The request as it is kept.
+fn to_keep(header: ArrayVec<u8, UNTAGGED_HEADER>, request: ReadRequest) -> Kept
+    requires { length header.items ≡ UNTAGGED_HEADER }
+    ensures { result ≡ record { header = header; request = request } }
+{
+    let Ok(header) = header.into_inner() else {
+        unreachable!();
+    };
+    Kept {
+        sink_to: request.sink_to,
+        source_to: request.source_to,
+        size: request.size,
+        sink: request.sink,
+        source: request.source,
+        header,
     }
 }
 
 // The part from an offset on of so many octets, where a part has at most `size`.
-fn part_at(len: usize, size: usize, offset: usize) -> Part
+fn part_at(len: u32, size: usize, offset: u32) -> Part
     requires { offset ≤ len }
     ensures { result ≡ part_at len size offset }
 {
-    let left = len - offset;
+    let left = (len - offset) as usize;
     Part {
-        offset,
+        offset: offset as usize,
         n: left.min(size),
         last: left <= size,
     }

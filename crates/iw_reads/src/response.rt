@@ -51,6 +51,15 @@ pub(crate) fn part_of_response(request: &ReadRequest, part: Part) -> ResponsePar
     }
 }
 
+/// The offset past `n` octets more of so many.
+#[inline(always)]
+pub(crate) fn past_part(len: u32, offset: u32, n: usize) -> u32
+    requires { offset + n ≤ len }
+    ensures { result ≡ offset + n }
+{
+    offset + n as u32
+}
+
 /// Fetches a part's octets, lent by the region, for a stream of domain `pd`. What may be read is checked again at each
 /// part (RFC 5040 7.2): the fault is the first that [`check_source`](crate::check_source) names, for these octets.
 pub fn fetch<'a, A: Allocator>(

@@ -14,10 +14,10 @@ pub returns-in-Some-clause-len : goal.returns-in-Some-clause-len
 returns-in-Some-clause-len c = λ some.
     let is : slice_get c.self.inside.unanswered.items 0 ≡ Some c.in-Some.asked.now =
     sym (c.in-Some.ensures.value ∙ ap (λ (waiting : List Asked). slice_get waiting 0) c.as_slice.ensures.value) in
-    let header = ap length c.as_slice-in-Some.ensures.value ∙ header_whole _ _ is c.self.invariant.headers in
-    let request = ap length (c.as_slice-in-Some-2.ensures.value ∙ c.write.ensures) ∙ length-request_octets c.in-Some.asked.now.request in
+    let header : length c.asked.inside.header ≡ 18 = ap (λ (asked : Asked). length asked.header.items) c.asked.view_is ∙ header_whole _ _ is c.self.invariant.headers in
+    let request = ap length (c.as_slice-in-Some.ensures.value ∙ c.write.ensures) ∙ length-request_octets c.request.result in
     let front = from_ok c.try_extend_from_slice.result _ (c.try_extend_from_slice.ensures.variant.1 (omega (arith, header, ap length c.new-headers.ensures))) c.try_extend_from_slice.ensures.ok in
-    let all = from_ok c.try_extend_from_slice-in-Some.result _ (c.try_extend_from_slice-in-Some.ensures.variant.1 (omega (arith, ap length front, header, request, ap length c.new-headers.ensures, length-append c.new-headers.result.items c.as_slice-in-Some.result.now)))
+    let all = from_ok c.try_extend_from_slice-in-Some.result _ (c.try_extend_from_slice-in-Some.ensures.variant.1 (omega (arith, ap length front, header, request, ap length c.new-headers.ensures, length-append c.new-headers.result.items c.asked.inside.header)))
     c.try_extend_from_slice-in-Some.ensures.ok in
     omega (
       arith,
@@ -26,6 +26,6 @@ returns-in-Some-clause-len c = λ some.
       header,
       request,
       ap length c.new-headers.ensures,
-      length-append c.new-headers.result.items c.as_slice-in-Some.result.now,
-      length-append c.try_extend_from_slice.new.self.items c.as_slice-in-Some-2.result.now,
+      length-append c.new-headers.result.items c.asked.inside.header,
+      length-append c.try_extend_from_slice.new.self.items c.as_slice-in-Some.result.now,
     )
