@@ -9,7 +9,6 @@ use Rattle.iw_octets.specs.Segment.{segment_octets}
 use Rattle.iw_ranges.specs.InOrder.{IsOf}
 use Rattle.iw_fpdu.specs.declared.layout.Layout.{Layout}
 use Rattle.iw_fpdu.specs.Sequence.{sequence}
-use Rattle.iw_startup.specs.declared.config.Config.{Config}
 use Rattle.iw_startup.specs.declared.progress.Progress.TheVariants as progresses
 use Rattle.iw_startup.specs.declared.side.Side.{Side}
 use Rattle.iw_startup.specs.declared.side.Side.TheVariants as sides
@@ -141,7 +140,7 @@ module _ (a : Opening) (c : Connected) (t : Tale) (own : Own a c t) (w : Startup
     (b : Opening) (d : Connected) (u : Tale) (other : Own b d u) (v : StartupState) (sv : Starts b d.stream v)
     (there : IsOf u.story.came t.sent) (back : IsOf t.story.came u.sent) where
   asked_few : length w.config.private.items ≤ 512
-  asked_few = subst (λ (z : Config). length z.private.items ≤ 512) (sym sw.begun.config) own.small
+  asked_few = omega (arith, sw.begun.few, own.small)
 
   frame_is : frame_of w ≡ own_frame w.config sides.Initiator
   frame_is = ap (own_frame w.config) asks

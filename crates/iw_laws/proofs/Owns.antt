@@ -192,7 +192,7 @@ role_of sides.Initiator = Initiator
 role_of (sides.Responder reply) = Responder
 
 pub record StartsAs (o : Opening) (u : StartupState) : Type 0 where
-  pub config : u.config ≡ o.config
+  pub few : length u.config.private.items ≤ length o.config.private.items
   pub role : role_of u.side ≡ o.role
   pub small : IsSmall u.side
 
@@ -1615,7 +1615,7 @@ ended_is table s (Mulpdu size (Some refusal)) rule = refl
 
 pushed_starts : (o : Opening) (u : StartupState) (xs : Octets) → StartsAs o u → StartsAs o (pushed u xs)
 unfolding pushed
-pushed_starts o u xs h = record { config = h.config; role = h.role; small = h.small }
+pushed_starts o u xs h = record { few = h.few; role = h.role; small = h.small }
 
 heard_starts : (o : Opening) (start : StartState) (xs : Octets) → IsStartOf o start → IsStartOf o (heard start xs)
 heard_starts o (AtOnce layout) xs h = h
@@ -1626,7 +1626,7 @@ answered_starts : (o : Opening) (s : StreamState) (reply : Reply) → length (pr
 answered_starts o s reply small m h =
     let was : StartsAs o m.startup = subst (IsStartOf o) m.is h in
     let responds : Responder ≡ o.role = ap role_of (sym (unanswered m.startup m.asked)) ∙ was.role in
-    let now : StartsAs o (answered m.startup reply) = record { config = was.config; role = responds; small = small } in
+    let now : StartsAs o (answered m.startup reply) = record { few = was.few; role = responds; small = small } in
     subst (IsStartOf o) (ap (λ z. answered_with z reply) (sym m.is)) now
 
 starting : (o : Opening) (table : Table) (s : StreamState) (act : StreamAct Octets) → Told table s act → IsStartOf o s.start → IsStartOf o (after_act s act).start

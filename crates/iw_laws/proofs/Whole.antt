@@ -167,8 +167,8 @@ starts_at_first o = go o.role refl
   where
     go : (r : Role) → o.role ≡ r → IsStartOf o (start_at_first r o.config)
     go Preset e = (e, refl)
-    go Initiator e = record { config = refl; role = sym e; small = tt }
-    go Responder e = record { config = refl; role = sym e; small = tt }
+    go Initiator e = record { few = omega arith; role = sym e; small = tt }
+    go Responder e = record { few = omega arith; role = sym e; small = tt }
 
 -- a stream to which nothing has happened
 no_emits : (o : Opening) → Emits (connected o).stream (tale_of o [])
@@ -390,8 +390,8 @@ few_side config (sides.Responder (Some (replies.Reject private))) few small = om
 
 few_start : (o : Opening) (start : StartState) → length o.config.private.items ≤ 512 → IsStartOf o start → length (starting.own_frame start) ≤ 532
 few_start o (AtOnce layout) few h = omega arith
-few_start o (Unheard u) few h = few_side u.config u.side (subst (λ (z : Config). length z.private.items ≤ 512) (sym h.config) few) h.small
-few_start o (Heard u) few h = few_side u.config u.side (subst (λ (z : Config). length z.private.items ≤ 512) (sym h.config) few) h.small
+few_start o (Unheard u) few h = few_side u.config u.side (omega (arith, h.few, few)) h.small
+few_start o (Heard u) few h = few_side u.config u.side (omega (arith, h.few, few)) h.small
 
 few_frame : {opening : Opening} (c : Connected) (t : Tale) → Own opening c t → nat_lt c.stream.sent (starting.first_place_out c.stream.start) ≡ false → (segment : Segment Octets) → length (segment_octets segment) ≤ 64512 → length (frame_of c.stream segment) ≤ 2 ^ 17
 few_frame c t o spoken segment small =

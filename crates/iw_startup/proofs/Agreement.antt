@@ -84,6 +84,7 @@ pub record Agree (w v : StartupState) : Type 0 where
 
 pub both_agree : (w v : StartupState) (private : ArrayVec ℕ) → w.side ≡ Initiator → v.side ≡ Responder (Some (Accept private)) → length w.config.private.items ≤ 512 → length private.items ≤ 512
     → w.octets ≡ reply_frame v.config (Accept private) → v.octets ≡ own_frame w.config Initiator → Agree w v
+unfolding agreed_of
 both_agree w v private asks accepts asked answered_few reply request = record {
   asking = ap agreed_of (λ i. record { config = w.config; side = asks i; octets = reply i }) ∙ opened w.config v.config private answered_few;
   accepting = ap agreed_of (λ i. record { config = v.config; side = accepts i; octets = request i }) ∙ accepted w.config v.config private asked;

@@ -1,4 +1,5 @@
 pub mod Frame
 pub mod Laws
+pub mod Own
 pub mod Peer
 pub mod State

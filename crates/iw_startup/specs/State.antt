@@ -18,9 +18,14 @@ pub record StartupState : Type 0 where
   -- the octets of the peer's frame that were taken so far
   pub octets : List ℕ
 
+-- what an end asks for in its frame: a responder's private data is that of its answer
+abbrev pub asks_as : Side → Config → Config
+asks_as Initiator config = config
+asks_as (Responder reply) config = record config { private = record { items = [] } }
+
 -- an end that has taken nothing
 abbrev pub begun : Side → Config → StartupState
-begun side config = record { config = config; side = side; octets = [] }
+begun side config = record { config = asks_as side config; side = side; octets = [] }
 
 abbrev pub progress : StartupState → Progress
 progress s = progress_of s.side s.octets
@@ -52,8 +57,11 @@ is_asked _ = false
 abbrev pub awaits_answer : StartupState → Bool
 awaits_answer s = is_unanswered s.side && is_asked (progress s)
 
+abbrev pub replied : Reply → Side
+replied reply = Responder (Some reply)
+
 abbrev pub answered : StartupState → Reply → StartupState
-answered s reply = record s { side = Responder (Some reply) }
+answered s reply = record s { side = replied reply }
 
 -- the private data of an answer
 abbrev pub private_in : Reply → ArrayVec ℕ

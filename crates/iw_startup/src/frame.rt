@@ -5,9 +5,9 @@ ghost use Rattle.iw_startup.specs.Frame.{flags, start_frame, has_flag, private_l
 ghost use Rattle.iw_startup.specs.Peer.{fixed_fault, frame_end, is_whole, progress_of};
 ghost use Rattle.iw_startup.specs.State.{agreement};
 
-use crate::config::{Agreed, Config, FIXED_OCTETS, MAX_FRAME, PrivateData};
+use crate::config::{Agreed, FIXED_OCTETS, MAX_FRAME, PrivateData};
+use crate::own::Own;
 use crate::progress::{Progress, StartupFault};
-use crate::side::Side;
 use arrayvec::ArrayVec;
 use iw_octets::MAX_PRIVATE;
 
@@ -27,7 +27,7 @@ const REJECTED: u8 = 0x20;
 
 const REVISION: u8 = 1;
 
-fn flags_octet(markers: bool, crc: bool, rejected: bool) -> u8
+pub(crate) fn flags_octet(markers: bool, crc: bool, rejected: bool) -> u8
     ensures { result ≡ flags markers crc rejected }
 {
     let mut octet = 0;
@@ -50,17 +50,11 @@ fn append(frame: &mut ArrayVec<u8, MAX_FRAME>, octets: &[u8])
     let _ = frame.try_extend_from_slice(octets);
 }
 
-// The frame with this key that asks for what `config` does. The private data need not be `config`'s.
+// The frame with this key, these flags and this private data.
 #[tactic(auto, unfolding(crate::specs::Frame::start_frame))]
-pub(crate) fn written(
-    key: &[u8; 16],
-    config: &Config,
-    rejected: bool,
-    private: &PrivateData,
-) -> ArrayVec<u8, MAX_FRAME>
-    ensures { result.items ≡ start_frame key.now (flags config.now.markers config.now.crc rejected) private.now.items }
+pub(crate) fn written(key: &[u8; 16], flags: u8, private: &PrivateData) -> ArrayVec<u8, MAX_FRAME>
+    ensures { result.items ≡ start_frame key.now flags private.now.items }
 {
-    let flags = flags_octet(config.markers, config.crc, rejected);
     let private = private.as_slice();
     let len = private.len();
     let mut frame = ArrayVec::new();
@@ -99,12 +93,12 @@ fn private_len_in(octets: &[u8]) -> usize
 }
 
 #[tactic(auto, unfolding(crate::specs::Peer::fixed_fault))]
-fn fault_in_fixed(side: &Side, octets: &[u8]) -> Option<StartupFault>
+fn fault_in_fixed(own: &Own, octets: &[u8]) -> Option<StartupFault>
     requires { FIXED_OCTETS ≤ length octets.now }
-    ensures fault { result ≡ fixed_fault side.now octets.now }
+    ensures fault { result ≡ fixed_fault own.now.side octets.now }
     ensures fits { IfNone result (private_len octets.now ≤ MAX_PRIVATE) }
 {
-    if !octets.starts_with(side.peer_key()) {
+    if !octets.starts_with(own.peer_key()) {
         return Some(StartupFault::BadKey);
     }
     if octets[REVISION_AT] != REVISION {
@@ -117,42 +111,42 @@ fn fault_in_fixed(side: &Side, octets: &[u8]) -> Option<StartupFault>
 }
 
 #[tactic(auto, unfolding(crate::specs::Peer::frame_end))]
-pub(crate) fn end_of_frame(side: &Side, octets: &[u8]) -> usize
-    ensures end { result ≡ frame_end side.now octets.now }
+pub(crate) fn end_of_frame(own: &Own, octets: &[u8]) -> usize
+    ensures end { result ≡ frame_end own.now.side octets.now }
     ensures fixed { FIXED_OCTETS ≤ result }
     ensures fits { result ≤ MAX_FRAME }
 {
-    if octets.len() < FIXED_OCTETS || fault_in_fixed(side, octets).is_some() {
+    if octets.len() < FIXED_OCTETS || fault_in_fixed(own, octets).is_some() {
         return FIXED_OCTETS;
     }
     FIXED_OCTETS + private_len_in(octets)
 }
 
 #[tactic(auto, unfolding(crate::specs::Peer::progress_of))]
-pub(crate) fn progress_in(side: &Side, octets: &[u8]) -> Progress
-    ensures progress { result ≡ progress_of side.now octets.now }
+pub(crate) fn progress_in(own: &Own, octets: &[u8]) -> Progress
+    ensures progress { result ≡ progress_of own.now.side octets.now }
     ensures fixed { result ≢ Progress.More → FIXED_OCTETS ≤ length octets.now }
 {
-    if octets.len() < end_of_frame(side, octets) {
+    if octets.len() < end_of_frame(own, octets) {
         return Progress::More;
     }
-    if let Some(fault) = fault_in_fixed(side, octets) {
+    if let Some(fault) = fault_in_fixed(own, octets) {
         return Progress::Faulted(fault);
     }
-    match side {
-        Side::Responder(_) => Progress::Asked,
-        Side::Initiator if flag_is_set(REJECTED, octets) => {
-            Progress::Faulted(StartupFault::Rejected)
-        }
-        Side::Initiator => Progress::Agreed,
+    if own.is_responder() {
+        return Progress::Asked;
     }
+    if flag_is_set(REJECTED, octets) {
+        return Progress::Faulted(StartupFault::Rejected);
+    }
+    Progress::Agreed
 }
 
 // The private data, empty before the frame is whole.
-pub(crate) fn private_in<'a>(side: &Side, octets: &'a [u8]) -> &'a [u8]
-    ensures { result.now ≡ (if is_whole side.now octets.now then drop FIXED_OCTETS octets.now else []) }
+pub(crate) fn private_in<'a>(own: &Own, octets: &'a [u8]) -> &'a [u8]
+    ensures { result.now ≡ (if is_whole own.now.side octets.now then drop FIXED_OCTETS octets.now else []) }
 {
-    let end = end_of_frame(side, octets);
+    let end = end_of_frame(own, octets);
     if octets.len() < end {
         return &[];
     }
@@ -160,13 +154,13 @@ pub(crate) fn private_in<'a>(side: &Side, octets: &'a [u8]) -> &'a [u8]
 }
 
 // What this end's frame and the peer's agree on.
-pub(crate) fn agreement_with(config: &Config, octets: &[u8]) -> Agreed
+pub(crate) fn agreement_with(own: &Own, octets: &[u8]) -> Agreed
     requires { FIXED_OCTETS ≤ length octets.now }
-    ensures { result ≡ agreement config.now octets.now }
+    ensures { result ≡ agreement own.now.config octets.now }
 {
     Agreed {
         send_markers: flag_is_set(MARKERS, octets),
-        expect_markers: config.markers,
-        crc: config.crc || flag_is_set(CRC, octets),
+        expect_markers: own.markers,
+        crc: own.crc || flag_is_set(CRC, octets),
     }
 }

@@ -8,6 +8,7 @@
 mod config;
 mod frame;
 mod laws;
+mod own;
 mod progress;
 mod side;
 mod startup;

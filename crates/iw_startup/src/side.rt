@@ -1,7 +1,3 @@
-ghost use Rattle.std.specs.Prelude.{◌≡◌};
-ghost use Rattle.iw_startup.specs.Frame.{request_key, reply_key};
-ghost use Rattle.iw_startup.specs.Peer.{peer_key};
-
 use crate::config::PrivateData;
 
 pub(crate) const REQUEST_KEY: &[u8; 16] = b"MPA ID Req Frame";
@@ -24,16 +20,4 @@ pub enum Reply {
     Accept(PrivateData),
     /// The connection is not to be.
     Reject(PrivateData),
-}
-
-impl Side {
-    // The key of the frame that the other end sends.
-    pub(crate) fn peer_key(&self) -> &'static [u8]
-        ensures { result.now ≡ peer_key self.now }
-    {
-        match self {
-            Side::Initiator => REPLY_KEY,
-            Side::Responder(_) => REQUEST_KEY,
-        }
-    }
 }

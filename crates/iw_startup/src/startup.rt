@@ -1,12 +1,14 @@
 ghost use Rattle.std.specs.Prelude.{◌≡◌, ◌≤◌, length, IsTrue, is_ok, OnOk, OnErr, IfOk, Some, None};
+ghost use Rattle.iw_startup.specs.declared.side.Reply.{Reply};
+ghost use Rattle.iw_startup.specs.declared.side.Side.{Side};
 ghost use Rattle.iw_startup.specs.Peer.{progress_of};
 ghost use Rattle.iw_startup.specs.State.{begun, is_responder, pushed, used, progress, IsReached};
 ghost use Rattle.iw_startup.specs.State.{private_of, frame_of, agreement, agreed_of, awaits_answer, answered};
 
 use crate::config::{Agreed, Config, FIXED_OCTETS, MAX_FRAME, PrivateData};
 use crate::frame;
+use crate::own::Own;
 use crate::progress::Progress;
-use crate::side::{REPLY_KEY, REQUEST_KEY, Reply, Side};
 use arrayvec::ArrayVec;
 use std::marker::Model;
 use thiserror::Error;
@@ -19,8 +21,7 @@ pub struct NotAsked;
 /// One end's part in the start-up of a connection.
 #[derive(Drop)]
 pub struct Startup {
-    config: Config,
-    side: Side,
+    own: Own,
     // The peer's octets.
     octets: ArrayVec<u8, MAX_FRAME>,
 }
@@ -30,9 +31,9 @@ impl Model for Startup {
 
     ghost Value = { StartupState };
 
-    ghost view = { λ a. record { config = a.config; side = a.side; octets = a.octets.items } };
+    ghost view = { λ a. record { config = a.own.config; side = a.own.side; octets = a.octets.items } };
 
-    ghost invariant = { λ a. IsReached (record { config = a.config; side = a.side; octets = a.octets.items }) };
+    ghost invariant = { λ a. IsReached (record { config = a.own.config; side = a.own.side; octets = a.octets.items }) };
 }
 
 impl Startup {
@@ -41,8 +42,7 @@ impl Startup {
         ensures { result ≡ begun Side.Initiator config }
     {
         Startup {
-            config,
-            side: Side::Initiator,
+            own: Own::initiator(config),
             octets: ArrayVec::new(),
         }
     }
@@ -52,8 +52,7 @@ impl Startup {
         ensures { result ≡ begun (Side.Responder None) config }
     {
         Startup {
-            config,
-            side: Side::Responder(None),
+            own: Own::responder(config),
             octets: ArrayVec::new(),
         }
     }
@@ -70,9 +69,9 @@ impl Startup {
         ensures reached { IsReached self.new }
     {
         let fixed = frame::take_up_to(FIXED_OCTETS, &mut self.octets, octets);
-        let end = frame::end_of_frame(&self.side, self.octets.as_slice());
+        let end = frame::end_of_frame(&self.own, self.octets.as_slice());
         let private = frame::take_up_to(end, &mut self.octets, &octets[fixed..]);
-        let progress = frame::progress_in(&self.side, self.octets.as_slice());
+        let progress = frame::progress_in(&self.own, self.octets.as_slice());
         (fixed + private, progress)
     }
 
@@ -80,14 +79,14 @@ impl Startup {
     pub fn progress_of(&self, octets: &[u8]) -> Progress
         ensures { result ≡ progress_of self.now.side octets.now }
     {
-        frame::progress_in(&self.side, octets)
+        frame::progress_in(&self.own, octets)
     }
 
     /// Whether this is the end that receives the Request.
     pub fn is_responder(&self) -> bool
         ensures { result ≡ is_responder self.now.side }
     {
-        matches!(&self.side, Side::Responder(_))
+        self.own.is_responder()
     }
 
     /// How many octets of the peer's frame were taken.
@@ -112,8 +111,8 @@ impl Startup {
         if !self.awaits_answer() {
             return Err(NotAsked);
         }
-        self.side = Side::Responder(Some(Reply::Accept(private)));
-        Ok(frame::agreement_with(&self.config, self.octets.as_slice()))
+        self.own.accept(private);
+        Ok(frame::agreement_with(&self.own, self.octets.as_slice()))
     }
 
     /// Answers the Request: the connection is not to be. The Reply carries this private data, and M and C as one that
@@ -128,7 +127,7 @@ impl Startup {
         if !self.awaits_answer() {
             return Err(NotAsked);
         }
-        self.side = Side::Responder(Some(Reply::Reject(private)));
+        self.own.reject(private);
         Ok(())
     }
 
@@ -138,17 +137,7 @@ impl Startup {
     pub fn frame(&self) -> ArrayVec<u8, MAX_FRAME>
         ensures { result.items ≡ frame_of self.now }
     {
-        let config = &self.config;
-        match &self.side {
-            Side::Initiator => frame::written(REQUEST_KEY, config, false, &config.private),
-            Side::Responder(None) => ArrayVec::new(),
-            Side::Responder(Some(Reply::Accept(private))) => {
-                frame::written(REPLY_KEY, config, false, private)
-            }
-            Side::Responder(Some(Reply::Reject(private))) => {
-                frame::written(REPLY_KEY, config, true, private)
-            }
-        }
+        self.own.frame()
     }
 
     /// The peer's private data, empty before its frame is whole.
@@ -157,21 +146,15 @@ impl Startup {
         ensures private { result.now ≡ private_of self.now }
         ensures reached { IsReached self.now }
     {
-        frame::private_in(&self.side, self.octets.as_slice())
+        frame::private_in(&self.own, self.octets.as_slice())
     }
 
     /// How many octets the frame has that this end sends.
-    #[tactic(auto, unfolding(crate::specs::Frame::start_frame))]
     pub fn frame_len(&self) -> usize
         ensures len { result ≡ length (frame_of self.now) }
         ensures fits { result ≤ MAX_FRAME }
     {
-        match &self.side {
-            Side::Initiator => FIXED_OCTETS + self.config.private.len(),
-            Side::Responder(None) => 0,
-            Side::Responder(Some(Reply::Accept(private))) => FIXED_OCTETS + private.len(),
-            Side::Responder(Some(Reply::Reject(private))) => FIXED_OCTETS + private.len(),
-        }
+        self.own.frame_len()
     }
 
     /// What both frames agree on: at an initiator once the Reply accepts, at a responder once its user did.
@@ -180,13 +163,11 @@ impl Startup {
         ensures { result ≡ agreed_of self.now }
     {
         let octets = self.octets.as_slice();
-        match (&self.side, frame::progress_in(&self.side, octets)) {
-            (Side::Initiator, Progress::Agreed)
-            | (Side::Responder(Some(Reply::Accept(_))), Progress::Asked) => {
-                Some(frame::agreement_with(&self.config, octets))
-            }
-            _ => None,
+        let progress = frame::progress_in(&self.own, octets);
+        if !self.own.has_agreed(progress) {
+            return None;
         }
+        Some(frame::agreement_with(&self.own, octets))
     }
 
     // The Request is whole, and its user gave no answer yet.
@@ -194,11 +175,7 @@ impl Startup {
         ensures awaits { result ≡ awaits_answer self.now }
         ensures fixed { IsTrue result → FIXED_OCTETS ≤ length self.now.octets }
     {
-        match self.side {
-            Side::Responder(None) => {
-                frame::progress_in(&self.side, self.octets.as_slice()) == Progress::Asked
-            }
-            _ => false,
-        }
+        self.own.is_unanswered()
+            && frame::progress_in(&self.own, self.octets.as_slice()) == Progress::Asked
     }
 }
