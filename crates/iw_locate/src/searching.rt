@@ -132,10 +132,7 @@ impl Locator {
             return None;
         }
         let start = pointed_from(place, back);
-        if start < low || high <= start {
-            return None;
-        }
-        if start % SPACING < MARKER {
+        if start < low || high <= start || start % SPACING < MARKER {
             return None;
         }
         if is_cut(islands, self.layout, self.base, start) {

@@ -4,7 +4,7 @@ use Rattle.iw_locate.specs.Free.{Scene, scene_of, IsMarkerSeen, IsOpen}
 use Rattle.iw_locate.proofs.Open.{pointer_seen, start_high, not_open_cut}
 use Rattle.iw_locate.proofs.Lowest.{among_one, IsPointedAt, points_one, points_there, points_before}
 use Rattle.iw_locate.proofs.locator.Locator.pointed_by.Goals as goal
-use Rattle.iw_locate.proofs.locator.Locator.pointed_by.Goals.{then-start-low-via-then-start-low, then-start-low-via-else-start-low+then-high-start}
+use Rattle.iw_locate.proofs.locator.Locator.pointed_by.Goals.{then-start-low-via-then-start-low, then-start-low-via-else-start-low+then-high-start, then-start-low-via-else-start-low+else-high-start+then-start-lt-MARKER}
 
 pub returns-then-not-came : goal.returns-then-not-came
 returns-then-not-came g c = λ s q open_.
@@ -31,15 +31,8 @@ returns-then-start-low g c =
     elim (c.then-start-low.branch) [
       | then-start-low-via-then-start-low w ↦ omega (arith, same, w.if-start-low.true, q.0.low)
       | then-start-low-via-else-start-low+then-high-start w ↦ omega (arith, same, w.if-high-start.true, q.0.high)
+      | then-start-low-via-else-start-low+else-high-start+then-start-lt-MARKER w ↦ omega (arith, ap (λ x. x % 512) same, w.if-start-lt-MARKER.true, start_high v.layout.markers s c.requires.markers open_.start)
     ]
-
-pub returns-then-start-lt-MARKER : goal.returns-then-start-lt-MARKER
-returns-then-start-lt-MARKER g c =
-    let v : Scene g.row.T.Denot = scene_of c.args.self.now.layout c.args.self.now.base c.args.islands.now.arrived c.args.judged.now.records in
-    let start = c.pointed_from-start.ensures in
-    λ s q open_.
-    let same = points_one v c.args.place c.pointer-back.result c.pointed_from-start.result (pointer_seen v c.requires.can c.requires.markers c.args.place c.pointer-back.result (omega (arith, c.requires.past, c.requires.point)) c.pointer-back.ensures.value q.1) start.none start.some s q.2 in
-    omega (arith, ap (λ x. x % 512) same, c.if-start-lt-MARKER.true, start_high v.layout.markers s c.requires.markers open_.start)
 
 pub returns-then-is_cut : goal.returns-then-is_cut
 returns-then-is_cut g c =
