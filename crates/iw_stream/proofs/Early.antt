@@ -1,5 +1,5 @@
 -- A frame that is judged before its turn; and which task the frames of an open stream come to, where some were.
-use Rattle.std.proofs.Common.{◌≡◌, ℕ, ◌+◌, ◌-◌, ◌<◌, ◌≤◌, Bool, true, false, cond, if◌then◌else◌, List, [], ◌∷◌, length, Option, Some, None, Ok, Err, refl, sym, ap, ◌∙◌, subst, arith, inl, inr}
+use Rattle.std.proofs.Common.{◌≡◌, ℕ, ◌+◌, ◌-◌, ◌<◌, ◌≤◌, Bool, true, false, cond, if◌then◌else◌, length, Option, Some, None, Ok, Err, refl, sym, ap, ◌∙◌, subst, arith, inl, inr}
 use Rattle.std.specs.Prelude.{Result, IfOk, IfSome, OnOk, is_some}
 use Rattle.std.specs.Option.{option_map, option_map_or, option_or}
 use Rattle.std.proofs.lemmas.Bool.{true≢false}
@@ -30,8 +30,7 @@ use Rattle.iw_locate.proofs.Front.{front_clear, starts_of}
 use Rattle.iw_locate.proofs.Holds.{adds_one}
 use Rattle.iw_untagged.specs.Receiving.{Receiving}
 use Rattle.iw_stream.specs.declared.judging.Landing.{Landing}
-use Rattle.iw_stream.specs.declared.judging.PlacedFrame.{PlacedFrame}
-use Rattle.iw_stream.specs.Frames.{Frame, EarlyRecord, IsNext, frame_at, frame_by, kept_by, payload_of, placed, placed_at, record_tried, state_tried, without}
+use Rattle.iw_stream.specs.Frames.{Frame, EarlyRecord, IsNext, frame_at, frame_by, kept_by, payload_of, placed, record_tried, state_tried, without}
 use Rattle.iw_stream.specs.Incoming.{Coming, IsClearAt, IsSameScene, frame_in, scene_in}
 use Rattle.iw_stream.specs.Judging.{Standing, early_verdict, judged_head, landing_in, may_be_early, receiving_tried, table_tried, verdict}
 use Rattle.iw_stream.specs.Kept.{IsPlaced, Keeps, KeepsBuffer, KeepsHeader, NoneReachesOver}
@@ -39,27 +38,19 @@ use Rattle.iw_stream.specs.Starting.{is_open, expecting, first_place_in}
 use Rattle.iw_stream.specs.Stream.{StreamState}
 use Rattle.iw_stream.specs.Work.{Task, Turn, Clash, Judge, Try, Rest, after_trying, clashes, early_frame, frame_task, front_task, left_by, next_frame, scene, standing, step_of, table_left, tried_step, waiting}
 use Rattle.iw_stream.proofs.Arriving.{placed_there}
-use Rattle.iw_stream.proofs.Fronts.{frame_whole, kept_cell}
+use Rattle.iw_stream.proofs.Fronts.{frame_whole}
 use Rattle.iw_stream.proofs.Buffers.{StaysThere, stays_same, stays_so}
 use Rattle.iw_stream.proofs.Headers.{header_short, kept_buffer}
 use Rattle.iw_stream.proofs.Keeping.{IsJudged, IsPlacing, early_placing, frame_judged, judged_whole, segment_placed, segment_stays}
 use Rattle.iw_stream.proofs.Landings.{length_ulpdu}
 use Rattle.iw_stream.proofs.Tagged.{next_is}
 use Rattle.iw_stream.proofs.Tasks.{task_tries}
-use Rattle.iw_stream.proofs.Releasing.{all_held, clear_held, floor_without, none_in}
+use Rattle.iw_stream.proofs.Releasing.{clear_held, floor_without}
 
 -- ---- no frame waits at the in-order point, and none is whole there
-is_none : {A : Type 0} (o : Option A) → is_some o ≡ false → o ≡ None
+pub is_none : {A : Type 0} (o : Option A) → is_some o ≡ false → o ≡ None
 is_none None e = refl
 is_none (Some x) e = absurd (true≢false e)
-
-pub alone : (rs : List EarlyRecord) → length rs ≡ 0 → rs ≡ []
-alone [] e = refl
-alone (r ∷ rs) e = absurd (omega (arith, e))
-
-no_record : (rs : List EarlyRecord) (start : ℕ) → length rs ≡ 0 → placed_at rs start ≡ None
-no_record [] start e = refl
-no_record (r ∷ rs) start e = absurd (omega (arith, e))
 
 -- the frame there was asked for, and nothing has changed
 pub record IsUnjudged (table m : Table) (s t : StreamState) : Type 0 where
@@ -70,12 +61,12 @@ pub record IsUnjudged (table m : Table) (s t : StreamState) : Type 0 where
 
 pub unjudged : {A : Type 0} (table m : Table) (s t : StreamState) (o : Option A) → o ≡ None → is_some o ≡ is_some (next_frame s)
     → t ≡ left_by table s (option_map_or Judge (next_frame s) Rest) → m ≡ table_left table s (option_map_or Judge (next_frame s) Rest)
-    → is_some s.front ≡ false → length s.early ≡ 0 → IsUnjudged table m s t
-unjudged table m s t o is whole after left front early =
+    → waiting s ≡ None → IsUnjudged table m s t
+unjudged table m s t o is whole after left none =
     let lacks = is_none (next_frame s) (sym whole ∙ ap is_some is) in record {
       same = after ∙ ap (λ o. left_by table s (option_map_or Judge o Rest)) lacks;
       tables = left ∙ ap (λ o. table_left table s (option_map_or Judge o Rest)) lacks;
-      none = (λ i. option_or (is_none s.front front i) (no_record s.early (front_of (scene s)) early i));
+      none = none;
       lacks = lacks;
     }
 
@@ -113,6 +104,16 @@ task_judges s found over none w is = ap (λ o. option_map_or Judge o Rest) w.nex
 pub none_clashes : (s : StreamState) (found : Found) (over : Bool) → IsSeen s found over → over ≡ false → (frame : Frame) → next_frame s ≡ Some frame → clashes s frame ≡ false
 none_clashes s found over w clear frame is = ap (clashes s) (sym (same_Some _ _ (sym w.next ∙ is))) ∙ w.clash ∙ clear
 
+-- where none that was placed lies over it, whatever was judged past it
+pub task_front : (s : StreamState) → waiting s ≡ None → is_some (next_frame s) ≡ true → ((frame : Frame) → next_frame s ≡ Some frame → clashes s frame ≡ false) → option_map_or Judge (next_frame s) Rest ≡ frame_task s
+task_front s none whole clear = go (next_frame s) refl whole
+  where
+    go : (o : Option Frame) → next_frame s ≡ o → is_some o ≡ true → option_map_or Judge (next_frame s) Rest ≡ frame_task s
+    go None e some = absurd (true≢false (sym some))
+    go (Some frame) e some =
+        ap (λ o. option_map_or Judge o Rest) e
+        ∙ sym ((λ i. option_map_or Turn (none i) (option_map_or (front_task s) (e i) (option_map_or Try (early_frame s) Rest))) ∙ ap (λ b. cond b (Clash frame) (Judge frame)) (clear frame e))
+
 -- ---- a frame is looked for past it
 pub scene_is : (s : StreamState) (old : Coming) → old.layout ≡ expecting s.start → old.base ≡ first_place_in s.start → old.arrived ≡ s.arrived → old.early ≡ s.early → scene_in old ≡ scene s
 scene_is s old layout base arrived early = (λ i. scene_of (layout i) (base i) (arrived i) (early i))
@@ -141,11 +142,6 @@ front_kept s kept apart none p low high =
     let clear = front_clear v kept.between kept.marked (starts_of s.early apart) kept.records (unplaced s apart none) in
     clear_held v kept.released (front_of v) (front_of v + 2) clear p (omega (arith, low, kept.between.span, span_low v.layout.markers (front_of v))) (omega (arith, low, span_low true (front_of v))) high
 
-pub front_kept_alone : (s : StreamState) → keeping.Keeps (scene s) → s.early ≡ [] → IsFrontKept s
-front_kept_alone s kept alone p low high =
-    let v = scene s in
-    kept_cell (cell_at s.arrived (first_place_in s.start + p)) (all_held v kept.released kept.based alone (first_place_in s.start + p) (omega (arith, low, kept.based, kept.between.span, span_low v.layout.markers (front_of v))))
-
 -- wherever it is looked up
 module _ (s : StreamState) (layout : Layout) (base start floor : ℕ) (l : layout ≡ expecting s.start) (b : base ≡ first_place_in s.start) (f : floor ≡ s.arrived.floor) (at : start ≡ frame_start layout.markers (floor - base)) where
   pub kept_there : IsFrontKept s → (p : ℕ) → start ≤ p → p < start + 2 → IsKept (cell_at s.arrived (base + p))
@@ -159,15 +155,9 @@ clear_there s c start floor l b a e f at clear frame is =
     (λ i. overlaps_placed (e i) frame.start (frame_end (l i).markers frame.start (length frame.ulpdu)))
     ∙ clear frame (next_is s c.layout c.base start floor (frame_at c.layout s.arrived c.base start) l b f at refl ∙ ap (λ x. frame_at c.layout x c.base start) (sym a) ∙ is)
 
-pub clear_alone : (c : Coming) (start : ℕ) → c.early ≡ [] → IsClearAt c start
-clear_alone c start alone frame is = ap (λ xs. overlaps_placed xs frame.start (frame_end c.layout.markers frame.start (length frame.ulpdu))) alone
-
 -- it begins there
 pub begins_at : (s : StreamState) (found : Found) (layout : Layout) (base start floor : ℕ) → layout ≡ expecting s.start → base ≡ first_place_in s.start → IsNext layout s.arrived base found → found.start ≡ front_of (scene s)
 begins_at s found layout base start floor l b n = ap (λ (x : Found). x.start) n.is ∙ (λ i. frame_start (l i).markers (s.arrived.floor - b i))
-
-pub over_alone : (s : StreamState) (frame : PlacedFrame) → s.early ≡ [] → NoneReachesOver s frame
-over_alone s frame alone r within = absurd (none_in s.early alone r within)
 
 pub front_lacks : (s : StreamState) (old : Coming) → scene_in old ≡ scene s → next_frame s ≡ None → IsFrontWhole (scene_in old) → ⊥
 front_lacks s old same lacks =

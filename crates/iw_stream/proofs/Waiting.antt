@@ -5,17 +5,21 @@ use Rattle.std.specs.Option.{option_or}
 use Rattle.std.proofs.lemmas.List.{get_or_default}
 use Rattle.std.proofs.lemmas.Bool.{cases_lt, cases_Bool, true≢false}
 use Rattle.std.proofs.lemmas.Bool.Decides.{nat_tests}
+use Rattle.std.proofs.lemmas.Option.{none-some, same_Some}
 use Rattle.arrayvec.specs.ArrayVec.{ArrayVec}
-use Rattle.iw_ranges.specs.Arrived.{IsWithinLimits, window, has_come, is_missing}
+use Rattle.iw_ranges.specs.Arrived.{IsWithinLimits, Missing, Gone, cell_at, window, has_come, is_missing}
 use Rattle.iw_ranges.proofs.ByPlace.{below}
 use Rattle.iw_fpdu.specs.declared.layout.Layout.{Layout}
 use Rattle.iw_fpdu.specs.Frame.{frame_end}
 use Rattle.iw_fpdu.specs.Places.{IsStart, span_start}
-use Rattle.iw_fpdu.specs.Laws.{IsBetween}
+use Rattle.iw_fpdu.specs.Found.{Found, is_whole, ulpdu_len}
+use Rattle.iw_fpdu.specs.Laws.{IsBetween, found_at}
+use Rattle.iw_fpdu.proofs.Came.{tells_whole}
 use Rattle.iw_fpdu.proofs.Follows.{begins, frames_follow}
 use Rattle.iw_fpdu.proofs.Octets.{span_low, length_within}
 use Rattle.iw_locate.specs.declared.judged.State.{State}
 use Rattle.iw_locate.specs.declared.judged.State.TheVariants.{Tried, Placed}
+use Rattle.iw_locate.specs.Records as records
 use Rattle.iw_locate.specs.Records.{from_of, AreApart}
 use Rattle.iw_locate.specs.Free.{scene_of, front_of, point_of}
 use Rattle.iw_locate.specs.Lowest.{overlaps_placed}
@@ -23,13 +27,14 @@ use Rattle.iw_locate.specs.Keeping as keeping
 use Rattle.iw_locate.specs.Keeping.{IsPassed}
 use Rattle.iw_locate.proofs.Telling.{overlaps_are_told}
 use Rattle.iw_stream.specs.declared.judging.PlacedFrame.{PlacedFrame}
-use Rattle.iw_stream.specs.Frames.{EarlyRecord, kept_by, placed_at, head_in, payload_len}
+use Rattle.iw_stream.specs.Frames.{Frame, EarlyRecord, frame_by, kept_by, placed_at, head_in, payload_len}
 use Rattle.iw_stream.specs.Kept.{HasBuffer, WasHandedOut, Stands, IsPlaced, NoneReachesOver, HasHeader, KeepsHeader, KeepsBuffer, Keeps}
 use Rattle.iw_stream.specs.Starting.{expecting, first_place_in}
 use Rattle.iw_stream.specs.Stream.{StreamState, ended}
-use Rattle.iw_stream.specs.Work.{scene, waiting, place_past}
+use Rattle.iw_stream.specs.Work.{scene, waiting, next_frame, clashes, place_past}
 use Rattle.iw_stream.proofs.Buffers.{turn_room}
 use Rattle.iw_stream.proofs.Fronts.{start_near}
+use Rattle.iw_stream.proofs.Landings.{length_ulpdu}
 
 -- ---- the in-order point moves on to the end of a frame there
 start_is : (s : StreamState) (frame : PlacedFrame) → Keeps s → Stands s frame → IsStart (expecting s.start).markers frame.start
@@ -102,6 +107,9 @@ none_in (y ∷ xs) e x within = absurd (cc e)
 
 -- ---- it stands there as one that was placed there does
 module _ (s : StreamState) (k : Keeps s) (kept : keeping.Keeps (scene s)) (apart : AreApart s.early) (limits : IsWithinLimits s.arrived) where
+  some : (x : EarlyRecord) → Contains s.early x → from_of x < x.end
+  some x (j, jl, jx) = omega (arith, apart.some j x jl, ap (λ (y : EarlyRecord). y.end) jx, ap (λ (y : EarlyRecord). y.start) jx, span_low true x.start)
+
   -- each record's frame begins at the in-order point or past it, in the window
   pub records_near : (x : EarlyRecord) → Contains s.early x → (point_of (scene s) ≤ from_of x) × (from_of x ≤ point_of (scene s) + window)
   records_near x within = (
@@ -112,9 +120,6 @@ module _ (s : StreamState) (k : Keeps s) (kept : keeping.Keeps (scene s)) (apart
       | inr fits ↦ fits
     ],
   )
-    where
-      some : (x : EarlyRecord) → Contains s.early x → from_of x < x.end
-      some x (j, jl, jx) = omega (arith, apart.some j x jl, ap (λ (y : EarlyRecord). y.end) jx, ap (λ (y : EarlyRecord). y.start) jx, span_low true x.start)
 
   m : Bool
   m = (expecting s.start).markers
@@ -186,10 +191,59 @@ module _ (s : StreamState) (k : Keeps s) (kept : keeping.Keeps (scene s)) (apart
   clear_over frame begins_ clear x within placed before =
       let e_m = marked x within in
       let from : span_start true frame.start ≡ s.arrived.floor - first_place_in s.start = ap (span_start true) begins_ ∙ span_point e_m in
-      absurd (true≢false (sym ((overlaps_are_told s.early frame.start (frame_end (expecting s.start).markers frame.start frame.len)).1 (x, within, placed, (before, omega (arith, from, kept.records x within, ends x within)))) ∙ clear))
-    where
-      ends : (x : EarlyRecord) → Contains s.early x → from_of x < x.end
-      ends x (j, jl, jx) = omega (arith, apart.some j x jl, ap (λ (y : EarlyRecord). y.end) jx, ap (λ (y : EarlyRecord). y.start) jx, span_low true x.start)
+      absurd (true≢false (sym ((overlaps_are_told s.early frame.start (frame_end (expecting s.start).markers frame.start frame.len)).1 (x, within, placed, (before, omega (arith, from, kept.records x within, some x within)))) ∙ clear))
+
+  -- ---- none that was placed begins among the octets that came without a gap, up to a place that lacks
+  module _ (missing : ℕ) (gap : cell_at s.arrived missing ≡ Missing) (none : overlaps_placed s.early (front_of (scene s)) (missing - first_place_in s.start) ≡ false) where
+    past : s.arrived.floor ≤ missing
+    past = elim (cases_lt missing s.arrived.floor) [
+      | inl before ↦ absurd (let gone : cell_at s.arrived missing ≡ Gone = below s.arrived missing before in let no : ⊥ = cc in no)
+      | inr after ↦ after
+    ]
+
+    -- what is whole from the in-order point on ends there
+    ends_there : (from end : ℕ) → from ≡ s.arrived.floor - first_place_in s.start → ((p : ℕ) → from ≤ p → p < end → has_come s.arrived (first_place_in s.start + p) ≡ true) → end ≤ missing - first_place_in s.start
+    ends_there from end at come = elim (cases_lt (missing - first_place_in s.start) end) [
+      | inl over ↦
+          absurd (true≢false (sym (come (missing - first_place_in s.start) (omega (arith, at, past, kept.based)) over)
+          ∙ ap (has_come s.arrived) (let same : first_place_in s.start + (missing - first_place_in s.start) ≡ missing = omega (arith, past, kept.based) in same) ∙ ap (λ c. not (is_missing c)) gap))
+      | inr fits ↦ fits
+    ]
+
+    none_over : (end : ℕ) → end ≤ missing - first_place_in s.start → overlaps_placed s.early (front_of (scene s)) end ≡ false
+    none_over end fits = elim (cases_Bool (overlaps_placed s.early (front_of (scene s)) end)) [
+      | inl over ↦
+          let (x, within, placed, meets) = (overlaps_are_told s.early (front_of (scene s)) end).0 over in
+          absurd (true≢false (sym ((overlaps_are_told s.early (front_of (scene s)) (missing - first_place_in s.start)).1 (x, within, placed, (omega (arith, meets.0, fits), meets.1))) ∙ none))
+      | inr clear ↦ clear
+    ]
+
+    none_placed : (o : Option PlacedFrame) → placed_at s.early (front_of (scene s)) ≡ o → o ≡ None
+    none_placed None e = refl
+    none_placed (Some frame) e =
+        let w = shown s.early (front_of (scene s)) frame e in
+        let from : from_of w.r ≡ s.arrived.floor - first_place_in s.start = ap (span_start true) w.at ∙ span_point (marked w.r w.within) in
+        let fits = ends_there (from_of w.r) w.r.end from (kept.whole w.r w.within) in
+        absurd (true≢false (sym ((overlaps_are_told s.early (front_of (scene s)) w.r.end).1
+        (w.r, w.within, subst records.IsPlaced (sym w.state) tt, (some w.r w.within, omega (arith, some w.r w.within, from, span_point (marked w.r w.within))))) ∙ none_over w.r.end fits))
+
+    pub none_waits : s.front ≡ None → waiting s ≡ None
+    none_waits front = (λ i. option_or (front i) (none_placed (placed_at s.early (front_of (scene s))) refl i))
+
+    pub none_clash : (frame : Frame) → next_frame s ≡ Some frame → clashes s frame ≡ false
+    none_clash frame e = go (is_whole s.arrived (expecting s.start).markers (first_place_in s.start) (front_of (scene s))) refl e
+      where
+        f : Found
+        f = found_at s.arrived (expecting s.start) (first_place_in s.start) (front_of (scene s))
+
+        go : (w : Bool) → is_whole s.arrived (expecting s.start).markers (first_place_in s.start) (front_of (scene s)) ≡ w → (if w then Some (frame_by f) else None) ≡ Some frame → clashes s frame ≡ false
+        go false is h = absurd (none-some _ h)
+        go true is h =
+            let same : frame_by f ≡ frame = same_Some _ _ h in
+            let whole = (tells_whole s.arrived (expecting s.start).markers (first_place_in s.start) (front_of (scene s))).0 is in
+            let end : ℕ = frame_end (expecting s.start).markers (front_of (scene s)) (ulpdu_len f) in
+            ap (clashes s) (sym same) ∙ ap (λ n. overlaps_placed s.early (front_of (scene s)) (frame_end (expecting s.start).markers (front_of (scene s)) n)) (length_ulpdu f)
+            ∙ none_over end (ends_there (span_start (expecting s.start).markers (front_of (scene s))) end k.between.span whole)
 
 pub kept_scene : (s : StreamState) (layout : Layout) (base : ℕ) → layout ≡ expecting s.start → base ≡ first_place_in s.start → keeping.Keeps (scene_of layout base s.arrived s.early) → keeping.Keeps (scene s)
 kept_scene s layout base laid from kept =

@@ -152,7 +152,8 @@ impl<A: Allocator> Stream<A> {
         requires open { is_open self.old.start ≡ true }
         requires runs { ended self.old ≡ false }
         requires place { self.old.arrived.floor + 2 ^ 18 ≤ 2 ^ 63 }
-        requires none { self.old.early ≡ [] }
+        requires waiting { waiting self.old ≡ None }
+        requires clear { (frame : Frame) → next_frame self.old ≡ Some frame → clashes self.old frame ≡ false }
         ensures step { IfOk result (λ found. IfSome found (λ landing. judged_step (Ok landing) ≡ step_of memory.old self.old (option_map_or Judge (next_frame self.old) Rest))) }
         ensures whole { IfOk result (λ found. is_some found ≡ is_some (next_frame self.old)) }
         ensures after { OnOk result (self.new ≡ left_by memory.old self.old (option_map_or Judge (next_frame self.old) Rest)) }

@@ -1,5 +1,6 @@
-ghost use Rattle.std.specs.Prelude.{◌≡◌, ◌+◌, ◌≤◌, ◌^◌, true, false, IfOk, OnOk, OnErr};
+ghost use Rattle.std.specs.Prelude.{◌≡◌, ◌+◌, ◌≤◌, ◌^◌, true, false, Some, None, IfOk, OnOk, OnErr};
 ghost use Rattle.iw_memory.specs.Table.{Table};
+ghost use Rattle.iw_stream.specs.Frames.{Frame};
 ghost use Rattle.iw_stream.specs.Starting.{is_open, awaits_frame};
 
 use super::Stream;
@@ -15,6 +16,7 @@ use std::alloc::{AllocError, Allocator};
 impl<A: Allocator> Stream<A> {
     ghost use Rattle.iw_stream.specs.Stream.{ended};
     ghost use Rattle.iw_stream.specs.Work.{Hear, IsTry, task, frame_task, handing_back};
+    ghost use Rattle.iw_stream.specs.Work.{waiting, next_frame, clashes};
     ghost use Rattle.iw_stream.specs.Work.{step_of, left_by, table_left, work_step, worked, table_worked};
     ghost use Rattle.iw_stream.specs.Kept.{IsWithinBuffer};
 
@@ -79,7 +81,7 @@ impl<A: Allocator> Stream<A> {
             }
             return self.frames_apart(memory);
         }
-        if self.arrived.records() > 0 {
+        if self.meets_placed() {
             return self.frames_apart(memory);
         }
         let Ok(found) = self.judge(memory) else {
@@ -91,8 +93,38 @@ impl<A: Allocator> Stream<A> {
         Ok(landed_step(landing))
     }
 
-    // The same, in a call of its own: for frames of other kinds than Writes and Read Responses, for those with a fault, and
-    // where some were judged early.
+    // Whether a frame that was placed early begins among the octets that came without a gap from the in-order point on: it
+    // may be the frame there, or lie over it.
+    #[inline(always)]
+    fn meets_placed(&self) -> bool
+        requires open { is_open self.now.start ≡ true }
+        requires none { self.now.front ≡ None }
+        requires place { self.now.arrived.floor ≤ 2 ^ 62 }
+        ensures waiting { result ≡ false → waiting self.now ≡ None }
+        ensures clear { result ≡ false → (frame : Frame) → next_frame self.now ≡ Some frame → clashes self.now frame ≡ false }
+    {
+        self.arrived.records() > 0 && self.looks_for_placed()
+    }
+
+    // The same, in a call of its own.
+    #[inline(never)]
+    fn looks_for_placed(&self) -> bool
+        requires open { is_open self.now.start ≡ true }
+        requires none { self.now.front ≡ None }
+        requires place { self.now.arrived.floor ≤ 2 ^ 62 }
+        ensures waiting { result ≡ false → waiting self.now ≡ None }
+        ensures clear { result ≡ false → (frame : Frame) → next_frame self.now ≡ Some frame → clashes self.now frame ≡ false }
+    {
+        self.arrived.limits();
+        let base = self.start.first_place_in();
+        let layout = self.start.expecting();
+        let start = layout.start_of(self.arrived.floor() - base);
+        let end = self.arrived.missing().saturating_sub(base);
+        self.arrived.overlaps_placed(start, end)
+    }
+
+    // The step of frames, in a call of its own: for those of other kinds than Writes and Read Responses, for those with a
+    // fault, and for one that a frame which was placed early may be, or lie over.
     #[inline(never)]
     fn frames_apart(&mut self, memory: &mut Memory<A>) -> Result<Step<Octets<A>>, AllocError>
         requires open { is_open self.old.start ≡ true }

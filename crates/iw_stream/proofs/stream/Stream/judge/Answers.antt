@@ -1,19 +1,20 @@
 use Rattle.std.specs.Prelude.{is_some}
-use Rattle.std.proofs.Common.{◌≡◌, true, Some, Ok, refl, ap, sym, ◌∙◌, subst}
+use Rattle.std.proofs.Common.{◌≡◌, ◌-◌, false, true, Some, Ok, refl, ap, sym, ◌∙◌, subst}
 use Rattle.std.specs.Option.{option_map_or}
 use Rattle.iw_fpdu.specs.Found.{ulpdu}
 use Rattle.iw_octets.specs.Segment.{read_segment}
 use Rattle.iw_rdmap.proofs.Tags.{Passes, passes}
 use Rattle.iw_stream.specs.Fields.{state_of}
-use Rattle.iw_stream.specs.Frames.{IsNext, placed, frame_by, payload_of}
+use Rattle.iw_fpdu.specs.Places.{frame_start}
+use Rattle.iw_stream.specs.Frames.{Frame, IsNext, placed, frame_by, payload_of}
 use Rattle.iw_stream.specs.Judging.{landing_of, verdict}
 use Rattle.iw_stream.specs.Kept.{Keeps}
 use Rattle.iw_stream.specs.Starting.{is_open, expecting, first_place_in}
 use Rattle.iw_stream.specs.Stream.{StreamState}
-use Rattle.iw_stream.specs.Work.{Judge, Rest, standing, next_frame, step_of, left_by, table_left, judged_step, after_judging, table_judged}
-use Rattle.iw_stream.proofs.Early.{clear_alone, front_kept_alone, kept_there, over_alone}
+use Rattle.iw_stream.specs.Work.{Judge, Rest, clashes, standing, waiting, next_frame, step_of, left_by, table_left, judged_step, after_judging, table_judged}
+use Rattle.iw_stream.proofs.Early.{begins_at, clear_there, front_kept, kept_there}
 use Rattle.iw_stream.proofs.Keeping.{keeps_judged}
-use Rattle.iw_stream.proofs.Waiting.{kept_scene}
+use Rattle.iw_stream.proofs.Waiting.{clear_over, kept_scene}
 use Rattle.iw_stream.proofs.Tagged.{is_placing, leaves_receiving, next_is, none_next, stream_placed, table_placed, tagged_first, tagged_front, tagged_long, tagged_there}
 use Rattle.iw_stream.proofs.stream.Stream.judge.Goals as goal
 
@@ -43,10 +44,14 @@ pub held_at-requires-clause-kept : goal.held_at-requires-clause-kept
 held_at-requires-clause-kept g c =
     let s = state_of c.self.inside in
     kept_there s c.expecting-layout.result c.first_place_in-base.result c.start_of-start.result c.floor-2.result c.expecting-layout.ensures c.first_place_in-base.ensures.place c.floor-2.ensures c.start_of-start.ensures
-    (front_kept_alone s (kept_scene s c.self.inside.arrived.layout c.self.inside.arrived.base c.self.invariant.layout c.self.invariant.base c.limits.ensures.tracked.keeps) (ap (λ (t : StreamState). t.early) c.self.view_is ∙ c.requires.none))
+    (front_kept s (kept_scene s c.self.inside.arrived.layout c.self.inside.arrived.base c.self.invariant.layout c.self.invariant.base c.limits.ensures.tracked.keeps) c.limits.ensures.apart (ap waiting c.self.view_is ∙ c.requires.waiting))
 
 pub held_at-requires-clause-clear : goal.held_at-requires-clause-clear
-held_at-requires-clause-clear g c = clear_alone c.self.inside.arrived c.start_of-start.result (ap (λ (t : StreamState). t.early) c.self.view_is ∙ c.requires.none)
+held_at-requires-clause-clear g c =
+    let s = state_of c.self.inside in
+    clear_there s c.self.inside.arrived c.start_of-start.result c.floor-2.result c.self.invariant.layout c.self.invariant.base refl refl c.floor-2.ensures
+    (c.start_of-start.ensures ∙ (λ i. frame_start ((c.expecting-layout.ensures ∙ sym c.self.invariant.layout) i).markers (c.floor-2.result - (c.first_place_in-base.ensures.place ∙ sym c.self.invariant.base) i)))
+    (subst (λ t. (frame : Frame) → next_frame t ≡ Some frame → clashes t frame ≡ false) (sym c.self.view_is) c.requires.clear)
 
 pub held_at-requires-clause-layout : goal.held_at-requires-clause-layout
 held_at-requires-clause-layout g c = c.expecting-layout.ensures ∙ sym c.self.invariant.layout
@@ -78,6 +83,8 @@ pub invariant_of-self : goal.invariant_of-self
 invariant_of-self g c = record {
   keeps =
       let s = state_of c.self.inside in
+      let found = next_is s c.expecting-layout.result c.first_place_in-base.result c.start_of-start.result c.floor-2.result (Some (frame_by c.in-Some.fpdu)) c.expecting-layout.ensures c.first_place_in-base.ensures.place c.floor-2.ensures c.start_of-start.ensures c.in-Some.ensures.frame in
+      let over = clear_over s c.self.invariant.keeps (kept_scene s c.self.inside.arrived.layout c.self.inside.arrived.base c.self.invariant.layout c.self.invariant.base c.limits.ensures.tracked.keeps) c.limits.ensures.apart c.limits.ensures.arrived (placed (frame_by c.in-Some.fpdu)) (begins_at s c.in-Some.fpdu c.expecting-layout.result c.first_place_in-base.result c.start_of-start.result c.floor-2.result c.expecting-layout.ensures c.first_place_in-base.ensures.place c.in-Some.ensures.next) (ap (λ (t : StreamState). clashes t (frame_by c.in-Some.fpdu)) c.self.view_is ∙ c.requires.clear (frame_by c.in-Some.fpdu) (ap next_frame (sym c.self.view_is) ∙ found)) in
       let running : is_open (state_of c.self.inside).start ≡ true = ap (λ (t : StreamState). is_open t.start) c.self.view_is ∙ c.requires.open in
       let next : IsNext (expecting c.self.inside.start) c.self.inside.arrived.arrived (first_place_in c.self.inside.start) c.in-Some.fpdu =
       subst (λ l. IsNext l c.self.inside.arrived.arrived (first_place_in c.self.inside.start) c.in-Some.fpdu) c.expecting-layout.ensures
@@ -87,7 +94,7 @@ invariant_of-self g c = record {
       let ok : verdict (standing c.args.memory.now s) (frame_by c.in-Some.fpdu) ≡ Ok (landing_of c.is_response-response.result c.in-Ok.placed) = sym (c.in-Ok.ensures.landed (standing c.args.memory.now s) refl refl refl) in
       subst (λ f. Keeps (record s { front = f })) (sym c.keep_tagged.ensures)
       (keeps_judged s c.args.memory.now c.in-Some.fpdu c.self.inside.receiving (landing_of response at) running next ok (is_placing response at) (leaves_receiving response at c.self.inside.receiving (payload_of (read_segment (ulpdu c.in-Some.fpdu))))
-      (over_alone s (placed (frame_by c.in-Some.fpdu)) (ap (λ (t : StreamState). t.early) c.self.view_is ∙ c.requires.none)) c.self.invariant.keeps);
+      over c.self.invariant.keeps);
   layout = c.self.invariant.layout;
   base = c.self.invariant.base;
 }
