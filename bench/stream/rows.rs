@@ -92,7 +92,7 @@ const ORDERS: [Order; 4] = [
         reversed: false,
     },
     Order {
-        name: "the last frame of a window first",
+        name: "a window from its last frame to its first",
         frames: FRAMES_FAR,
         batch: usize::MAX,
         late: 1,
