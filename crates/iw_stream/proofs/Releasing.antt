@@ -6,8 +6,6 @@ use Rattle.std.proofs.lemmas.Bool.{true≢false}
 use Rattle.arrayvec.specs.ArrayVec.{ArrayVec}
 use Rattle.iw_ranges.specs.Arrived.{Arrived, Cell, Missing, Here, Gone, cell_at}
 use Rattle.iw_ranges.specs.InOrder.{IsHeld, is_gone}
-use Rattle.iw_ranges.specs.Laws.{IsLeftOf}
-use Rattle.iw_ranges.proofs.Left.{left_gives_up}
 use Rattle.iw_fpdu.specs.Places.{span_start}
 use Rattle.iw_fpdu.specs.Reading.{length_at}
 use Rattle.iw_fpdu.specs.Frame.{frame_end}
@@ -16,12 +14,11 @@ use Rattle.iw_fpdu.specs.Laws.{IsBetween, found_at}
 use Rattle.iw_fpdu.proofs.Octets.{span_low, length_within}
 use Rattle.iw_locate.specs.declared.judged.State.{State}
 use Rattle.iw_locate.specs.declared.judged.State.TheVariants.{Tried, Placed}
-use Rattle.iw_locate.specs.Records.{IsClearOfPlaced, IsPlaced, added, from_of}
+use Rattle.iw_locate.specs.Records.{IsClearOfPlaced, from_of}
 use Rattle.iw_locate.specs.Free.{Scene, GivesUpOnlyPlaced, IsOpen, end_of, front_of, octet_of, point_of}
 use Rattle.iw_locate.specs.Lowest.{overlaps_placed}
-use Rattle.iw_locate.specs.Keeping.{changed}
 use Rattle.iw_locate.proofs.Telling.{overlaps_are_told}
-use Rattle.iw_locate.proofs.GivesUp.{only_adds, only_places, released_floor}
+use Rattle.iw_locate.proofs.GivesUp.{released_floor}
 use Rattle.iw_rdmap.specs.Terminate.{terminate_octets}
 use Rattle.iw_reads.specs.Requests.{Requested}
 use Rattle.iw_stream.specs.Frames.{EarlyRecord, Frame, IsNext, frame_at, frame_by, without}
