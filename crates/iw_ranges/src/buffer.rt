@@ -61,7 +61,7 @@ fn fill<A: Allocator>(
 }
 
 /// How many octets a buffer of `capacity` should have room for, so that `len` fit: twice as many where they don't, but
-/// 327,680 at most.
+/// 327,680 at most, and no more than an empty buffer may keep where that does.
 fn room_for(capacity: usize, len: usize) -> usize
     requires { len ≤ 327680 }
     ensures enough { max len capacity ≤ result }
@@ -70,7 +70,8 @@ fn room_for(capacity: usize, len: usize) -> usize
     if len <= capacity {
         return capacity;
     }
-    capacity.saturating_add(capacity).min(MAX_HELD).max(len)
+    let most = if len <= MAX_IDLE { MAX_IDLE } else { MAX_HELD };
+    capacity.saturating_add(capacity).min(most).max(len)
 }
 
 /// Puts the octets at index `at`, past all that stands in the buffer, with zeros between. There is room for them.
