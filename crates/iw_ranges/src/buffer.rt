@@ -15,6 +15,9 @@ const MAX_HELD: usize = 327_680;
 /// For how many octets an empty buffer may have memory.
 const MAX_IDLE: usize = 131_072;
 
+/// How many octets are moved at most for each that the in-order point passed.
+const MAX_MOVED: usize = 4;
+
 /// Writes the octets over those that stand at `at`.
 fn write_at(buffer: &mut [u8], at: usize, octets: &[u8])
     requires { at + length octets.now ≤ length buffer.old }
@@ -268,10 +271,11 @@ fn drop_front<A: Allocator>(octets: &mut Vec<u8, A>, n: usize)
 }
 
 /// Lets the octets before the in-order point `floor` go, if the buffer, which begins at place `base`, would have to
-/// grow to reach place `to` and they are half of it or more, or if it would have to hold more than 327,680 octets.
+/// grow to reach place `to` and no more than four stand past them for each, or if it would have to hold more than
+/// 327,680 octets.
 ///
-/// In the first case no more octets are moved than the in-order point passed since the last move. In the second it
-/// passed more than 65,536, and no more than 262,144 stand past them: four are moved at most for each.
+/// So at most four octets are moved for each that the in-order point passed since the last move: in the second case it
+/// passed more than 65,536, and no more than 262,144 stand past them.
 pub(crate) fn shorten<A: Allocator>(octets: &mut Vec<u8, A>, base: &mut u64, floor: u64, to: u64)
     requires low { base.old ≤ floor }
     requires high { floor ≤ base.old + vec_len octets.old }
@@ -285,8 +289,8 @@ pub(crate) fn shorten<A: Allocator>(octets: &mut Vec<u8, A>, base: &mut u64, flo
 {
     let passed = (floor - *base) as usize;
     let needed = (to - *base) as usize;
-    let is_half = octets.len() - passed <= passed;
-    if passed > 0 && (needed > MAX_HELD || needed > octets.capacity() && is_half) {
+    let are_few = octets.len() - passed <= passed.saturating_mul(MAX_MOVED);
+    if passed > 0 && (needed > MAX_HELD || needed > octets.capacity() && are_few) {
         drop_front(octets, passed);
         *base = floor;
     }
