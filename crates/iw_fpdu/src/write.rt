@@ -8,7 +8,7 @@ ghost use Rattle.iw_fpdu.specs.Frame.{max_sent, bare_data, bare_frame, frame_end
 ghost use Rattle.iw_fpdu.specs.Laying.{marker_beyond};
 ghost use Rattle.iw_fpdu.specs.Places.{data_index, frame_start};
 
-use crate::layout::{Layout, MARKER, SPACING, end_of, index_of, pad_of, place_of};
+use crate::layout::{Layout, MARKER, SPACING, end_of, pad_of};
 use crate::writer::{Writer, append};
 use iw_octets::{Crc, MAX_ULPDU, UNTAGGED_HEADER};
 use std::alloc::{AllocError, Allocator};
@@ -101,6 +101,15 @@ fn put_plain<A: Allocator>(len: u16, parts: &[&[u8]], out: &mut Vec<u8, A>)
     out.truncate(end);
 }
 
+/// The frame place where the frame begins that is written at this place: there, or past the marker there.
+fn start_at(at: u64) -> u64
+    requires place { at < 2 ^ 63 }
+    requires aligned { at % 4 ≡ 0 }
+    ensures { result ≡ frame_start true at }
+{
+    if at % SPACING == 0 { at + MARKER } else { at }
+}
+
 /// Appends all of a frame with markers that stands before its CRC field.
 fn put_among_markers<A: Allocator>(at: u64, len: u16, parts: &[&[u8]], out: &mut Vec<u8, A>)
     requires place { at < 2 ^ 63 }
@@ -113,8 +122,10 @@ fn put_among_markers<A: Allocator>(at: u64, len: u16, parts: &[&[u8]], out: &mut
         (field_place true at len) }
     ensures room { vec_len out.new + 4 ≤ vec_capacity out.new }
 {
-    let start = place_of(true, index_of(true, at));
-    let mut writer = Writer { start, at };
+    let mut writer = Writer {
+        start: start_at(at),
+        at,
+    };
     writer.put_length(len, out);
     writer.put_all(parts, out);
     writer.put_pad(pad_of(len), out);
