@@ -1,5 +1,5 @@
 -- Places and indices.
-use Rattle.std.proofs.Common.{◌≡◌, ℕ, ◌+◌, ◌-◌, ◌*◌, ◌/◌, ◌%◌, ◌<◌, ◌≤◌, zero, suc, Bool, true, false, cond, eqb, refl, sym, ap, ◌∙◌, arith, ⊎_elim, ◌⊎◌, inl, inr}
+use Rattle.std.proofs.Common.{◌≡◌, ℕ, ◌+◌, ◌-◌, ◌*◌, ◌/◌, ◌%◌, ◌<◌, ◌≤◌, zero, suc, Bool, true, false, cond, eqb, refl, sym, ap, ◌∙◌, arith, subst, ⊎_elim, ◌⊎◌, inl, inr}
 use Rattle.std.proofs.lemmas.Bool.{cases_lt, cases_eq}
 use Rattle.std.proofs.lemmas.Bool.Decides.{nat_tests}
 use Rattle.iw_fpdu.specs.Places.{data_place, data_index, in_marker, place_after}
@@ -234,3 +234,19 @@ index_aligned false a h = h
 pub four_past : (m : Bool) (a : ℕ) → data_index m a % 4 ≡ 0 → place_after m a 4 ≡ data_place m (data_index m a) + 4
 four_past m a h =
     after_some m a 4 3 (omega arith) ∙ ap (λ x. x + 1) (run_data m (data_index m a) 4 3 (four_in_row m (data_index m a) h) (omega arith)) ∙ omega arith
+
+-- octets that come before the next marker: none, or a run
+pub run_before : (a n : ℕ) → IsEdge true a → n ≤ (512 - a % 512) % 512 → (n ≡ 0) ⊎ ((0 < n) × IsRun true a n)
+run_before a n edge fits =
+    elim (cases_lt 0 n) [ inl some ↦ inr (some, (⊎_elim (λ z. absurd (omega arith)) (λ h. h) edge, omega arith)) | inr none ↦ inl (omega arith) ]
+
+pub after_front : (a n all rest : ℕ) → IsEdge true a → (n ≡ 0) ⊎ ((0 < n) × IsRun true a n) → all ≡ n + rest
+    → (place_after true (a + n) rest ≡ place_after true a all) × (a + n ≤ place_after true a all) × IsEdge true (a + n)
+after_front a n all rest edge (inl none) e =
+    let here : a ≡ a + n = omega arith in
+    (ap (λ x. place_after true x rest) (sym here) ∙ ap (place_after true a) (omega arith), omega (arith, at_most_after true a all edge), subst (IsEdge true) here edge)
+after_front a n all rest edge (inr run) e = (after_run true a n all rest run.0 e run.1, run_high true a n all run.0 (omega arith) run.1, run_edge true a n run.0 run.1)
+
+-- octets past a marker, no more than come before the next
+pub run_past : (a b n : ℕ) → a % 512 ≡ 0 → b ≡ a + 4 → n ≤ 508 → IsRun true b n
+run_past a b n z e fits = (omega arith, omega arith)

@@ -194,3 +194,14 @@ unfolding marker_beyond
 none_beyond true at (inl f) = cc
 none_beyond true at (inr h) = let far : eqb (at % 512) 4 ≡ false = grind (arith, nat_tests) in ap (λ b. cond b (0 ∷ 0 ∷ 0 ∷ 0 ∷ []) []) far
 none_beyond false at h = refl
+
+-- octets that come before the next marker, and the rest
+pub laid_rest : (start : ℕ) (xs : List ℕ) (a n to : ℕ) → (n ≡ 0) ⊎ ((0 < n) × IsRun true a n) → n ≤ length xs → a + n ≤ to
+    → laid true start (data_index true a) xs a to ≡ take n xs ++ laid true start (data_index true (a + n)) (drop n xs) (a + n) to
+laid_rest start xs a n to (inl none) fits high =
+    ap (λ b. laid true start (data_index true b) xs b to) (omega arith)
+    ∙ ap (λ k. take k xs ++ laid true start (data_index true (a + n)) (drop k xs) (a + n) to) (sym none)
+laid_rest start xs a n to (inr run) fits high =
+    laid_split true start (data_index true a) xs a (a + n) to (omega arith) high
+    ∙ ap (λ ys. ys ++ laid true start (data_index true a) xs (a + n) to) (laid_run true start xs a n fits run.1)
+    ∙ ap (λ ys. take n xs ++ ys) (laid_shift true start (data_index true a) n (data_index true (a + n)) xs (a + n) to (run_end true a n run.0 run.1) (omega arith))

@@ -1,12 +1,15 @@
-ghost use Rattle.std.specs.Prelude.{◌≡◌, ◌<◌, ◌≤◌, ◌+◌, ◌-◌, ◌/◌, ◌%◌, ◌^◌, ◌++◌, [], ◌∷◌, true};
+ghost use Rattle.std.specs.Prelude.{◌≡◌, ◌<◌, ◌≤◌, ◌+◌, ◌-◌, ◌/◌, ◌%◌, ◌^◌, ◌++◌, ◌⊎◌, [], ◌∷◌, true};
 ghost use Rattle.std.specs.Prelude.{length, replicate, vec_len, vec_capacity};
 ghost use Rattle.iw_octets.specs.Pieces.{joined};
 ghost use Rattle.iw_fpdu.specs.Frame.{laid, marker_octets};
 ghost use Rattle.iw_fpdu.specs.Laying.{HasRoom, IsEdge, laid_from, marker_before};
 ghost use Rattle.iw_fpdu.specs.Places.{data_place, data_index, place_after};
 
-use crate::layout::{MARKER, SPACING, run_at};
+use crate::layout::{MARKER, SPACING};
 use std::alloc::Allocator;
+
+/// The octets of the frames from one marker to the next.
+const RUN: usize = (SPACING - MARKER) as usize;
 
 /// Appends octets, for which there is room.
 #[inline(always)]
@@ -40,6 +43,23 @@ pub(crate) struct Writer {
 }
 
 impl Writer {
+    /// Appends the marker, which is next. The frame's next octet is next then.
+    #[inline(always)]
+    fn put_next_marker<A: Allocator>(&mut self, out: &mut Vec<u8, A>)
+        requires marker { self.old.at % 512 ≡ 0 }
+        requires low { self.old.at < 2 ^ 63 + 2 ^ 17 }
+        requires near { self.old.at - self.old.start < 2 ^ 16 }
+        requires room { vec_len out.old + 4 ≤ vec_capacity out.old }
+        ensures start { self.new.start ≡ self.old.start }
+        ensures place { self.new.at ≡ self.old.at + 4 }
+        ensures items { out.new.items ≡ out.old.items ++ marker_octets self.old.start (self.old.at / 512) }
+        ensures len { vec_len out.new ≡ vec_len out.old + 4 }
+        ensures capacity { vec_capacity out.old ≤ vec_capacity out.new }
+    {
+        append(out, &marker(self.start, self.at));
+        self.at += MARKER;
+    }
+
     /// Appends the marker, if one is next. The frame's next octet is next then.
     #[inline(always)]
     pub(crate) fn put_marker<A: Allocator>(&mut self, out: &mut Vec<u8, A>)
@@ -55,9 +75,33 @@ impl Writer {
         ensures capacity { vec_capacity out.old ≤ vec_capacity out.new }
     {
         if self.at % SPACING == 0 {
-            append(out, &marker(self.start, self.at));
-            self.at += MARKER;
+            self.put_next_marker(out);
         }
+    }
+
+    /// Appends those of these octets that come before the next marker, and tells the others.
+    #[inline(always)]
+    fn put_front<'a, A: Allocator>(&mut self, octets: &'a [u8], out: &mut Vec<u8, A>) -> &'a [u8]
+        requires { HasRoom true self.old.start self.old.at (length octets.now)
+            (vec_len out.old) (vec_capacity out.old) }
+        ensures room { HasRoom true self.new.start self.new.at (length result.now)
+            (vec_len out.new) (vec_capacity out.new) }
+        ensures marker { (length result.now ≡ 0) ⊎ (self.new.at % 512 ≡ 0) }
+        ensures start { self.new.start ≡ self.old.start }
+        ensures end { place_after true self.new.at (length result.now)
+            ≡ place_after true self.old.at (length octets.now) }
+        ensures later { self.old.at ≤ self.new.at }
+        ensures len { vec_len out.new ≡ vec_len out.old + (self.new.at - self.old.at) }
+        ensures capacity { vec_capacity out.old ≤ vec_capacity out.new }
+        ensures items { out.new.items ++ laid_from self.old.start self.new.at result.now
+            ≡ out.old.items ++ laid_from self.old.start self.old.at octets.now }
+    {
+        let before_marker = (SPACING - self.at % SPACING) % SPACING;
+        let run = octets.len().min(before_marker as usize);
+        let (front, back) = octets.split_at(run);
+        append(out, front);
+        self.at += run as u64;
+        back
     }
 
     /// Appends octets of the frame, with the markers before and among them.
@@ -71,10 +115,10 @@ impl Writer {
         ensures len { vec_len out.new ≡ vec_len out.old + (self.new.at - self.old.at) }
         ensures capacity { vec_capacity out.old ≤ vec_capacity out.new }
     {
-        let mut rest = octets;
+        let mut rest = self.put_front(octets, out);
         while !rest.is_empty() {
-            self.put_marker(out);
-            let run = run_at(true, self.at, rest.len());
+            self.put_next_marker(out);
+            let run = rest.len().min(RUN);
             let (front, back) = rest.split_at(run);
             append(out, front);
             self.at += run as u64;
