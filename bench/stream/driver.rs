@@ -225,21 +225,34 @@ fn judge_early(turns: usize, wanted: &mut Wanted) {
     }
 }
 
-/// A window all of whose markers point somewhere else, beside one of honest frames: the time of a delivery of 1,408 octets.
-fn judge_lying(turns: usize, wanted: &mut Wanted) {
-    let honest = rows::window();
-    let lying = Load { lying: true, ..honest };
-    let octets = row::octets(honest.message + load::SHIFT);
-    let deliveries = ours::window(&honest, &octets);
+/// The time of a delivery in each of two windows of as many, in nanoseconds.
+fn time_windows(loads: [Load; 2], turns: usize) -> [f64; 2] {
+    let octets = row::octets(loads[0].message + load::SHIFT);
+    let deliveries = ours::window(&loads[0], &octets);
+    assert_ne!(deliveries, 0);
     let mut least = [f64::MAX; 2];
     for _ in 0..turns {
-        for (load, least) in [&honest, &lying].into_iter().zip(&mut least) {
+        for (load, least) in loads.iter().zip(&mut least) {
             row::less(least, || assert_eq!(ours::window(load, &octets), deliveries));
         }
     }
-    let [honest, lying] = least.map(|time| time / deliveries as f64);
-    println!("a delivery of 1,408 octets behind a hole: {honest:.0} ns, with lying markers {lying:.0} ns");
-    wanted.at_most("lying markers, to honest ones", lying / honest, MAX_LYING);
+    least.map(|time| time / deliveries as f64)
+}
+
+/// Windows whose markers lie, each beside the same deliveries of honest frames.
+fn judge_lying(turns: usize, wanted: &mut Wanted) {
+    let ratio = |(name, lying)| {
+        let honest = Load { lying: false, cut: false, ..lying };
+        let [honest, lying] = time_windows([honest, lying], turns);
+        println!("| {name} | {lying:.0} | {honest:.0} | {:.2} |", lying / honest);
+        (name, lying / honest)
+    };
+    println!("Deliveries of 1,408 octets past a hole, with markers:\n\n| | ns a delivery | honest | to honest |\n|---|---|---|---|");
+    let ratios = rows::lying().map(ratio);
+    println!();
+    for (name, ratio) in ratios {
+        wanted.at_most(&format!("{name}, to honest ones"), ratio, MAX_LYING);
+    }
 }
 
 fn take_crcs(crc32c: fn(&[u8]) -> u32, octets: &[u8]) {

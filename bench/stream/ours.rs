@@ -19,7 +19,8 @@ pub fn receive(load: &Load, octets: &[u8]) -> u64 {
     unsafe { stream_receive(load, octets.as_ptr(), octets.len()) }
 }
 
-/// The frames of one round but for the first delivery, to new streams again and again: how many deliveries they were.
+/// The frames of one round but for the first of each `gap` deliveries, to new streams again and again: how many deliveries they
+/// were.
 pub fn window(load: &Load, octets: &[u8]) -> u64 {
     unsafe { stream_window(load, octets.as_ptr(), octets.len()) }
 }

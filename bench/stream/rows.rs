@@ -79,37 +79,27 @@ struct Order {
     batch: usize,
     late: usize,
     reversed: bool,
+    last_first: bool,
 }
 
 /// Orders in which frames are placed before their turn.
-const ORDERS: [Order; 4] = [
-    Order { name: "pairs swapped", frames: FRAMES_FEW, batch: 2, late: 2, reversed: false },
-    Order {
-        name: "every second frame first within 128 KiB",
-        frames: FRAMES_NEAR,
-        batch: usize::MAX,
-        late: 2,
-        reversed: false,
-    },
-    Order {
-        name: "a window from its last frame to its first",
-        frames: FRAMES_FAR,
-        batch: usize::MAX,
-        late: 1,
-        reversed: true,
-    },
-    Order {
-        name: "the first frame of a window last",
-        frames: FRAMES_FAR,
-        batch: usize::MAX,
-        late: usize::MAX,
-        reversed: false,
-    },
+const ORDERS: [Order; 5] = [
+    Order { batch: 2, late: 2, ..Order::new("pairs swapped", FRAMES_FEW) },
+    Order { late: 2, ..Order::new("every second frame first within 128 KiB", FRAMES_NEAR) },
+    Order { reversed: true, ..Order::new("a window from its last frame to its first", FRAMES_FAR) },
+    Order { late: usize::MAX, ..Order::new("the first frame of a window last", FRAMES_FAR) },
+    Order { last_first: true, ..Order::new("the last frame of a window first, then the others in order", FRAMES_FAR) },
 ];
 
 impl Order {
+    /// All frames of the message are emitted at a time, and delivered as they were.
+    const fn new(name: &'static str, frames: usize) -> Order {
+        Order { name, frames, batch: usize::MAX, late: 1, reversed: false, last_first: false }
+    }
+
     fn of(&self, load: Load) -> Load {
-        Load { batch: self.batch, late: self.late, reversed: self.reversed, ..load }
+        let Order { batch, late, reversed, last_first, .. } = *self;
+        Load { batch, late, reversed, last_first, ..load }
     }
 }
 
@@ -127,9 +117,16 @@ pub fn received_early() -> Vec<Row> {
     ORDERS.iter().map(|order| Row::receiving(order.name, order.of(again(FRAMED, order.frames)))).collect()
 }
 
-/// A window of frames with markers, of which all but the first delivery come, in order.
-pub fn window() -> Load {
-    Load { delivery: 1_408, rounds: 2, ..sized(Load::MARKERS, 1_400, FRAMES_FAR * FRAMED.piece()) }
+/// Windows of frames whose markers lie: all but the first of each `gap` deliveries come, in order.
+///
+/// In the second each marker points to a frame that a gap cuts off from its end, so that each delivery has all those looked at
+/// again that could end within it, to which some 130 markers point: no dearer order is known in which no octet comes twice.
+pub fn lying() -> [(&'static str, Load); 2] {
+    let window = Load { delivery: FULL_FRAME, ..sized(MARKERS, 1_400, FRAMES_FAR * MARKERS.piece()) };
+    [
+        ("markers that point anywhere", Load { lying: true, ..window }),
+        ("markers that point to frames with a gap in them", Load { cut: true, gap: 40, ..window }),
+    ]
 }
 
 pub fn rows() -> Vec<Row> {

@@ -54,9 +54,12 @@ impl Wire {
         &self.octets[frame.at..frame.at + frame.len]
     }
 
-    /// Puts the frames that were emitted in the order in which the load has them delivered: the last first, or batch by batch,
-    /// of each `late` the first behind all others of its batch.
+    /// Puts the frames that were emitted in the order in which the load has them delivered: the last before all others, from the
+    /// last to the first, or batch by batch, of each `late` the first after all others of its batch.
     fn arrange(&mut self, load: &Load) {
+        if load.last_first && !self.frames.is_empty() {
+            self.frames.rotate_right(1);
+        }
         if load.reversed {
             self.frames.reverse();
         }

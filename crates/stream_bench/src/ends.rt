@@ -57,6 +57,8 @@ struct Receiving {
     spare: Vec<Vec<u8>>,
     /// How many octets a delivery has at most.
     delivery: usize,
+    /// Of each so many deliveries of a window the first stays away.
+    gap: usize,
     /// The steps are called from the other place.
     too: bool,
 }
@@ -99,16 +101,18 @@ impl Receiving {
         Ok(placed)
     }
 
-    // Delivers octets from place 0 on, but for those of the first delivery, and tells how many deliveries they were.
-    fn take_beyond(&mut self, end: &mut End, octets: &[u8]) -> Result<u64, Stop> {
+    // Delivers octets from place 0 on, but for the first of each `gap` deliveries, and tells how many deliveries they were.
+    fn take_past_gaps(&mut self, end: &mut End, octets: &[u8]) -> Result<u64, Stop> {
         let mut deliveries = 0u64;
         let mut place = 0u64;
+        let mut number = 0usize;
         for piece in InPieces::new(octets, self.delivery.max(1)) {
-            if place > 0 {
+            if number % self.gap.max(1) != 0 {
                 self.take_piece(end, place, piece)?;
                 deliveries = deliveries.wrapping_add(1);
             }
             place = place.wrapping_add(piece.len() as u64);
+            number = number.wrapping_add(1);
         }
         Ok(deliveries)
     }
@@ -220,6 +224,7 @@ impl Ends {
             memory,
             spare: Vec::new(alloc),
             delivery: load.delivery,
+            gap: load.gap,
             too: false,
         };
         let mut ends = Ends {
@@ -385,15 +390,15 @@ impl Ends {
             .take_all(&mut pair.receiver, &self.wire, further)
     }
 
-    /// Delivers the octets that were emitted, but for those of the first delivery, to a new stream, and tells how many
-    /// deliveries they were. Where the load says so, each marker points somewhere else.
+    /// Delivers the octets that were emitted, but for those of the first of each `gap` deliveries, to a new stream, and tells how
+    /// many deliveries they were.
     pub(crate) fn take_window(&mut self, alloc: Global) -> Result<u64, Stop> {
         let mut end = End::new(alloc, self.load, Role::Preset)?;
-        self.receiving.take_beyond(&mut end, self.wire.octets())
+        self.receiving.take_past_gaps(&mut end, self.wire.octets())
     }
 
-    /// Lets each marker that was emitted point somewhere else.
+    /// Lets the markers that were emitted point where the load has them.
     pub(crate) fn lie(&mut self) {
-        self.wire.lie();
+        self.wire.lie(self.load);
     }
 }

@@ -24,8 +24,8 @@ pub extern "C" fn stream_receive(alloc: Global, load: &Load, octets: &[u8]) -> u
     receive(alloc, *load, octets).unwrap_or(0)
 }
 
-/// Delivers the frames of one round of messages, but for the first delivery, to new streams again and again, and tells how many
-/// deliveries they were: none where something went otherwise.
+/// Delivers the frames of one round of messages, but for the first of each `gap` deliveries, to new streams again and again, and
+/// tells how many deliveries they were: none where something went otherwise.
 #[unsafe(no_mangle)]
 pub extern "C" fn stream_window(alloc: Global, load: &Load, octets: &[u8]) -> u64 {
     window(alloc, *load, octets).unwrap_or(0)

@@ -16,10 +16,14 @@ pub struct Load {
     pub compared: bool,
     /// The receiving streams' steps are called from two places, round by round.
     pub two_callers: bool,
-    /// Of the frames that are emitted at a time the last is delivered first.
+    /// The frames that are emitted at a time are delivered from the last to the first.
     pub reversed: bool,
+    /// Of the frames that are emitted at a time the last is delivered before all others.
+    pub last_first: bool,
     /// Each marker of a window points somewhere else.
     pub lying: bool,
+    /// Each marker of a window points to a frame of its own, which is as long as can be and never whole.
+    pub cut: bool,
     /// The maximum ULPDU, in octets.
     pub mulpdu: u32,
     /// How many octets a message has.
@@ -30,10 +34,12 @@ pub struct Load {
     pub pairs: usize,
     /// How many frames of a stream are emitted at a time.
     pub batch: usize,
-    /// Of each so many of these the first is delivered behind all others.
+    /// Of each so many of these the first is delivered after all others.
     pub late: usize,
     /// How many octets a delivery has at most.
     pub delivery: usize,
+    /// Of each so many deliveries of a window the first stays away.
+    pub gap: usize,
     /// How often all that is done.
     pub rounds: usize,
 }

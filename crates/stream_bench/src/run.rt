@@ -41,15 +41,13 @@ pub(crate) fn receive(alloc: Global, load: Load, octets: &[u8]) -> Result<u64, S
     Ok(placed)
 }
 
-/// Delivers the frames of one round of messages, but for the first delivery, to new streams, and tells how many deliveries they
-/// were.
+/// Delivers the frames of one round of messages, but for the first of each `gap` deliveries, to new streams, and tells how many
+/// deliveries they were.
 pub(crate) fn window(alloc: Global, load: Load, octets: &[u8]) -> Result<u64, Stop> {
     let (even, _) = payloads(alloc, load, octets)?;
     let mut ends = Ends::new(alloc, load, octets)?;
     ends.emit(&even)?;
-    if load.lying {
-        ends.lie();
-    }
+    ends.lie();
     let mut deliveries = 0u64;
     for _ in 0..load.rounds {
         deliveries = deliveries.wrapping_add(ends.take_window(alloc)?);

@@ -66,14 +66,38 @@ impl Wire {
         self.octets.as_slice()
     }
 
-    /// Lets each marker among the octets, the first of which has place 0, point somewhere else.
-    pub(crate) fn lie(&mut self) {
+    /// Lets the markers among the octets, the first of which has place 0, point where the load has them.
+    pub(crate) fn lie(&mut self, load: Load) {
+        if load.lying {
+            self.point_anywhere();
+        }
+        if load.cut {
+            self.point_to_cut_frames();
+        }
+    }
+
+    // Each marker points somewhere else, by chance.
+    fn point_anywhere(&mut self) {
         let mut state = 1u32;
         for marker in self.octets.chunks_mut(MARKER_SPACING) {
             state = state.wrapping_mul(1_664_525).wrapping_add(1_013_904_223);
             if marker.len() >= MARKER_LEN {
                 marker[2] = (state >> 24) as u8;
                 marker[3] = (state >> 16 & 255) as u8;
+            }
+        }
+    }
+
+    // Each marker points right past itself, where the octets say that a frame has 65,535 octets: more than come without a gap, so
+    // it is never whole. Any octet that comes within its 65,535 might be its last one. So a delivery has all those looked at
+    // again to which the markers of the 65,535 octets before it point, and none gets a record, past which the search would begin.
+    fn point_to_cut_frames(&mut self) {
+        for part in self.octets.chunks_mut(MARKER_SPACING) {
+            if part.len() >= MARKER_LEN + 2 {
+                part[2] = 0;
+                part[3] = 0;
+                part[4] = 255;
+                part[5] = 255;
             }
         }
     }
@@ -93,9 +117,12 @@ impl Wire {
         Ok(())
     }
 
-    /// Puts the frames that were emitted in the order in which the load has them delivered: the last first, or batch by batch,
-    /// of each `late` the first behind all others of its batch.
+    /// Puts the frames that were emitted in the order in which the load has them delivered: the last before all others, from the
+    /// last to the first, or batch by batch, of each `late` the first after all others of its batch.
     pub(crate) fn arrange(&mut self, load: Load) -> Result<(), Stop> {
+        if load.last_first && !self.frames.is_empty() {
+            self.frames.rotate_right(1);
+        }
         if load.reversed {
             self.frames.reverse();
         }
@@ -117,7 +144,7 @@ fn add(frames: &mut Vec<Frame>, frame: Frame) -> Result<(), Stop> {
     }
 }
 
-// Adds the frames of a batch: of each `late` the first behind all others.
+// Adds the frames of a batch: of each `late` the first after all others.
 fn add_late(ordered: &mut Vec<Frame>, batch: &[Frame], late: usize) -> Result<(), Stop> {
     for part in batch.chunks(late.max(1)) {
         if let Some((_, others)) = part.split_first() {
