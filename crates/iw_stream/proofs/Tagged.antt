@@ -1,6 +1,6 @@
 -- A tagged frame, a Write's or a Read Response's: its verdict, and its turn.
 use Rattle.std.proofs.Common.{◌≡◌, ℕ, ◌-◌, ◌≤◌, Bool, true, false, List, ◌++◌, length, drop, take, get_or, if◌then◌else◌, Option, Some, None, Ok, Err, refl, sym, ap, ◌∙◌, arith, inl, inr, length-drop}
-use Rattle.std.specs.Prelude.{Result, IfOk, OnOk}
+use Rattle.std.specs.Prelude.{Result, IfOk, IfSome, OnOk}
 use Rattle.std.proofs.lemmas.Bool.{cases_lt}
 use Rattle.std.proofs.Math.ListN.{get_or-append}
 use Rattle.std.proofs.lemmas.List.{take-append-le}
@@ -19,7 +19,7 @@ use Rattle.iw_fpdu.specs.declared.layout.Layout.{Layout}
 use Rattle.iw_fpdu.specs.Places.{frame_start}
 use Rattle.iw_octets.proofs.Front.{read_segment-append, read_segment-long_untagged, read_segment-short_untagged}
 use Rattle.iw_rdmap.specs.Judging.{judged_tagged, passed_by, tagged_in}
-use Rattle.iw_rdmap.proofs.Tags.{Passes, operation_is, tagged_judged}
+use Rattle.iw_rdmap.proofs.Tags.{Passes, operation_is, passes, tagged_judged}
 use Rattle.iw_reads.specs.declared.reads.Outstanding.{Outstanding}
 use Rattle.iw_reads.specs.Outstanding.{sink_fault}
 use Rattle.iw_tagged.specs.declared.placing.Placed.{Placed}
@@ -27,7 +27,7 @@ use Rattle.iw_tagged.specs.Placing.{placing_fault}
 use Rattle.iw_untagged.specs.Receiving.{Receiving}
 use Rattle.iw_stream.specs.declared.answer.Step.TheVariants as steps
 use Rattle.iw_stream.specs.declared.judging.Landing.{Landing}
-use Rattle.iw_stream.specs.Judging.{Standing, fault_or, or_else, as_tagged, is_read_response, is_response, landing_of, place_in, right_of, head_verdict, segment_verdict, receiving_landed}
+use Rattle.iw_stream.specs.Judging.{Standing, fault_or, or_else, as_tagged, is_read_response, is_response, landing_of, place_in, right_of, head_verdict, segment_verdict, receiving_landed, judged_head, may_be_early, landing_in, early_verdict, verdict}
 use Rattle.iw_stream.specs.Frames.{Frame, frame_at, header_in, payload_of, placed, segment_in}
 use Rattle.iw_stream.specs.Kept.{Keeps}
 use Rattle.iw_stream.specs.Starting.{expecting, first_place_in}
@@ -66,6 +66,10 @@ header_front u front f tagged long =
 
 pub tagged_there : (u : List ℕ) (head : TaggedHead) → Passes u head → Some head ≡ tagged_in (read_segment u)
 tagged_there u head p = sym (ap tagged_in p.read ∙ ap (passed_by head) p.checked)
+
+pub front_there : (u front : List ℕ) (o : Option TaggedHead) → (beyond : List ℕ) × (u ≡ front ++ beyond) → o ≡ tagged_in (read_segment front) → IfSome o (λ head. Some head ≡ tagged_in (read_segment u))
+front_there u front None f e = tt
+front_there u front (Some head) f e = tagged_there u head (tagged_front u front head f (passes front head e))
 
 pub tagged_long : (u : List ℕ) (head : TaggedHead) → Passes u head → 14 ≤ length u
 tagged_long u head p = (segment_past u (Tagged head p.payload) p.read).long
@@ -115,6 +119,17 @@ as_placed response table domain reads head n e =
     go : (o : Option Fault) → as_tagged response (fault_or o (place_in head n)) ≡ fault_or o (landing_of response (place_in head n))
     go None = refl
     go (Some fault) = refl
+
+-- it may be judged before its turn
+pub tagged_early : (at : Standing) (u : List ℕ) (head : TaggedHead) → Passes u head → may_be_early (judged_head at u) ≡ true
+tagged_early at u head p = ap may_be_early (tagged_judged u head (length u) at.asked.next (length at.asked.unanswered) p) ∙ by p.operation
+  where
+    by : (operation : TaggedOperation) → may_be_early (judged_tagged head (Ok operation)) ≡ true
+    by tagged.Write = refl
+    by tagged.ReadResponse = refl
+
+pub lands_early : (at : Standing) (frame : Frame) (head : TaggedHead) (r : Result Landing Fault) → Passes frame.ulpdu head → r ≡ verdict at frame → landing_in r ≡ early_verdict at frame
+lands_early at frame head r p e = ap landing_in e ∙ ap (λ b. if b then landing_in (verdict at frame) else None) (sym (tagged_early at frame.ulpdu head p))
 
 -- what a placement leaves, where it was one
 pub put_there : (r : Result Placed Fault) (o : Option Fault) (p : Placed) (table new : Table) (payload octets : List ℕ) → r ≡ fault_or o p → payload ≡ octets → OnOk r (new ≡ put table p.stag p.to octets)

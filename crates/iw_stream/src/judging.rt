@@ -16,16 +16,17 @@ ghost use Rattle.iw_stream.specs.Frames.{frame_by, payload_of, placed, header_in
 ghost use Rattle.iw_stream.specs.Judging.{Standing, IsFirst, as_tagged, right_of, is_response};
 ghost use Rattle.iw_stream.specs.Judging.{mismatch_fault, fault_or, write_verdict, response_verdict};
 ghost use Rattle.iw_stream.specs.Judging.{place_in, place_verdict, segment_verdict, verdict};
-ghost use Rattle.iw_stream.specs.Judging.{may_be_early, early_verdict, table_tried, receiving_tried};
+ghost use Rattle.iw_stream.specs.Judging.{may_be_early, early_verdict, table_tried, receiving_tried, landing_of};
 ghost use Rattle.iw_stream.specs.Judging.{table_landed, receiving_landed};
 
+use crate::turning::is_response;
 use arrayvec::ArrayVec;
 use iw_fpdu::{Fpdu, Mismatch};
 use iw_memory::{Memory, Right};
 use iw_octets::{
     Fault, ReadRequest, Stag, TAGGED_HEADER, TaggedHead, UNTAGGED_HEADER, UntaggedHead, is_tagged,
 };
-use iw_rdmap::{FIRST_OCTETS, Head, early, judge};
+use iw_rdmap::{FIRST_OCTETS, Head, early, judge, tagged_head};
 use iw_reads::{Reads, Requests, check_source};
 use iw_tagged::Placed;
 use iw_untagged::RecvQueue;
@@ -391,6 +392,53 @@ pub(crate) fn land_frame<A: Allocator, B: Allocator>(
     }
 }
 
+// The header of a Write or a Read Response, where it stands before the first marker among a ULPDU's octets.
+#[inline(always)]
+fn tagged_front<A: Allocator>(fpdu: &Fpdu<'_, A>) -> Option<TaggedHead>
+    requires { HoldsSpan fpdu.now }
+    ensures { IfSome result (λ head. Some head ≡ tagged_in (read_segment (ulpdu fpdu.now))) }
+{
+    let Some(front) = front(fpdu) else {
+        return None;
+    };
+    tagged_head(front)
+}
+
+/// Where the payload of a Read Response, or else of a Write, was placed.
+#[inline(always)]
+pub(crate) fn landing_of(response: bool, placed: Placed) -> Landing
+    ensures { result ≡ landing_of response placed }
+{
+    if response {
+        Landing::Response(placed)
+    } else {
+        Landing::Write(placed)
+    }
+}
+
+// Judges a whole frame that begins with this header of a Write or a Read Response before its turn, and places its payload
+// where it passes every check.
+#[inline(always)]
+fn land_tagged_early<A: Allocator, B: Allocator>(
+    head: TaggedHead,
+    fpdu: &Fpdu<'_, A>,
+    domain: u8,
+    reads: &Reads,
+    memory: &mut Memory<B>,
+) -> Option<Landing>
+    requires holds { HoldsSpan fpdu.now }
+    requires tagged { Some head ≡ tagged_in (read_segment (ulpdu fpdu.now)) }
+    ensures landed { (at : Standing) → at.table ≡ memory.old → at.domain ≡ domain → at.reads ≡ reads.now → result ≡ early_verdict at (frame_by fpdu.now) }
+    ensures memory { memory.new ≡ table_tried memory.old (frame_by fpdu.now) result }
+    ensures receiving { (r : Receiving) → r ≡ receiving_tried r (frame_by fpdu.now) result }
+{
+    let response = is_response(&head);
+    match land_tagged(response, head, fpdu, domain, reads, memory) {
+        Ok(placed) => Some(landing_of(response, placed)),
+        Err(_) => None,
+    }
+}
+
 /// Judges a whole frame before its turn. That of a Write, a Read Response or a Send which passes every check is placed, in the
 /// region or the receive buffer that its header names; any other changes nothing.
 pub(crate) fn land_early<A: Allocator, B: Allocator>(
@@ -406,6 +454,9 @@ pub(crate) fn land_early<A: Allocator, B: Allocator>(
     ensures memory { memory.new ≡ table_tried memory.old (frame_by fpdu.now) result }
     ensures receiving { receiving.new ≡ receiving_tried receiving.old (frame_by fpdu.now) result }
 {
+    if let Some(head) = tagged_front(fpdu) {
+        return land_tagged_early(head, fpdu, domain, reads, memory);
+    }
     if !is_early(fpdu, asked) {
         return None;
     }

@@ -1,12 +1,12 @@
 ghost use Rattle.std.specs.Prelude.{◌≡◌, ◌+◌, ◌<◌, ◌≤◌, ◌^◌, length, true, false};
-ghost use Rattle.std.specs.Prelude.{[], is_some, Some, None, Ok, IfSome, IfOk, OnOk, OnErr};
+ghost use Rattle.std.specs.Prelude.{[], is_some, Some, None, Ok, IfSome, IfOk, OnOk, OnErr, IsTrue};
 ghost use Rattle.iw_fpdu.specs.Found.{HoldsSpan};
 ghost use Rattle.iw_locate.specs.Records.{max_records, added};
 ghost use Rattle.iw_locate.specs.Next.{IsNext};
 ghost use Rattle.iw_locate.specs.Unsearched.{IsFollowed};
 ghost use Rattle.iw_stream.specs.Frames.{Frame, frame_by, state_tried, record_tried, without};
 ghost use Rattle.iw_stream.specs.Incoming.{IsSameStart, scene_in, frame_in};
-ghost use Rattle.iw_stream.specs.Judging.{early_verdict, landing_of, table_tried, receiving_tried};
+ghost use Rattle.iw_stream.specs.Judging.{early_verdict, table_tried, receiving_tried};
 ghost use Rattle.iw_stream.specs.Kept.{IsWithinBuffer};
 ghost use Rattle.iw_stream.specs.Work.{judged_step};
 ghost use Rattle.std.specs.Option.{option_map_or};
@@ -19,7 +19,7 @@ use crate::ending::Ending;
 use crate::incoming::{Incoming, frame_at, held_at};
 use crate::judging::{
     Header, Landing, PlacedFrame, front, header_of, keep_frame, keep_tagged, land_early,
-    land_frame, land_tagged, placed_frame,
+    land_frame, land_tagged, landing_of, placed_frame,
 };
 use crate::terminating::{end_clashed, end_judged};
 use crate::turning::is_response;
@@ -48,18 +48,6 @@ fn placed_step<A: Allocator>(right: Right, placed: Placed) -> Step<Octets<A>>
         stag,
         to,
         len: n,
-    }
-}
-
-// Where the payload of a Read Response, or else of a Write, was placed.
-#[inline(always)]
-fn landing_of(response: bool, placed: Placed) -> Landing
-    ensures { result ≡ landing_of response placed }
-{
-    if response {
-        Landing::Response(placed)
-    } else {
-        Landing::Write(placed)
     }
 }
 
@@ -352,6 +340,17 @@ impl<A: Allocator> Stream<A> {
         Ok(self.judge_apart(memory))
     }
 
+    // Whether it is plain without a search that no frame can be judged early.
+    #[inline(always)]
+    pub(crate) fn is_quiet(&self) -> bool
+        requires place { self.now.arrived.floor ≤ 2 ^ 62 }
+        requires waiting { waiting self.now ≡ None }
+        ensures { IsTrue result → early_frame self.now ≡ None }
+    {
+        self.arrived.limits();
+        self.arrived.is_quiet()
+    }
+
     // Judges the frame at the lowest place where one can be judged early, where that at the in-order point is not whole.
     #[inline(always)]
     pub(crate) fn try_early(
@@ -371,8 +370,7 @@ impl<A: Allocator> Stream<A> {
         ensures floor { self.new.arrived.floor ≡ self.old.arrived.floor }
         ensures within { IfOk result IsWithinBuffer }
     {
-        self.arrived.limits();
-        if self.arrived.is_quiet() {
+        if self.is_quiet() {
             return Ok(Step::Idle);
         }
         self.try_apart(memory)
@@ -380,7 +378,10 @@ impl<A: Allocator> Stream<A> {
 
     // The same, in a call of its own, with a search.
     #[inline(never)]
-    fn try_apart(&mut self, memory: &mut Memory<A>) -> Result<Step<Octets<A>>, AllocError>
+    pub(crate) fn try_apart(
+        &mut self,
+        memory: &mut Memory<A>,
+    ) -> Result<Step<Octets<A>>, AllocError>
         requires open { is_open self.old.start ≡ true }
         requires runs { ended self.old ≡ false }
         requires place { self.old.arrived.floor ≤ 2 ^ 62 }

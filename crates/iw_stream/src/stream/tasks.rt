@@ -88,7 +88,10 @@ impl<A: Allocator> Stream<A> {
             return self.frames_apart(memory);
         };
         let Some(landing) = found else {
-            return self.try_early(memory);
+            if self.is_quiet() {
+                return Ok(Step::Idle);
+            }
+            return self.try_apart(memory);
         };
         Ok(landed_step(landing))
     }

@@ -8,22 +8,22 @@ use Rattle.iw_stream.proofs.stream.Stream.work_frames.Given as given
 use Rattle.iw_stream.proofs.stream.Stream.work_frames.Goals as goal
 
 -- nothing waits, and no frame is whole
-rests : (g : given.Over) (c : goal.After-try_early g) → IsUnjudged c.args.memory.now c.judge.new.memory c.args.self.now c.judge.new.self
+rests : (g : given.Over) (c : goal.After-try_apart g) → IsUnjudged c.args.memory.now c.judge.new.memory c.args.self.now c.judge.new.self
 rests g c =
     unjudged c.args.memory.now c.judge.new.memory c.args.self.now c.judge.new.self c.in-Ok.found c.in_default-found.is c.in-Ok.ensures.whole c.in-Ok.ensures.after c.in-Ok.ensures.memory
     (c.meets_placed.ensures.waiting c.if-meets_placed.false)
 
 pub returns-in_default-found-clause-step : goal.returns-in_default-found-clause-step
 returns-in_default-found-clause-step g c =
-    subst (λ x. IfOk c.try_early.result (λ step. step ≡ x)) (tries step_of c.args.memory.now c.judge.new.memory c.args.self.now c.judge.new.self (rests g c)) c.try_early.ensures.step
+    subst (λ x. IfOk c.try_apart.result (λ step. step ≡ x)) (tries step_of c.args.memory.now c.judge.new.memory c.args.self.now c.judge.new.self (rests g c)) c.try_apart.ensures.step
 
 pub returns-in_default-found-clause-after : goal.returns-in_default-found-clause-after
 returns-in_default-found-clause-after g c =
-    subst (λ x. OnOk c.try_early.result (c.try_early.new.self ≡ x)) (tries left_by c.args.memory.now c.judge.new.memory c.args.self.now c.judge.new.self (rests g c)) c.try_early.ensures.after
+    subst (λ x. OnOk c.try_apart.result (c.try_apart.new.self ≡ x)) (tries left_by c.args.memory.now c.judge.new.memory c.args.self.now c.judge.new.self (rests g c)) c.try_apart.ensures.after
 
 pub returns-in_default-found-clause-memory : goal.returns-in_default-found-clause-memory
 returns-in_default-found-clause-memory g c =
-    subst (λ x. OnOk c.try_early.result (c.try_early.new.memory ≡ x)) (tries table_left c.args.memory.now c.judge.new.memory c.args.self.now c.judge.new.self (rests g c)) c.try_early.ensures.memory
+    subst (λ x. OnOk c.try_apart.result (c.try_apart.new.memory ≡ x)) (tries table_left c.args.memory.now c.judge.new.memory c.args.self.now c.judge.new.self (rests g c)) c.try_apart.ensures.memory
 
 pub judge-requires-clause-waiting : goal.judge-requires-clause-waiting
 judge-requires-clause-waiting g c = c.meets_placed.ensures.waiting c.if-meets_placed.false

@@ -2,7 +2,7 @@ use Rattle.std.proofs.Common.{refl, ◌∙◌, ap}
 use Rattle.iw_stream.specs.Fields.{state_of}
 use Rattle.iw_stream.specs.Work.{waiting}
 use Rattle.iw_stream.proofs.Early.{front_unplaced, scene_is}
-use Rattle.iw_stream.proofs.stream.Stream.try_early.Goals as goal
+use Rattle.iw_stream.proofs.stream.Stream.is_quiet.Goals as goal
 
 pub is_quiet-requires-clause-turn : goal.is_quiet-requires-clause-turn
 is_quiet-requires-clause-turn g c =
