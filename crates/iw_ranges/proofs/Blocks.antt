@@ -1,6 +1,6 @@
 -- Octets that are copied nearer to the front, a block at a time.
-use Rattle.std.proofs.Common.{◌≡◌, ℕ, ◌+◌, ◌-◌, ◌<◌, ◌≤◌, true, false, ◌&&◌, cond, ltb, leb, List, ◌++◌, take, drop, length, get_or, sym, ap, ◌∙◌, arith, inl, inr}
-use Rattle.std.proofs.lemmas.List.{same_lists, get_or-drop, get_or-take, get_or_append_left, get_or-append_right, get_or_default, length-take-le, length-drop}
+use Rattle.std.proofs.Common.{◌≡◌, ℕ, ◌+◌, ◌-◌, ◌<◌, ◌≤◌, true, false, ◌&&◌, cond, ltb, leb, List, ◌++◌, take, length, get_or, sym, ap, ◌∙◌, arith, inl, inr}
+use Rattle.std.proofs.lemmas.List.{get_or-take, get_or_append_left, get_or-append_right, length-take-le}
 use Rattle.std.proofs.lemmas.Bool.{cases_lt}
 use Rattle.std.proofs.lemmas.Bool.Decides.{nat_tests}
 
@@ -80,14 +80,8 @@ moves first before after at n m i small same was now apart room = elim (cases_lt
 ]
 
 -- once all blocks are copied
-pub all_moved : (first last : List ℕ) (n at : ℕ) → length last ≡ length first → n ≤ length first → at ≡ length first - n
-    → ((k : ℕ) → k < length last → get_or last k 0 ≡ moved at n first k) → take (length first - n) last ≡ drop n first
-all_moved first last n at same within done were =
-    let left : length (take (length first - n) last) ≡ length first - n = length-take-le (length first - n) last (omega arith) in
-    same_lists (take (length first - n) last) (drop n first) (omega (arith, left, length-drop n first)) (λ k d small.
-    let low : k < length first - n = omega arith in
-    let on : ltb k at ≡ true = grind (arith, nat_tests) in
-    let place : k + n ≡ n + k = omega arith in
-    get_or-take (length first - n) last k d low
-    ∙ get_or_default last k d 0 (omega arith) ∙ were k (omega arith) ∙ ap (λ b. cond b (get_or first (k + n) 0) (get_or first k 0)) on
-    ∙ ap (λ j. get_or first j 0) place ∙ get_or_default first (n + k) 0 d (omega arith) ∙ sym (get_or-drop n first k d))
+pub all_moved : (first last : List ℕ) (n end at i : ℕ) → end ≤ length first → n ≤ end → at ≡ end - n → i + n < end
+    → ((k : ℕ) → k < length first → get_or last k 0 ≡ moved at n first k) → get_or last i 0 ≡ get_or first (i + n) 0
+all_moved first last n end at i high within done small were =
+    let on : ltb i at ≡ true = grind (arith, nat_tests) in
+    were i (omega arith) ∙ ap (λ b. cond b (get_or first (i + n) 0) (get_or first i 0)) on

@@ -59,9 +59,9 @@ come_reaches ss to order all =
       | inr fine ↦ fine
     ]
 
--- the buffer reaches behind the in-order point
-pub top_reaches : (f : Fields) → IsSound f → first_end f.spans ≤ f.base + length f.octets
-top_reaches f ok = first_within f.spans (f.base + length f.octets) ok.order ok.within
+-- the end of what came lies at the end of the first span or past it
+pub top_reaches : (f : Fields) → IsSound f → first_end f.spans ≤ f.end
+top_reaches f ok = first_within f.spans f.end ok.order ok.within
 
 -- ---- what the fields show
 pub cell_below : (f : Fields) (p : ℕ) → p < f.floor → cell_at (arrived_in f) p ≡ Gone
@@ -72,11 +72,11 @@ cell_below f p h =
 pub cell_is : (f : Fields) → IsSound f → (p : ℕ) → f.floor ≤ p → cell_at (arrived_in f) p ≡ cell_of f p
 cell_is f ok p low =
     let t : nat_lt p f.floor ≡ false = grind (arith, nat_tests) in
-    ap (λ b. cond b Gone (get_or (arrived_in f).cells (p - f.floor) Missing)) t ∙ elim (cases_lt p (f.base + length f.octets)) [
-      | inl inside ↦ get_or-map-range_with_len (cell_of f) f.floor (f.base + length f.octets - f.floor) (p - f.floor) p Missing (omega arith) (omega arith)
+    ap (λ b. cond b Gone (get_or (arrived_in f).cells (p - f.floor) Missing)) t ∙ elim (cases_lt p f.end) [
+      | inl inside ↦ get_or-map-range_with_len (cell_of f) f.floor (f.end - f.floor) (p - f.floor) p Missing (omega arith) (omega arith)
       | inr past ↦
-          get_or_past (arrived_in f).cells (p - f.floor) Missing (omega (arith, length-map-range_with_len (cell_of f) f.floor (f.base + length f.octets - f.floor)))
-          ∙ sym (cell_missing f p (not_in p (f.base + length f.octets) f.spans (in_spans p f.spans) ok.within past refl))
+          get_or_past (arrived_in f).cells (p - f.floor) Missing (omega (arith, length-map-range_with_len (cell_of f) f.floor (f.end - f.floor)))
+          ∙ sym (cell_missing f p (not_in p f.end f.spans (in_spans p f.spans) ok.within past refl))
     ]
 
 pub come_is : (f : Fields) → IsSound f → (p : ℕ) → has_come (arrived_in f) p ≡ in_spans p f.spans
@@ -89,8 +89,8 @@ come_is f ok p =
 pub come_via : (f : Fields) → IsSound f → (a : Arrived) → arrived_in f ≡ a → (p : ℕ) → has_come a p ≡ in_spans p f.spans
 come_via f ok a e p = ap (λ x. has_come x p) (sym e) ∙ come_is f ok p
 
-pub end_is : (f : Fields) → IsSound f → end_of (arrived_in f) ≡ f.base + length f.octets
-end_is f ok = omega (arith, length-map-range_with_len (cell_of f) f.floor (f.base + length f.octets - f.floor), ok.reached, top_reaches f ok)
+pub end_is : (f : Fields) → IsSound f → end_of (arrived_in f) ≡ f.end
+end_is f ok = omega (arith, length-map-range_with_len (cell_of f) f.floor (f.end - f.floor), ok.reached, top_reaches f ok)
 
 -- ---- streams that agree at each place
 pub map_range : {X : Type 0} → (f g : ℕ → X) (a n : ℕ) → ((p : ℕ) → a ≤ p → f p ≡ g p) → map f (range_with_len a n) ≡ map g (range_with_len a n)
@@ -130,6 +130,6 @@ holds f ok a e p here =
     let low : f.floor ≤ p = elim (cases_lt p f.floor) [ inl before ↦ absurd (subst IsHere (cell_below f p before) there) | inr low ↦ low ] in
     let mine : IsHere (cell_of f p) = subst IsHere (cell_is f ok p low) there in record {
       low = low;
-      inside = ok.within p (here_in f p mine);
+      inside = omega (arith, ok.within p (here_in f p mine), ok.stand);
       octet = ap (λ x. cell_at x p) (sym e) ∙ cell_is f ok p low ∙ here_is f p mine;
     }

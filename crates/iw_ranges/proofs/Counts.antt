@@ -231,7 +231,7 @@ kept_put f ok place n from e high near some few =
 -- ---- at any time
 pub within_limits : (f : Fields) → IsSound f → IsWithinLimits (arrived_in f)
 within_limits f ok = record {
-  octets = λ p far. cell_is f ok p (omega arith) ∙ cell_missing f p (not_in p (f.base + length f.octets) f.spans (in_spans p f.spans) ok.within (omega (arith, ok.windowed)) refl);
+  octets = λ p far. cell_is f ok p (omega arith) ∙ cell_missing f p (not_in p f.end f.spans (in_spans p f.spans) ok.within (omega (arith, ok.windowed)) refl);
   islands = omega (arith, ok.few, islands_are (has_come (arrived_in f)) f.floor f.spans ok.order ok.reached (near_spans f ok) (come_is f ok));
   floor = ok.low;
 }

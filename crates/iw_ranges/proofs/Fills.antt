@@ -1,6 +1,6 @@
 -- Octets written between spans.
 use Rattle.std.proofs.Common.{◌≡◌, ℕ, ◌+◌, ◌-◌, ◌<◌, ◌≤◌, Bool, true, false, not, ◌&&◌, cond, ltb, leb, List, ◌∷◌, ◌++◌, take, drop, length, get_or, min, max, refl, sym, ap, ◌∙◌, subst, arith, ⊎_elim, inl, inr}
-use Rattle.std.proofs.lemmas.List.{get_or-drop, length-drop, length-take-le, get_or-take, drop_more, drop_all, take_at, get_or_past, get_or_append_left, get_or-append_right}
+use Rattle.std.proofs.lemmas.List.{get_or-drop, length-drop, length-take-le, get_or-take, drop_more, drop_all, take_at, get_or_past}
 use Rattle.std.proofs.lemmas.Bool.{cases_lt}
 use Rattle.std.proofs.lemmas.Bool.Decides.{nat_tests}
 use Rattle.iw_ranges.specs.declared.spans.Span.{Span}
@@ -186,18 +186,22 @@ put_octets base ss from front grown filled n i lg lf room wrote =
           get_or_past filled i 0 (omega arith) ∙ sym (get_or_past grown i 0 (omega arith)) ∙ sym (past_octets base ss from front grown i (omega arith))
     ]
 
--- octets that are put right behind the buffer
-pub beyond_all : (base : ℕ) (ss : List Span) (from : ℕ) (octets buffer : List ℕ) (i : ℕ) → ((p : ℕ) → in_spans p ss ≡ true → p < base + length buffer) → from ≡ base + length buffer
-    → get_or (buffer ++ octets) i 0 ≡ octet_after base ss from octets buffer i
-beyond_all base ss from octets buffer i within e =
-    elim (cases_lt i (length buffer)) [
-      | inl inside ↦ get_or_append_left buffer octets 0 i inside ∙ sym (before_octets base ss from octets buffer i (omega arith))
-      | inr past ↦ get_or-append_right buffer octets (length buffer) i 0 refl past ∙ elim (cases_lt i (length buffer + length octets)) [
+-- octets that are laid past all spans
+pub past_all : (base : ℕ) (ss : List Span) (from : ℕ) (octets buffer laid : List ℕ) (i : ℕ) → ((p : ℕ) → in_spans p ss ≡ true → p < from) → base ≤ from
+    → get_or laid i 0 ≡ cond (leb (from - base) i && ltb i (from - base + length octets)) (get_or octets (i - (from - base)) 0) (get_or buffer i 0)
+    → get_or laid i 0 ≡ octet_after base ss from octets buffer i
+past_all base ss from octets buffer laid i last low is =
+    elim (cases_lt (base + i) from) [
+      | inl before ↦ is ∙ off (let o : (leb (from - base) i && ltb i (from - base + length octets)) ≡ false = grind (arith, nat_tests) in o) ∙ sym (before_octets base ss from octets buffer i before)
+      | inr past ↦ elim (cases_lt (base + i) (from + length octets)) [
         | inl put ↦
-            ap (λ n. get_or octets n 0) (omega arith)
-            ∙ sym (in_octets base ss from octets buffer i (omega arith) (omega arith) (not_in (base + i) (base + length buffer) ss (in_spans (base + i) ss) within (omega arith) refl))
-        | inr none ↦
-            get_or_past octets (i - length buffer) 0 (omega arith) ∙ sym (get_or_past buffer i 0 past)
-            ∙ sym (past_octets base ss from octets buffer i (omega arith))
+            let on : (leb (from - base) i && ltb i (from - base + length octets)) ≡ true = grind (arith, nat_tests) in
+            is ∙ ap (λ b. cond b (get_or octets (i - (from - base)) 0) (get_or buffer i 0)) on ∙ ap (λ n. get_or octets n 0) (omega arith)
+            ∙ sym (in_octets base ss from octets buffer i past put (not_in (base + i) from ss (in_spans (base + i) ss) last past refl))
+        | inr none ↦ is ∙ off (let o : (leb (from - base) i && ltb i (from - base + length octets)) ≡ false = grind (arith, nat_tests) in o) ∙ sym (past_octets base ss from octets buffer i none)
       ]
     ]
+  where
+    off : (leb (from - base) i && ltb i (from - base + length octets)) ≡ false
+        → cond (leb (from - base) i && ltb i (from - base + length octets)) (get_or octets (i - (from - base)) 0) (get_or buffer i 0) ≡ get_or buffer i 0
+    off o = ap (λ b. cond b (get_or octets (i - (from - base)) 0) (get_or buffer i 0)) o

@@ -44,7 +44,7 @@ not_copied place p octets Gone h = refl
 pub taken_came : (f : Fields) → IsSound f → (place : ℕ) (octets : List ℕ) → 0 < length octets → AllCame f place (place + length octets) → taken_in (arrived_in f) place octets ≡ arrived_in f
 taken_came f ok place octets some all =
     taken_some (arrived_in f) place octets some
-    ∙ same_drawn f.floor (max (end_of (arrived_in f)) (place + length octets)) (f.base + length f.octets) (λ p. first_copy place octets p (cell_at (arrived_in f) p)) (cell_of f)
+    ∙ same_drawn f.floor (max (end_of (arrived_in f)) (place + length octets)) f.end (λ p. first_copy place octets p (cell_at (arrived_in f) p)) (cell_of f)
     (omega (arith, end_is f ok, ok.within (place + length octets - 1) (all (place + length octets - 1) (omega arith) (omega arith))))
     (λ p high. ap (first_copy place octets p) (cell_is f ok p high) ∙ same p (in_segment place (length octets) p) refl)
   where
@@ -63,6 +63,7 @@ pub record PutsIn (f after : Fields) (from to : ℕ) (octets : List ℕ) : Type 
   pub gone : after.gone ≡ f.gone
   pub spans : after.spans ≡ add_span from to f.spans
   pub end : to ≡ from + length octets
+  pub last : after.end ≡ max f.end to
   pub len : length after.octets ≡ max (length f.octets) (to - f.base)
   pub written : (i : ℕ) → get_or after.octets i 0 ≡ octet_after f.base f.spans from octets f.octets i
 
@@ -77,7 +78,8 @@ sound_put f after ok from to octets some near room puts few = record {
   order = subst IsFromStart (sym puts.spans) (add_from_start from to f.spans some ok.order);
   reached = omega (arith, ok.reached, puts.floor, add_first from to f.spans ok.order, ap first_end puts.spans);
   within = λ p t. inside p (sym (in_after f after ok from to octets some puts p) ∙ t);
-  windowed = omega (arith, ok.windowed, ok.base, puts.base, puts.floor, puts.len);
+  windowed = omega (arith, ok.windowed, puts.floor, puts.last);
+  stand = omega (arith, ok.stand, ok.base, ok.reached, puts.base, puts.last, puts.len);
   held = omega (arith, ok.held, room, puts.len);
   few = omega (arith, few, ap length puts.spans);
   low = omega (arith, ok.low, puts.floor);
@@ -87,15 +89,15 @@ sound_put f after ok from to octets some near room puts few = record {
       ∙ ap (λ v. (leb from p && ltb p to) || v) (ok.gone_came p (sym (ap (in_spans p) puts.gone) ∙ t)) ∙ or_true (leb from p && ltb p to);
 }
   where
-    inside : (p : ℕ) → ((leb from p && ltb p to) || in_spans p f.spans) ≡ true → p < after.base + length after.octets
+    inside : (p : ℕ) → ((leb from p && ltb p to) || in_spans p f.spans) ≡ true → p < after.end
     inside p t = go (in_spans p f.spans) refl
       where
-        go : (v : Bool) → in_spans p f.spans ≡ v → p < after.base + length after.octets
-        go true h = omega (arith, ok.within p h, puts.base, puts.len)
+        go : (v : Bool) → in_spans p f.spans ≡ v → p < after.end
+        go true h = omega (arith, ok.within p h, puts.last)
         go false h =
             let u : (leb from p && ltb p to) ≡ true = sym (or_false (leb from p && ltb p to) (in_spans p f.spans) h) ∙ t in
             let high : p < to = grind (arith, nat_tests) in
-            omega (arith, puts.base, puts.len)
+            omega (arith, puts.last)
 
 -- one cell, before and after
 cell_put : (f after : Fields) → IsSound f → (place from : ℕ) (octets part : List ℕ) (p : ℕ) → f.floor ≤ p → first_end f.spans < place + length octets → 0 < length octets
@@ -151,9 +153,9 @@ pub taken_put : (f after : Fields) → IsSound f → (place from : ℕ) (octets 
     → from ≡ place + (first_end f.spans - place) → part ≡ drop (first_end f.spans - place) octets → PutsIn f after from (place + length octets) part
     → arrived_in after ≡ taken_in (arrived_in f) place octets
 taken_put f after ok place from octets part high some e cut puts =
-    ap (λ n. drawn n (after.base + length after.octets) (cell_of after)) puts.floor
-    ∙ same_drawn f.floor (after.base + length after.octets) (max (end_of (arrived_in f)) (place + length octets)) (cell_of after) (λ p. first_copy place octets p (cell_at (arrived_in f) p))
-    (omega (arith, puts.base, puts.len, end_is f ok, ok.base, ok.reached))
+    ap (λ n. drawn n after.end (cell_of after)) puts.floor
+    ∙ same_drawn f.floor after.end (max (end_of (arrived_in f)) (place + length octets)) (cell_of after) (λ p. first_copy place octets p (cell_at (arrived_in f) p))
+    (omega (arith, puts.last, end_is f ok))
     (λ p low. cell_put f after ok place from octets part p low high some e cut puts ∙ ap (first_copy place octets p) (sym (cell_is f ok p low)))
     ∙ sym (taken_some (arrived_in f) place octets some)
 

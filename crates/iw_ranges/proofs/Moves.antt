@@ -7,7 +7,7 @@ use Rattle.std.proofs.lemmas.Bool.Decides.{nat_tests}
 use Rattle.std.specs.List.{range_with_len, concat}
 use Rattle.std.specs.Prelude.{nat_lt, nat_le, All}
 use Rattle.iw_ranges.specs.declared.spans.Span.{Span}
-use Rattle.iw_ranges.specs.Spans.{in_span, in_spans, IsApart, IsFromStart, AreSpans, first_end, add_span, spans_past}
+use Rattle.iw_ranges.specs.Spans.{in_span, in_spans, IsApart, IsFromStart, AreSpans, first_end, add_span, spans_past, HasSameOctets}
 use Rattle.iw_ranges.specs.Arrived.{Cell, Missing, Here, Gone, Arrived, cell_at, has_come, advanced, given_up, released, cells_between, drawn, end_of, IsHere}
 use Rattle.iw_ranges.specs.Fields.{Fields, cell_of, arrived_in, IsSound}
 use Rattle.iw_ranges.specs.Parts.{parts_of}
@@ -90,7 +90,10 @@ pub record MovesTo (f after : Fields) (to : ℕ) : Type 0 where
   pub missing : after.missing ≡ f.missing
   pub spans : after.spans ≡ f.spans
   pub gone : KeepsGone to f.gone after.gone
-  pub octets : after.octets ≡ drop (after.base - f.base) f.octets
+  pub end : after.end ≡ f.end
+  pub octets : HasSameOctets f.base f.octets after.base after.octets f.end
+  pub stand : f.end ≤ after.base + length after.octets
+  pub len : length after.octets ≤ length f.octets
   pub low : f.base ≤ after.base
   pub high : after.base ≤ to
 
@@ -100,20 +103,18 @@ sound_moved f after ok to low high small moves = record {
   missing = moves.missing ∙ ok.missing ∙ sym (ap first_end moves.spans);
   order = subst IsFromStart (sym moves.spans) ok.order;
   reached = omega (arith, moves.floor, ap first_end moves.spans);
-  within = λ p t. omega (arith, end, ok.within p (sym (ap (in_spans p) moves.spans) ∙ t));
-  windowed = omega (arith, end, ok.windowed, moves.floor);
-  held = omega (arith, ok.held, ap length moves.octets, length-drop (after.base - f.base) f.octets);
+  within = λ p t. omega (arith, moves.end, ok.within p (sym (ap (in_spans p) moves.spans) ∙ t));
+  windowed = omega (arith, moves.end, ok.windowed, moves.floor);
+  stand = omega (arith, moves.end, moves.stand);
+  held = omega (arith, ok.held, moves.len);
   few = omega (arith, ok.few, ap length moves.spans);
   low = omega (arith, moves.floor);
   gone_order = moves.gone.order;
   gone_came = λ p t. ap (in_spans p) moves.spans ∙ ok.gone_came p (moves.gone.came p t);
 }
-  where
-    end : after.base + length after.octets ≡ f.base + length f.octets
-    end = omega (arith, ap length moves.octets, length-drop (after.base - f.base) f.octets, moves.low, moves.high, top_reaches f ok)
 
-cell_moved : (f after : Fields) (to p : ℕ) → MovesTo f after to → to ≤ p → cell_of after p ≡ cell_of f p
-cell_moved f after to p moves low = go (in_spans p f.spans) (in_spans p f.gone) refl refl
+cell_moved : (f after : Fields) → IsSound f → (to p : ℕ) → MovesTo f after to → to ≤ p → cell_of after p ≡ cell_of f p
+cell_moved f after ok to p moves low = go (in_spans p f.spans) (in_spans p f.gone) refl refl
   where
     spans_is : in_spans p after.spans ≡ in_spans p f.spans
     spans_is = ap (in_spans p) moves.spans
@@ -126,17 +127,15 @@ cell_moved f after to p moves low = go (in_spans p f.spans) (in_spans p f.gone) 
     go true true h k = cell_gone after p (spans_is ∙ h) (gone_is ∙ k) ∙ sym (cell_gone f p h k)
     go true false h k =
         cell_here after p (spans_is ∙ h) (gone_is ∙ k)
-        ∙ ap Here (ap (λ xs. get_or xs (p - after.base) 0) moves.octets ∙ get_or-drop (after.base - f.base) f.octets (p - after.base) 0 ∙ ap (λ n. get_or f.octets n 0) (omega (arith, moves.low, moves.high)))
+        ∙ ap Here (moves.octets p (omega (arith, moves.high)) (ok.within p h))
         ∙ sym (cell_here f p h k)
 
 pub advanced_to : (f after : Fields) → IsSound f → (to : ℕ) → f.floor ≤ to → to ≤ first_end f.spans → MovesTo f after to → arrived_in after ≡ advanced (arrived_in f) to
 unfolding advanced
 advanced_to f after ok to low high moves =
-    ap (λ n. drawn n (after.base + length after.octets) (cell_of after)) moves.floor
-    ∙ same_drawn to (after.base + length after.octets) (f.base + length f.octets) (cell_of after) (cell_of f)
-    (omega (arith, ap length moves.octets, length-drop (after.base - f.base) f.octets, moves.low, moves.high, top_reaches f ok))
-    (λ p beyond. cell_moved f after to p moves beyond)
-    ∙ ap (λ cells. let a : Arrived = record { floor = to; cells = cells } in a) (cells_from (cell_of f) f.floor (f.base + length f.octets) to low (omega (arith, top_reaches f ok)))
+    ap (λ n. drawn n after.end (cell_of after)) moves.floor
+    ∙ same_drawn to after.end f.end (cell_of after) (cell_of f) moves.end (λ p beyond. cell_moved f after ok to p moves beyond)
+    ∙ ap (λ cells. let a : Arrived = record { floor = to; cells = cells } in a) (cells_from (cell_of f) f.floor f.end to low (omega (arith, top_reaches f ok)))
     ∙ ap (λ n. let a : Arrived = record { floor = n; cells = drop (to - f.floor) (arrived_in f).cells } in a) (omega arith)
 
 pub advanced_back : (a : Arrived) (to : ℕ) → to ≤ a.floor → advanced a to ≡ a
@@ -147,32 +146,41 @@ advanced_back a to back =
 
 -- ---- octets before the in-order point are let go
 abbrev pub shorter : Fields → List ℕ → ℕ → Fields
-shorter f octets base = record { base = base; floor = f.floor; missing = f.missing; octets = octets; spans = f.spans; gone = f.gone }
+shorter f octets base = record { base = base; floor = f.floor; missing = f.missing; end = f.end; octets = octets; spans = f.spans; gone = f.gone }
 
-shorter_moves : (f : Fields) → IsSound f → (octets : List ℕ) (base : ℕ) → octets ≡ drop (base - f.base) f.octets → f.base ≤ base → base ≤ f.floor → MovesTo f (shorter f octets base) f.floor
-shorter_moves f ok octets base cut low high = record {
+-- the buffer begins at `base` from now on, and holds what it held from there on
+pub record Shortens (f : Fields) (cut : List ℕ) (base : ℕ) : Type 0 where
+  pub octets : HasSameOctets f.base f.octets base cut f.end
+  pub len : length cut ≡ length f.octets
+  pub low : f.base ≤ base
+  pub high : base ≤ f.floor
+
+shorter_moves : (f : Fields) → IsSound f → (octets : List ℕ) (base : ℕ) → Shortens f octets base → MovesTo f (shorter f octets base) f.floor
+shorter_moves f ok octets base cut = record {
   floor = refl;
   missing = refl;
+  end = refl;
   spans = refl;
   gone = untouched f.floor f.gone ok.gone_order;
-  octets = cut;
-  low = low;
-  high = high;
+  octets = cut.octets;
+  stand = omega (arith, ok.stand, cut.len, cut.low);
+  len = omega (arith, cut.len);
+  low = cut.low;
+  high = cut.high;
 }
 
-pub shorter_sound : (f : Fields) → IsSound f → (octets : List ℕ) (base : ℕ) → octets ≡ drop (base - f.base) f.octets → f.base ≤ base → base ≤ f.floor → IsSound (shorter f octets base)
-shorter_sound f ok octets base cut low high =
-    sound_moved f (shorter f octets base) ok f.floor (omega arith) ok.reached ok.low (shorter_moves f ok octets base cut low high)
+pub shorter_sound : (f : Fields) → IsSound f → (octets : List ℕ) (base : ℕ) → Shortens f octets base → IsSound (shorter f octets base)
+shorter_sound f ok octets base cut = sound_moved f (shorter f octets base) ok f.floor (omega arith) ok.reached ok.low (shorter_moves f ok octets base cut)
 
 -- and nothing changed
-pub shorter_same : (f : Fields) → IsSound f → (octets : List ℕ) (base : ℕ) → octets ≡ drop (base - f.base) f.octets → f.base ≤ base → base ≤ f.floor → arrived_in (shorter f octets base) ≡ arrived_in f
-shorter_same f ok octets base cut low high =
-    advanced_to f (shorter f octets base) ok f.floor (omega arith) ok.reached (shorter_moves f ok octets base cut low high)
+pub shorter_same : (f : Fields) → IsSound f → (octets : List ℕ) (base : ℕ) → Shortens f octets base → arrived_in (shorter f octets base) ≡ arrived_in f
+shorter_same f ok octets base cut =
+    advanced_to f (shorter f octets base) ok f.floor (omega arith) ok.reached (shorter_moves f ok octets base cut)
     ∙ advanced_back (arrived_in f) f.floor (omega arith)
 
 -- fields that are the same are as sound
 pub sound_same : (f : Fields) (octets : List ℕ) (spans : List Span) → octets ≡ f.octets → spans ≡ f.spans → IsSound f
-    → IsSound (record { base = f.base; floor = f.floor; missing = f.missing; octets = octets; spans = spans; gone = f.gone })
+    → IsSound (record { base = f.base; floor = f.floor; missing = f.missing; end = f.end; octets = octets; spans = spans; gone = f.gone })
 sound_same f octets spans e h ok = rw (e, h) ok
 
 -- ---- octets are given up
@@ -180,6 +188,7 @@ pub record GivesUp (f after : Fields) (from to : ℕ) : Type 0 where
   pub base : after.base ≡ f.base
   pub floor : after.floor ≡ f.floor
   pub missing : after.missing ≡ f.missing
+  pub end : after.end ≡ f.end
   pub octets : after.octets ≡ f.octets
   pub spans : after.spans ≡ f.spans
   pub gone : after.gone ≡ add_span from to f.gone
@@ -193,8 +202,9 @@ sound_release f after ok from to some came gives = record {
   missing = gives.missing ∙ ok.missing ∙ sym (ap first_end gives.spans);
   order = subst IsFromStart (sym gives.spans) ok.order;
   reached = omega (arith, ok.reached, gives.floor, ap first_end gives.spans);
-  within = λ p t. omega (arith, gives.base, ap length gives.octets, ok.within p (sym (ap (in_spans p) gives.spans) ∙ t));
-  windowed = omega (arith, ok.windowed, gives.base, gives.floor, ap length gives.octets);
+  within = λ p t. omega (arith, gives.end, ok.within p (sym (ap (in_spans p) gives.spans) ∙ t));
+  windowed = omega (arith, ok.windowed, gives.floor, gives.end);
+  stand = omega (arith, ok.stand, gives.base, gives.end, ap length gives.octets);
   held = omega (arith, ok.held, ap length gives.octets);
   few = omega (arith, ok.few, ap length gives.spans);
   low = omega (arith, ok.low, gives.floor);
@@ -242,9 +252,9 @@ pub released_from : (f after : Fields) → IsSound f → (asked from to : ℕ) �
     → arrived_in after ≡ released (arrived_in f) asked to
 unfolding released
 released_from f after ok asked from to e some gives =
-    ap (λ n. drawn n (after.base + length after.octets) (cell_of after)) gives.floor
-    ∙ same_drawn f.floor (after.base + length after.octets) (end_of (arrived_in f)) (cell_of after) (λ p. given_up asked to p (cell_at (arrived_in f) p))
-    (omega (arith, gives.base, ap length gives.octets, end_is f ok))
+    ap (λ n. drawn n after.end (cell_of after)) gives.floor
+    ∙ same_drawn f.floor after.end (end_of (arrived_in f)) (cell_of after) (λ p. given_up asked to p (cell_at (arrived_in f) p))
+    (omega (arith, gives.end, end_is f ok))
     (λ p low. cell_given f after ok asked from to p e some low gives ∙ ap (given_up asked to p) (sym (cell_is f ok p low)))
 
 nothing_given : (from to p : ℕ) (c : Cell) → (nat_le from p && nat_lt p to) ≡ false → given_up from to p c ≡ c
@@ -255,7 +265,7 @@ nothing_given from to p Gone h = refl
 pub released_none : (f : Fields) → IsSound f → (asked to : ℕ) → to ≤ max asked f.floor → arrived_in f ≡ released (arrived_in f) asked to
 unfolding released
 released_none f ok asked to none =
-    same_drawn f.floor (f.base + length f.octets) (end_of (arrived_in f)) (cell_of f) (λ p. given_up asked to p (cell_at (arrived_in f) p))
+    same_drawn f.floor f.end (end_of (arrived_in f)) (cell_of f) (λ p. given_up asked to p (cell_at (arrived_in f) p))
     (omega (arith, end_is f ok))
     (λ p low. sym (nothing_given asked to p (cell_at (arrived_in f) p) (let out : (nat_le asked p && nat_lt p to) ≡ false = grind (arith, nat_tests) in out) ∙ cell_is f ok p low))
 

@@ -11,18 +11,19 @@ pub record Fields : Type 0 where
   pub base : ℕ
   pub floor : ℕ
   pub missing : ℕ
+  pub end : ℕ
   pub octets : List ℕ
   pub spans : List Span
   pub gone : List Span
 
 abbrev pub fields_of : {A : Type 0} → Inside A → Fields
-fields_of {A} a = record { base = a.base; floor = a.floor; missing = a.missing; octets = a.octets.items; spans = a.spans.items; gone = a.gone.items }
+fields_of {A} a = record { base = a.base; floor = a.floor; missing = a.missing; end = a.end; octets = a.octets.items; spans = a.spans.items; gone = a.gone.items }
 
 unfoldable pub cell_of : Fields → ℕ → Cell
 cell_of f p = if in_spans p f.spans then (if in_spans p f.gone then Gone else Here (slice_index f.octets (p - f.base))) else Missing
 
 abbrev pub arrived_in : Fields → Arrived
-arrived_in f = drawn f.floor (f.base + length f.octets) (cell_of f)
+arrived_in f = drawn f.floor f.end (cell_of f)
 
 abbrev pub held_by : {A : Type 0} → Inside A → Held
 held_by {A} a = record { arrived = arrived_in (fields_of a); room = deque_capacity a.gone - deque_len a.gone; memory = vec_capacity a.octets }
@@ -36,8 +37,9 @@ pub record IsSound (f : Fields) : Type 0 where
   pub order : IsFromStart f.spans
   pub missing : f.missing ≡ first_end f.spans
   pub reached : f.floor ≤ first_end f.spans
-  pub within : (p : ℕ) → in_spans p f.spans ≡ true → p < f.base + length f.octets
-  pub windowed : f.base + length f.octets ≤ f.floor + window
+  pub within : (p : ℕ) → in_spans p f.spans ≡ true → p < f.end
+  pub windowed : f.end ≤ f.floor + window
+  pub stand : f.end ≤ f.base + length f.octets
   pub held : length f.octets ≤ max_held
   pub few : length f.spans ≤ 1025
   pub low : f.floor ≤ 2 ^ 63
@@ -47,4 +49,4 @@ pub record IsSound (f : Fields) : Type 0 where
 -- and with it the memory of the buffer
 pub record IsKept (f : Fields) (memory : ℕ) : Type 0 where
   pub sound : IsSound f
-  pub idle : f.floor ≡ f.base + length f.octets → memory ≤ max_idle
+  pub idle : f.floor ≡ f.end → memory ≤ max_idle

@@ -62,3 +62,7 @@ unfoldable pub octet_after : ℕ → List Span → ℕ → List ℕ → List ℕ
 octet_after base spans from octets buffer i =
     let place : ℕ = base + i in
     if nat_le from place && (nat_lt place (from + length octets) && not (in_spans place spans)) then slice_index octets (place - from) else slice_index buffer i
+
+-- a buffer that begins at place `begin` has what another that begins at `base` has at the same places, from `begin` on up to place `end`
+abbrev pub HasSameOctets : ℕ → List ℕ → ℕ → List ℕ → ℕ → Type 0
+HasSameOctets base octets begin new end = (p : ℕ) → begin ≤ p → p < end → slice_index new (p - begin) ≡ slice_index octets (p - base)

@@ -4,6 +4,7 @@ ghost use Rattle.std.specs.Prelude.{if◌then◌else◌, OnOk, OnErr};
 ghost use Rattle.std.specs.Bool.{OnTrue};
 ghost use Rattle.std.specs.VecDeque.{deque_len, deque_capacity};
 ghost use Rattle.iw_ranges.specs.Spans.{in_spans, add_span, IsFromStart, IsFirstReaching, first_end, octet_after};
+ghost use Rattle.iw_ranges.specs.Spans.{HasSameOctets};
 
 use crate::spans::{Span, join, widen};
 use std::alloc::{AllocError, Allocator};
@@ -111,18 +112,25 @@ fn append<A: Allocator>(buffer: &mut Vec<u8, A>, at: usize, octets: &[u8]) -> Re
     Ok(())
 }
 
-/// Appends octets, for which there is room.
+/// Writes the octets over what stands from index `at` on, and appends those that reach past it. There is room for them.
 #[inline(always)]
-fn extend<A: Allocator>(buffer: &mut Vec<u8, A>, octets: &[u8])
-    requires { vec_len buffer.old + length octets.now ≤ vec_capacity buffer.old }
-    ensures items { buffer.new.items ≡ buffer.old.items ++ octets.now }
-    ensures len { vec_len buffer.new ≡ vec_len buffer.old + length octets.now }
+fn lay<A: Allocator>(buffer: &mut Vec<u8, A>, at: usize, octets: &[u8])
+    requires within { at ≤ vec_len buffer.old }
+    requires room { at + length octets.now ≤ vec_capacity buffer.old }
+    ensures octets { (i : ℕ) → slice_index buffer.new.items i
+        ≡ (if nat_le at i && nat_lt i (at + length octets.now) then slice_index octets.now (i - at)
+        else slice_index buffer.old.items i) }
+    ensures len { vec_len buffer.new ≡ max (vec_len buffer.old) (at + length octets.now) }
 {
+    if octets.len() <= buffer.len() - at {
+        write_at(buffer, at, octets);
+        return;
+    }
+    buffer.truncate(at);
     let _ = buffer.extend_from_slice(octets);
 }
 
-/// Whether the octets stand right after all of the buffer, which begins at place `base`, where they come from place
-/// `from` on, and it has room for them.
+/// Whether the buffer, which begins at place `base`, has room for the octets from place `from` on.
 #[inline(always)]
 pub(crate) fn fits_after<A: Allocator>(
     buffer: &Vec<u8, A>,
@@ -131,17 +139,16 @@ pub(crate) fn fits_after<A: Allocator>(
     octets: &[u8],
 ) -> bool
     requires base { base ≤ from }
+    requires within { from ≤ base + vec_len buffer.now }
     requires held { vec_len buffer.now ≤ 327680 }
-    ensures { OnTrue result ((from ≡ base + vec_len buffer.now)
-        × (vec_len buffer.now + length octets.now ≤ vec_capacity buffer.now)
-        × (vec_len buffer.now + length octets.now ≤ 327680)) }
+    ensures { OnTrue result ((from - base + length octets.now ≤ vec_capacity buffer.now)
+        × (from + length octets.now ≤ base + 327680)) }
 {
-    from - base == buffer.len() as u64
-        && octets.len() <= buffer.capacity().min(MAX_HELD) - buffer.len()
+    octets.len() <= buffer.capacity().min(MAX_HELD) - (from - base) as usize
 }
 
-/// Takes in the octets from place `from` on, where the first span and the buffer end, and adds their places to the
-/// spans.
+/// Takes in the octets from place `from` on, where the first span ends and past which nothing came, and adds their
+/// places to the spans.
 #[inline(always)]
 pub(crate) fn put_after<A: Allocator>(
     buffer: &mut Vec<u8, A>,
@@ -150,19 +157,20 @@ pub(crate) fn put_after<A: Allocator>(
     from: u64,
     octets: &[u8],
 )
-    requires past { from ≡ base + vec_len buffer.old }
-    requires room { vec_len buffer.old + length octets.now ≤ vec_capacity buffer.old }
+    requires base { base ≤ from }
+    requires past { from ≤ base + vec_len buffer.old }
+    requires room { from - base + length octets.now ≤ vec_capacity buffer.old }
     requires small { from + length octets.now < 2 ^ 64 }
     requires order { IsFromStart spans.old.items }
     requires first { from ≡ first_end spans.old.items }
-    requires within { (p : ℕ) → in_spans p spans.old.items ≡ true → p < base + vec_len buffer.old }
+    requires last { (p : ℕ) → in_spans p spans.old.items ≡ true → p < from }
     ensures spans { spans.new.items ≡ add_span from (from + length octets.now) spans.old.items }
     ensures few { length spans.new.items ≤ length spans.old.items }
-    ensures len { vec_len buffer.new ≡ vec_len buffer.old + length octets.now }
+    ensures len { vec_len buffer.new ≡ max (vec_len buffer.old) (from + length octets.now - base) }
     ensures octets { (i : ℕ)
         → slice_index buffer.new.items i ≡ octet_after base spans.old.items from octets.now buffer.old.items i }
 {
-    extend(buffer, octets);
+    lay(buffer, (from - base) as usize, octets);
     widen(spans, 0, from, from + octets.len() as u64);
 }
 
@@ -202,30 +210,34 @@ pub(crate) fn put<A: Allocator>(
     Ok(())
 }
 
-/// Lets all octets go, and gives their memory back where it is for more than 131,072 of them.
+/// Where there is memory for more than 131,072 octets, lets all of them go and gives it back.
 #[inline]
-fn empty<A: Allocator>(octets: &mut Vec<u8, A>)
-    ensures items { octets.new.items ≡ [] }
+fn give_back<A: Allocator>(octets: &mut Vec<u8, A>)
+    ensures len { vec_len octets.new ≤ vec_len octets.old }
     ensures memory { vec_capacity octets.new ≤ 131072 }
 {
-    octets.clear();
     if octets.capacity() > MAX_IDLE {
+        octets.clear();
         octets.shrink_to_fit();
     }
 }
 
-/// Lets the octets before place `to` go where none stands past them. No octet is moved.
+/// Lets the buffer, which begins at place `base`, begin at place `to` where nothing came past it. What stands in it
+/// stays there, and means nothing.
 #[inline]
-pub(crate) fn let_go<A: Allocator>(octets: &mut Vec<u8, A>, base: &mut u64, to: u64)
+pub(crate) fn let_go<A: Allocator>(octets: &mut Vec<u8, A>, base: &mut u64, end: u64, to: u64)
     requires low { base.old ≤ to }
-    requires high { to ≤ base.old + vec_len octets.old }
-    ensures octets { octets.new.items ≡ drop (base.new - base.old) octets.old.items }
+    requires high { to ≤ end }
+    requires within { end ≤ base.old + vec_len octets.old }
+    ensures octets { HasSameOctets base.old octets.old.items base.new octets.new.items end }
+    ensures within { end ≤ base.new + vec_len octets.new }
+    ensures len { vec_len octets.new ≤ vec_len octets.old }
     ensures low { base.old ≤ base.new }
     ensures high { base.new ≤ to }
-    ensures idle { to ≡ base.old + vec_len octets.old → vec_capacity octets.new ≤ 131072 }
+    ensures idle { to ≡ end → vec_capacity octets.new ≤ 131072 }
 {
-    if to - *base == octets.len() as u64 {
-        empty(octets);
+    if to == end {
+        give_back(octets);
         *base = to;
     }
 }
@@ -241,13 +253,15 @@ fn copy_block(octets: &mut [u8], at: usize, n: usize, m: usize)
     write_at(front, at, &back[..m]);
 }
 
-/// Copies the octets from index `n` on to the front, `n` at a time.
-fn move_to_front(octets: &mut [u8], n: usize)
+/// Copies the octets from index `n` up to index `end` to the front, `n` at a time.
+#[inline(never)]
+fn move_to_front(octets: &mut [u8], n: usize, end: usize)
     requires some { 0 < n }
-    requires within { n ≤ length octets.old }
-    ensures { take (length octets.old - n) octets.new ≡ drop n octets.old }
+    requires within { n ≤ end }
+    requires high { end ≤ length octets.old }
+    ensures { (i : ℕ) → i + n < end → slice_index octets.new i ≡ slice_index octets.old (i + n) }
 {
-    let kept = octets.len() - n;
+    let kept = end - n;
     let mut at = 0;
     'copies: while at < kept {
         let m = n.min(kept - at);
@@ -256,32 +270,26 @@ fn move_to_front(octets: &mut [u8], n: usize)
     }
 }
 
-/// Lets the first `n` octets go, however many stand past them.
-#[inline(never)]
-fn drop_front<A: Allocator>(octets: &mut Vec<u8, A>, n: usize)
-    requires some { 0 < n }
-    requires within { n ≤ vec_len octets.old }
-    ensures items { octets.new.items ≡ drop n octets.old.items }
-    ensures len { vec_len octets.new + n ≡ vec_len octets.old }
-    ensures memory { vec_capacity octets.new ≡ vec_capacity octets.old }
-{
-    let kept = octets.len() - n;
-    move_to_front(octets, n);
-    octets.truncate(kept);
-}
-
 /// Lets the octets before the in-order point `floor` go, if the buffer, which begins at place `base`, would have to
 /// grow to reach place `to` and no more than four stand past them for each, or if it would have to hold more than
-/// 327,680 octets.
+/// 327,680 octets. Those past them stand before place `end`.
 ///
 /// So at most four octets are moved for each that the in-order point passed since the last move: in the second case it
 /// passed more than 65,536, and no more than 262,144 stand past them.
-pub(crate) fn shorten<A: Allocator>(octets: &mut Vec<u8, A>, base: &mut u64, floor: u64, to: u64)
+pub(crate) fn shorten<A: Allocator>(
+    octets: &mut Vec<u8, A>,
+    base: &mut u64,
+    floor: u64,
+    end: u64,
+    to: u64,
+)
     requires low { base.old ≤ floor }
-    requires high { floor ≤ base.old + vec_len octets.old }
+    requires high { floor ≤ end }
+    requires within { end ≤ base.old + vec_len octets.old }
     requires ahead { floor ≤ to }
     requires near { to ≤ floor + 262144 }
-    ensures octets { octets.new.items ≡ drop (base.new - base.old) octets.old.items }
+    ensures octets { HasSameOctets base.old octets.old.items base.new octets.new.items end }
+    ensures len { vec_len octets.new ≡ vec_len octets.old }
     ensures low { base.old ≤ base.new }
     ensures high { base.new ≤ floor }
     ensures room { to ≤ base.new + 327680 }
@@ -289,9 +297,9 @@ pub(crate) fn shorten<A: Allocator>(octets: &mut Vec<u8, A>, base: &mut u64, flo
 {
     let passed = (floor - *base) as usize;
     let needed = (to - *base) as usize;
-    let are_few = octets.len() - passed <= passed.saturating_mul(MAX_MOVED);
+    let are_few = (end - floor) as usize <= passed.saturating_mul(MAX_MOVED);
     if passed > 0 && (needed > MAX_HELD || needed > octets.capacity() && are_few) {
-        drop_front(octets, passed);
+        move_to_front(octets, passed, (end - *base) as usize);
         *base = floor;
     }
 }

@@ -48,7 +48,9 @@ pub struct Islands<A: Allocator = Global> {
     floor: u64,
     /// The first place that didn't come.
     missing: u64,
-    /// Octets side by side, 327,680 at most; those at places that didn't come mean nothing.
+    /// The place past the last that came.
+    end: u64,
+    /// Octets side by side, 327,680 at most; those at places that didn't come mean nothing. They may reach past `end`.
     octets: Vec<u8, A>,
     /// The places that came, the first span from place 0 on.
     spans: VecDeque<Span, A>,
@@ -82,6 +84,7 @@ impl<A: Allocator> Islands<A> {
             base: 0,
             floor: 0,
             missing: 0,
+            end: 0,
             octets: Vec::new(alloc),
             spans,
             gone: VecDeque::new(alloc),
@@ -110,9 +113,13 @@ impl<A: Allocator> Islands<A> {
         if is_beyond(self.floor, place, octets.len()) {
             return Ok(Delivery::Dropped);
         }
-        if place == self.missing && fits_after(&self.octets, self.base, place, octets) {
+        if place == self.missing
+            && place == self.end
+            && fits_after(&self.octets, self.base, place, octets)
+        {
             put_after(&mut self.octets, self.base, &mut self.spans, place, octets);
             self.missing = end_of_first(&self.spans);
+            self.end = place + octets.len() as u64;
             return Ok(Delivery::Kept);
         }
         self.add_apart(place, octets)
@@ -143,7 +150,7 @@ impl<A: Allocator> Islands<A> {
         if is_one_too_many(&self.spans, low, from, to) {
             return Ok(Delivery::Dropped);
         }
-        shorten(&mut self.octets, &mut self.base, self.floor, to);
+        shorten(&mut self.octets, &mut self.base, self.floor, self.end, to);
         put(
             &mut self.octets,
             self.base,
@@ -153,6 +160,7 @@ impl<A: Allocator> Islands<A> {
             fresh,
         )?;
         self.missing = end_of_first(&self.spans);
+        self.end = self.end.max(to);
         Ok(Delivery::Kept)
     }
 
@@ -286,7 +294,7 @@ impl<A: Allocator> Islands<A> {
         }
         self.floor = to;
         forget(&mut self.gone, to);
-        let_go(&mut self.octets, &mut self.base, to);
+        let_go(&mut self.octets, &mut self.base, self.end, to);
     }
 }
 

@@ -4,7 +4,6 @@ use Rattle.iw_ranges.specs.Arrived.{Held, is_dropped, window}
 use Rattle.iw_ranges.specs.Spans.{first_end, IsFromStart}
 use Rattle.iw_ranges.proofs.Adds.{add_from_start}
 use Rattle.iw_ranges.specs.Fields.{Fields, fields_of}
-use Rattle.iw_ranges.proofs.Cells.{top_reaches}
 use Rattle.iw_ranges.proofs.Counts.{dropped_none, dropped_far}
 use Rattle.iw_ranges.proofs.Keeps.{taken_none, sound_put, put_delivers, PutsIn, kept_is, dropped_is, delivered_kept, delivered_dropped, kept_after}
 use Rattle.iw_ranges.proofs.Islands.add.Given as given
@@ -43,7 +42,7 @@ invariant_of-self g c =
     let n = length c.args.octets.now in
     let from = c.args.place in
     let some : 0 < n = grind (arith, nat_tests, c.is_empty.ensures, c.if-is_empty.false) in
-    let after : Fields = record { base = f.base; floor = f.floor; missing = c.end_of_first-self-inside.result; octets = c.put_after.new.buffer.items; spans = c.put_after.new.spans.items; gone = f.gone } in
+    let after : Fields = record { base = f.base; floor = f.floor; missing = c.end_of_first-self-inside.result; end = from + n; octets = c.put_after.new.buffer.items; spans = c.put_after.new.spans.items; gone = f.gone } in
     let puts : PutsIn f after from (c.args.place + n) c.args.octets.now = record {
       base = refl;
       floor = refl;
@@ -51,12 +50,13 @@ invariant_of-self g c =
       gone = refl;
       spans = c.put_after.ensures.spans;
       end = refl;
-      len = omega (arith, c.put_after.ensures.len, c.if-fits_after.ensures.0, c.put_after.new.buffer.ok.0, c.self.inside.octets.ok.0);
+      last = omega (arith, c.if-place-self-2.true);
+      len = omega (arith, c.put_after.ensures.len, c.put_after.new.buffer.ok.0, c.self.inside.octets.ok.0);
       written = c.put_after.ensures.octets;
     } in
     record {
       sound = sound_put f after c.self.invariant.sound from (c.args.place + n) c.args.octets.now (omega (arith, some)) (omega (arith, c.if-is_beyond.ensures)) (omega (arith, c.if-fits_after.ensures)) puts (omega (arith, c.put_after.ensures.few, ap length c.put_after.ensures.spans, c.self.invariant.sound.few));
-      idle = λ e. absurd (omega (arith, e, some, c.put_after.ensures.len, c.if-fits_after.ensures.0, c.put_after.new.buffer.ok.0, top_reaches f c.self.invariant.sound, c.self.invariant.sound.reached, c.self.inside.octets.ok.0));
+      idle = λ e. absurd (omega (arith, e, some, c.if-place-self.true, c.self.invariant.sound.missing, c.self.invariant.sound.reached));
     }
 
 pub returns-then-fits_after-clause-answer : goal.returns-then-fits_after-clause-answer
@@ -75,7 +75,7 @@ returns-then-fits_after-clause-ok g c =
     let from = c.args.place in
     let some : 0 < n = grind (arith, nat_tests, c.is_empty.ensures, c.if-is_empty.false) in
     let none : 0 ≡ first_end f.spans - from = omega (arith, c.if-place-self.true, c.self.invariant.sound.missing) in
-    let after : Fields = record { base = f.base; floor = f.floor; missing = c.end_of_first-self-inside.result; octets = c.put_after.new.buffer.items; spans = c.put_after.new.spans.items; gone = f.gone } in
+    let after : Fields = record { base = f.base; floor = f.floor; missing = c.end_of_first-self-inside.result; end = from + n; octets = c.put_after.new.buffer.items; spans = c.put_after.new.spans.items; gone = f.gone } in
     let puts : PutsIn f after from (c.args.place + n) c.args.octets.now = record {
       base = refl;
       floor = refl;
@@ -83,7 +83,8 @@ returns-then-fits_after-clause-ok g c =
       gone = refl;
       spans = c.put_after.ensures.spans;
       end = refl;
-      len = omega (arith, c.put_after.ensures.len, c.if-fits_after.ensures.0, c.put_after.new.buffer.ok.0, c.self.inside.octets.ok.0);
+      last = omega (arith, c.if-place-self-2.true);
+      len = omega (arith, c.put_after.ensures.len, c.put_after.new.buffer.ok.0, c.self.inside.octets.ok.0);
       written = c.put_after.ensures.octets;
     } in
     put_delivers f after c.self.invariant.sound c.args.self.now.arrived (ap (λ (h : Held). h.arrived) c.self.view_is) c.args.place from c.args.octets.now c.args.octets.now

@@ -1,5 +1,4 @@
-use Rattle.std.proofs.Common.{◌-◌, ◌≡◌, ◌≤◌, ◌<◌, ◌+◌, List, ℕ, length, drop, true, false, sym, ap, subst, ◌∙◌, refl, arith, rules}
-use Rattle.std.proofs.lemmas.List.{length-drop}
+use Rattle.std.proofs.Common.{◌≡◌, ◌≤◌, ◌<◌, ◌+◌, List, ℕ, length, drop, true, false, sym, ap, subst, ◌∙◌, refl, arith, rules}
 use Rattle.iw_ranges.specs.Arrived.{Arrived, Held, is_dropped, window, delivery, delivered, BringsOctets}
 use Rattle.iw_ranges.specs.declared.Delivery.TheVariants.{Kept}
 use Rattle.iw_ranges.specs.Spans.{add_span, IsFromStart}
@@ -8,7 +7,7 @@ use Rattle.iw_ranges.specs.Fields.{Fields, fields_of, arrived_in, IsSound}
 use Rattle.iw_ranges.proofs.Cells.{come_via, top_reaches}
 use Rattle.iw_ranges.proofs.Counts.{AllCame, all_low, all_from, dropped_came, dropped_put}
 use Rattle.iw_ranges.proofs.Keeps.{taken_came, sound_put, put_delivers, PutsIn, kept_is, dropped_is, delivered_kept, delivered_dropped, kept_after}
-use Rattle.iw_ranges.proofs.Moves.{shorter, shorter_sound, shorter_same, sound_same}
+use Rattle.iw_ranges.proofs.Moves.{Shortens, shorter, shorter_sound, shorter_same, sound_same}
 use Rattle.iw_ranges.proofs.Islands.add_apart.Given as given
 use Rattle.iw_ranges.proofs.Islands.add_apart.Goals as goal
 
@@ -89,13 +88,19 @@ pub invariant_of-self-2 : goal.invariant_of-self-2
 invariant_of-self-2 g c =
     let start : Fields = fields_of c.self.inside in
     let f : Fields = shorter start c.shorten.new.octets.items c.shorten.new.base in
-    let sound : IsSound f = shorter_sound start c.self.invariant.sound _ _ c.shorten.ensures.octets c.shorten.ensures.low c.shorten.ensures.high in
+    let cut : Shortens start c.shorten.new.octets.items c.shorten.new.base = record {
+      octets = c.shorten.ensures.octets;
+      len = omega (arith, c.shorten.ensures.len, c.shorten.new.octets.ok.0, c.self.inside.octets.ok.0);
+      low = c.shorten.ensures.low;
+      high = c.shorten.ensures.high;
+    } in
+    let sound : IsSound f = shorter_sound start c.self.invariant.sound _ _ cut in
     let n = length c.args.octets.now in
     let from = c.args.place + c.saturating_sub-before.result in
     let some : 0 < n = c.requires.some in
     let end : from + length c.split_at.result.1.now ≡ c.args.place + n = omega (arith, c.split_at.ensures.back_len) in
     let spans : c.put.new.spans.items ≡ add_span from (c.args.place + n) f.spans = c.in_ok-put.ensures.spans ∙ ap (λ t. add_span from t f.spans) end in
-    let after : Fields = record { base = f.base; floor = f.floor; missing = c.end_of_first-self-inside.result; octets = c.put.new.buffer.items; spans = c.put.new.spans.items; gone = f.gone } in
+    let after : Fields = record { base = f.base; floor = f.floor; missing = c.end_of_first-self-inside.result; end = c.max-self-inside.result; octets = c.put.new.buffer.items; spans = c.put.new.spans.items; gone = f.gone } in
     let puts : PutsIn f after from (c.args.place + n) c.split_at.result.1.now = record {
       base = refl;
       floor = refl;
@@ -103,12 +108,13 @@ invariant_of-self-2 g c =
       gone = refl;
       spans = spans;
       end = sym end;
+      last = c.max-self-inside.ensures;
       len = omega (arith, c.in_ok-put.ensures.len, end, c.put.new.buffer.ok.0, c.shorten.new.octets.ok.0);
       written = c.in_ok-put.ensures.octets;
     } in
     record {
       sound = sound_put f after sound from (c.args.place + n) c.split_at.result.1.now (omega (arith, some, c.saturating_sub-before.ensures, c.if-to-self.false)) (omega (arith, c.requires.near, ap (λ (h : Held). h.arrived.floor) c.self.view_is)) (omega (arith, c.shorten.ensures.room)) puts c.if-is_one_too_many.ensures;
-      idle = λ e. absurd (omega (arith, e, c.in_ok-put.ensures.len, end, c.put.new.buffer.ok.0, c.if-to-self.false, c.self.invariant.sound.missing, c.self.invariant.sound.reached, c.shorten.ensures.low, c.shorten.ensures.high));
+      idle = λ e. absurd (omega (arith, e, c.max-self-inside.ensures, c.if-to-self.false, c.self.invariant.sound.missing, c.self.invariant.sound.reached));
     }
 
 pub returns-clause-answer : goal.returns-clause-answer
@@ -125,15 +131,21 @@ pub returns-clause-ok : goal.returns-clause-ok
 returns-clause-ok g c =
     let start : Fields = fields_of c.self.inside in
     let f : Fields = shorter start c.shorten.new.octets.items c.shorten.new.base in
-    let sound : IsSound f = shorter_sound start c.self.invariant.sound _ _ c.shorten.ensures.octets c.shorten.ensures.low c.shorten.ensures.high in
+    let cut : Shortens start c.shorten.new.octets.items c.shorten.new.base = record {
+      octets = c.shorten.ensures.octets;
+      len = omega (arith, c.shorten.ensures.len, c.shorten.new.octets.ok.0, c.self.inside.octets.ok.0);
+      low = c.shorten.ensures.low;
+      high = c.shorten.ensures.high;
+    } in
+    let sound : IsSound f = shorter_sound start c.self.invariant.sound _ _ cut in
     let same : arrived_in f ≡ c.args.self.now.arrived =
-    shorter_same start c.self.invariant.sound _ _ c.shorten.ensures.octets c.shorten.ensures.low c.shorten.ensures.high ∙ ap (λ (h : Held). h.arrived) c.self.view_is in
+    shorter_same start c.self.invariant.sound _ _ cut ∙ ap (λ (h : Held). h.arrived) c.self.view_is in
     let n = length c.args.octets.now in
     let from = c.args.place + c.saturating_sub-before.result in
     let some : 0 < n = c.requires.some in
     let end : from + length c.split_at.result.1.now ≡ c.args.place + n = omega (arith, c.split_at.ensures.back_len) in
     let spans : c.put.new.spans.items ≡ add_span from (c.args.place + n) f.spans = c.in_ok-put.ensures.spans ∙ ap (λ t. add_span from t f.spans) end in
-    let after : Fields = record { base = f.base; floor = f.floor; missing = c.end_of_first-self-inside.result; octets = c.put.new.buffer.items; spans = c.put.new.spans.items; gone = f.gone } in
+    let after : Fields = record { base = f.base; floor = f.floor; missing = c.end_of_first-self-inside.result; end = c.max-self-inside.result; octets = c.put.new.buffer.items; spans = c.put.new.spans.items; gone = f.gone } in
     let puts : PutsIn f after from (c.args.place + n) c.split_at.result.1.now = record {
       base = refl;
       floor = refl;
@@ -141,6 +153,7 @@ returns-clause-ok g c =
       gone = refl;
       spans = spans;
       end = sym end;
+      last = c.max-self-inside.ensures;
       len = omega (arith, c.in_ok-put.ensures.len, end, c.put.new.buffer.ok.0, c.shorten.new.octets.ok.0);
       written = c.in_ok-put.ensures.octets;
     } in
@@ -165,29 +178,50 @@ pub invariant_of-self : goal.invariant_of-self
 invariant_of-self g c =
     let start : Fields = fields_of c.self.inside in
     let f : Fields = shorter start c.shorten.new.octets.items c.shorten.new.base in
-    let sound : IsSound f = shorter_sound start c.self.invariant.sound _ _ c.shorten.ensures.octets c.shorten.ensures.low c.shorten.ensures.high in
+    let cut : Shortens start c.shorten.new.octets.items c.shorten.new.base = record {
+      octets = c.shorten.ensures.octets;
+      len = omega (arith, c.shorten.ensures.len, c.shorten.new.octets.ok.0, c.self.inside.octets.ok.0);
+      low = c.shorten.ensures.low;
+      high = c.shorten.ensures.high;
+    } in
+    let sound : IsSound f = shorter_sound start c.self.invariant.sound _ _ cut in
     record {
       sound = sound_same f _ _ c.in_err-put.ensures.err_octets c.in_err-put.ensures.err_spans sound;
-      idle = λ e. omega (arith, c.in_err-put.ensures.err_memory, c.shorten.ensures.memory, c.self.invariant.idle (omega (arith, e, ap length c.in_err-put.ensures.err_octets, ap length c.shorten.ensures.octets, length-drop (c.shorten.new.base - start.base) start.octets, c.shorten.ensures.low, c.shorten.ensures.high, top_reaches start c.self.invariant.sound, c.self.invariant.sound.reached)));
+      idle = λ e. omega (arith, c.in_err-put.ensures.err_memory, c.shorten.ensures.memory, c.self.invariant.idle e);
     }
 
 pub returns-in_err-put-clause-err : goal.returns-in_err-put-clause-err
 returns-in_err-put-clause-err g c =
     let start : Fields = fields_of c.self.inside in
     let f : Fields = shorter start c.shorten.new.octets.items c.shorten.new.base in
-    let sound : IsSound f = shorter_sound start c.self.invariant.sound _ _ c.shorten.ensures.octets c.shorten.ensures.low c.shorten.ensures.high in
+    let cut : Shortens start c.shorten.new.octets.items c.shorten.new.base = record {
+      octets = c.shorten.ensures.octets;
+      len = omega (arith, c.shorten.ensures.len, c.shorten.new.octets.ok.0, c.self.inside.octets.ok.0);
+      low = c.shorten.ensures.low;
+      high = c.shorten.ensures.high;
+    } in
+    let sound : IsSound f = shorter_sound start c.self.invariant.sound _ _ cut in
     let same : arrived_in f ≡ c.args.self.now.arrived =
-    shorter_same start c.self.invariant.sound _ _ c.shorten.ensures.octets c.shorten.ensures.low c.shorten.ensures.high ∙ ap (λ (h : Held). h.arrived) c.self.view_is in
+    shorter_same start c.self.invariant.sound _ _ cut ∙ ap (λ (h : Held). h.arrived) c.self.view_is in
     search (rules, same)
 
 pub shorten-requires-clause-high : goal.shorten-requires-clause-high
 shorten-requires-clause-high g c =
     let f : Fields = fields_of c.self.inside in
-    omega (arith, c.self.invariant.sound.reached, top_reaches f c.self.invariant.sound, c.self.inside.octets.ok.0)
+    omega (arith, c.self.invariant.sound.reached, top_reaches f c.self.invariant.sound)
+
+pub shorten-requires-clause-within : goal.shorten-requires-clause-within
+shorten-requires-clause-within g c = omega (arith, c.self.invariant.sound.stand, c.self.inside.octets.ok.0)
 
 pub put-requires-clause-within : goal.put-requires-clause-within
 put-requires-clause-within g c =
     let start : Fields = fields_of c.self.inside in
     let f : Fields = shorter start c.shorten.new.octets.items c.shorten.new.base in
-    let sound : IsSound f = shorter_sound start c.self.invariant.sound _ _ c.shorten.ensures.octets c.shorten.ensures.low c.shorten.ensures.high in
-    λ p t. omega (arith, sound.within p t, c.shorten.new.octets.ok.0)
+    let cut : Shortens start c.shorten.new.octets.items c.shorten.new.base = record {
+      octets = c.shorten.ensures.octets;
+      len = omega (arith, c.shorten.ensures.len, c.shorten.new.octets.ok.0, c.self.inside.octets.ok.0);
+      low = c.shorten.ensures.low;
+      high = c.shorten.ensures.high;
+    } in
+    let sound : IsSound f = shorter_sound start c.self.invariant.sound _ _ cut in
+    λ p t. omega (arith, sound.within p t, sound.stand, c.shorten.new.octets.ok.0)

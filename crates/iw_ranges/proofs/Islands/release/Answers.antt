@@ -13,14 +13,14 @@ invariant_of-self g c =
     let came : (p : ℕ) → from ≤ p → p < c.args.to → in_spans p f.spans ≡ true = λ p low high.
     sym (come_via f c.self.invariant.sound c.args.self.now.arrived (ap (λ (h : Held). h.arrived) c.self.view_is) p) ∙ c.requires.come p (omega (arith, c.max-from.ensures)) high in
     record {
-      sound = sound_release f _ c.self.invariant.sound from c.args.to c.if-from-to.true came (record { base = refl; floor = refl; missing = refl; octets = refl; spans = refl; gone = c.join.ensures.items });
+      sound = sound_release f _ c.self.invariant.sound from c.args.to c.if-from-to.true came (record { base = refl; floor = refl; missing = refl; end = refl; octets = refl; spans = refl; gone = c.join.ensures.items });
       idle = c.self.invariant.idle;
     }
 
 pub returns-then-from-to-clause-arrived : goal.returns-then-from-to-clause-arrived
 returns-then-from-to-clause-arrived g c =
     released_from (fields_of c.self.inside) _ c.self.invariant.sound c.args.from c.max-from.result c.args.to c.max-from.ensures c.if-from-to.true
-    (record { base = refl; floor = refl; missing = refl; octets = refl; spans = refl; gone = c.join.ensures.items })
+    (record { base = refl; floor = refl; missing = refl; end = refl; octets = refl; spans = refl; gone = c.join.ensures.items })
     ∙ ap (λ (h : Held). released h.arrived c.args.from c.args.to) c.self.view_is
 
 pub returns-else-from-to-clause-arrived : goal.returns-else-from-to-clause-arrived

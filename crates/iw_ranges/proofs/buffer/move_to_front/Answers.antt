@@ -13,4 +13,4 @@ copies-preserved c =
     }
 
 pub returns : goal.returns
-returns c = all_moved c.args.octets.now c.copies.octets c.args.n c.copies.at c.copies.auto.octets c.requires.within (omega arith) c.copies.invariant.octets
+returns c = λ i small. all_moved c.args.octets.now c.copies.octets c.args.n c.args.end c.copies.at i c.requires.high c.requires.within (omega arith) small (λ k low. c.copies.invariant.octets k (omega (arith, c.copies.auto.octets)))

@@ -1,6 +1,6 @@
-use Rattle.std.proofs.Common.{◌+◌, length, arith, ap, ◌∙◌, get_or}
+use Rattle.std.proofs.Common.{◌+◌, length, arith, ◌∙◌}
 use Rattle.iw_ranges.specs.declared.spans.Span.{Span}
-use Rattle.iw_ranges.proofs.Fills.{beyond_all}
+use Rattle.iw_ranges.proofs.Fills.{past_all}
 use Rattle.iw_ranges.proofs.Joins.{add_touched, first_from, first_to, some_first}
 use Rattle.iw_ranges.proofs.buffer.put_after.Goals as goal
 
@@ -23,6 +23,4 @@ returns-clause-few g c = omega (arith, c.widen.ensures.len, c.args.spans.now.ok.
 
 pub returns-clause-octets : goal.returns-clause-octets
 returns-clause-octets g c = λ i.
-    let buffer = c.args.buffer.now.items in
-    ap (λ ys. get_or ys i 0) c.extend.ensures.items
-    ∙ beyond_all c.args.base c.args.spans.now.items c.args.from c.args.octets.now buffer i (λ p t. omega (arith, c.requires.within p t, c.args.buffer.now.ok.0)) (omega (arith, c.requires.past, c.args.buffer.now.ok.0))
+    past_all c.args.base c.args.spans.now.items c.args.from c.args.octets.now c.args.buffer.now.items c.lay.new.buffer.items i c.requires.last c.requires.base (c.lay.ensures.octets i)
