@@ -3,7 +3,7 @@ ghost use Rattle.std.specs.Bool.{OnTrue};
 ghost use Rattle.std.specs.Result.{result_err};
 ghost use Rattle.iw_ranges.specs.Arrived.{cell_at, has_come};
 ghost use Rattle.iw_fpdu.specs.Places.{IsStart};
-ghost use Rattle.iw_fpdu.specs.Reading.{end_at};
+ghost use Rattle.iw_fpdu.specs.Reading.{end_at, length_at};
 ghost use Rattle.iw_fpdu.specs.Found.{octet_in, IsWhole, LacksOctet, IsKept, HoldsSpan, ulpdu_len, ulpdu, mismatch};
 
 use crate::check::check_span;
@@ -105,6 +105,35 @@ impl<'a, A: Allocator> Fpdu<'a, A> {
             len,
             end: to,
         })
+    }
+
+    /// The frame that was found before to begin at frame place `start` and to be whole, with a ULPDU of `len` octets, and
+    /// to end at frame place `end`: the same that [`read`](Fpdu::read) gives, with nothing looked at again.
+    #[inline(always)]
+    pub fn found(
+        layout: Layout,
+        base: u64,
+        start: u64,
+        len: u16,
+        end: u64,
+        islands: &'a Islands<A>,
+    ) -> Fpdu<'a, A>
+        requires low { start < 2 ^ 63 }
+        requires start { IsStart layout.markers start }
+        requires whole { IsWhole islands.now.arrived layout.markers base start }
+        requires len { len ≡ length_at (octet_in islands.now.arrived base) start }
+        requires end { end ≡ end_at (octet_in islands.now.arrived base) layout.markers start }
+        requires fits { base + end < 2 ^ 64 }
+        ensures { result ≡ record { arrived = islands.now.arrived; layout = layout; base = base; start = start } }
+    {
+        Fpdu {
+            islands,
+            layout,
+            base,
+            start,
+            len,
+            end,
+        }
     }
 
     /// How many octets the ULPDU has.
