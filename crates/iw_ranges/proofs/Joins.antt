@@ -6,7 +6,7 @@ use Rattle.std.proofs.lemmas.Bool.Decides.{nat_tests}
 use Rattle.std.proofs.Math.ListN.{set}
 use Rattle.std.specs.Prelude.{insert, remove, nat_lt, nat_eq, MatchBool}
 use Rattle.iw_ranges.specs.declared.spans.Span.{Span}
-use Rattle.iw_ranges.specs.Spans.{add_span, merge_span, spans_past, IsFirstReaching, IsFromStart, first_end}
+use Rattle.iw_ranges.specs.Spans.{add_span, merge_span, spans_past, in_spans, IsFirstReaching, IsFromStart, first_end}
 use Rattle.iw_ranges.proofs.Reaches.{AllBefore}
 
 pub skip_one : (from to : ℕ) (s : Span) (ss : List Span) → s.to < from → add_span from to (s ∷ ss) ≡ s ∷ add_span from to ss
@@ -48,6 +48,31 @@ add_touched ss from to i d before lt reaches =
     ap (λ ys. take i ss ++ ys)
     (ap (merge_span from to) step ∙ sym (merge_here from to (get_or ss i d) (drop (i + 1) ss) reaches) ∙ ap (add_span from to) (sym step))
     ∙ add_rest ss from to i before
+
+-- past the first span nothing came, so it is the only one
+pub only_first : (s : Span) (ss : List Span) → IsFromStart (s ∷ ss) → ((p : ℕ) → in_spans p (s ∷ ss) ≡ true → p < s.to) → ss ≡ []
+only_first s [] order last = refl
+only_first s (t ∷ ss) order last =
+    let some : t.from < t.to = order.1.1 in
+    let here : in_spans t.from (s ∷ (t ∷ ss)) ≡ true = grind (arith, nat_tests, some) in
+    absurd (omega (arith, order.1.0, last t.from here))
+
+-- and the places right past it make it longer
+pub add_longer : (s : Span) (ss : List Span) (to : ℕ) → IsFromStart (s ∷ ss) → ((p : ℕ) → in_spans p (s ∷ ss) ≡ true → p < s.to) → s.to < to
+    → record { from = 0; to = to } ∷ ss ≡ add_span s.to to (s ∷ ss)
+add_longer s ss to order last further =
+    let none : ss ≡ [] = only_first s ss order last in
+    let one : ℕ → ℕ → List Span = λ a b. record { from = a; to = b } ∷ [] in
+    let low : 0 ≡ min s.to s.from = omega (arith, order.0) in
+    let high : to ≡ max to s.to = omega (arith, further) in
+    ap (λ ys. let x : List Span = record { from = 0; to = to } ∷ ys in x) none ∙ ap (λ a. one a to) low ∙ ap (one (min s.to s.from)) high
+    ∙ sym (merge_at_end (min s.to s.from) (max to s.to)) ∙ ap (merge_span (min s.to s.from) (max to s.to)) (sym none)
+    ∙ sym (merge_one s.to to s ss (omega (arith, order.0))) ∙ sym (merge_here s.to to s ss (omega arith))
+
+pub made_longer : (ss : List Span) (to : ℕ) → IsFromStart ss → ((p : ℕ) → in_spans p ss ≡ true → p < first_end ss) → first_end ss < to
+    → set ss 0 (record { from = 0; to = to }) ≡ add_span (first_end ss) to ss
+made_longer [] to order last further = absurd (elim order [ ])
+made_longer (s ∷ ss) to order last further = add_longer s ss to order last further
 
 -- or they touch none
 pub add_before : (ss : List Span) (from to i : ℕ) (d : Span) → AllBefore ss from i → i < length ss → from ≤ (get_or ss i d).to → to < (get_or ss i d).from
@@ -192,16 +217,3 @@ pub few_more : (from to : ℕ) (ss : List Span) (m : ℕ) → m ≡ length ss �
 few_more from to ss m e few =
     let t : nat_lt 1024 m ≡ false = grind (arith, nat_tests) in
     subst (λ b. MatchBool b (1025 < length (add_span from to ss)) (length (add_span from to ss) ≤ 1025)) (sym t) (omega (arith, length_add from to ss))
-
--- the first span, of those from place 0 on
-pub first_from : (ss : List Span) (d : Span) → IsFromStart ss → (get_or ss 0 d).from ≡ 0
-first_from [] d order = elim order [ ]
-first_from (s ∷ ss) d order = order.0
-
-pub first_to : (ss : List Span) (d : Span) → IsFromStart ss → (get_or ss 0 d).to ≡ first_end ss
-first_to [] d order = elim order [ ]
-first_to (s ∷ ss) d order = refl
-
-pub some_first : (ss : List Span) → IsFromStart ss → 0 < length ss
-some_first [] order = elim order [ ]
-some_first (s ∷ ss) order = omega arith

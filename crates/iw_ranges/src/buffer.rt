@@ -6,7 +6,7 @@ ghost use Rattle.std.specs.VecDeque.{deque_len, deque_capacity};
 ghost use Rattle.iw_ranges.specs.Spans.{in_spans, add_span, IsFromStart, IsFirstReaching, first_end, octet_after};
 ghost use Rattle.iw_ranges.specs.Spans.{HasSameOctets};
 
-use crate::spans::{Span, join, widen};
+use crate::spans::{Span, join, lengthen};
 use std::alloc::{AllocError, Allocator};
 use std::collections::VecDeque;
 
@@ -158,6 +158,7 @@ pub(crate) fn put_after<A: Allocator>(
     octets: &[u8],
 )
     requires base { base ≤ from }
+    requires some { 0 < length octets.now }
     requires past { from ≤ base + vec_len buffer.old }
     requires room { from - base + length octets.now ≤ vec_capacity buffer.old }
     requires small { from + length octets.now < 2 ^ 64 }
@@ -165,13 +166,14 @@ pub(crate) fn put_after<A: Allocator>(
     requires first { from ≡ first_end spans.old.items }
     requires last { (p : ℕ) → in_spans p spans.old.items ≡ true → p < from }
     ensures spans { spans.new.items ≡ add_span from (from + length octets.now) spans.old.items }
+    ensures end { first_end spans.new.items ≡ from + length octets.now }
     ensures few { length spans.new.items ≤ length spans.old.items }
     ensures len { vec_len buffer.new ≡ max (vec_len buffer.old) (from + length octets.now - base) }
     ensures octets { (i : ℕ)
         → slice_index buffer.new.items i ≡ octet_after base spans.old.items from octets.now buffer.old.items i }
 {
     lay(buffer, (from - base) as usize, octets);
-    widen(spans, 0, from, from + octets.len() as u64);
+    lengthen(spans, from + octets.len() as u64);
 }
 
 /// Takes in the octets from place `from` on, but for the places in the spans, and adds their places to the spans, of

@@ -118,8 +118,8 @@ impl<A: Allocator> Islands<A> {
             && fits_after(&self.octets, self.base, place, octets)
         {
             put_after(&mut self.octets, self.base, &mut self.spans, place, octets);
-            self.missing = end_of_first(&self.spans);
-            self.end = place + octets.len() as u64;
+            self.missing = place + octets.len() as u64;
+            self.end = self.missing;
             return Ok(Delivery::Kept);
         }
         self.add_apart(place, octets)

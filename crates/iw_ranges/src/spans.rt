@@ -108,6 +108,19 @@ pub(crate) fn widen<A: Allocator>(spans: &mut VecDeque<Span, A>, low: usize, fro
     spans[low] = joined;
 }
 
+/// Makes the only span, which begins at place 0, end at `to`.
+#[inline(always)]
+pub(crate) fn lengthen<A: Allocator>(spans: &mut VecDeque<Span, A>, to: u64)
+    requires order { IsFromStart spans.old.items }
+    requires last { (p : ℕ) → in_spans p spans.old.items ≡ true → p < first_end spans.old.items }
+    requires further { first_end spans.old.items < to }
+    ensures items { spans.new.items ≡ add_span (first_end spans.old.items) to spans.old.items }
+    ensures end { first_end spans.new.items ≡ to }
+    ensures few { length spans.new.items ≤ length spans.old.items }
+{
+    spans[0] = Span { from: 0, to };
+}
+
 /// Adds the places from `from` up to `to`.
 pub(crate) fn join<A: Allocator>(spans: &mut VecDeque<Span, A>, low: usize, from: u64, to: u64)
     requires room { deque_len spans.old < deque_capacity spans.old }

@@ -1,8 +1,7 @@
-use Rattle.std.proofs.Common.{◌≡◌, ◌<◌, ◌+◌, ◌-◌, length, drop, true, sym, ap, subst, ◌∙◌, refl, arith}
+use Rattle.std.proofs.Common.{◌≡◌, ◌<◌, ◌+◌, ◌-◌, length, drop, true, sym, ap, ◌∙◌, refl, arith}
 use Rattle.std.proofs.lemmas.Bool.Decides.{nat_tests}
 use Rattle.iw_ranges.specs.Arrived.{Held, is_dropped, window}
-use Rattle.iw_ranges.specs.Spans.{first_end, IsFromStart}
-use Rattle.iw_ranges.proofs.Adds.{add_from_start}
+use Rattle.iw_ranges.specs.Spans.{first_end}
 use Rattle.iw_ranges.specs.Fields.{Fields, fields_of}
 use Rattle.iw_ranges.proofs.Counts.{dropped_none, dropped_far}
 use Rattle.iw_ranges.proofs.Keeps.{taken_none, sound_put, put_delivers, PutsIn, kept_is, dropped_is, delivered_kept, delivered_dropped, kept_after}
@@ -42,11 +41,11 @@ invariant_of-self g c =
     let n = length c.args.octets.now in
     let from = c.args.place in
     let some : 0 < n = grind (arith, nat_tests, c.is_empty.ensures, c.if-is_empty.false) in
-    let after : Fields = record { base = f.base; floor = f.floor; missing = c.end_of_first-self-inside.result; end = from + n; octets = c.put_after.new.buffer.items; spans = c.put_after.new.spans.items; gone = f.gone } in
+    let after : Fields = record { base = f.base; floor = f.floor; missing = from + n; end = from + n; octets = c.put_after.new.buffer.items; spans = c.put_after.new.spans.items; gone = f.gone } in
     let puts : PutsIn f after from (c.args.place + n) c.args.octets.now = record {
       base = refl;
       floor = refl;
-      missing = c.end_of_first-self-inside.ensures;
+      missing = sym c.put_after.ensures.end;
       gone = refl;
       spans = c.put_after.ensures.spans;
       end = refl;
@@ -75,11 +74,11 @@ returns-then-fits_after-clause-ok g c =
     let from = c.args.place in
     let some : 0 < n = grind (arith, nat_tests, c.is_empty.ensures, c.if-is_empty.false) in
     let none : 0 ≡ first_end f.spans - from = omega (arith, c.if-place-self.true, c.self.invariant.sound.missing) in
-    let after : Fields = record { base = f.base; floor = f.floor; missing = c.end_of_first-self-inside.result; end = from + n; octets = c.put_after.new.buffer.items; spans = c.put_after.new.spans.items; gone = f.gone } in
+    let after : Fields = record { base = f.base; floor = f.floor; missing = from + n; end = from + n; octets = c.put_after.new.buffer.items; spans = c.put_after.new.spans.items; gone = f.gone } in
     let puts : PutsIn f after from (c.args.place + n) c.args.octets.now = record {
       base = refl;
       floor = refl;
-      missing = c.end_of_first-self-inside.ensures;
+      missing = sym c.put_after.ensures.end;
       gone = refl;
       spans = c.put_after.ensures.spans;
       end = refl;
@@ -89,12 +88,3 @@ returns-then-fits_after-clause-ok g c =
     } in
     put_delivers f after c.self.invariant.sound c.args.self.now.arrived (ap (λ (h : Held). h.arrived) c.self.view_is) c.args.place from c.args.octets.now c.args.octets.now
     (omega (arith, c.if-place-self.true, some, c.self.invariant.sound.missing)) some (omega (arith, c.if-place-self.true, c.self.invariant.sound.missing)) (ap (λ k. drop k c.args.octets.now) none) (omega (arith, c.if-is_beyond.ensures)) (omega (arith, c.put_after.ensures.few, ap length c.put_after.ensures.spans, c.self.invariant.sound.few)) puts
-
-pub end_of_first-self-inside-requires : goal.end_of_first-self-inside-requires
-end_of_first-self-inside-requires g c =
-    let f : Fields = fields_of c.self.inside in
-    let n = length c.args.octets.now in
-    let from = c.args.place in
-    let some : 0 < n = grind (arith, nat_tests, c.is_empty.ensures, c.if-is_empty.false) in
-    subst IsFromStart (sym c.put_after.ensures.spans)
-    (add_from_start from (from + n) f.spans (omega (arith, some)) c.self.invariant.sound.order)
