@@ -7,7 +7,7 @@ use Rattle.iw_ranges.specs.Arrived.{has_come, IsWithinLimits}
 use Rattle.iw_fpdu.specs.Places.{IsStart, data_place, data_index}
 use Rattle.iw_fpdu.specs.Frame.{frame_end}
 use Rattle.iw_fpdu.specs.Reading.{length_at}
-use Rattle.iw_fpdu.proofs.Octets.{span_low, span_near, field_end}
+use Rattle.iw_fpdu.proofs.Octets.{span_low, span_near, field_end, length_within}
 use Rattle.iw_locate.specs.declared.frame.Frame.{Frame}
 use Rattle.iw_locate.specs.declared.frame.Next.{Next}
 use Rattle.iw_locate.specs.declared.frame.Next.TheVariants.{Frame as Found}
@@ -17,7 +17,7 @@ use Rattle.iw_locate.specs.Records.{from_of, AreApart}
 use Rattle.iw_locate.specs.Free.{Scene, point_of, octet_of, end_of, IsMarkerSeen, PointsTo, IsOpen, IsFree, CanLocate}
 use Rattle.iw_locate.specs.Next.{frame_at, CanBeEarly, IsFrontWhole, IsLowest, IsNext, IsNone}
 use Rattle.iw_locate.specs.Among.{IsWithin, IsFoundWithin, IsLowestAmong}
-use Rattle.iw_locate.specs.Unsearched.{IsTouched, Tells, IsFollowed, IsLeftBy, only_from}
+use Rattle.iw_locate.specs.Unsearched.{IsTouched, Tells, IsFollowed, IsLeftBy, only_from, from_low}
 use Rattle.iw_locate.proofs.Open.{start_high, two_octets, come_low, not_open_far, not_open_before, not_seen_far}
 use Rattle.iw_locate.proofs.Lowest.{points_low, IsPointedAt}
 
@@ -45,6 +45,33 @@ frame_near true s len e start few =
 pub touched_as : {T : Type 0} (v : Scene T) (from to a b s : ℕ) → a ≡ from → b ≡ to → IsTouched v from to s → IsTouched v a b s
 touched_as v from to a b s e f (inl (q, within, low, high)) = inl (q, record { low = omega (arith, e, within.low); high = omega (arith, f, within.high) }, low, high)
 touched_as v from to a b s e f (inr (q, p, within, seen, points, low, high)) = inr (q, p, record { low = omega (arith, e, within.low); high = omega (arith, f, within.high) }, seen, points, low, high)
+
+-- no frame begins under one with a record
+abbrev pub IsUnderRecords : {T : Type 0} → Scene T → ℕ → ℕ → Type 0
+IsUnderRecords {T} v place past = (q : ℕ) → place ≤ q → q < past → (r : Record T) × Contains v.records r × (from_of r ≤ q) × (q < r.end)
+
+raised : {T : Type 0} (v : Scene T) (place past s : ℕ) → IsUnderRecords v place past → IsOpen v s → place ≤ s → past ≤ s
+raised v place past s covered open_ low =
+    elim (cases_lt s past) [
+      | inl under ↦
+          let w = covered s low under in
+          let long = length_within v.layout.markers s (length_at (octet_of v) s) open_.start in
+          absurd (open_.clear w.0 w.1 (omega (arith, w.2, long), omega (arith, w.3, span_low true s)))
+      | inr over ↦ over
+    ]
+
+pub tells_raised : {T : Type 0} (v : Scene T) (u : Unsearched) (past low : ℕ) → Tells v u → IsUnderRecords v u.low past → ((s : ℕ) → IsStart true s → min past (2 ^ 63) ≤ s → low ≤ s) → Tells v (from_low u low)
+tells_raised v u past low tells covered start = record {
+  free = λ m s free.
+      elim (tells.free m s free) [
+        | inl within ↦
+            let over = raised v u.low past s covered free.open_ within.low in
+            inl (record { low = start s (subst (λ b. IsStart b s) m free.open_.start) (omega (arith, over)); high = within.high })
+        | inr touched ↦ inr touched
+      ];
+  reach = tells.reach;
+  octets = tells.octets;
+}
 
 module _ {T : Type 0} (v : Scene T) (can : CanLocate v) (m : v.layout.markers ≡ true) where
   pub reaches_near : ((q : ℕ) → octet_of v q < 256) → (s : ℕ) → IsOpen v s → end_of v s ≤ s + 66080
@@ -148,23 +175,13 @@ module _ {T : Type 0} (v : Scene T) (can : CanLocate v) (m : v.layout.markers �
             record { low = omega (arith, first s free.open_ clip, under); high = omega (arith, touched_low (max u.from (point_of v)) (min u.to (point_of v + 262144)) s clip, over) }
       ])
 
-  -- no frame begins under one with a record
-  pub raised : (place past s : ℕ) → ((q : ℕ) → place ≤ q → q < past → (r : Record T) × Contains v.records r × (from_of r ≤ q) × (q < r.end)) → IsOpen v s → place ≤ s → past ≤ s
-  raised place past s covered open_ low =
-      elim (cases_lt s past) [
-        | inl under ↦ let w = covered s low under in absurd (open_.clear w.0 w.1 (omega (arith, w.2, two_octets v can m s open_), omega (arith, w.3, span_low true s)))
-        | inr over ↦ over
-      ]
-
-  pub tells_raised : (u : Unsearched) (place past low : ℕ) → Tells v u → u.to ≡ 0 → place ≤ max u.low (point_of v)
-      → ((q : ℕ) → place ≤ q → q < past → (r : Record T) × Contains v.records r × (from_of r ≤ q) × (q < r.end)) → ((s : ℕ) → IsStart true s → min past (2 ^ 63) ≤ s → low ≤ s) → Tells v (only_from u low u.high)
-  tells_raised u place past low tells none near covered start =
+  -- none begins before the in-order point
+  pub from_point : (u : Unsearched) (low : ℕ) → Tells v u → u.to ≡ 0 → low ≤ max u.low (point_of v) → Tells v (only_from u low u.high)
+  from_point u low tells none near =
       tells_only u low u.high tells
       (λ s free.
       let within = within_only u tells none s free in
-      let at : place ≤ s = omega (arith, near, within.low, free.open_.past, span_low v.layout.markers s) in
-      let over = raised place past s covered free.open_ at in
-      record { low = start s (subst (λ b. IsStart b s) m free.open_.start) (omega (arith, over)); high = within.high })
+      record { low = omega (arith, near, within.low, free.open_.past, span_low v.layout.markers s); high = within.high })
 
   -- what a search tells
   pub found_none : (u : Unsearched) → Tells v u → u.to ≡ 0 → ((s : ℕ) → IsFoundWithin v u.low u.high s → IsOpen v s → ⊥) → (s : ℕ) → IsFree v s → ⊥

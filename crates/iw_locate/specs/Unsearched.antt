@@ -56,6 +56,10 @@ with_octets u from to = if nat_lt from to then record u { from = joined_from u f
 abbrev pub past_frame : Unsearched → Frame → Unsearched
 past_frame u f = if nat_le u.reach f.end then record u { low = 0; high = 0 } else record u { low = f.end }
 
+-- besides what came, only frames that begin at `low` or past it
+abbrev pub from_low : Unsearched → ℕ → Unsearched
+from_low u low = record u { low = low }
+
 -- frames that begin at `place` or past it, and octets from there on
 abbrev pub from_place : Unsearched → ℕ → Unsearched
 from_place u place = record u { from = max u.from place; low = max u.low place }

@@ -1,6 +1,7 @@
 ghost use Rattle.std.specs.Prelude.{◌≡◌, ◌<◌, ◌≤◌, ◌+◌, ◌%◌, ◌^◌, ℕ, true, MatchBool, MatchOption, IsTrue};
 ghost use Rattle.std.specs.List.{Contains};
 ghost use Rattle.iw_ranges.specs.Arrived.{IsHere, cell_at};
+ghost use Rattle.iw_fpdu.specs.Places.{IsStart};
 ghost use Rattle.iw_fpdu.specs.Reading.{length_at, pointer_at};
 ghost use Rattle.iw_fpdu.specs.Found.{octet_in, LacksOctet};
 ghost use Rattle.iw_locate.specs.declared.judged.Record.{Record};
@@ -308,6 +309,19 @@ fn begins_at(frame: Option<Frame>, low: u64) -> bool
     match frame {
         Some(frame) => frame.start == low,
         None => false,
+    }
+}
+
+/// The first place from `place` on where a frame may begin, or any before it.
+pub(crate) fn first_start(place: u64) -> u64
+    requires { place ≤ 2 ^ 63 }
+    ensures { (s : ℕ) → IsStart true s → place ≤ s → result ≤ s }
+{
+    let aligned = place.div_ceil(4) * 4;
+    if aligned % SPACING == 0 {
+        aligned + MARKER
+    } else {
+        aligned
     }
 }
 

@@ -1,5 +1,4 @@
 ghost use Rattle.std.specs.Prelude.{◌≡◌, ◌<◌, ◌≤◌, ◌+◌, ◌%◌, ◌^◌, ℕ, true, MatchOption, IsTrue};
-ghost use Rattle.iw_fpdu.specs.Places.{IsStart};
 ghost use Rattle.iw_locate.specs.Free.{scene_of, point_of, octet_of, end_of, IsOpen, CanLocate};
 ghost use Rattle.iw_locate.specs.Next.{CanBeEarly, IsLowest, IsNone, IsNext, frame_at};
 ghost use Rattle.iw_locate.specs.Among.{IsLowestAmong, IsFoundWithin};
@@ -101,8 +100,9 @@ impl Locator {
         ensures high { result.high ≤ 2 ^ 63 }
     {
         let taken = self.taken_in(islands, judged, point, unsearched);
-        let past = judged.run_to(taken.low.max(point), taken.high);
-        only_from(taken, first_start(past.min(1 << 63)), taken.high)
+        let mut left = only_from(taken, taken.low.max(point), taken.high);
+        left.pass_judged(judged);
+        left
     }
 
     /// What is unsearched, without octets that came since.
@@ -253,18 +253,5 @@ fn left_after(unsearched: Unsearched, found: Option<Frame>) -> Unsearched
             unsearched.high.max(start_past(frame.end) + 1),
         ),
         None => only_from(unsearched, 0, 0),
-    }
-}
-
-/// The first place from `place` on where a frame may begin, or any before it.
-fn first_start(place: u64) -> u64
-    requires { place ≤ 2 ^ 63 }
-    ensures { (s : ℕ) → IsStart true s → place ≤ s → result ≤ s }
-{
-    let aligned = place.div_ceil(4) * 4;
-    if aligned % SPACING == 0 {
-        aligned + MARKER
-    } else {
-        aligned
     }
 }

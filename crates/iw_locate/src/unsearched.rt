@@ -3,10 +3,12 @@ ghost use Rattle.std.specs.List.{Contains};
 ghost use Rattle.iw_locate.specs.declared.judged.Record.{Record};
 ghost use Rattle.iw_locate.specs.Records.{from_of};
 ghost use Rattle.iw_locate.specs.Unsearched.{everything, nothing_unsearched, counted_from, with_octets};
-ghost use Rattle.iw_locate.specs.Unsearched.{past_frame, from_place, anywhere};
+ghost use Rattle.iw_locate.specs.Unsearched.{past_frame, from_low, from_place, anywhere, Tells};
+ghost use Rattle.iw_locate.specs.Free.{Scene};
 
 use crate::frame::Frame;
 use crate::judged::Judged;
+use crate::searching::first_start;
 use std::alloc::Allocator;
 
 /// What has to be looked at for a frame that can be judged early: elsewhere there is none.
@@ -95,8 +97,22 @@ impl Unsearched {
         }
     }
 
+    /// No frame that begins among those with a record can be judged early: the run of them from `low` on need not be looked at.
+    #[inline]
+    pub fn pass_judged<T, A: Allocator>(&mut self, judged: &Judged<T, A>)
+        ensures rest { self.new ≡ from_low self.old self.new.low }
+        ensures tells { (v : Scene T) → v.records ≡ judged.now.records → Tells v self.old → Tells v self.new }
+    {
+        if self.high <= self.low {
+            return;
+        }
+        let past = judged.run_to(self.low, self.high);
+        self.low = first_start(past.min(1 << 63));
+    }
+
     /// The in-order point moves on to `place`, and the records of frames whose spans begin before it will be dropped. What lies
     /// before it need not be looked at any more. A record of a frame that ends past it had kept other frames from being judged.
+    #[inline]
     pub fn passed<T, A: Allocator>(&mut self, judged: &Judged<T, A>, place: u64)
         ensures { ((self.new ≡ from_place self.old place) × ((r : Record T) → Contains judged.now.records r → from_of r < place → r.end ≤ place)) ⊎ (self.new ≡ anywhere self.old) }
     {
