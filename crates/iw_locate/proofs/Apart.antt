@@ -87,6 +87,17 @@ module _ {T : Type 0} (rs : List (Record T)) (apart : AreApart rs) where
         | inr under ↦ under
       ]
 
+  -- where the first ends at a place or past it, none but the first may lie over it
+  pub none_but_first : (place : ℕ) (first : Record T) → 0 < length rs → first ≡ get_or rs 0 first → place ≤ first.end → (from_of first < place → first.end ≤ place) → (r : Record T) → Contains rs r → from_of r < place → r.end ≤ place
+  none_but_first place first some here high outside r (k, lt, is) before =
+      let at = here ∙ get_or_default rs 0 first r some in
+      elim (cases_eq k 0) [
+        | inl zeroth ↦
+            let same : first ≡ r = at ∙ ap (λ j. get_or rs j r) (sym zeroth) ∙ is in
+            omega (arith, outside (omega (arith, before, ap (λ (x : Record T). from_of x) same)), ap (λ (x : Record T). x.end) same)
+        | inr later ↦ absurd (omega (arith, apart.order 0 k r (omega arith) lt, ap (λ (x : Record T). x.end) at, ap (λ (x : Record T). from_of x) is, high, before))
+      ]
+
   -- where the last ends at a place or before it, so do all
   pub all_before : (place count : ℕ) → count ≡ length rs → (last : Record T) → 0 < count → last ≡ get_or rs (count - 1) last → last.end ≤ place → IsFirstPast rs place count
   all_before place count is last some here low = record {

@@ -141,19 +141,25 @@ impl<T, A: Allocator> Judged<T, A> {
     }
 
     /// Whether a frame whose span begins before `place` ends past it.
+    #[inline]
     pub fn reaches_over(&self, place: u64) -> bool
         ensures { MatchBool result ((r : Record T) × Contains self.now.records r × (from_of r < place) × (place < r.end))
             ((r : Record T) → Contains self.now.records r → from_of r < place → r.end ≤ place) }
     {
-        let at = first_ending_past(&self.records, place);
-        match self.records.get(at) {
-            Some(record) => {
-                if span_of(true, record.start) < place {
+        match self.records.get(0) {
+            None => false,
+            Some(first) => {
+                if first.end < place {
+                    return is_one_over(&self.records, place);
+                }
+                if first.end == place {
+                    return false;
+                }
+                if span_of(true, first.start) < place {
                     return true;
                 }
                 false
             }
-            None => false,
         }
     }
 
@@ -221,12 +227,16 @@ impl<T, A: Allocator> Judged<T, A> {
     }
 
     /// Drops the records of the frames whose spans begin before `place`.
+    #[inline]
     pub fn drop_to(&mut self, place: u64)
     where
         T: Drop,
         ensures records { self.new.records ≡ kept_from place self.old.records }
         ensures room { self.old.room ≤ self.new.room }
     {
+        if self.records.is_empty() {
+            return;
+        }
         forget(&mut self.records, place);
     }
 
@@ -276,6 +286,24 @@ fn first_ending_past<T, A: Allocator>(records: &VecDeque<Record<T>, A>, place: u
             ensures { result ≡ nat_le record.now.end place }
         { record.end <= place },
     )
+}
+
+/// Whether a frame whose span begins before `place` ends past it.
+fn is_one_over<T, A: Allocator>(records: &VecDeque<Record<T>, A>, place: u64) -> bool
+    requires { AreApart records.now.items }
+    ensures { MatchBool result ((r : Record T) × Contains records.now.items r × (from_of r < place) × (place < r.end))
+        ((r : Record T) → Contains records.now.items r → from_of r < place → r.end ≤ place) }
+{
+    let at = first_ending_past(records, place);
+    match records.get(at) {
+        Some(record) => {
+            if span_of(true, record.start) < place {
+                return true;
+            }
+            false
+        }
+        None => false,
+    }
 }
 
 /// How many records there are of frames that begin before `start`.
