@@ -57,6 +57,29 @@ left_past rest run n fits within =
     octet : ℕ → ℕ
     octet = λ k. slice_index rest (rest_place run k)
 
+pub shifted_run : (run k j : ℕ) → k ≤ run → rest_place run (k + j) ≡ k + rest_place (run - k) j
+shifted_run run k j le =
+    elim (cases_lt j (run - k)) [
+      | inl near ↦ omega (arith, within_run run (k + j) (omega arith), within_run (run - k) j near)
+      | inr far ↦
+          let same : k + j - run ≡ j - (run - k) = omega arith in
+          omega (arith, past_run run (k + j) (omega arith), past_run (run - k) j (omega arith), ap (λ x. x / 508) same)
+    ]
+
+-- the first octets of the run, and what is left past them
+pub left_front : (rest : List ℕ) (run n k : ℕ) → k ≤ run → k ≤ n → k ≤ length rest → left_in rest run n ≡ take k rest ++ left_in (drop k rest) (run - k) (n - k)
+left_front rest run n k le few within =
+    ap (map octet) (range_append 0 k (n - k) k n (omega arith) (omega arith))
+    ∙ map-append octet (range_with_len 0 k) (range_with_len k (n - k))
+    ∙ ap (λ xs. xs ++ map octet (range_with_len k (n - k))) (left_all rest run k le within)
+    ∙ ap (λ xs. take k rest ++ xs)
+    (map_shift octet (λ j. slice_index (drop k rest) (rest_place (run - k) j)) k 0 (n - k) (λ j lt.
+    ap (slice_index rest) (shifted_run run k j le)
+    ∙ sym (ap (λ i. slice_index (drop k rest) (rest_place (run - k) i)) (let z : 0 + j ≡ j = omega arith in z) ∙ get_or-drop k rest (rest_place (run - k) j) 0)))
+  where
+    octet : ℕ → ℕ
+    octet = λ j. slice_index rest (rest_place run j)
+
 place_later : (m : Bool) (from run j : ℕ) → IsRun m from run → m ≡ true → run + from % 512 ≡ 512 → run ≤ j → rest_place run j + from ≡ data_place m (data_index m from + j)
 unfolding data_place data_index
 place_later true from run j is t up far = omega (arith, past_run run j far, is.0, up)

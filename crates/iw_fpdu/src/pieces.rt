@@ -1,4 +1,4 @@
-ghost use Rattle.std.specs.Prelude.{◌≡◌, ◌<◌, ◌+◌, ℕ, length, false};
+ghost use Rattle.std.specs.Prelude.{◌≡◌, ◌<◌, ◌+◌, ◌++◌, ℕ, length, false, IfSome};
 ghost use Rattle.std.specs.Iterator.{at_most};
 ghost use Rattle.iw_octets.specs.Pieces.{GivesOctets};
 ghost use Rattle.iw_fpdu.specs.Places.{data_place, data_index, in_marker};
@@ -44,6 +44,23 @@ impl<'a> Pieces<'a> {
             run: run_at(markers, from, left),
             left,
         }
+    }
+
+    /// The first `k` octets, where more than these stand before the next marker, and all that come past them.
+    #[inline(always)]
+    pub fn split_front(&self, k: usize) -> Option<(&'a [u8], Pieces<'a>)>
+        ensures { IfSome result (λ parts. (self.now ≡ parts.0.now ++ parts.1) × (length parts.0.now ≡ k)) }
+    {
+        if self.left < k || self.run <= k {
+            return None;
+        }
+        let (front, rest) = self.rest.split_at(k);
+        let pieces = Pieces {
+            rest,
+            run: self.run - k,
+            left: self.left - k,
+        };
+        Some((front, pieces))
     }
 }
 

@@ -3,7 +3,7 @@ use Rattle.std.proofs.Common.{◌≡◌, ℕ, ◌-◌, ◌≤◌, Bool, true, fa
 use Rattle.std.specs.Prelude.{Result, IfOk, IfSome, OnOk}
 use Rattle.std.proofs.lemmas.Bool.{cases_lt}
 use Rattle.std.proofs.Math.ListN.{get_or-append}
-use Rattle.std.proofs.lemmas.List.{take-append-le}
+use Rattle.std.proofs.lemmas.List.{drop_at, take-append-le}
 use Rattle.std.proofs.lemmas.Option.{none-some, same_Some}
 use Rattle.iw_octets.specs.declared.fault.Fault.{Fault}
 use Rattle.iw_octets.specs.declared.head.TaggedHead.{TaggedHead}
@@ -70,6 +70,9 @@ tagged_there u head p = sym (ap tagged_in p.read ∙ ap (passed_by head) p.check
 pub front_there : (u front : List ℕ) (o : Option TaggedHead) → (beyond : List ℕ) × (u ≡ front ++ beyond) → o ≡ tagged_in (read_segment front) → IfSome o (λ head. Some head ≡ tagged_in (read_segment u))
 front_there u front None f e = tt
 front_there u front (Some head) f e = tagged_there u head (tagged_front u front head f (passes front head e))
+
+pub payload_past : (u front payload : List ℕ) → (u ≡ front ++ payload) × (length front ≡ 14) → payload ≡ drop 14 u
+payload_past u front payload parts = sym (ap (drop 14) parts.0 ∙ drop_at front payload 14 parts.1)
 
 pub tagged_long : (u : List ℕ) (head : TaggedHead) → Passes u head → 14 ≤ length u
 tagged_long u head p = (segment_past u (Tagged head p.payload) p.read).long

@@ -21,7 +21,7 @@ ghost use Rattle.iw_stream.specs.Judging.{table_landed, receiving_landed};
 
 use crate::turning::is_response;
 use arrayvec::ArrayVec;
-use iw_fpdu::{Fpdu, Mismatch};
+use iw_fpdu::{Fpdu, Mismatch, Pieces};
 use iw_memory::{Memory, Right};
 use iw_octets::{
     Fault, ReadRequest, Stag, TAGGED_HEADER, TaggedHead, UNTAGGED_HEADER, UntaggedHead, is_tagged,
@@ -146,6 +146,16 @@ pub(crate) fn front<'a, A: Allocator>(fpdu: &Fpdu<'a, A>) -> Option<&'a [u8]>
     fpdu.pieces(0).next()
 }
 
+/// The octets of a ULPDU that are the header of a tagged segment, and the payload past them, where more octets than the header's
+/// stand before the first marker.
+#[inline(always)]
+pub(crate) fn tagged_parts<'a, A: Allocator>(fpdu: &Fpdu<'a, A>) -> Option<(&'a [u8], Pieces<'a>)>
+    requires { HoldsSpan fpdu.now }
+    ensures { IfSome result (λ parts. (ulpdu fpdu.now ≡ parts.0.now ++ parts.1) × (length parts.0.now ≡ 14)) }
+{
+    fpdu.pieces(0).split_front(TAGGED_HEADER)
+}
+
 // The octets at which a header is judged, where they lie in one piece among those that came.
 fn first_piece<'a, A: Allocator>(fpdu: &Fpdu<'a, A>) -> Option<&'a [u8]>
     requires { HoldsSpan fpdu.now }
@@ -164,18 +174,19 @@ fn place_tagged<A: Allocator, B: Allocator>(
     head: TaggedHead,
     right: Right,
     fpdu: &Fpdu<'_, A>,
+    payload: Pieces<'_>,
     domain: u8,
     memory: &mut Memory<B>,
 ) -> Result<Placed, Fault>
     requires holds { HoldsSpan fpdu.now }
     requires long { 14 ≤ ulpdu_len fpdu.now }
+    requires payload { payload ≡ drop 14 (ulpdu fpdu.now) }
     ensures placed { result ≡ fault_or (placing_fault memory.old domain head (ulpdu_len fpdu.now - 14) right) (place_in head (ulpdu_len fpdu.now - 14)) }
     ensures ok { OnOk result (memory.new ≡ put memory.old head.stag head.to (drop 14 (ulpdu fpdu.now))) }
     ensures err { OnErr result (memory.new ≡ memory.old) }
 {
     let n = fpdu.len() - TAGGED_HEADER;
-    let pieces = fpdu.pieces(TAGGED_HEADER);
-    let placed = iw_tagged::place(head, n, pieces, memory, domain, right)?;
+    let placed = iw_tagged::place(head, n, payload, memory, domain, right)?;
     Ok(placed)
 }
 
@@ -207,6 +218,7 @@ pub(crate) fn land_tagged<A: Allocator, B: Allocator>(
     response: bool,
     head: TaggedHead,
     fpdu: &Fpdu<'_, A>,
+    payload: Pieces<'_>,
     domain: u8,
     reads: &Reads,
     memory: &mut Memory<B>,
@@ -214,6 +226,7 @@ pub(crate) fn land_tagged<A: Allocator, B: Allocator>(
     requires holds { HoldsSpan fpdu.now }
     requires tagged { Some head ≡ tagged_in (read_segment (ulpdu fpdu.now)) }
     requires response { response ≡ is_response head }
+    requires payload { payload ≡ drop 14 (ulpdu fpdu.now) }
     ensures landed { (at : Standing) → at.table ≡ memory.old → at.domain ≡ domain → at.reads ≡ reads.now → as_tagged response result ≡ verdict at (frame_by fpdu.now) }
     ensures memory { IfOk result (λ at. memory.new ≡ put memory.old at.stag at.to (payload_of (read_segment (ulpdu fpdu.now)))) }
     ensures err { OnErr result (memory.new ≡ memory.old) }
@@ -224,7 +237,7 @@ pub(crate) fn land_tagged<A: Allocator, B: Allocator>(
     if let Err(fault) = check_sink(response, &head, fpdu.len() - TAGGED_HEADER, reads) {
         return Err(fault);
     }
-    place_tagged(head, right_of(response), fpdu, domain, memory)
+    place_tagged(head, right_of(response), fpdu, payload, domain, memory)
 }
 
 // Places the payload of a Write's segment. An `Err` changes nothing.
@@ -242,7 +255,8 @@ fn place_write<A: Allocator, B: Allocator>(
     ensures receiving { (r : Receiving) → IfOk result (λ at. r ≡ receiving_landed r (drop 14 (ulpdu fpdu.now)) at) }
     ensures err { OnErr result (memory.new ≡ memory.old) }
 {
-    match place_tagged(head, Right::Write, fpdu, domain, memory) {
+    let payload = fpdu.pieces(TAGGED_HEADER);
+    match place_tagged(head, Right::Write, fpdu, payload, domain, memory) {
         Ok(placed) => Ok(Landing::Write(placed)),
         Err(fault) => Err(fault),
     }
@@ -266,7 +280,8 @@ fn place_response<A: Allocator, B: Allocator>(
     if let Err(fault) = reads.check(&head, fpdu.len() - TAGGED_HEADER) {
         return Err(fault);
     }
-    match place_tagged(head, Right::Sink, fpdu, domain, memory) {
+    let payload = fpdu.pieces(TAGGED_HEADER);
+    match place_tagged(head, Right::Sink, fpdu, payload, domain, memory) {
         Ok(placed) => Ok(Landing::Response(placed)),
         Err(fault) => Err(fault),
     }
@@ -392,18 +407,6 @@ pub(crate) fn land_frame<A: Allocator, B: Allocator>(
     }
 }
 
-// The header of a Write or a Read Response, where it stands before the first marker among a ULPDU's octets.
-#[inline(always)]
-fn tagged_front<A: Allocator>(fpdu: &Fpdu<'_, A>) -> Option<TaggedHead>
-    requires { HoldsSpan fpdu.now }
-    ensures { IfSome result (λ head. Some head ≡ tagged_in (read_segment (ulpdu fpdu.now))) }
-{
-    let Some(front) = front(fpdu) else {
-        return None;
-    };
-    tagged_head(front)
-}
-
 /// Where the payload of a Read Response, or else of a Write, was placed.
 #[inline(always)]
 pub(crate) fn landing_of(response: bool, placed: Placed) -> Landing
@@ -422,18 +425,20 @@ pub(crate) fn landing_of(response: bool, placed: Placed) -> Landing
 fn land_tagged_early<A: Allocator, B: Allocator>(
     head: TaggedHead,
     fpdu: &Fpdu<'_, A>,
+    payload: Pieces<'_>,
     domain: u8,
     reads: &Reads,
     memory: &mut Memory<B>,
 ) -> Option<Landing>
     requires holds { HoldsSpan fpdu.now }
     requires tagged { Some head ≡ tagged_in (read_segment (ulpdu fpdu.now)) }
+    requires payload { payload ≡ drop 14 (ulpdu fpdu.now) }
     ensures landed { (at : Standing) → at.table ≡ memory.old → at.domain ≡ domain → at.reads ≡ reads.now → result ≡ early_verdict at (frame_by fpdu.now) }
     ensures memory { memory.new ≡ table_tried memory.old (frame_by fpdu.now) result }
     ensures receiving { (r : Receiving) → r ≡ receiving_tried r (frame_by fpdu.now) result }
 {
     let response = is_response(&head);
-    match land_tagged(response, head, fpdu, domain, reads, memory) {
+    match land_tagged(response, head, fpdu, payload, domain, reads, memory) {
         Ok(placed) => Some(landing_of(response, placed)),
         Err(_) => None,
     }
@@ -454,8 +459,10 @@ pub(crate) fn land_early<A: Allocator, B: Allocator>(
     ensures memory { memory.new ≡ table_tried memory.old (frame_by fpdu.now) result }
     ensures receiving { receiving.new ≡ receiving_tried receiving.old (frame_by fpdu.now) result }
 {
-    if let Some(head) = tagged_front(fpdu) {
-        return land_tagged_early(head, fpdu, domain, reads, memory);
+    if let Some((front, payload)) = tagged_parts(fpdu)
+        && let Some(head) = tagged_head(front)
+    {
+        return land_tagged_early(head, fpdu, payload, domain, reads, memory);
     }
     if !is_early(fpdu, asked) {
         return None;

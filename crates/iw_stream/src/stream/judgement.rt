@@ -18,8 +18,8 @@ use crate::answer::Step;
 use crate::ending::Ending;
 use crate::incoming::{Incoming, frame_at, held_at};
 use crate::judging::{
-    Header, Landing, PlacedFrame, front, header_of, keep_frame, keep_tagged, land_early,
-    land_frame, land_tagged, landing_of, placed_frame,
+    Header, Landing, PlacedFrame, header_of, keep_frame, keep_tagged, land_early, land_frame,
+    land_tagged, landing_of, placed_frame, tagged_parts,
 };
 use crate::terminating::{end_clashed, end_judged};
 use crate::turning::is_response;
@@ -159,14 +159,22 @@ impl<A: Allocator> Stream<A> {
         let Some(fpdu) = held_at(layout, &self.arrived, base, start) else {
             return Ok(None);
         };
-        let Some(front) = front(&fpdu) else {
+        let Some((front, payload)) = tagged_parts(&fpdu) else {
             return Err(Apart);
         };
         let Some(head) = tagged_head(front) else {
             return Err(Apart);
         };
         let response = is_response(&head);
-        match land_tagged(response, head, &fpdu, self.domain, &self.reads, memory) {
+        match land_tagged(
+            response,
+            head,
+            &fpdu,
+            payload,
+            self.domain,
+            &self.reads,
+            memory,
+        ) {
             Err(_) => Err(Apart),
             Ok(placed) => {
                 keep_tagged(&mut self.front, &fpdu, front, start);

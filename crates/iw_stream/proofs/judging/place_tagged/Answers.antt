@@ -7,10 +7,10 @@ use Rattle.iw_stream.proofs.judging.place_tagged.Goals as goal
 
 pub place-requires : goal.place-requires
 place-requires g c = λ κs.
-    let long : c.len-n.result - 14 ≡ length c.pieces-pieces.result = omega (arith, c.len-n.ensures.len, length_ulpdu c.args.fpdu.now, ap length c.pieces-pieces.ensures, length-drop 14 (ulpdu c.args.fpdu.now)) in
-    ((refl, tt), (tt, (tt, gives-add_up c.pieces-pieces.result (c.len-n.result - 14) long)))
+    let long : c.len-n.result - 14 ≡ length c.args.payload = omega (arith, c.len-n.ensures.len, length_ulpdu c.args.fpdu.now, ap length c.requires.payload, length-drop 14 (ulpdu c.args.fpdu.now)) in
+    ((refl, tt), (tt, (tt, gives-add_up c.args.payload (c.len-n.result - 14) long)))
 
 pub returns-clause-ok : goal.returns-clause-ok
 returns-clause-ok g c =
     let placed = c.in_ok-placed.ensures.ok in
-    placed.2 ∙ ap (put c.args.memory.now c.args.head.stag c.args.head.to) (gives-join_to c.pieces-pieces.result placed.0 placed.1 ∙ c.pieces-pieces.ensures)
+    placed.2 ∙ ap (put c.args.memory.now c.args.head.stag c.args.head.to) (gives-join_to c.args.payload placed.0 placed.1 ∙ c.requires.payload)

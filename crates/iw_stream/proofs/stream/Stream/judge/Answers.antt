@@ -15,7 +15,7 @@ use Rattle.iw_stream.specs.Work.{Judge, Rest, clashes, standing, waiting, next_f
 use Rattle.iw_stream.proofs.Early.{begins_at, clear_there, front_kept, kept_there}
 use Rattle.iw_stream.proofs.Keeping.{keeps_judged}
 use Rattle.iw_stream.proofs.Waiting.{clear_over, kept_scene}
-use Rattle.iw_stream.proofs.Tagged.{is_placing, leaves_receiving, next_is, none_next, stream_placed, table_placed, tagged_first, tagged_front, tagged_long, tagged_there}
+use Rattle.iw_stream.proofs.Tagged.{is_placing, leaves_receiving, next_is, none_next, payload_past, stream_placed, table_placed, tagged_first, tagged_front, tagged_long, tagged_there}
 use Rattle.iw_stream.proofs.stream.Stream.judge.Goals as goal
 
 pub returns-then-missing-floor-clause-whole : goal.returns-then-missing-floor-clause-whole
@@ -62,20 +62,26 @@ held_at-requires-clause-base g c = c.first_place_in-base.ensures.place ∙ sym c
 pub land_tagged-requires-clause-tagged : goal.land_tagged-requires-clause-tagged
 land_tagged-requires-clause-tagged g c =
     let u = ulpdu c.in-Some.fpdu in
-    let front = c.in-Some-front.front.now in
+    let front = c.in-Some-tagged_parts.front.now in
     let head = c.in-Some-tagged_head.head in
-    let p : Passes c.in-Some-front.front.now c.in-Some-tagged_head.head = passes front head c.in-Some-tagged_head.ensures in
-    tagged_there u head (tagged_front u front head c.in-Some-front.ensures p)
+    let p : Passes c.in-Some-tagged_parts.front.now c.in-Some-tagged_head.head = passes front head c.in-Some-tagged_head.ensures in
+    tagged_there u head (tagged_front u front head (c.in-Some-tagged_parts.payload, c.in-Some-tagged_parts.ensures.0) p)
+
+pub land_tagged-requires-clause-payload : goal.land_tagged-requires-clause-payload
+land_tagged-requires-clause-payload g c = payload_past (ulpdu c.in-Some.fpdu) c.in-Some-tagged_parts.front.now c.in-Some-tagged_parts.payload c.in-Some-tagged_parts.ensures
+
+pub keep_tagged-requires-clause-front : goal.keep_tagged-requires-clause-front
+keep_tagged-requires-clause-front g c = (c.in-Some-tagged_parts.payload, c.in-Some-tagged_parts.ensures.0)
 
 pub keep_tagged-requires-clause-tagged : goal.keep_tagged-requires-clause-tagged
 keep_tagged-requires-clause-tagged g c =
-    let front = c.in-Some-front.front.now in
+    let front = c.in-Some-tagged_parts.front.now in
     let head = c.in-Some-tagged_head.head in
     tagged_first front head (passes front head c.in-Some-tagged_head.ensures)
 
 pub keep_tagged-requires-clause-long : goal.keep_tagged-requires-clause-long
 keep_tagged-requires-clause-long g c =
-    let front = c.in-Some-front.front.now in
+    let front = c.in-Some-tagged_parts.front.now in
     let head = c.in-Some-tagged_head.head in
     tagged_long front head (passes front head c.in-Some-tagged_head.ensures)
 
