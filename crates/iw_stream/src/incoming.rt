@@ -248,15 +248,44 @@ impl<A: Allocator> Incoming<A> {
     {
         self.islands.limits();
         let Locator { layout, base } = self.locator;
-        match Fpdu::read(layout, base, frame.start, &self.islands) {
-            Some(fpdu) => fpdu,
-            None => unreachable!(),
-        }
+        Fpdu::found(
+            layout,
+            base,
+            frame.start,
+            frame.length,
+            frame.end,
+            &self.islands,
+        )
     }
 
     /// Adds the record of the frame that can be judged early. Where it was placed, its octets are given up: its record has
     /// what its turn needs. It takes the room that one `ready` made.
     pub(crate) fn keep(&mut self, frame: Frame, state: State<Header>)
+        requires room { 0 < self.old.room }
+        requires releases { 0 < self.old.releases }
+        requires few { length self.old.early < max_records }
+        requires next { IsNext (scene_in self.old) (Next.Frame frame) }
+        requires early { frame.early ≡ true }
+        requires followed { IsFollowed self.old.unsearched frame }
+        ensures early { self.new.early ≡ added self.old.early (record_of frame state) }
+        ensures arrived { self.new.arrived ≡ without self.old.base self.old.arrived (record_of frame state) state }
+        ensures same { IsSameStart self.old self.new }
+    {
+        self.add_record(frame, state);
+        self.pass_judged();
+    }
+
+    /// No frame need be looked for among those with a record.
+    #[inline(always)]
+    fn pass_judged(&mut self)
+        ensures same { IsSameScene self.old self.new }
+    {
+        self.unsearched.pass_judged(&self.judged);
+    }
+
+    /// The same; what has to be looked at begins where the frame ends, though one with a record may begin there.
+    #[inline(always)]
+    fn add_record(&mut self, frame: Frame, state: State<Header>)
         requires room { 0 < self.old.room }
         requires releases { 0 < self.old.releases }
         requires few { length self.old.early < max_records }

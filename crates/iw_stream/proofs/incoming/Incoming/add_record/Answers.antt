@@ -10,7 +10,7 @@ use Rattle.iw_locate.specs.Unsearched.{Tells, IsFollowed, past_frame}
 use Rattle.iw_stream.specs.Frames.{EarlyRecord}
 use Rattle.iw_stream.specs.Incoming.{Coming, coming_of, scene_in}
 use Rattle.iw_stream.proofs.Arriving.{early_fits, kept_record}
-use Rattle.iw_stream.proofs.incoming.Incoming.keep.Goals as goal
+use Rattle.iw_stream.proofs.incoming.Incoming.add_record.Goals as goal
 
 pub add-requires-clause-some : goal.add-requires-clause-some
 add-requires-clause-some g c =
