@@ -144,7 +144,9 @@ pub(crate) fn fits_after<A: Allocator>(
     ensures { OnTrue result ((from - base + length octets.now ≤ vec_capacity buffer.now)
         × (from + length octets.now ≤ base + 327680)) }
 {
-    octets.len() <= buffer.capacity().min(MAX_HELD) - (from - base) as usize
+    let at = (from - base) as usize;
+    // The second test holds where the first does, which spares it where old octets are written over.
+    octets.len() <= buffer.len() - at || octets.len() <= buffer.capacity().min(MAX_HELD) - at
 }
 
 /// Takes in the octets from place `from` on, where the first span ends and past which nothing came, and adds their
