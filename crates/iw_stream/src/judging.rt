@@ -137,9 +137,9 @@ pub(crate) fn first_octets<A: Allocator>(fpdu: &Fpdu<'_, A>) -> ArrayVec<u8, FIR
     first
 }
 
-/// The octets of a ULPDU up to the first marker among them: none where it has none.
+// The octets of a ULPDU up to the first marker among them: none where it has none.
 #[inline(always)]
-pub(crate) fn front<'a, A: Allocator>(fpdu: &Fpdu<'a, A>) -> Option<&'a [u8]>
+fn front<'a, A: Allocator>(fpdu: &Fpdu<'a, A>) -> Option<&'a [u8]>
     requires { HoldsSpan fpdu.now }
     ensures { IfSome result (λ front. (beyond : List ℕ) × (ulpdu fpdu.now ≡ front.now ++ beyond)) }
 {
