@@ -106,7 +106,15 @@ impl<A: Allocator> Stream<A> {
         ensures waiting { result ≡ false → waiting self.now ≡ None }
         ensures clear { result ≡ false → (frame : Frame) → next_frame self.now ≡ Some frame → clashes self.now frame ≡ false }
     {
-        self.arrived.records() > 0 && self.looks_for_placed()
+        self.arrived.limits();
+        if self.arrived.records() == 0 {
+            return false;
+        }
+        // Nothing came at the in-order point, as where a window comes past a hole.
+        if self.arrived.missing() <= self.arrived.floor() {
+            return false;
+        }
+        self.looks_for_placed()
     }
 
     // The same, in a call of its own.
