@@ -18,3 +18,4 @@ pub mod Arriving
 pub mod Waiting
 pub mod Early
 pub mod Lengths
+pub mod Passing

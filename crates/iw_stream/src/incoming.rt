@@ -1,5 +1,5 @@
 ghost use Rattle.std.specs.Prelude.{◌≡◌, ◌+◌, ◌-◌, ◌<◌, ◌≤◌, ◌^◌, ℕ, [], length, true};
-ghost use Rattle.std.specs.Prelude.{IfOk, IfSome, OnOk, OnErr, IsTrue, Some, None};
+ghost use Rattle.std.specs.Prelude.{IfOk, IfSome, OnOk, OnErr, IsTrue, MatchOption, Some, None};
 ghost use Rattle.std.specs.Option.{option_map};
 ghost use Rattle.iw_ranges.specs.Arrived.{Missing, cell_at, has_come, IsWithinLimits};
 ghost use Rattle.iw_ranges.specs.Arrived.{delivery, delivered, advanced, BringsOctets};
@@ -306,6 +306,23 @@ impl<A: Allocator> Incoming<A> {
                 self.islands
                     .release(base + span_of(true, frame.start), base + frame.end);
             }
+        }
+    }
+
+    /// The header that is kept of the frame that begins at frame place `start`, where it was placed early, and the length of
+    /// its ULPDU.
+    #[inline(always)]
+    pub(crate) fn placed_header(&self, start: u64) -> Option<(&Header, u16)>
+        ensures { MatchOption result (placed_at self.now.early start ≡ None)
+            (λ kept. placed_at self.now.early start ≡ Some (record { header = kept.0.now; start = start; len = kept.1 })) }
+    {
+        self.judged.limits();
+        match self.judged.at(start) {
+            None => None,
+            Some(record) => match &record.state {
+                State::Tried => None,
+                State::Placed(header) => Some((header, record.length)),
+            },
         }
     }
 }

@@ -1,6 +1,5 @@
 ghost use Rattle.std.specs.Prelude.{◌≡◌, ◌+◌, ◌≤◌, ◌^◌, true, false, Some, None, IfOk, OnOk, OnErr};
 ghost use Rattle.iw_memory.specs.Table.{Table};
-ghost use Rattle.iw_stream.specs.Frames.{Frame};
 ghost use Rattle.iw_stream.specs.Starting.{is_open, awaits_frame};
 
 use super::Stream;
@@ -16,7 +15,6 @@ use std::alloc::{AllocError, Allocator};
 impl<A: Allocator> Stream<A> {
     ghost use Rattle.iw_stream.specs.Stream.{ended};
     ghost use Rattle.iw_stream.specs.Work.{Hear, IsTry, task, frame_task, handing_back};
-    ghost use Rattle.iw_stream.specs.Work.{waiting, next_frame, clashes};
     ghost use Rattle.iw_stream.specs.Work.{step_of, left_by, table_left, work_step, worked, table_worked};
     ghost use Rattle.iw_stream.specs.Kept.{IsWithinBuffer};
 
@@ -81,8 +79,11 @@ impl<A: Allocator> Stream<A> {
             }
             return self.frames_apart(memory);
         }
-        if self.meets_placed() {
+        let Ok(turned) = self.turn_early() else {
             return self.frames_apart(memory);
+        };
+        if turned {
+            return Ok(Step::Passed);
         }
         let Ok(found) = self.judge(memory) else {
             return self.frames_apart(memory);
@@ -94,44 +95,6 @@ impl<A: Allocator> Stream<A> {
             return self.try_apart(memory);
         };
         Ok(landed_step(landing))
-    }
-
-    // Whether a frame that was placed early begins among the octets that came without a gap from the in-order point on: it
-    // may be the frame there, or lie over it.
-    #[inline(always)]
-    fn meets_placed(&self) -> bool
-        requires open { is_open self.now.start ≡ true }
-        requires none { self.now.front ≡ None }
-        requires place { self.now.arrived.floor ≤ 2 ^ 62 }
-        ensures waiting { result ≡ false → waiting self.now ≡ None }
-        ensures clear { result ≡ false → (frame : Frame) → next_frame self.now ≡ Some frame → clashes self.now frame ≡ false }
-    {
-        self.arrived.limits();
-        if self.arrived.records() == 0 {
-            return false;
-        }
-        // Nothing came at the in-order point, as where a window comes past a hole.
-        if self.arrived.missing() <= self.arrived.floor() {
-            return false;
-        }
-        self.looks_for_placed()
-    }
-
-    // The same, in a call of its own.
-    #[inline(never)]
-    fn looks_for_placed(&self) -> bool
-        requires open { is_open self.now.start ≡ true }
-        requires none { self.now.front ≡ None }
-        requires place { self.now.arrived.floor ≤ 2 ^ 62 }
-        ensures waiting { result ≡ false → waiting self.now ≡ None }
-        ensures clear { result ≡ false → (frame : Frame) → next_frame self.now ≡ Some frame → clashes self.now frame ≡ false }
-    {
-        self.arrived.limits();
-        let base = self.start.first_place_in();
-        let layout = self.start.expecting();
-        let start = layout.start_of(self.arrived.floor() - base);
-        let end = self.arrived.missing().saturating_sub(base);
-        self.arrived.overlaps_placed(start, end)
     }
 
     // The step of frames, in a call of its own: for those of other kinds than Writes and Read Responses, for those with a

@@ -1,10 +1,13 @@
-ghost use Rattle.std.specs.Prelude.{◌≡◌, ◌+◌, ◌≤◌, ◌^◌, true, false, IsSome, IsTrue, Some, None};
+ghost use Rattle.std.specs.Prelude.{◌≡◌, ◌+◌, ◌≤◌, ◌^◌, true, false, is_some, IsSome, IsTrue, IfOk, OnErr, Some, None};
 ghost use Rattle.std.specs.Option.{option_map_or};
 ghost use Rattle.iw_memory.specs.Table.{Table};
+ghost use Rattle.iw_stream.specs.Frames.{Frame};
 ghost use Rattle.iw_stream.specs.Starting.{is_open};
 
 use super::Stream;
+use super::judgement::Apart;
 use crate::answer::Step;
+use crate::incoming::frame_at;
 use crate::judging::{PlacedFrame, Turning};
 use crate::terminating::{over, terminate_turned};
 use crate::turning::{is_response, turn_frame, turn_reads};
@@ -16,7 +19,7 @@ use std::alloc::Allocator;
 
 impl<A: Allocator> Stream<A> {
     ghost use Rattle.iw_stream.specs.Stream.{ended};
-    ghost use Rattle.iw_stream.specs.Work.{Turn, Rest, waiting, step_of, left_by, table_left};
+    ghost use Rattle.iw_stream.specs.Work.{Turn, Rest, waiting, next_frame, clashes, step_of, left_by, table_left};
     ghost use Rattle.iw_stream.specs.Kept.{IsWithinBuffer};
 
     // Gives the frame of a Write at the in-order point, which was placed, its turn, which has no check, and tells whether it
@@ -45,6 +48,95 @@ impl<A: Allocator> Stream<A> {
         let place = self.start.first_place_in() + end;
         self.front = None;
         self.arrived.advance(place);
+        true
+    }
+
+    // Gives the frame of a Write at the in-order point, which was placed before its turn, its turn, which has no check, and
+    // tells whether it did. Where it did not, none waits there, and none that was placed lies over the one there. An `Err`
+    // comes of any other that was placed before its turn, and changes nothing.
+    #[inline(always)]
+    pub(crate) fn turn_early(&mut self) -> Result<bool, Apart>
+        requires open { is_open self.old.start ≡ true }
+        requires runs { ended self.old ≡ false }
+        requires none { self.old.front ≡ None }
+        requires place { self.old.arrived.floor ≤ 2 ^ 62 }
+        ensures step { (table : Table) → IfOk result (λ turned. IsTrue turned → step_of table self.old (option_map_or Turn (waiting self.old) Rest) ≡ Step.Passed) }
+        ensures after { (table : Table) → IfOk result (λ turned. IsTrue turned → self.new ≡ left_by table self.old (option_map_or Turn (waiting self.old) Rest)) }
+        ensures memory { (table : Table) → IfOk result (λ turned. IsTrue turned → table_left table self.old (option_map_or Turn (waiting self.old) Rest) ≡ table) }
+        ensures waits { IfOk result (λ turned. IsTrue turned → is_some (waiting self.old) ≡ true) }
+        ensures kept { IfOk result (λ turned. turned ≡ false → self.new ≡ self.old) }
+        ensures waiting { IfOk result (λ turned. turned ≡ false → waiting self.old ≡ None) }
+        ensures clear { IfOk result (λ turned. turned ≡ false → (frame : Frame) → next_frame self.old ≡ Some frame → clashes self.old frame ≡ false) }
+        ensures err { OnErr result (self.new ≡ self.old) }
+        ensures reach { self.new.arrived.floor ≤ self.old.arrived.floor + 2 ^ 18 }
+    {
+        self.arrived.limits();
+        if self.arrived.records() == 0 {
+            return Ok(false);
+        }
+        // Nothing came at the in-order point, as where a window comes past a hole.
+        if self.arrived.missing() <= self.arrived.floor() {
+            return Ok(false);
+        }
+        self.turn_placed()
+    }
+
+    // The same, in a call of its own, where octets came there.
+    #[inline(never)]
+    fn turn_placed(&mut self) -> Result<bool, Apart>
+        requires open { is_open self.old.start ≡ true }
+        requires runs { ended self.old ≡ false }
+        requires none { self.old.front ≡ None }
+        requires place { self.old.arrived.floor ≤ 2 ^ 62 }
+        ensures step { (table : Table) → IfOk result (λ turned. IsTrue turned → step_of table self.old (option_map_or Turn (waiting self.old) Rest) ≡ Step.Passed) }
+        ensures after { (table : Table) → IfOk result (λ turned. IsTrue turned → self.new ≡ left_by table self.old (option_map_or Turn (waiting self.old) Rest)) }
+        ensures memory { (table : Table) → IfOk result (λ turned. IsTrue turned → table_left table self.old (option_map_or Turn (waiting self.old) Rest) ≡ table) }
+        ensures waits { IfOk result (λ turned. IsTrue turned → is_some (waiting self.old) ≡ true) }
+        ensures kept { IfOk result (λ turned. turned ≡ false → self.new ≡ self.old) }
+        ensures waiting { IfOk result (λ turned. turned ≡ false → waiting self.old ≡ None) }
+        ensures clear { IfOk result (λ turned. turned ≡ false → (frame : Frame) → next_frame self.old ≡ Some frame → clashes self.old frame ≡ false) }
+        ensures err { OnErr result (self.new ≡ self.old) }
+        ensures reach { self.new.arrived.floor ≤ self.old.arrived.floor + 2 ^ 18 }
+    {
+        self.arrived.limits();
+        let base = self.start.first_place_in();
+        let layout = self.start.expecting();
+        let start = layout.start_of(self.arrived.floor() - base);
+        let Some((header, len)) = self.arrived.placed_header(start) else {
+            if self.is_clear() {
+                return Ok(false);
+            }
+            return Err(Apart);
+        };
+        let Some(head) = tagged_head(header.as_slice()) else {
+            return Err(Apart);
+        };
+        let response = is_response(&head);
+        if response {
+            return Err(Apart);
+        }
+        let place = base + layout.end_of(start, len);
+        self.arrived.advance(place);
+        Ok(true)
+    }
+
+    // Whether no frame that was placed early lies over the one at the in-order point, where that is whole.
+    #[inline(always)]
+    fn is_clear(&self) -> bool
+        requires none { waiting self.now ≡ None }
+        requires place { self.now.arrived.floor ≤ 2 ^ 62 }
+        ensures { IsTrue result → (frame : Frame) → next_frame self.now ≡ Some frame → clashes self.now frame ≡ false }
+    {
+        self.arrived.limits();
+        let base = self.start.first_place_in();
+        let layout = self.start.expecting();
+        let start = layout.start_of(self.arrived.floor() - base);
+        let Some(fpdu) = frame_at(layout, &self.arrived, base, start) else {
+            return true;
+        };
+        if self.arrived.overlaps_placed(start, fpdu.end()) {
+            return false;
+        }
         true
     }
 

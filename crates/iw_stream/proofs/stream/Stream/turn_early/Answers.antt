@@ -7,7 +7,7 @@ use Rattle.iw_stream.specs.Starting.{first_place_in}
 use Rattle.iw_stream.specs.Stream.{StreamState}
 use Rattle.iw_stream.specs.Work.{scene, waiting, next_frame, clashes}
 use Rattle.iw_stream.proofs.Waiting.{kept_scene, none_begins, none_clash, none_waits}
-use Rattle.iw_stream.proofs.stream.Stream.meets_placed.Goals as goal
+use Rattle.iw_stream.proofs.stream.Stream.turn_early.Goals as goal
 
 pub returns-then-missing-floor-clause-waiting : goal.returns-then-missing-floor-clause-waiting
 returns-then-missing-floor-clause-waiting g c e =
