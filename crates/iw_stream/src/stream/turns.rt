@@ -53,7 +53,7 @@ impl<A: Allocator> Stream<A> {
 
     // Gives the frame of a Write at the in-order point, which was placed before its turn, its turn, which has no check, and
     // tells whether it did. Where it did not, none waits there, and none that was placed lies over the one there. An `Err`
-    // comes of any other that was placed before its turn, and changes nothing.
+    // changes nothing, and comes where another kind of frame waits there, or one that was placed lies over the one there.
     #[inline(always)]
     pub(crate) fn turn_early(&mut self) -> Result<bool, Apart>
         requires open { is_open self.old.start ≡ true }
