@@ -1,5 +1,5 @@
 -- The frame at the in-order point, as its record is looked up there.
-use Rattle.std.proofs.Common.{◌≡◌, ℕ, ◌-◌, false, Option, Some, None, sym, ap, ◌∙◌}
+use Rattle.std.proofs.Common.{◌≡◌, ℕ, ◌-◌, false, Some, None, sym, ap, ◌∙◌}
 use Rattle.std.specs.Option.{option_or}
 use Rattle.iw_ranges.specs.Arrived.{IsWithinLimits}
 use Rattle.iw_fpdu.specs.declared.layout.Layout.{Layout}

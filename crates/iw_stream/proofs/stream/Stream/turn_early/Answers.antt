@@ -1,11 +1,8 @@
-use Rattle.std.proofs.Common.{◌≡◌, ◌-◌, ◌≤◌, ◌∙◌, ap, false, Some, None, subst, arith}
-use Rattle.iw_locate.specs.Free.{front_of}
-use Rattle.iw_locate.specs.Lowest.{overlaps_placed}
+use Rattle.std.proofs.Common.{◌≡◌, ◌≤◌, ◌∙◌, ap, false, Some, None, subst, arith}
 use Rattle.iw_stream.specs.Fields.{state_of}
 use Rattle.iw_stream.specs.Frames.{Frame}
-use Rattle.iw_stream.specs.Starting.{first_place_in}
 use Rattle.iw_stream.specs.Stream.{StreamState}
-use Rattle.iw_stream.specs.Work.{scene, waiting, next_frame, clashes}
+use Rattle.iw_stream.specs.Work.{waiting, next_frame, clashes}
 use Rattle.iw_stream.proofs.Waiting.{kept_scene, none_begins, none_clash, none_waits}
 use Rattle.iw_stream.proofs.stream.Stream.turn_early.Goals as goal
 

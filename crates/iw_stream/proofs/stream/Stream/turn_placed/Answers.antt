@@ -1,5 +1,4 @@
-use Rattle.std.proofs.Common.{◌≡◌, ◌+◌, ◌^◌, false, true, None, refl, sym, ap, ◌∙◌, subst, arith}
-use Rattle.std.specs.Prelude.{Option}
+use Rattle.std.proofs.Common.{◌≡◌, ◌+◌, true, None, refl, sym, ap, ◌∙◌, subst, arith}
 use Rattle.iw_fpdu.specs.declared.layout.Layout.{Layout}
 use Rattle.iw_fpdu.specs.Frame.{frame_end}
 use Rattle.iw_stream.specs.declared.judging.PlacedFrame.{PlacedFrame}
