@@ -139,6 +139,26 @@ fn the_first_frame_comes_last(rt: HostRuntime) -> Result<(), Fail> {
     Ok(())
 }
 
+/// A frame that comes after the one past it, which was judged, leaves nothing to look for.
+#[test]
+fn backwards_nothing_is_left_to_search(rt: HostRuntime) -> Result<(), Fail> {
+    let (mut islands, mut judged, mut unsearched) = begun(rt.alloc())?;
+    deliver(&mut islands, &judged, &mut unsearched, 1024, SECOND)?;
+    judge(&islands, &mut judged, &mut unsearched)?;
+    judge(&islands, &mut judged, &mut unsearched)?;
+    deliver(&mut islands, &judged, &mut unsearched, 518, &[0; 506])?;
+    let front = b"\0\0\0\0\x01\xf6";
+    deliver(&mut islands, &judged, &mut unsearched, 512, front)?;
+    let Next::Frame(first) = judge(&islands, &mut judged, &mut unsearched)? else {
+        return Err("nothing was found".into());
+    };
+    unsearched.recorded(&first);
+    assert!(rt; unsearched.low == 1024 && unsearched.high > 1024);
+    unsearched.pass_judged(&judged);
+    assert!(rt; unsearched.high <= unsearched.low);
+    Ok(())
+}
+
 /// What is found by a marker at 512 with this pointer, and a frame past it.
 fn by_marker(alloc: Global, pointer: &[u8]) -> Result<Next, Fail> {
     let (mut islands, mut judged, mut unsearched) = begun(alloc)?;
