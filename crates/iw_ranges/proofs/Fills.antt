@@ -186,18 +186,18 @@ put_octets base ss from front grown filled n i lg lf room wrote =
           get_or_past filled i 0 (omega arith) ∙ sym (get_or_past grown i 0 (omega arith)) ∙ sym (past_octets base ss from front grown i (omega arith))
     ]
 
--- octets that are laid past all spans
-pub past_all : (base : ℕ) (ss : List Span) (from : ℕ) (octets buffer laid : List ℕ) (i : ℕ) → ((p : ℕ) → in_spans p ss ≡ true → p < from) → base ≤ from
+-- octets that are laid where no span is
+pub laid_free : (base : ℕ) (ss : List Span) (from : ℕ) (octets buffer laid : List ℕ) (i : ℕ) → ((p : ℕ) → from ≤ p → p ≤ from + length octets → in_spans p ss ≡ false) → base ≤ from
     → get_or laid i 0 ≡ cond (leb (from - base) i && ltb i (from - base + length octets)) (get_or octets (i - (from - base)) 0) (get_or buffer i 0)
     → get_or laid i 0 ≡ octet_after base ss from octets buffer i
-past_all base ss from octets buffer laid i last low is =
+laid_free base ss from octets buffer laid i free low is =
     elim (cases_lt (base + i) from) [
       | inl before ↦ is ∙ off (let o : (leb (from - base) i && ltb i (from - base + length octets)) ≡ false = grind (arith, nat_tests) in o) ∙ sym (before_octets base ss from octets buffer i before)
       | inr past ↦ elim (cases_lt (base + i) (from + length octets)) [
         | inl put ↦
             let on : (leb (from - base) i && ltb i (from - base + length octets)) ≡ true = grind (arith, nat_tests) in
             is ∙ ap (λ b. cond b (get_or octets (i - (from - base)) 0) (get_or buffer i 0)) on ∙ ap (λ n. get_or octets n 0) (omega arith)
-            ∙ sym (in_octets base ss from octets buffer i past put (not_in (base + i) from ss (in_spans (base + i) ss) last past refl))
+            ∙ sym (in_octets base ss from octets buffer i past put (free (base + i) past (omega arith)))
         | inr none ↦ is ∙ off (let o : (leb (from - base) i && ltb i (from - base + length octets)) ≡ false = grind (arith, nat_tests) in o) ∙ sym (past_octets base ss from octets buffer i none)
       ]
     ]

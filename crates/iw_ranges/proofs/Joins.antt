@@ -1,13 +1,14 @@
 -- Spans and the places that are added to them.
-use Rattle.std.proofs.Common.{◌≡◌, ℕ, ◌+◌, ◌<◌, ◌≤◌, zero, suc, List, [], ◌∷◌, ◌++◌, take, drop, length, get_or, min, max, Bool, true, false, refl, sym, ap, ◌∙◌, subst, arith, add-one, inl, inr, length-append, length-drop}
+use Rattle.std.proofs.Common.{◌≡◌, ℕ, ◌+◌, ◌<◌, ◌≤◌, zero, suc, List, [], ◌∷◌, ◌++◌, take, drop, length, get_or, min, max, Bool, true, false, ◌||◌, refl, sym, ap, ◌∙◌, subst, arith, add-one, inl, inr, length-append, length-drop}
 use Rattle.std.proofs.lemmas.List.{drop_more, take-append-drop, take-append-le, take-take, take-set, drop-set, drop_at, length-take-le, drop_all}
 use Rattle.std.proofs.lemmas.Bool.{cases_lt}
 use Rattle.std.proofs.lemmas.Bool.Decides.{nat_tests}
 use Rattle.std.proofs.Math.ListN.{set}
+use Rattle.std.specs.Bool.{OnTrue}
 use Rattle.std.specs.Prelude.{insert, remove, nat_lt, nat_eq, MatchBool}
 use Rattle.iw_ranges.specs.declared.spans.Span.{Span}
-use Rattle.iw_ranges.specs.Spans.{add_span, merge_span, spans_past, in_spans, IsFirstReaching, IsFromStart, first_end}
-use Rattle.iw_ranges.proofs.Reaches.{AllBefore}
+use Rattle.iw_ranges.specs.Spans.{add_span, merge_span, spans_past, in_span, in_spans, IsApart, IsFirstReaching, IsFromStart, first_end}
+use Rattle.iw_ranges.proofs.Reaches.{AllBefore, below_apart}
 
 pub skip_one : (from to : ℕ) (s : Span) (ss : List Span) → s.to < from → add_span from to (s ∷ ss) ≡ s ∷ add_span from to ss
 unfolding add_span
@@ -49,30 +50,53 @@ add_touched ss from to i d before lt reaches =
     (ap (merge_span from to) step ∙ sym (merge_here from to (get_or ss i d) (drop (i + 1) ss) reaches) ∙ ap (add_span from to) (sym step))
     ∙ add_rest ss from to i before
 
--- past the first span nothing came, so it is the only one
-pub only_first : (s : Span) (ss : List Span) → IsFromStart (s ∷ ss) → ((p : ℕ) → in_spans p (s ∷ ss) ≡ true → p < s.to) → ss ≡ []
-only_first s [] order last = refl
-only_first s (t ∷ ss) order last =
-    let some : t.from < t.to = order.1.1 in
-    let here : in_spans t.from (s ∷ (t ∷ ss)) ≡ true = grind (arith, nat_tests, some) in
-    absurd (omega (arith, order.1.0, last t.from here))
-
--- and the places right past it make it longer
-pub add_longer : (s : Span) (ss : List Span) (to : ℕ) → IsFromStart (s ∷ ss) → ((p : ℕ) → in_spans p (s ∷ ss) ≡ true → p < s.to) → s.to < to
+-- the places right past the first span make it longer, where they touch no other
+add_longer : (s : Span) (ss : List Span) (to : ℕ) → IsFromStart (s ∷ ss) → ((p : ℕ) → s.to ≤ p → p ≤ to → in_spans p (s ∷ ss) ≡ false) → s.to < to
     → record { from = 0; to = to } ∷ ss ≡ add_span s.to to (s ∷ ss)
-add_longer s ss to order last further =
-    let none : ss ≡ [] = only_first s ss order last in
-    let one : ℕ → ℕ → List Span = λ a b. record { from = a; to = b } ∷ [] in
+add_longer s ss to order free further =
+    let one : ℕ → ℕ → List Span = λ a b. record { from = a; to = b } ∷ ss in
     let low : 0 ≡ min s.to s.from = omega (arith, order.0) in
     let high : to ≡ max to s.to = omega (arith, further) in
-    ap (λ ys. let x : List Span = record { from = 0; to = to } ∷ ys in x) none ∙ ap (λ a. one a to) low ∙ ap (one (min s.to s.from)) high
-    ∙ sym (merge_at_end (min s.to s.from) (max to s.to)) ∙ ap (merge_span (min s.to s.from) (max to s.to)) (sym none)
+    ap (λ a. one a to) low ∙ ap (one (min s.to s.from)) high ∙ sym (past ss order.1 (λ p low high. free p low high))
     ∙ sym (merge_one s.to to s ss (omega (arith, order.0))) ∙ sym (merge_here s.to to s ss (omega arith))
+  where
+    past : (ts : List Span) → IsApart s.to ts → ((p : ℕ) → s.to ≤ p → p ≤ to → in_spans p (s ∷ ts) ≡ false)
+        → merge_span (min s.to s.from) (max to s.to) ts ≡ record { from = min s.to s.from; to = max to s.to } ∷ ts
+    past [] apart none = merge_at_end (min s.to s.from) (max to s.to)
+    past (t ∷ ts) apart none =
+        let some : t.from < t.to = apart.1 in
+        let here : in_spans t.from (s ∷ (t ∷ ts)) ≡ true = grind (arith, nat_tests, some) in
+        let beyond : to < t.from = elim (cases_lt to t.from) [ inl beyond ↦ beyond | inr touched ↦ absurd (let no = none t.from (omega (arith, apart.0)) touched in cc) ] in
+        merge_done (min s.to s.from) (max to s.to) t ts (omega arith)
 
-pub made_longer : (ss : List Span) (to : ℕ) → IsFromStart ss → ((p : ℕ) → in_spans p ss ≡ true → p < first_end ss) → first_end ss < to
+pub made_longer : (ss : List Span) (to : ℕ) → IsFromStart ss → ((p : ℕ) → first_end ss ≤ p → p ≤ to → in_spans p ss ≡ false) → first_end ss < to
     → set ss 0 (record { from = 0; to = to }) ≡ add_span (first_end ss) to ss
-made_longer [] to order last further = absurd (elim order [ ])
-made_longer (s ∷ ss) to order last further = add_longer s ss to order last further
+made_longer [] to order free further = absurd (elim order [ ])
+made_longer (s ∷ ss) to order free further = add_longer s ss to order free further
+
+-- what lies past the first span and before the second lies in none
+pub between : (ss : List Span) (p : ℕ) (second : Span) → IsFromStart ss → (1 < length ss → p < (get_or ss 1 second).from) → first_end ss ≤ p → in_spans p ss ≡ false
+between [] p second order before low = refl
+between (s ∷ []) p second order before low = let out : in_span p s ≡ false = grind (arith, nat_tests) in ap (λ b. b || false) out
+between (s ∷ (t ∷ ts)) p second order before low =
+    let out : in_span p s ≡ false = grind (arith, nat_tests) in
+    let high : p < t.from = before (omega arith) in
+    let ahead : in_span p t ≡ false = grind (arith, nat_tests) in
+    let rest : in_spans p ts ≡ false = below_apart t.to p ts order.1.2 (omega (arith, high, order.1.1)) in
+    grind (arith, nat_tests, out, ahead, rest)
+
+pub before_second : (ss : List Span) (to : ℕ) (second : Span) → IsFromStart ss → second ≡ get_or ss 1 second
+    → OnTrue (nat_lt to second.from) ((p : ℕ) → first_end ss ≤ p → p ≤ to → in_spans p ss ≡ false)
+before_second ss to second order is =
+    elim (cases_lt to second.from) [
+      | inl before ↦
+          let t : nat_lt to second.from ≡ true = grind (arith, nat_tests) in
+          subst (λ b. OnTrue b ((p : ℕ) → first_end ss ≤ p → p ≤ to → in_spans p ss ≡ false)) (sym t)
+          (λ p low high. between ss p second order (λ more. omega (arith, before, high, ap (λ (s : Span). s.from) is)) low)
+      | inr past ↦
+          let t : nat_lt to second.from ≡ false = grind (arith, nat_tests) in
+          subst (λ b. OnTrue b ((p : ℕ) → first_end ss ≤ p → p ≤ to → in_spans p ss ≡ false)) (sym t) tt
+    ]
 
 -- or they touch none
 pub add_before : (ss : List Span) (from to i : ℕ) (d : Span) → AllBefore ss from i → i < length ss → from ≤ (get_or ss i d).to → to < (get_or ss i d).from

@@ -1,4 +1,4 @@
-ghost use Rattle.std.specs.Prelude.{◌≡◌, ◌<◌, ◌≤◌, ◌+◌, ◌-◌, ◌*◌, ◌^◌, ◌&&◌, nat_le, nat_lt, max, true};
+ghost use Rattle.std.specs.Prelude.{◌≡◌, ◌<◌, ◌≤◌, ◌+◌, ◌-◌, ◌*◌, ◌^◌, ◌&&◌, nat_le, nat_lt, max, true, false};
 ghost use Rattle.std.specs.Prelude.{ℕ, [], ◌++◌, length, take, drop, slice_index, vec_len, vec_capacity};
 ghost use Rattle.std.specs.Prelude.{if◌then◌else◌, OnOk, OnErr};
 ghost use Rattle.std.specs.Bool.{OnTrue};
@@ -149,8 +149,8 @@ pub(crate) fn fits_after<A: Allocator>(
     octets.len() <= buffer.len() - at || octets.len() <= buffer.capacity().min(MAX_HELD) - at
 }
 
-/// Takes in the octets from place `from` on, where the first span ends and past which nothing came, and adds their
-/// places to the spans.
+/// Takes in the octets from place `from` on, where the first span ends, and adds their places to the spans. They touch no
+/// other span.
 #[inline(always)]
 pub(crate) fn put_after<A: Allocator>(
     buffer: &mut Vec<u8, A>,
@@ -166,7 +166,7 @@ pub(crate) fn put_after<A: Allocator>(
     requires small { from + length octets.now < 2 ^ 64 }
     requires order { IsFromStart spans.old.items }
     requires first { from ≡ first_end spans.old.items }
-    requires last { (p : ℕ) → in_spans p spans.old.items ≡ true → p < from }
+    requires free { (p : ℕ) → from ≤ p → p ≤ from + length octets.now → in_spans p spans.old.items ≡ false }
     ensures spans { spans.new.items ≡ add_span from (from + length octets.now) spans.old.items }
     ensures end { first_end spans.new.items ≡ from + length octets.now }
     ensures few { length spans.new.items ≤ length spans.old.items }

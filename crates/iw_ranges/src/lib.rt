@@ -17,7 +17,9 @@ pub mod laws;
 mod spans;
 
 use buffer::{fits_after, let_go, put, put_after, shorten};
-use spans::{Span, end_of_first, first_reaching, forget, holds_all, is_one_too_many, join};
+use spans::{
+    Span, end_of_first, first_reaching, forget, holds_all, is_free, is_one_too_many, join,
+};
 use std::alloc::{AllocError, Allocator, Global};
 use std::collections::VecDeque;
 use std::marker::Model;
@@ -114,12 +116,12 @@ impl<A: Allocator> Islands<A> {
             return Ok(Delivery::Dropped);
         }
         if place == self.missing
-            && place == self.end
+            && is_free(&self.spans, place, self.end, place + octets.len() as u64)
             && fits_after(&self.octets, self.base, place, octets)
         {
             put_after(&mut self.octets, self.base, &mut self.spans, place, octets);
             self.missing = place + octets.len() as u64;
-            self.end = self.missing;
+            self.end = self.end.max(self.missing);
             return Ok(Delivery::Kept);
         }
         self.add_apart(place, octets)

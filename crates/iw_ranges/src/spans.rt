@@ -1,4 +1,5 @@
 ghost use Rattle.std.specs.Prelude.{◌≡◌, ◌<◌, ◌≤◌, ◌+◌, ◌^◌, ℕ, length, true, false, MatchBool, slice_index_or, nat_lt};
+ghost use Rattle.std.specs.Bool.{OnTrue};
 ghost use Rattle.std.specs.VecDeque.{deque_len, deque_capacity};
 ghost use Rattle.iw_ranges.specs.Spans.{in_spans, spans_past, first_end, IsFromStart, IsInOrder, IsFirstReaching};
 ghost use Rattle.iw_ranges.specs.Spans.{add_span, merge_span};
@@ -108,11 +109,33 @@ pub(crate) fn widen<A: Allocator>(spans: &mut VecDeque<Span, A>, low: usize, fro
     spans[low] = joined;
 }
 
-/// Makes the only span, which begins at place 0, end at `to`.
+/// Whether the first span ends before all others where it is made to end at `to`. It ends at `from` now, and all spans
+/// before `end`.
+#[inline(always)]
+pub(crate) fn is_free<A: Allocator>(spans: &VecDeque<Span, A>, from: u64, end: u64, to: u64) -> bool
+    requires order { IsFromStart spans.now.items }
+    requires first { from ≡ first_end spans.now.items }
+    requires last { (p : ℕ) → in_spans p spans.now.items ≡ true → p < end }
+    ensures { OnTrue result ((p : ℕ) → from ≤ p → p ≤ to → in_spans p spans.now.items ≡ false) }
+{
+    from == end || is_before_second(spans, to)
+}
+
+/// Whether there is no second span, or `to` lies before it.
+#[inline(always)]
+fn is_before_second<A: Allocator>(spans: &VecDeque<Span, A>, to: u64) -> bool
+    requires { IsFromStart spans.now.items }
+    ensures { OnTrue result
+        ((p : ℕ) → first_end spans.now.items ≤ p → p ≤ to → in_spans p spans.now.items ≡ false) }
+{
+    spans.len() <= 1 || to < spans[1].from
+}
+
+/// Makes the first span, which begins at place 0, end at `to`, before all others.
 #[inline(always)]
 pub(crate) fn lengthen<A: Allocator>(spans: &mut VecDeque<Span, A>, to: u64)
     requires order { IsFromStart spans.old.items }
-    requires last { (p : ℕ) → in_spans p spans.old.items ≡ true → p < first_end spans.old.items }
+    requires free { (p : ℕ) → first_end spans.old.items ≤ p → p ≤ to → in_spans p spans.old.items ≡ false }
     requires further { first_end spans.old.items < to }
     ensures items { spans.new.items ≡ add_span (first_end spans.old.items) to spans.old.items }
     ensures end { first_end spans.new.items ≡ to }
