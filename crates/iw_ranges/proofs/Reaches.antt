@@ -6,7 +6,7 @@ use Rattle.std.proofs.lemmas.Bool.Decides.{nat_tests}
 use Rattle.std.specs.Prelude.{nat_lt, nat_le, MatchBool}
 use Rattle.std.specs.List.Sorted.{IsNonDecreasingBy, IsPartitionPoint}
 use Rattle.iw_ranges.specs.declared.spans.Span.{Span}
-use Rattle.iw_ranges.specs.Spans.{in_span, in_spans, IsApart, IsFromStart, IsInOrder, IsFirstReaching}
+use Rattle.iw_ranges.specs.Spans.{in_span, in_spans, first_end, IsApart, IsFromStart, IsInOrder, IsFirstReaching}
 
 pub in_order_tail : (s : Span) (ss : List Span) → IsInOrder (s ∷ ss) → IsInOrder ss
 in_order_tail s [] h = tt
@@ -173,3 +173,37 @@ answer_at_last ss count last from to order all some is low more =
           let first = first_from_last ss from count (count - 1) last order all some is low (λ lt. absurd (omega (arith, lt, at))) (λ le. omega (arith, some)) in
           answer_at_to ss (count - 1) last from to (omega (arith, all, some)) is more order first low
     ]
+
+-- ---- the second span
+pub second_reaches : (ss : List Span) (from : ℕ) (first second : Span) → 1 < length ss → first ≡ get_or ss 0 first → second ≡ get_or ss 1 second → first.to < from → from ≤ second.to → IsFirstReaching ss from 1
+second_reaches [] from first second some is0 is1 past reach = absurd (omega arith)
+second_reaches (s ∷ []) from first second some is0 is1 past reach = absurd (omega arith)
+second_reaches (s ∷ t ∷ ts) from first second some is0 is1 past reach = record {
+  within = omega (arith, some);
+  before = λ k d lt. subst (λ j. (get_or (s ∷ t ∷ ts) j d).to < from) (let e : 0 ≡ k = omega (arith, lt) in e) (omega (arith, past, ap (λ (x : Span). x.to) is0));
+  reaches = λ d lt. omega (arith, reach, ap (λ (x : Span). x.to) is1);
+}
+
+-- a range that ends past the first span, and begins before the second, or in it
+pub lacks_before_second : (ss : List Span) (second : Span) (from to : ℕ) → IsFromStart ss → 1 < length ss → second ≡ get_or ss 1 second → first_end ss < to → from < to → from < second.from
+    → AllOrSome false (λ p. in_spans p ss) from to
+lacks_before_second [] second from to order some is past more before = absurd (omega arith)
+lacks_before_second (s ∷ []) second from to order some is past more before = absurd (omega arith)
+lacks_before_second (s ∷ t ∷ ts) second from to order some is past more before =
+    let start : from < t.from = omega (arith, before, ap (λ (x : Span). x.from) is) in
+    elim (cases_lt from s.to) [
+      | inl within ↦
+          let out : in_span s.to s ≡ false = grind (arith, nat_tests) in
+          (s.to, omega (arith, within), past, ap (λ b. b || in_spans s.to (t ∷ ts)) out ∙ below_apart s.to s.to (t ∷ ts) order.1 (omega arith))
+      | inr beyond ↦
+          let out : in_span from s ≡ false = grind (arith, nat_tests) in
+          (from, omega arith, more, ap (λ b. b || in_spans from (t ∷ ts)) out ∙ below_apart from from (t ∷ ts) (start, order.1.1, order.1.2) (omega arith))
+    ]
+
+pub answer_at_second : (ss : List Span) (second : Span) (from to : ℕ) → IsFromStart ss → 1 < length ss → second ≡ get_or ss 1 second → from < to → second.from ≤ from → from ≤ second.to
+    → AllOrSome (nat_le to second.to) (λ p. in_spans p ss) from to
+answer_at_second [] second from to order some is more low reach = absurd (omega arith)
+answer_at_second (s ∷ []) second from to order some is more low reach = absurd (omega arith)
+answer_at_second (s ∷ t ∷ ts) second from to order some is more low reach =
+    answer_at_to (s ∷ t ∷ ts) 1 second from to some is more (in_order_start (s ∷ t ∷ ts) order)
+    (second_reaches (s ∷ t ∷ ts) from s second some refl is (omega (arith, order.1.0, low, ap (λ (x : Span). x.from) is)) reach) low

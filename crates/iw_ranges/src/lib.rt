@@ -199,6 +199,7 @@ impl<A: Allocator> Islands<A> {
     }
 
     /// Whether all octets from place `from` up to place `to` came, given up or not.
+    #[inline]
     pub fn came(&self, from: u64, to: u64) -> bool
         ensures { MatchBool result ((p : ℕ) → from ≤ p → p < to → has_come self.now.arrived p ≡ true)
             ((p : ℕ) × (from ≤ p) × (p < to) × (has_come self.now.arrived p ≡ false)) }
@@ -206,6 +207,24 @@ impl<A: Allocator> Islands<A> {
         if to <= self.missing || to <= from {
             return true;
         }
+        if let Some(second) = self.spans.get(1)
+            && from <= second.to
+        {
+            if from < second.from {
+                return false;
+            }
+            return to <= second.to;
+        }
+        self.came_apart(from, to)
+    }
+
+    /// The same, for places of which the last may lie past the second span.
+    #[inline(never)]
+    fn came_apart(&self, from: u64, to: u64) -> bool
+        requires { from < to }
+        ensures { MatchBool result ((p : ℕ) → from ≤ p → p < to → has_come self.now.arrived p ≡ true)
+            ((p : ℕ) × (from ≤ p) × (p < to) × (has_come self.now.arrived p ≡ false)) }
+    {
         if let Some(last) = self.spans.back()
             && last.from <= from
         {

@@ -23,17 +23,16 @@ pub(crate) fn first_reaching<A: Allocator>(spans: &VecDeque<Span, A>, from: u64)
     requires { IsInOrder spans.now.items }
     ensures { IsFirstReaching spans.now.items from result }
 {
-    if let Some(first) = spans.front()
-        && from <= first.to
-    {
+    let count = spans.len();
+    if count == 0 || from <= spans[0].to {
         return 0;
     }
-    let count = spans.len();
-    if count > 0 {
-        let last = spans[count - 1];
-        if last.from <= from {
-            return index_at_last(count, last.to, from);
-        }
+    if count > 1 && from <= spans[1].to {
+        return 1;
+    }
+    let last = spans[count - 1];
+    if last.from <= from {
+        return index_at_last(count, last.to, from);
     }
     spans.partition_point(
         |span: &Span| -> bool
