@@ -54,7 +54,7 @@ impl<'a, A: Allocator> Model for Fpdu<'a, A> {
 /// Whether all octets at the frame places from `from` up to `to` came, where frame place 0 is place `base` of the
 /// stream.
 #[inline(always)]
-fn all_came<A: Allocator>(islands: &Islands<A>, base: u64, from: u64, to: u64) -> bool
+pub fn all_came<A: Allocator>(islands: &Islands<A>, base: u64, from: u64, to: u64) -> bool
     requires { from < to }
     ensures came { MatchBool result ((p : ℕ) → from ≤ p → p < to → has_come islands.now.arrived (base + p) ≡ true)
         ((p : ℕ) × (from ≤ p) × (p < to) × (has_come islands.now.arrived (base + p) ≡ false)) }

@@ -13,7 +13,7 @@ mod pieces;
 mod write;
 mod writer;
 
-pub use fpdu::{Fpdu, Mismatch};
+pub use fpdu::{Fpdu, Mismatch, all_came};
 pub use layout::{Layout, MARKER, SPACING, span_of};
 pub use pieces::Pieces;
 pub use write::{WriteRefusal, write_bare, write_fpdu};

@@ -6,13 +6,16 @@ use Rattle.std.specs.Prelude.{◌⊎◌}
 use Rattle.std.specs.List.{Contains}
 use Rattle.iw_ranges.specs.Arrived.{Cell, Missing, Here, Gone, cell_at}
 use Rattle.iw_fpdu.specs.Places.{IsStart, span_start}
-use Rattle.iw_fpdu.specs.Found.{IsKept}
+use Rattle.iw_fpdu.specs.Reading.{length_at}
+use Rattle.iw_fpdu.specs.Found.{IsKept, IsWhole}
 use Rattle.iw_fpdu.specs.Laws.{IsBetween}
 use Rattle.iw_fpdu.proofs.Octets.{span_low, span_near}
 use Rattle.iw_fpdu.proofs.Follows.{begins}
+use Rattle.iw_locate.specs.declared.frame.Frame.{Frame}
 use Rattle.iw_locate.specs.declared.judged.Record.{Record}
-use Rattle.iw_locate.specs.Records.{from_of, IsClearOfPlaced, AreApart}
-use Rattle.iw_locate.specs.Free.{Scene, point_of, front_of, IsOpen, CanLocate}
+use Rattle.iw_locate.specs.Records.{from_of, IsClear, IsClearOfPlaced, AreApart}
+use Rattle.iw_locate.specs.Free.{Scene, point_of, front_of, octet_of, end_of, IsOpen, CanLocate}
+use Rattle.iw_locate.specs.Next.{frame_at}
 use Rattle.iw_locate.specs.Keeping.{IsFrontUnplaced}
 use Rattle.iw_locate.proofs.Open.{start_high, span_is}
 
@@ -88,3 +91,20 @@ not_open_low v can m s low open_ =
 
 pub starts_of : {T : Type 0} (rs : List (Record T)) → AreApart rs → (r : Record T) → Contains rs r → IsStart true r.start
 starts_of rs apart r (k, lt, is) = subst (λ (x : Record _). IsStart true x.start) is (apart.start k r lt)
+
+-- a whole frame past the in-order point that lies over none with a record is open
+pub open_here : {T : Type 0} (v : Scene T) → CanLocate v → v.layout.markers ≡ true → (s : ℕ) → IsStart v.layout.markers s → IsWhole v.arrived v.layout.markers v.base s → point_of v < span_start true s
+    → IsClear v.records s (end_of v s) → IsOpen v s
+open_here v can m s start whole past clear = record {
+  start = start;
+  whole = whole;
+  past = omega (arith, past, span_is v can m s);
+  other = λ e. let at : span_start true (front_of v) ≡ point_of v = ap (λ b. span_start b (front_of v)) (sym m) ∙ can.between.span in omega (arith, at, past, ap (span_start true) e);
+  clear = clear;
+}
+
+abbrev pub frame_to : ℕ → ℕ → ℕ → Frame
+frame_to s len end = record { start = s; length = len; end = end; early = true }
+
+pub same_frame : {T : Type 0} (v : Scene T) (s len end : ℕ) → len ≡ length_at (octet_of v) s → end ≡ end_of v s → frame_to s len end ≡ frame_at v s true
+same_frame v s len end length e = λ i. frame_to s (length i) (e i)

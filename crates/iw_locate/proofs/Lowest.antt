@@ -22,6 +22,20 @@ module _ {T : Type 0} (v : Scene T) where
       let e : f.start ≡ start = ap (λ (x : Frame). x.start) h.0 in
       (h.0 ∙ ap (λ s. frame_at v s true) (sym e), subst Q (sym e) here, subst (IsOpen v) (sym e) h.1, λ s q o. omega (arith, only s q o))
 
+  -- where there is one place, if the marker is seen
+  pub with_seen : (place start : ℕ) (best : Option Frame) → IsMarkerSeen v place → MatchOption best (IsOpen v start → ⊥) (λ f. (f ≡ frame_at v start true) × IsOpen v start)
+      → MatchOption best (IsMarkerSeen v place → IsOpen v start → ⊥) (λ f. (f ≡ frame_at v start true) × IsMarkerSeen v place × IsOpen v start)
+  with_seen place start None seen h = λ s o. h o
+  with_seen place start (Some f) seen h = (h.0, seen, h.1)
+
+  pub among_seen : (low high place start : ℕ) (best : Option Frame) → IsWithin low high start → (IsMarkerSeen v place → PointsTo v place start)
+      → ((s : ℕ) → IsWithin low high s × IsMarkerSeen v place × PointsTo v place s → IsOpen v s → s ≡ start)
+      → MatchOption best (IsMarkerSeen v place → IsOpen v start → ⊥) (λ f. (f ≡ frame_at v start true) × IsMarkerSeen v place × IsOpen v start)
+      → IsLowestAmong (λ s. IsWithin low high s × IsMarkerSeen v place × PointsTo v place s) v best
+  among_seen low high place start None within points only h = λ s q o. h q.1 (subst (IsOpen v) (only s q o) o)
+  among_seen low high place start (Some f) within points only h =
+      among_one (λ s. IsWithin low high s × IsMarkerSeen v place × PointsTo v place s) start (Some f) (within, h.1, points h.1) only (h.0, h.2)
+
   -- the same places, said otherwise
   pub among_same : (Q R : ℕ → Type 0) (best : Option Frame) → ((s : ℕ) → Q s → R s) → ((s : ℕ) → R s → IsOpen v s → Q s) → IsLowestAmong Q v best → IsLowestAmong R v best
   among_same Q R None to from h = λ s r o. h s (from s r o) o

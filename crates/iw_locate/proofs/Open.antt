@@ -5,9 +5,11 @@ use Rattle.std.proofs.lemmas.Bool.Decides.{nat_tests}
 use Rattle.std.specs.List.{Contains}
 use Rattle.iw_ranges.specs.Arrived.{Cell, Missing, Here, Gone, cell_at, is_missing, has_come, IsHere, IsWithinLimits}
 use Rattle.iw_fpdu.specs.Places.{IsStart, in_marker, span_start}
+use Rattle.iw_fpdu.specs.Frame.{frame_end}
 use Rattle.iw_fpdu.specs.Reading.{length_at, pointer_at}
 use Rattle.iw_fpdu.specs.Found.{IsKept, LacksOctet}
 use Rattle.iw_fpdu.proofs.Octets.{span_low, length_within}
+use Rattle.iw_fpdu.proofs.Came.{here_of}
 use Rattle.iw_locate.specs.declared.judged.Record.{Record}
 use Rattle.iw_locate.specs.Records.{from_of, IsPlaced, OverlapsOne, IsClear, IsClearOfPlaced}
 use Rattle.iw_locate.specs.Free.{Scene, point_of, octet_of, end_of, IsOpen, IsMarkerSeen, PointsTo, EndsBefore, CanLocate}
@@ -21,6 +23,14 @@ pub start_high : (m : Bool) (s : ℕ) → m ≡ true → IsStart m s → 4 ≤ s
 unfolding in_marker
 start_high true s e h = grind (arith, nat_tests, h.outside)
 start_high false s e h = absurd (cc e)
+
+-- where a marker points no frame begins out of step
+pub pointed_aligned : (place back start : ℕ) → place % 512 ≡ 0 → place < 2 ^ 63 → back % 4 ≡ 0 → (back ≡ 0 → start ≡ place + 4) → (0 < back → start + back ≡ place) → (start % 4 ≡ 0) × (start < 2 ^ 63)
+pointed_aligned place back start marker low aligned none some =
+    elim (cases_lt 0 back) [
+      | inl more ↦ let e = some more in (omega (arith, e), omega (arith, e))
+      | inr zero_ ↦ let e = none (omega (arith, zero_)) in (omega (arith, e), omega (arith, e))
+    ]
 
 come_not_missing : (c : Cell) → not (is_missing c) ≡ true → c ≡ Missing → ⊥
 come_not_missing Missing e h = absurd (cc e)
@@ -130,3 +140,24 @@ module _ {T : Type 0} (v : Scene T) (can : CanLocate v) (m : v.layout.markers �
         | inl here ↦ open_.clear r within (omega (arith, two_octets s open_), omega (arith, span_low true s, span_low true r.start))
         | inr (marker, past) ↦ open_.clear r within (omega (arith, two_octets s open_), omega (arith, ap (span_start true) past, span_past_marker end marker, span_low true r.start))
       ]
+
+  -- the length that is read is the frame's, where no record lies over it and it came
+  pub length_is : (s len : ℕ) → (IsHere (cell_at v.arrived (v.base + s)) → IsHere (cell_at v.arrived (v.base + (s + 1))) → len ≡ length_at (octet_of v) s)
+      → IsClear v.records s (s + 2) → point_of v ≤ span_start true s → ((q : ℕ) → s ≤ q → q < s + 2 → has_come v.arrived (v.base + q) ≡ true) → len ≡ length_at (octet_of v) s
+  length_is s len value clear past came =
+      let here : (q : ℕ) → s ≤ q → q < s + 2 → IsHere (cell_at v.arrived (v.base + q)) =
+      λ q low high. here_of (cell_at v.arrived (v.base + q)) (came q low high) (length_kept s clear past q low high) in
+      value (here s (omega arith) (omega arith)) (here (s + 1) (omega arith) (omega arith))
+
+  -- a frame isn't open that lacks an octet up to the end that its length says, if it is held
+  pub not_open_short : (s len end : ℕ) → (IsHere (cell_at v.arrived (v.base + s)) → IsHere (cell_at v.arrived (v.base + (s + 1))) → len ≡ length_at (octet_of v) s)
+      → end ≡ frame_end v.layout.markers s len → (p : ℕ) × (s ≤ p) × (p < end) × (has_come v.arrived (v.base + p) ≡ false) → IsOpen v s → ⊥
+  not_open_short s len end value is (p, low, high, none) open_ =
+      not_open_cut s (λ here next.
+      let e : end ≡ end_of v s = is ∙ ap (frame_end v.layout.markers s) (value here next) in
+      (p, omega (arith, low, span_low v.layout.markers s), omega (arith, high, e), none)) open_
+
+  -- nor does one whose marker lacks one
+  pub not_open_bare : (s p : ℕ) → span_start true s ≤ p → p < s → has_come v.arrived (v.base + p) ≡ false → IsOpen v s → ⊥
+  not_open_bare s p low high none open_ =
+      let e = sym (open_.whole p (omega (arith, low, span_is s)) (omega (arith, high, two_octets s open_))) ∙ none in absurd (cc e)

@@ -264,6 +264,7 @@ impl<T, A: Allocator> Judged<T, A> {
 }
 
 /// The first record that ends past `place`, or the number of records if there is none.
+#[inline]
 fn first_ending_past<T, A: Allocator>(records: &VecDeque<Record<T>, A>, place: u64) -> usize
     requires { AreApart records.now.items }
     ensures { IsFirstPast records.now.items place result }
@@ -272,13 +273,22 @@ fn first_ending_past<T, A: Allocator>(records: &VecDeque<Record<T>, A>, place: u
     if count == 0 {
         return 0;
     }
-    if records[count - 1].end <= place {
-        return count;
-    }
     if place < records[0].end {
         return 0;
     }
-    if count > 1 && place < records[1].end {
+    if records[count - 1].end <= place {
+        return count;
+    }
+    first_among(records, place)
+}
+
+/// The same, for a place that may be any.
+#[inline(never)]
+fn first_among<T, A: Allocator>(records: &VecDeque<Record<T>, A>, place: u64) -> usize
+    requires { AreApart records.now.items }
+    ensures { IsFirstPast records.now.items place result }
+{
+    if records.len() > 1 && records[0].end <= place && place < records[1].end {
         return 1;
     }
     records.partition_point(

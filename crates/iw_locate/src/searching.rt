@@ -1,9 +1,10 @@
-ghost use Rattle.std.specs.Prelude.{◌≡◌, ◌<◌, ◌≤◌, ◌+◌, ◌%◌, ◌^◌, ℕ, true, MatchBool, MatchOption, IsTrue};
+ghost use Rattle.std.specs.Prelude.{◌≡◌, ◌<◌, ◌≤◌, ◌+◌, ◌%◌, ◌^◌, ℕ, true, false, MatchBool, MatchOption};
 ghost use Rattle.std.specs.List.{Contains};
-ghost use Rattle.iw_ranges.specs.Arrived.{IsHere, cell_at};
+ghost use Rattle.iw_ranges.specs.Arrived.{IsHere, cell_at, has_come};
+ghost use Rattle.iw_fpdu.specs.Frame.{frame_end};
 ghost use Rattle.iw_fpdu.specs.Places.{IsStart};
 ghost use Rattle.iw_fpdu.specs.Reading.{length_at, pointer_at};
-ghost use Rattle.iw_fpdu.specs.Found.{octet_in, LacksOctet};
+ghost use Rattle.iw_fpdu.specs.Found.{octet_in};
 ghost use Rattle.iw_locate.specs.declared.judged.Record.{Record};
 ghost use Rattle.iw_locate.specs.Free.{scene_of, point_of, front_of, IsOpen, CanLocate};
 ghost use Rattle.iw_locate.specs.Free.{IsMarkerSeen, PointsTo, EndsBefore, IsFound};
@@ -11,10 +12,10 @@ ghost use Rattle.iw_locate.specs.Next.{frame_at};
 ghost use Rattle.iw_locate.specs.Among.{IsWithin, IsLowestAmong, lower_of};
 ghost use Rattle.iw_locate.specs.Among.{IsPointedWithin, IsPastWithin, IsFoundWithin};
 
-use crate::frame::{Frame, frame_of};
+use crate::frame::Frame;
 use crate::judged::Judged;
 use crate::locator::Locator;
-use iw_fpdu::{Fpdu, Layout, MARKER, SPACING, span_of};
+use iw_fpdu::{MARKER, SPACING, all_came, span_of};
 use iw_ranges::Islands;
 use std::alloc::Allocator;
 
@@ -110,6 +111,7 @@ impl Locator {
     }
 
     /// The frame from `low` up to `high` to which the marker at `place` points.
+    #[inline(always)]
     pub(crate) fn pointed_by<T, A: Allocator, B: Allocator>(
         &self,
         islands: &Islands<A>,
@@ -136,17 +138,42 @@ impl Locator {
         if start < low || high <= start || start % SPACING < MARKER {
             return None;
         }
-        if is_cut(islands, self.layout, self.base, start) {
+        self.seen_at(islands, judged, point, place, start)
+    }
+
+    /// The frame at `start`, where it can be judged early and the marker at `place` is seen. A frame of which octets lack is
+    /// told before the marker is looked at.
+    #[inline(never)]
+    fn seen_at<T, A: Allocator, B: Allocator>(
+        &self,
+        islands: &Islands<A>,
+        judged: &Judged<T, B>,
+        point: u64,
+        place: u64,
+        start: u64,
+    ) -> Option<Frame>
+        requires can { CanLocate (scene_of self.now.layout self.now.base islands.now.arrived judged.now.records) }
+        requires point { point ≡ point_of (scene_of self.now.layout self.now.base islands.now.arrived judged.now.records) }
+        requires markers { self.now.layout.markers ≡ true }
+        requires marker { place % 512 ≡ 0 }
+        requires low { place < 2 ^ 63 }
+        requires near { start < 2 ^ 63 }
+        requires start { IsStart self.now.layout.markers start }
+        ensures { let v = scene_of self.now.layout self.now.base islands.now.arrived judged.now.records in
+            MatchOption result (IsMarkerSeen v place → IsOpen v start → ⊥) (λ f. (f ≡ frame_at v start true) × IsMarkerSeen v place × IsOpen v start) }
+    {
+        let len = length(islands, self.base, start);
+        let end = self.layout.end_of(start, len);
+        if !all_came(islands, self.base, start, end) {
             return None;
         }
-        let at = self.base + place;
-        if !islands.came(at, at + MARKER) {
+        if !all_came(islands, self.base, place, place + MARKER) {
             return None;
         }
         if judged.overlaps_placed(place, place + MARKER) {
             return None;
         }
-        self.open_at(islands, judged, point, start)
+        self.open_to(islands, judged, point, start, len, end)
     }
 
     /// The frame from `low` up to `high` that begins where one ends.
@@ -194,6 +221,39 @@ impl Locator {
         if start >= 1 << 63 || start % 4 != 0 || start % SPACING < MARKER {
             return None;
         }
+        let len = length(islands, self.base, start);
+        let end = self.layout.end_of(start, len);
+        if !all_came(islands, self.base, start, end) {
+            return None;
+        }
+        self.open_to(islands, judged, point, start, len, end)
+    }
+
+    /// The frame at `start`, where it can be judged early: its octets up to `end` came, which its length, `len`, says where it
+    /// was not given up.
+    #[inline(always)]
+    fn open_to<T, A: Allocator, B: Allocator>(
+        &self,
+        islands: &Islands<A>,
+        judged: &Judged<T, B>,
+        point: u64,
+        start: u64,
+        len: u16,
+        end: u64,
+    ) -> Option<Frame>
+        requires can { CanLocate (scene_of self.now.layout self.now.base islands.now.arrived judged.now.records) }
+        requires point { point ≡ point_of (scene_of self.now.layout self.now.base islands.now.arrived judged.now.records) }
+        requires markers { self.now.layout.markers ≡ true }
+        requires low { start < 2 ^ 63 }
+        requires start { IsStart self.now.layout.markers start }
+        requires len { IsHere (cell_at islands.now.arrived (self.now.base + start)) → IsHere (cell_at islands.now.arrived (self.now.base + (start + 1)))
+            → len ≡ length_at (octet_in islands.now.arrived self.now.base) start }
+        requires end { end ≡ frame_end self.now.layout.markers start len }
+        requires came { (p : ℕ) → start ≤ p → p < end → has_come islands.now.arrived (self.now.base + p) ≡ true }
+        requires fits { self.now.base + end < 2 ^ 64 }
+        ensures { let v = scene_of self.now.layout self.now.base islands.now.arrived judged.now.records in
+            MatchOption result (IsOpen v start → ⊥) (λ f. (f ≡ frame_at v start true) × IsOpen v start) }
+    {
         let span = span_of(true, start);
         if span <= point {
             return None;
@@ -202,16 +262,33 @@ impl Locator {
         if clear < start + 2 {
             return None;
         }
-        match Fpdu::read(self.layout, self.base, start, islands) {
-            Some(fpdu) => {
-                if clear < fpdu.end() {
-                    return None;
-                }
-                Some(frame_of(&fpdu, start, true))
-            }
-            None => None,
+        if clear < end {
+            return None;
         }
+        if !did_marker_come(islands, self.base, span, start) {
+            return None;
+        }
+        Some(Frame {
+            start,
+            length: len,
+            end,
+            early: true,
+        })
     }
+}
+
+/// Whether the octets came from where a frame's span begins, at `span`, up to where the frame begins, at `start`.
+#[inline(always)]
+fn did_marker_come<A: Allocator>(islands: &Islands<A>, base: u64, span: u64, start: u64) -> bool
+    requires low { span ≤ start }
+    requires fits { base + start < 2 ^ 64 }
+    ensures { MatchBool result ((p : ℕ) → span ≤ p → p < start → has_come islands.now.arrived (base + p) ≡ true)
+        ((p : ℕ) × (span ≤ p) × (p < start) × (has_come islands.now.arrived (base + p) ≡ false)) }
+{
+    if span == start {
+        return true;
+    }
+    all_came(islands, base, span, start)
 }
 
 /// How far back the marker at frame place `place` points, where it came and was not given up.
@@ -220,25 +297,10 @@ fn pointer<A: Allocator>(islands: &Islands<A>, base: u64, place: u64) -> u64
     ensures value { IsHere (cell_at islands.now.arrived (base + (place + 2))) → IsHere (cell_at islands.now.arrived (base + (place + 3)))
         → result ≡ pointer_at (octet_in islands.now.arrived base) place }
     ensures small { result < 2 ^ 16 }
+    ensures aligned { result % 4 ≡ 0 }
 {
     let at = base + place;
     u64::from(u16::from_be_bytes([islands.peek(at + 2), islands.peek(at + 3)])) / 4 * 4
-}
-
-/// Whether an octet of the frame that begins at `start` hasn't come, where its length was not given up.
-#[inline(always)]
-fn is_cut<A: Allocator>(islands: &Islands<A>, layout: Layout, base: u64, start: u64) -> bool
-    requires low { start < 2 ^ 63 }
-    requires fits { base + start + 2 < 2 ^ 64 }
-    ensures { IsTrue result → IsHere (cell_at islands.now.arrived (base + start)) → IsHere (cell_at islands.now.arrived (base + (start + 1)))
-        → LacksOctet islands.now.arrived layout.markers base start }
-{
-    let len = length(islands, base, start);
-    let end = base.saturating_add(layout.end_of(start, len));
-    if islands.came(base + start, end) {
-        return false;
-    }
-    true
 }
 
 /// The length of the ULPDU in the frame that begins at `start`, where it came and was not given up.
