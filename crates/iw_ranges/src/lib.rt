@@ -18,7 +18,7 @@ mod spans;
 
 use buffer::{fits_after, let_go, put, put_after, shorten};
 use spans::{
-    Span, end_of_first, first_reaching, forget, holds_all, is_free, is_one_too_many, join,
+    Span, end_of_first, first_reaching, forget, holds_all, is_before_second, is_one_too_many, join,
 };
 use std::alloc::{AllocError, Allocator, Global};
 use std::collections::VecDeque;
@@ -116,7 +116,30 @@ impl<A: Allocator> Islands<A> {
             return Ok(Delivery::Dropped);
         }
         if place == self.missing
-            && is_free(&self.spans, place, self.end, place + octets.len() as u64)
+            && place == self.end
+            && fits_after(&self.octets, self.base, place, octets)
+        {
+            put_after(&mut self.octets, self.base, &mut self.spans, place, octets);
+            self.missing = place + octets.len() as u64;
+            self.end = self.missing;
+            return Ok(Delivery::Kept);
+        }
+        self.add_among(place, octets)
+    }
+
+    /// The same, for octets in the window that may stand anywhere.
+    #[inline(never)]
+    fn add_among(&mut self, place: u64, octets: &[u8]) -> Result<Delivery, NoMemory>
+        requires some { 0 < length octets.now }
+        requires near { place + length octets.now ≤ self.old.arrived.floor + window }
+        ensures answer { IfOk result (λ answer. answer ≡ delivery self.old.arrived place (length octets.now)) }
+        ensures ok { OnOk result (self.new.arrived ≡ delivered self.old.arrived place octets.now) }
+        ensures err { OnErr result (self.new.arrived ≡ self.old.arrived) }
+        ensures memory { OnErr result (BringsOctets self.old.arrived place (length octets.now)) }
+        ensures room { self.new.room ≡ self.old.room }
+    {
+        if place == self.missing
+            && is_before_second(&self.spans, place + octets.len() as u64)
             && fits_after(&self.octets, self.base, place, octets)
         {
             put_after(&mut self.octets, self.base, &mut self.spans, place, octets);
@@ -127,8 +150,8 @@ impl<A: Allocator> Islands<A> {
         self.add_apart(place, octets)
     }
 
-    /// The same, for octets in the window that may stand anywhere.
-    #[inline(never)]
+    /// The same, whether or not they touch other spans than the first.
+    #[inline(always)]
     fn add_apart(&mut self, place: u64, octets: &[u8]) -> Result<Delivery, NoMemory>
         requires some { 0 < length octets.now }
         requires near { place + length octets.now ≤ self.old.arrived.floor + window }
@@ -199,7 +222,7 @@ impl<A: Allocator> Islands<A> {
     }
 
     /// Whether all octets from place `from` up to place `to` came, given up or not.
-    #[inline]
+    #[inline(never)]
     pub fn came(&self, from: u64, to: u64) -> bool
         ensures { MatchBool result ((p : ℕ) → from ≤ p → p < to → has_come self.now.arrived p ≡ true)
             ((p : ℕ) × (from ≤ p) × (p < to) × (has_come self.now.arrived p ≡ false)) }

@@ -108,21 +108,9 @@ pub(crate) fn widen<A: Allocator>(spans: &mut VecDeque<Span, A>, low: usize, fro
     spans[low] = joined;
 }
 
-/// Whether the first span ends before all others where it is made to end at `to`. It ends at `from` now, and all spans
-/// before `end`.
-#[inline(always)]
-pub(crate) fn is_free<A: Allocator>(spans: &VecDeque<Span, A>, from: u64, end: u64, to: u64) -> bool
-    requires order { IsFromStart spans.now.items }
-    requires first { from ≡ first_end spans.now.items }
-    requires last { (p : ℕ) → in_spans p spans.now.items ≡ true → p < end }
-    ensures { OnTrue result ((p : ℕ) → from ≤ p → p ≤ to → in_spans p spans.now.items ≡ false) }
-{
-    from == end || is_before_second(spans, to)
-}
-
 /// Whether there is no second span, or `to` lies before it.
 #[inline(always)]
-fn is_before_second<A: Allocator>(spans: &VecDeque<Span, A>, to: u64) -> bool
+pub(crate) fn is_before_second<A: Allocator>(spans: &VecDeque<Span, A>, to: u64) -> bool
     requires { IsFromStart spans.now.items }
     ensures { OnTrue result
         ((p : ℕ) → first_end spans.now.items ≤ p → p ≤ to → in_spans p spans.now.items ≡ false) }

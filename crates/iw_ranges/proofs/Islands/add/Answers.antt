@@ -3,7 +3,6 @@ use Rattle.std.proofs.lemmas.Bool.Decides.{nat_tests}
 use Rattle.iw_ranges.specs.Arrived.{Held, is_dropped, window}
 use Rattle.iw_ranges.specs.Spans.{first_end}
 use Rattle.iw_ranges.specs.Fields.{Fields, fields_of}
-use Rattle.iw_ranges.proofs.Cells.{top_reaches}
 use Rattle.iw_ranges.proofs.Counts.{dropped_none, dropped_far}
 use Rattle.iw_ranges.proofs.Keeps.{taken_none, sound_put, put_delivers, PutsIn, kept_is, dropped_is, delivered_kept, delivered_dropped, kept_after}
 use Rattle.iw_ranges.proofs.Islands.add.Given as given
@@ -42,7 +41,7 @@ invariant_of-self g c =
     let n = length c.args.octets.now in
     let from = c.args.place in
     let some : 0 < n = grind (arith, nat_tests, c.is_empty.ensures, c.if-is_empty.false) in
-    let after : Fields = record { base = f.base; floor = f.floor; missing = from + n; end = c.max-self-inside.result; octets = c.put_after.new.buffer.items; spans = c.put_after.new.spans.items; gone = f.gone } in
+    let after : Fields = record { base = f.base; floor = f.floor; missing = from + n; end = from + n; octets = c.put_after.new.buffer.items; spans = c.put_after.new.spans.items; gone = f.gone } in
     let puts : PutsIn f after from (c.args.place + n) c.args.octets.now = record {
       base = refl;
       floor = refl;
@@ -50,13 +49,13 @@ invariant_of-self g c =
       gone = refl;
       spans = c.put_after.ensures.spans;
       end = refl;
-      last = c.max-self-inside.ensures;
+      last = omega (arith, c.if-place-self-2.true);
       len = omega (arith, c.put_after.ensures.len, c.put_after.new.buffer.ok.0, c.self.inside.octets.ok.0);
       written = c.put_after.ensures.octets;
     } in
     record {
       sound = sound_put f after c.self.invariant.sound from (c.args.place + n) c.args.octets.now (omega (arith, some)) (omega (arith, c.if-is_beyond.ensures)) (omega (arith, c.if-fits_after.ensures)) puts (omega (arith, c.put_after.ensures.few, ap length c.put_after.ensures.spans, c.self.invariant.sound.few));
-      idle = λ e. absurd (omega (arith, e, some, c.max-self-inside.ensures, c.if-place-self.true, c.self.invariant.sound.missing, c.self.invariant.sound.reached));
+      idle = λ e. absurd (omega (arith, e, some, c.if-place-self.true, c.self.invariant.sound.missing, c.self.invariant.sound.reached));
     }
 
 pub returns-then-fits_after-clause-answer : goal.returns-then-fits_after-clause-answer
@@ -75,7 +74,7 @@ returns-then-fits_after-clause-ok g c =
     let from = c.args.place in
     let some : 0 < n = grind (arith, nat_tests, c.is_empty.ensures, c.if-is_empty.false) in
     let none : 0 ≡ first_end f.spans - from = omega (arith, c.if-place-self.true, c.self.invariant.sound.missing) in
-    let after : Fields = record { base = f.base; floor = f.floor; missing = from + n; end = c.max-self-inside.result; octets = c.put_after.new.buffer.items; spans = c.put_after.new.spans.items; gone = f.gone } in
+    let after : Fields = record { base = f.base; floor = f.floor; missing = from + n; end = from + n; octets = c.put_after.new.buffer.items; spans = c.put_after.new.spans.items; gone = f.gone } in
     let puts : PutsIn f after from (c.args.place + n) c.args.octets.now = record {
       base = refl;
       floor = refl;
@@ -83,19 +82,9 @@ returns-then-fits_after-clause-ok g c =
       gone = refl;
       spans = c.put_after.ensures.spans;
       end = refl;
-      last = c.max-self-inside.ensures;
+      last = omega (arith, c.if-place-self-2.true);
       len = omega (arith, c.put_after.ensures.len, c.put_after.new.buffer.ok.0, c.self.inside.octets.ok.0);
       written = c.put_after.ensures.octets;
     } in
     put_delivers f after c.self.invariant.sound c.args.self.now.arrived (ap (λ (h : Held). h.arrived) c.self.view_is) c.args.place from c.args.octets.now c.args.octets.now
     (omega (arith, c.if-place-self.true, some, c.self.invariant.sound.missing)) some (omega (arith, c.if-place-self.true, c.self.invariant.sound.missing)) (ap (λ k. drop k c.args.octets.now) none) (omega (arith, c.if-is_beyond.ensures)) (omega (arith, c.put_after.ensures.few, ap length c.put_after.ensures.spans, c.self.invariant.sound.few)) puts
-
-pub fits_after-requires-clause-within : goal.fits_after-requires-clause-within
-fits_after-requires-clause-within g c =
-    let f : Fields = fields_of c.self.inside in
-    omega (arith, c.if-place-self.true, c.self.invariant.sound.missing, top_reaches f c.self.invariant.sound, c.self.invariant.sound.stand, c.self.inside.octets.ok.0)
-
-pub put_after-requires-clause-past : goal.put_after-requires-clause-past
-put_after-requires-clause-past g c =
-    let f : Fields = fields_of c.self.inside in
-    omega (arith, c.if-place-self.true, c.self.invariant.sound.missing, top_reaches f c.self.invariant.sound, c.self.invariant.sound.stand, c.self.inside.octets.ok.0)
