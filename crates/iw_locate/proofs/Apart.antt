@@ -114,6 +114,16 @@ module _ {T : Type 0} (rs : List (Record T)) (apart : AreApart rs) where
     past = λ k d le lt. omega (arith, ends_rise 0 k d (omega arith) lt, ap (λ (x : Record T). x.end) (here ∙ get_or_default rs 0 first d some), high);
   }
 
+  -- nor does one end before a place, where the first doesn't
+  pub none_ends_before : (place : ℕ) (first : Record T) → first ≡ get_or rs 0 first → place ≤ first.end → (r : Record T) → Contains rs r → place ≤ r.end
+  none_ends_before place first here high r (k, lt, is) =
+      omega (arith, ends_rise 0 k r (omega arith) lt, ap (λ (x : Record T). x.end) (here ∙ get_or_default rs 0 first r (omega arith)), ap (λ (x : Record T). x.end) is, high)
+
+  -- nor does one overlap a frame that ends before the first
+  pub none_overlaps_before : (start end : ℕ) (first : Record T) → first ≡ get_or rs 0 first → end ≤ from_of first → IsClearOfPlaced rs start end
+  none_overlaps_before start end first here high r (k, lt, is) placed (low, over) =
+      omega (arith, later_from 0 k r (omega arith) lt, ap (λ (x : Record T). from_of x) (here ∙ get_or_default rs 0 first r (omega arith)), ap (λ (x : Record T). from_of x) is, high, low)
+
   -- nor any but the first, where that ends at it or before it, and the second past it
   pub others_past : (place : ℕ) → (first second : Record T) → 1 < length rs → first ≡ get_or rs 0 first → first.end ≤ place → second ≡ get_or rs 1 second → place < second.end → IsFirstPast rs place 1
   others_past place first second some at low here high = record {

@@ -168,8 +168,21 @@ impl<T, A: Allocator> Judged<T, A> {
         ensures covered { (q : ℕ) → place ≤ q → q < result → (r : Record T) × Contains self.now.records r × (from_of r ≤ q) × (q < r.end) }
         ensures low { place ≤ result }
     {
+        if let Some(first) = self.records.get(0)
+            && place < span_of(true, first.start)
+        {
+            return place;
+        }
         let first = first_ending_past(&self.records, place);
         end_of_run(&self.records, place, limit, first)
+    }
+
+    /// Whether it is plain that no frame with a record ends before `place`.
+    #[inline]
+    pub(crate) fn ends_past(&self, place: u64) -> bool
+        ensures { OnTrue result ((r : Record T) → Contains self.now.records r → place ≤ r.end) }
+    {
+        does_none_end_before(&self.records, place)
     }
 
     /// The record of the frame that begins at `start`.
@@ -222,8 +235,7 @@ impl<T, A: Allocator> Judged<T, A> {
     pub fn overlaps_placed(&self, start: u64, end: u64) -> bool
         ensures { MatchBool result (OverlapsPlaced self.now.records start end) (IsClearOfPlaced self.now.records start end) }
     {
-        let first = first_ending_past(&self.records, span_of(true, start));
-        has_placed(&self.records, start, end, first)
+        is_one_placed_over(&self.records, start, end)
     }
 
     /// Drops the records of the frames whose spans begin before `place`.
@@ -354,7 +366,45 @@ fn insert_in_room<T: Drop, A: Allocator>(
     let _ = records.insert(at, new);
 }
 
+/// Whether no frame ends before `place`, as the first record says.
+#[inline]
+fn does_none_end_before<T, A: Allocator>(records: &VecDeque<Record<T>, A>, place: u64) -> bool
+    requires { AreApart records.now.items }
+    ensures { OnTrue result ((r : Record T) → Contains records.now.items r → place ≤ r.end) }
+{
+    match records.get(0) {
+        None => true,
+        Some(first) => {
+            if first.end < place {
+                return false;
+            }
+            true
+        }
+    }
+}
+
+/// Whether the span of the frame from `start` to `end` overlaps that of a frame that was placed: of none where it ends before
+/// the first.
+#[inline]
+fn is_one_placed_over<T, A: Allocator>(
+    records: &VecDeque<Record<T>, A>,
+    start: u64,
+    end: u64,
+) -> bool
+    requires { AreApart records.now.items }
+    ensures { MatchBool result (OverlapsPlaced records.now.items start end) (IsClearOfPlaced records.now.items start end) }
+{
+    if let Some(first) = records.get(0)
+        && end <= span_of(true, first.start)
+    {
+        return false;
+    }
+    let first = first_ending_past(records, span_of(true, start));
+    has_placed(records, start, end, first)
+}
+
 /// Whether a record from that at `first` on is of a frame that was placed and overlaps the frame from `start` to `end`.
+#[inline(never)]
 fn has_placed<T, A: Allocator>(
     records: &VecDeque<Record<T>, A>,
     start: u64,

@@ -59,6 +59,9 @@ impl Locator {
         requires markers { self.now.layout.markers ≡ true }
         ensures { let v = scene_of self.now.layout self.now.base islands.now.arrived judged.now.records in IsLowestAmong (IsPastWithin v low high) v result }
     {
+        if judged.ends_past(high) {
+            return None;
+        }
         let count = judged.len();
         let mut index = judged.first_past(low.saturating_sub(MARKER + 1));
         'ends: while index < count {
@@ -167,7 +170,7 @@ impl Locator {
         if !all_came(islands, self.base, start, end) {
             return None;
         }
-        if !all_came(islands, self.base, place, place + MARKER) {
+        if !did_come_too(islands, self.base, place, place + MARKER, start, end) {
             return None;
         }
         if judged.overlaps_placed(place, place + MARKER) {
@@ -275,6 +278,28 @@ impl Locator {
             early: true,
         })
     }
+}
+
+/// Whether all octets from `from` up to `to` came, where those from `start` up to `end` did.
+#[inline(always)]
+fn did_come_too<A: Allocator>(
+    islands: &Islands<A>,
+    base: u64,
+    from: u64,
+    to: u64,
+    start: u64,
+    end: u64,
+) -> bool
+    requires some { from < to }
+    requires came { (p : ℕ) → start ≤ p → p < end → has_come islands.now.arrived (base + p) ≡ true }
+    requires fits { base + from < 2 ^ 64 }
+    ensures { MatchBool result ((p : ℕ) → from ≤ p → p < to → has_come islands.now.arrived (base + p) ≡ true)
+        ((p : ℕ) × (from ≤ p) × (p < to) × (has_come islands.now.arrived (base + p) ≡ false)) }
+{
+    if start <= from && to <= end {
+        return true;
+    }
+    all_came(islands, base, from, to)
 }
 
 /// Whether the octets came from where a frame's span begins, at `span`, up to where the frame begins, at `start`.

@@ -1,6 +1,6 @@
 use Rattle.std.proofs.Common.{◌<◌, length, arith}
 use Rattle.iw_locate.specs.Free.{Scene, scene_of}
-use Rattle.iw_locate.proofs.Lowest.{ends_too_low, none_past, first_past, one_more, past_all}
+use Rattle.iw_locate.proofs.Lowest.{ends_too_low, none_past, first_past, one_more, past_all, ends_near}
 use Rattle.iw_locate.proofs.locator.Locator.lowest_past.Goals as goal
 
 pub ends-init : goal.ends-init
@@ -36,3 +36,6 @@ pub returns : goal.returns
 returns g c =
     let v : Scene g.row.T.Denot = scene_of c.args.self.now.layout c.args.self.now.base c.args.islands.now.arrived c.args.judged.now.records in
     past_all v c.args.low c.args.high c.ends.index (omega (arith, c.ends-test.false, c.len-count.ensures.len)) c.ends.invariant.none
+
+pub returns-then-ends_past : goal.returns-then-ends_past
+returns-then-ends_past g c = λ s past open_. let h = c.if-ends_past.ensures past.1.0 past.1.1 in omega (arith, h, (ends_near past.1.0.end s past.1.2).0, past.0.high)

@@ -1,4 +1,4 @@
-use Rattle.std.proofs.Common.{◌≡◌, ◌+◌, arith}
+use Rattle.std.proofs.Common.{arith}
 use Rattle.iw_fpdu.proofs.Octets.{length_within}
 use Rattle.iw_locate.specs.Free.{Scene, scene_of}
 use Rattle.iw_locate.proofs.Open.{start_from, start_high, not_open_far, not_open_short}

@@ -1,4 +1,4 @@
-use Rattle.std.proofs.Common.{◌≡◌, ◌+◌, sym, ap, ◌∙◌, arith}
+use Rattle.std.proofs.Common.{sym, ◌∙◌, arith}
 use Rattle.iw_fpdu.proofs.Octets.{length_within}
 use Rattle.iw_locate.specs.Free.{Scene, scene_of}
 use Rattle.iw_locate.proofs.Open.{not_open_short}
@@ -10,9 +10,9 @@ returns-then-not-all_came g c =
     let v : Scene g.row.T.Denot = scene_of c.args.self.now.layout c.args.self.now.base c.args.islands.now.arrived c.args.judged.now.records in
     λ seen open_. not_open_short v c.requires.can c.requires.markers c.args.start c.length-len.result c.end_of-end.result c.length-len.ensures c.end_of-end.ensures c.if-not-all_came.ensures.came open_
 
-pub returns-then-not-all_came-2 : goal.returns-then-not-all_came-2
-returns-then-not-all_came-2 g c = λ seen open_.
-    let w = c.if-not-all_came-2.ensures.came in
+pub returns-then-not-did_come_too : goal.returns-then-not-did_come_too
+returns-then-not-did_come_too g c = λ seen open_.
+    let w = c.if-not-did_come_too.ensures in
     absurd (let e = sym (seen.came w.0 w.1 w.2) ∙ w.3 in cc e)
 
 pub returns-then-overlaps_placed : goal.returns-then-overlaps_placed
@@ -24,7 +24,7 @@ returns g c =
     with_seen v c.args.place c.args.start c.open_to.result
     (record {
       marker = c.requires.marker;
-      came = c.if-not-all_came-2.ensures.came;
+      came = c.if-not-did_come_too.ensures;
       outside = c.if-overlaps_placed.ensures;
     })
     c.open_to.ensures
