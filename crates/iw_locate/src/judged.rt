@@ -168,13 +168,14 @@ impl<T, A: Allocator> Judged<T, A> {
         ensures covered { (q : ℕ) → place ≤ q → q < result → (r : Record T) × Contains self.now.records r × (from_of r ≤ q) × (q < r.end) }
         ensures low { place ≤ result }
     {
-        if let Some(first) = self.records.get(0)
-            && place < span_of(true, first.start)
-        {
+        let count = self.records.len();
+        if count == 0 || self.records[count - 1].end <= place {
             return place;
         }
-        let first = first_ending_past(&self.records, place);
-        end_of_run(&self.records, place, limit, first)
+        if place < span_of(true, self.records[0].start) {
+            return place;
+        }
+        run_among(&self.records, place, limit)
     }
 
     /// Whether it is plain that no frame with a record ends before `place`.
@@ -427,6 +428,17 @@ fn has_placed<T, A: Allocator>(
         at += 1;
     }
     false
+}
+
+/// Where the frames end that lie at `place` and on from there without a gap, as far as `limit`.
+#[inline(never)]
+fn run_among<T, A: Allocator>(records: &VecDeque<Record<T>, A>, place: u64, limit: u64) -> u64
+    requires { AreApart records.now.items }
+    ensures covered { (q : ℕ) → place ≤ q → q < result → (r : Record T) × Contains records.now.items r × (from_of r ≤ q) × (q < r.end) }
+    ensures low { place ≤ result }
+{
+    let first = first_among(records, place);
+    end_of_run(records, place, limit, first)
 }
 
 /// Where the frames end that lie at `place` and on from there without a gap, as far as `limit`. The first record whose frame
