@@ -117,26 +117,25 @@ laid_span true at xs to aligned later =
 laid_span false at xs to aligned later = ap (λ p. laid false (frame_start false at) (data_index false at) xs p to) (place_index false at (no_in_marker at))
 
 -- what is appended piece by piece, up to the CRC field's place
-pub bare_written : (m : Bool) (at start b d e : ℕ) (old one two three four head ulpdu pad : List ℕ) → IsEdge m at → start ≡ frame_start m at
-    → head ≡ length ulpdu / 256 ∷ length ulpdu % 256 ∷ [] → pad ≡ replicate (pad_len (length ulpdu)) 0
-    → b ≡ place_after m at (length head) → d ≡ place_after m b (length ulpdu) → e ≡ place_after m d (length pad)
+pub pieces_written : (m : Bool) (at start b d e : ℕ) (old one two three four head body pad ulpdu : List ℕ) → IsEdge m at → start ≡ frame_start m at
+    → bare_data ulpdu ≡ head ++ body ++ pad
+    → b ≡ place_after m at (length head) → d ≡ place_after m b (length body) → e ≡ place_after m d (length pad)
     → one ≡ old ++ laid m start (data_index m at) head at (place_after m at (length head))
-    → two ≡ one ++ laid m start (data_index m b) ulpdu b (place_after m b (length ulpdu))
+    → two ≡ one ++ laid m start (data_index m b) body b (place_after m b (length body))
     → three ≡ two ++ laid m start (data_index m d) pad d (place_after m d (length pad))
     → four ≡ three ++ marker_before m start e
     → four ≡ old ++ laid m (frame_start m at) (data_index m at) (bare_data ulpdu) at (field_place m at (length ulpdu))
-bare_written m at start b d e old one two three four head ulpdu pad edge start_is head_is pad_is b_is d_is e_is one_is two_is three_is four_is =
+pieces_written m at start b d e old one two three four head body pad ulpdu edge start_is whole b_is d_is e_is one_is two_is three_is four_is =
     let first : ℕ → List ℕ = λ x. laid m start (data_index m at) head at x in
-    let second : ℕ → List ℕ = λ x. laid m start (data_index m x) ulpdu x (place_after m x (length ulpdu)) in
+    let second : ℕ → List ℕ = λ x. laid m start (data_index m x) body x (place_after m x (length body)) in
     let third : ℕ → List ℕ = λ x. laid m start (data_index m x) pad x (place_after m x (length pad)) in
     let bare = bare_data ulpdu in
     let b' = place_after m at (length head) in
-    let d' = place_after m b' (length ulpdu) in
-    let whole : bare ≡ head ++ ulpdu ++ pad = ap (λ t. (length ulpdu / 256 ∷ length ulpdu % 256 ∷ []) ++ ulpdu ++ t) (sym pad_is) ∙ ap (λ h. h ++ ulpdu ++ pad) (sym head_is) in
-    let d_at : d ≡ d' = d_is ∙ ap (λ x. place_after m x (length ulpdu)) b_is in
-    let size : length bare ≡ length head + length ulpdu + length pad = ap length whole ∙ simp length-append (omega arith) in
+    let d' = place_after m b' (length body) in
+    let d_at : d ≡ d' = d_is ∙ ap (λ x. place_after m x (length body)) b_is in
+    let size : length bare ≡ length head + length body + length pad = ap length whole ∙ simp length-append (omega arith) in
     let end : e ≡ place_after m at (length bare) =
-    e_is ∙ ap (λ x. place_after m x (length pad)) d_at ∙ ap (λ x. place_after m x (length pad)) (after_after m at (length head) (length ulpdu)) ∙ after_after m at (length head + length ulpdu) (length pad)
+    e_is ∙ ap (λ x. place_after m x (length pad)) d_at ∙ ap (λ x. place_after m x (length pad)) (after_after m at (length head) (length body)) ∙ after_after m at (length head + length body) (length pad)
     ∙ ap (place_after m at) (sym size) in
     let up : data_place m (data_index m at + length bare) ≡ field_place m at (length ulpdu) = ap (λ k. data_place m (data_index m at + k)) (length_bare ulpdu) in
     four_is
@@ -145,13 +144,29 @@ bare_written m at start b d e old one two three four head ulpdu pad edge start_i
     ∙ ap (λ x. old ++ first b' ++ second x ++ third d ++ marker_before m start (place_after m at (length bare))) b_is
     ∙ ap (λ x. old ++ first b' ++ second b' ++ third x ++ marker_before m start (place_after m at (length bare))) d_at
     ∙ regroup old (first b') (second b') (third d') (marker_before m start (place_after m at (length bare)))
-    ∙ ap (λ ys. old ++ (ys ++ marker_before m start (place_after m at (length bare)))) (sym (laid_three m start head ulpdu pad bare at edge whole))
+    ∙ ap (λ ys. old ++ (ys ++ marker_before m start (place_after m at (length bare)))) (sym (laid_three m start head body pad bare at edge whole))
     ∙ ap (λ ys. old ++ ys) (sym (laid_up m start bare at edge))
     ∙ ap (λ x. old ++ laid m start (data_index m at) bare at x) up
     ∙ ap (λ x. old ++ laid m x (data_index m at) bare at (field_place m at (length ulpdu))) start_is
   where
     regroup : (o f g h k : List ℕ) → o ++ f ++ g ++ h ++ k ≡ o ++ (f ++ g ++ h ++ k)
     regroup o f g h k = simp append_assoc refl
+
+-- its pieces: the length field, the ULPDU and the pad
+pub bare_whole : (head ulpdu pad : List ℕ) → head ≡ length ulpdu / 256 ∷ length ulpdu % 256 ∷ [] → pad ≡ replicate (pad_len (length ulpdu)) 0
+    → bare_data ulpdu ≡ head ++ ulpdu ++ pad
+bare_whole head ulpdu pad head_is pad_is =
+    ap (λ t. (length ulpdu / 256 ∷ length ulpdu % 256 ∷ []) ++ ulpdu ++ t) (sym pad_is) ∙ ap (λ h. h ++ ulpdu ++ pad) (sym head_is)
+
+-- or the length field with the ULPDU's header, its payload, and the pad
+pub segment_whole : (len : ℕ) (header payload pad : List ℕ) → len ≡ length (header ++ payload) → pad ≡ replicate (pad_len len) 0
+    → bare_data (header ++ payload) ≡ (len / 256 ∷ len % 256 ∷ header) ++ payload ++ pad
+segment_whole len header payload pad long pad_is =
+    bare_whole (len / 256 ∷ len % 256 ∷ []) (header ++ payload) pad (ap (λ n. n / 256 ∷ n % 256 ∷ []) long) (pad_is ∙ ap (λ n. replicate (pad_len n) 0) long)
+    ∙ regroup (len / 256 ∷ len % 256 ∷ []) header payload pad
+  where
+    regroup : (f h p z : List ℕ) → f ++ (h ++ p) ++ z ≡ (f ++ h) ++ p ++ z
+    regroup f h p z = simp append_assoc refl
 
 pub length_field : (layout : Layout) (start : ℕ) (ulpdu : List ℕ) → length (crc_field layout start ulpdu) ≡ 4
 length_field layout start ulpdu = go layout.crc

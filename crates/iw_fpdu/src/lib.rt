@@ -16,4 +16,4 @@ mod writer;
 pub use fpdu::{Fpdu, Mismatch, all_came};
 pub use layout::{Layout, MARKER, SPACING, span_of};
 pub use pieces::Pieces;
-pub use write::{WriteRefusal, write_bare, write_fpdu};
+pub use write::{WriteRefusal, write_bare, write_fpdu, write_segment};

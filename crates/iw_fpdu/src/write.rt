@@ -1,12 +1,12 @@
 ghost use Rattle.std.specs.Int.{w32, to_le_bytes};
 ghost use Rattle.std.specs.Prelude.{◌≡◌, ◌<◌, ◌≤◌, ◌+◌, ◌-◌, ◌/◌, ◌%◌, ◌^◌, ◌++◌, [], ◌∷◌, true};
-ghost use Rattle.std.specs.Prelude.{if◌then◌else◌, nat_lt, length, replicate, vec_len, vec_capacity};
+ghost use Rattle.std.specs.Prelude.{if◌then◌else◌, nat_lt, length, take, replicate, vec_len, vec_capacity};
 ghost use Rattle.std.specs.Prelude.{MatchOption, OnOk, OnErr, IfErr, IsOk};
 ghost use Rattle.iw_octets.specs.Crc.{after_octets, all_ones, crc32c};
 ghost use Rattle.iw_octets.specs.Pieces.{joined};
 ghost use Rattle.iw_fpdu.specs.Frame.{max_sent, bare_data, bare_frame, frame_end, frame_octets, frame_size, field_place, laid};
-ghost use Rattle.iw_fpdu.specs.Laying.{marker_beyond};
-ghost use Rattle.iw_fpdu.specs.Places.{data_index, frame_start};
+ghost use Rattle.iw_fpdu.specs.Laying.{HasRoom, laid_from, marker_beyond};
+ghost use Rattle.iw_fpdu.specs.Places.{data_index, frame_start, place_after};
 
 use crate::layout::{Layout, MARKER, SPACING, end_of, pad_of};
 use crate::writer::{Writer, append};
@@ -56,6 +56,19 @@ fn append_all<A: Allocator>(parts: &[&[u8]], out: &mut Vec<u8, A>)
     }
 }
 
+/// Begins with the length field and the header of a frame.
+#[inline(always)]
+fn front_of<const N: usize>(len: u16, header: [u8; N]) -> [u8; 2 + MAX_HEADER]
+    requires few { N ≤ 18 }
+    ensures { take (2 + N) result ≡ len / 256 ∷ len % 256 ∷ header.entry }
+{
+    let mut front = [0; 2 + MAX_HEADER];
+    front[0] = (len / 256) as u8;
+    front[1] = (len % 256) as u8;
+    front[2..2 + N].copy_from_slice(&header);
+    front
+}
+
 /// Appends the length field and the header of a frame, at once.
 #[inline(always)]
 fn append_front<const N: usize, A: Allocator>(len: u16, header: [u8; N], out: &mut Vec<u8, A>)
@@ -65,11 +78,7 @@ fn append_front<const N: usize, A: Allocator>(len: u16, header: [u8; N], out: &m
     ensures len { vec_len out.new ≡ vec_len out.old + 2 + N }
     ensures capacity { vec_capacity out.old ≤ vec_capacity out.new }
 {
-    let mut front = [0; 2 + MAX_HEADER];
-    front[0] = (len / 256) as u8;
-    front[1] = (len % 256) as u8;
-    front[2..2 + N].copy_from_slice(&header);
-    append(out, &front[..2 + N]);
+    append(out, &front_of(len, header)[..2 + N]);
 }
 
 /// Appends the pad and a CRC field of zero: each number of octets by an append of its own, whose length is known.
@@ -148,6 +157,105 @@ fn put_bare<A: Allocator>(markers: bool, at: u64, len: u16, parts: &[&[u8]], out
         put_among_markers(at, len, parts, out);
     } else {
         put_plain(len, parts, out);
+    }
+}
+
+/// Appends all of a frame without markers that stands before its CRC field, of a ULPDU that is a header and a payload.
+#[inline(always)]
+fn put_plain_segment<const N: usize, A: Allocator>(
+    len: u16,
+    header: [u8; N],
+    payload: &[u8],
+    out: &mut Vec<u8, A>,
+)
+    requires few { N ≤ 18 }
+    requires len { len ≡ length (header ++ payload.now) }
+    requires room { vec_len out.old + frame_size len ≤ vec_capacity out.old }
+    ensures items { out.new.items ≡ out.old.items ++ bare_data (header.entry ++ payload.now) }
+    ensures room { vec_len out.new + 4 ≤ vec_capacity out.new }
+{
+    append_front(len, header, out);
+    append(out, payload);
+    let end = out.len() + pad_of(len) as usize;
+    append(out, &[0; 4]);
+    out.truncate(end);
+}
+
+/// Appends the length field and the header of a frame, with the markers before and among them.
+#[inline(always)]
+fn put_head<const N: usize, A: Allocator>(
+    writer: &mut Writer,
+    len: u16,
+    header: [u8; N],
+    out: &mut Vec<u8, A>,
+)
+    requires few { N ≤ 18 }
+    requires room { HasRoom true writer.old.start writer.old.at (2 + N) (vec_len out.old) (vec_capacity out.old) }
+    ensures start { writer.new.start ≡ writer.old.start }
+    ensures place { writer.new.at ≡ place_after true writer.old.at (2 + N) }
+    ensures items { out.new.items
+        ≡ out.old.items ++ laid_from writer.old.start writer.old.at (len / 256 ∷ len % 256 ∷ header.entry) }
+    ensures len { vec_len out.new ≡ vec_len out.old + (writer.new.at - writer.old.at) }
+    ensures capacity { vec_capacity out.old ≤ vec_capacity out.new }
+{
+    writer.put_short(&front_of(len, header)[..2 + N], out);
+}
+
+/// Appends all of a frame with markers that stands before its CRC field, of a ULPDU that is a header and a payload.
+#[inline(always)]
+fn put_segment_among_markers<const N: usize, A: Allocator>(
+    at: u64,
+    len: u16,
+    header: [u8; N],
+    payload: &[u8],
+    out: &mut Vec<u8, A>,
+)
+    requires place { at < 2 ^ 63 }
+    requires aligned { at % 4 ≡ 0 }
+    requires few { N ≤ 18 }
+    requires len { len ≡ length (header ++ payload.now) }
+    requires short { len ≤ max_sent }
+    requires room { vec_len out.old + (frame_end true at len - at) ≤ vec_capacity out.old }
+    ensures items { out.new.items ≡ out.old.items
+        ++ laid true (frame_start true at) (data_index true at) (bare_data (header.entry ++ payload.now)) at
+        (field_place true at len) }
+    ensures room { vec_len out.new + 4 ≤ vec_capacity out.new }
+{
+    let mut writer = Writer {
+        start: start_at(at),
+        at,
+    };
+    put_head(&mut writer, len, header, out);
+    writer.put(payload, out);
+    writer.put_pad(pad_of(len), out);
+    writer.put_marker(out);
+}
+
+/// Appends all of a frame that stands before its CRC field, of a ULPDU that is a header and a payload.
+#[inline(always)]
+fn put_segment<const N: usize, A: Allocator>(
+    markers: bool,
+    at: u64,
+    len: u16,
+    header: [u8; N],
+    payload: &[u8],
+    out: &mut Vec<u8, A>,
+)
+    requires place { at < 2 ^ 63 }
+    requires aligned { at % 4 ≡ 0 }
+    requires few { N ≤ 18 }
+    requires len { len ≡ length (header ++ payload.now) }
+    requires short { len ≤ max_sent }
+    requires room { vec_len out.old + (frame_end markers at len - at) ≤ vec_capacity out.old }
+    ensures items { out.new.items ≡ out.old.items
+        ++ laid markers (frame_start markers at) (data_index markers at) (bare_data (header.entry ++ payload.now)) at
+        (field_place markers at len) }
+    ensures room { vec_len out.new + 4 ≤ vec_capacity out.new }
+{
+    if markers {
+        put_segment_among_markers(at, len, header, payload, out);
+    } else {
+        put_plain_segment(len, header, payload, out);
     }
 }
 
@@ -235,5 +343,37 @@ pub fn write_bare<const N: usize, A: Allocator>(
     append_front(len, header, out);
     append(out, payload);
     append_end(pad, out);
+    Ok(())
+}
+
+/// Appends the frame of a ULPDU that is a header and a payload, to stand from frame place `at` on, as `write_fpdu` does; its
+/// length field and header are appended at once.
+///
+/// An `Err` is want of memory, and leaves `out` as it was.
+#[inline(always)]
+pub fn write_segment<const N: usize, A: Allocator>(
+    layout: Layout,
+    at: u64,
+    header: [u8; N],
+    payload: &[u8],
+    out: &mut Vec<u8, A>,
+) -> Result<(), AllocError>
+    requires place { at < 2 ^ 63 }
+    requires aligned { at % 4 ≡ 0 }
+    requires few { N ≤ 18 }
+    requires short { N + length payload.now ≤ max_sent }
+    ensures ok { OnOk result (out.new.items ≡ out.old.items ++ frame_octets layout at (header.entry ++ payload.now)) }
+    ensures err { OnErr result (out.new.items ≡ out.old.items) }
+    ensures memory { vec_len out.old + length (frame_octets layout at (header.entry ++ payload.now)) ≤ vec_capacity out.old
+        → IsOk result }
+{
+    let len = (N + payload.len()) as u16;
+    let room = (end_of(layout.markers, at, len) - at) as usize;
+    out.reserve(room)?;
+    let mark = out.len();
+    put_segment(layout.markers, at, len, header, payload, out);
+    let (_, written) = out.as_slice().split_at(mark);
+    let field = crc_field(layout, at, written);
+    append(out, &field);
     Ok(())
 }

@@ -106,7 +106,7 @@ impl Writer {
 
     /// Appends octets of the frame, with the markers before and among them.
     #[inline(always)]
-    fn put<A: Allocator>(&mut self, octets: &[u8], out: &mut Vec<u8, A>)
+    pub(crate) fn put<A: Allocator>(&mut self, octets: &[u8], out: &mut Vec<u8, A>)
         requires { HasRoom true self.old.start self.old.at (length octets.now)
             (vec_len out.old) (vec_capacity out.old) }
         ensures start { self.new.start ≡ self.old.start }
@@ -123,6 +123,26 @@ impl Writer {
             append(out, front);
             self.at += run as u64;
             rest = back;
+        }
+    }
+
+    /// Appends octets of the frame as `put` does, and at once where no marker stands before or among them.
+    #[inline(always)]
+    pub(crate) fn put_short<A: Allocator>(&mut self, octets: &[u8], out: &mut Vec<u8, A>)
+        requires { HasRoom true self.old.start self.old.at (length octets.now)
+            (vec_len out.old) (vec_capacity out.old) }
+        ensures start { self.new.start ≡ self.old.start }
+        ensures place { self.new.at ≡ place_after true self.old.at (length octets.now) }
+        ensures items { out.new.items ≡ out.old.items ++ laid_from self.old.start self.old.at octets.now }
+        ensures len { vec_len out.new ≡ vec_len out.old + (self.new.at - self.old.at) }
+        ensures capacity { vec_capacity out.old ≤ vec_capacity out.new }
+    {
+        let before_marker = (SPACING - self.at % SPACING) % SPACING;
+        if octets.len() <= before_marker as usize {
+            append(out, octets);
+            self.at += octets.len() as u64;
+        } else {
+            self.put(octets, out);
         }
     }
 

@@ -6,7 +6,7 @@ use Rattle.iw_fpdu.specs.Frame.{frame_size, pad_len, laid, bare_data, field_plac
 use Rattle.iw_fpdu.specs.Laying.{HasRoom, marker_before}
 use Rattle.iw_fpdu.proofs.Counted.{aligned_edge, past_edge, after_high, at_most_after, four_past, index_after, index_aligned}
 use Rattle.iw_fpdu.proofs.Rooms.{room_whole, room_front, room_past}
-use Rattle.iw_fpdu.proofs.Written.{bare_written}
+use Rattle.iw_fpdu.proofs.Written.{bare_whole, pieces_written}
 use Rattle.iw_fpdu.proofs.write.put_among_markers.Goals as goal
 
 pub put_length-requires-clause-room : goal.put_length-requires-clause-room
@@ -196,8 +196,8 @@ returns-clause-items g c =
     let zeros = replicate c.pad_of.result 0 in
     let pad : zeros ≡ replicate (pad_len (length ulpdu)) 0 = ap (λ k. replicate k 0) (c.pad_of.ensures.value ∙ ap pad_len c.requires.len) in
     let long : length zeros ≡ c.pad_of.result = length-replicate c.pad_of.result 0 in
-    bare_written m at start b d e c.args.out.now.items _ _ _ _ (c.args.len / 256 ∷ c.args.len % 256 ∷ []) ulpdu zeros
-    (aligned_edge m at c.requires.aligned) start_is head pad first.ensures.place second.ensures.place
+    pieces_written m at start b d e c.args.out.now.items _ _ _ _ (c.args.len / 256 ∷ c.args.len % 256 ∷ []) ulpdu zeros ulpdu
+    (aligned_edge m at c.requires.aligned) start_is (bare_whole (c.args.len / 256 ∷ c.args.len % 256 ∷ []) ulpdu zeros head pad) first.ensures.place second.ensures.place
     (third.ensures.place ∙ ap (place_after m d) (sym long))
     first.ensures.items
     (second.ensures.items ∙ ap (λ s. first.new.out.items ++ laid m s (data_index m b) ulpdu b (place_after m b (length ulpdu))) one)
