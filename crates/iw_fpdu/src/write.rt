@@ -346,12 +346,9 @@ pub fn write_bare<const N: usize, A: Allocator>(
     Ok(())
 }
 
-/// Appends the frame of a ULPDU that is a header and a payload, to stand from frame place `at` on, as `write_fpdu` does; its
-/// length field and header are appended at once.
-///
-/// An `Err` is want of memory, and leaves `out` as it was.
+/// Appends the frame of a ULPDU that is a header and a payload, to stand from frame place `at` on, by laying it out there.
 #[inline(always)]
-pub fn write_segment<const N: usize, A: Allocator>(
+fn write_laid<const N: usize, A: Allocator>(
     layout: Layout,
     at: u64,
     header: [u8; N],
@@ -376,4 +373,31 @@ pub fn write_segment<const N: usize, A: Allocator>(
     let field = crc_field(layout, at, written);
     append(out, &field);
     Ok(())
+}
+
+/// Appends the frame of a ULPDU that is a header and a payload, to stand from frame place `at` on, as `write_fpdu` does; its
+/// length field and header are appended at once.
+///
+/// An `Err` is want of memory, and leaves `out` as it was.
+#[inline(always)]
+pub fn write_segment<const N: usize, A: Allocator>(
+    layout: Layout,
+    at: u64,
+    header: [u8; N],
+    payload: &[u8],
+    out: &mut Vec<u8, A>,
+) -> Result<(), AllocError>
+    requires place { at < 2 ^ 63 }
+    requires aligned { at % 4 ≡ 0 }
+    requires few { N ≤ 18 }
+    requires short { N + length payload.now ≤ max_sent }
+    ensures ok { OnOk result (out.new.items ≡ out.old.items ++ frame_octets layout at (header.entry ++ payload.now)) }
+    ensures err { OnErr result (out.new.items ≡ out.old.items) }
+    ensures memory { vec_len out.old + length (frame_octets layout at (header.entry ++ payload.now)) ≤ vec_capacity out.old
+        → IsOk result }
+{
+    if layout.markers || layout.crc {
+        return write_laid(layout, at, header, payload, out);
+    }
+    write_bare(header, payload, out)
 }
