@@ -9,7 +9,7 @@ ghost use Rattle.iw_rdmap.specs.Laws.{terminate_head};
 ghost use Rattle.iw_stream.specs.Emitting.{numbers_of, write_head, send_head, request_head};
 
 use bytes::Bytes;
-use iw_fpdu::{Layout, WriteRefusal, write_bare, write_fpdu};
+use iw_fpdu::{Layout, write_segment};
 use iw_octets::{DDP_VERSION, Message, Stag, TaggedHead, UntaggedHead};
 use iw_queues::{Part, Request};
 use iw_rdmap::{MAX_TERMINATE, TaggedOperation, UntaggedOperation};
@@ -106,27 +106,6 @@ fn request_head(msn: u32) -> UntaggedHead
     }
 }
 
-// Appends the frame of a header with this payload, to stand at frame place `at`. An `Err` leaves `out` as it was.
-fn write_frame<A: Allocator>(
-    layout: Layout,
-    at: u64,
-    head: &[u8],
-    payload: &[u8],
-    out: &mut Vec<u8, A>,
-) -> Result<(), AllocError>
-    requires place { at < 2 ^ 63 }
-    requires aligned { at % 4 ≡ 0 }
-    requires short { length head.now + length payload.now ≤ max_sent }
-    ensures ok { OnOk result (out.new.items ≡ out.old.items ++ frame_octets layout at (head.now ++ payload.now)) }
-    ensures err { OnErr result (out.new.items ≡ out.old.items) }
-{
-    match write_fpdu(layout, at, &[head, payload], out) {
-        Ok(()) => Ok(()),
-        Err(WriteRefusal::NoMemory) => Err(AllocError),
-        Err(WriteRefusal::TooLong) => unreachable!(),
-    }
-}
-
 /// Appends the frame of a tagged segment, to stand at frame place `at`.
 ///
 /// An `Err` leaves `out` as it was.
@@ -146,10 +125,7 @@ pub(crate) fn write_tagged<A: Allocator>(
     ensures ok { OnOk result (out.new.items ≡ out.old.items ++ frame_octets layout at (segment_octets (Tagged head payload.now))) }
     ensures err { OnErr result (out.new.items ≡ out.old.items) }
 {
-    if layout.markers || layout.crc {
-        return write_frame(layout, at, &head.write(), payload, out);
-    }
-    write_bare(head.write(), payload, out)
+    write_segment(layout, at, head.write(), payload, out)
 }
 
 // Appends the frame of an untagged segment, to stand at frame place `at`. An `Err` leaves `out` as it was.
@@ -169,10 +145,7 @@ fn write_untagged<A: Allocator>(
     ensures ok { OnOk result (out.new.items ≡ out.old.items ++ frame_octets layout at (segment_octets (Untagged head payload.now))) }
     ensures err { OnErr result (out.new.items ≡ out.old.items) }
 {
-    if layout.markers || layout.crc {
-        return write_frame(layout, at, &head.write(), payload, out);
-    }
-    write_bare(head.write(), payload, out)
+    write_segment(layout, at, head.write(), payload, out)
 }
 
 /// Appends the frame of a part, to stand at frame place `at`, where the next messages have these numbers.
