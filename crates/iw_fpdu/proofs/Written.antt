@@ -323,7 +323,7 @@ frame_bare layout at ulpdu aligned unmarked unchecked =
 pub length-bare_frame : (ulpdu : List ℕ) → length (bare_frame ulpdu) ≡ frame_size (length ulpdu)
 length-bare_frame ulpdu = length-append (bare_data ulpdu) (0 ∷ 0 ∷ 0 ∷ 0 ∷ []) ∙ ap (λ n. n + 4) (length_bare ulpdu)
 
-four_more : (n : ℕ) → replicate {A = ℕ} (n + 4) 0 ≡ replicate n 0 ++ (0 ∷ 0 ∷ 0 ∷ 0 ∷ [])
+pub four_more : (n : ℕ) → replicate {A = ℕ} (n + 4) 0 ≡ replicate n 0 ++ (0 ∷ 0 ∷ 0 ∷ 0 ∷ [])
 four_more zero = refl
 four_more (suc n) = ap (λ k. replicate k 0) (let e : suc n + 4 ≡ suc (n + 4) = omega arith in e) ∙ ap (λ xs. 0 ∷ xs) (four_more n)
 

@@ -9,7 +9,7 @@ ghost use Rattle.iw_fpdu.specs.Laying.{HasRoom, laid_from, marker_beyond};
 ghost use Rattle.iw_fpdu.specs.Places.{data_index, frame_start, place_after};
 
 use crate::layout::{Layout, MARKER, SPACING, end_of, pad_of};
-use crate::writer::{Writer, append};
+use crate::writer::{Writer, append, append_end};
 use iw_octets::{Crc, MAX_ULPDU, UNTAGGED_HEADER};
 use std::alloc::{AllocError, Allocator};
 use thiserror::Error;
@@ -81,21 +81,6 @@ fn append_front<const N: usize, A: Allocator>(len: u16, header: [u8; N], out: &m
     append(out, &front_of(len, header)[..2 + N]);
 }
 
-/// Appends the pad and a CRC field of zero: each number of octets by an append of its own, whose length is known.
-#[inline(always)]
-fn append_end<A: Allocator>(pad: u64, out: &mut Vec<u8, A>)
-    requires few { pad < 4 }
-    requires room { vec_len out.old + pad + 4 ≤ vec_capacity out.old }
-    ensures { out.new.items ≡ out.old.items ++ replicate (pad + 4) 0 }
-{
-    match pad {
-        0 => append(out, &[0; 4]),
-        1 => append(out, &[0; 5]),
-        2 => append(out, &[0; 6]),
-        _ => append(out, &[0; 7]),
-    }
-}
-
 /// Appends all of a frame without markers that stands before its CRC field.
 fn put_plain<A: Allocator>(len: u16, parts: &[&[u8]], out: &mut Vec<u8, A>)
     requires len { len ≡ length (joined parts.now) }
@@ -160,7 +145,7 @@ fn put_bare<A: Allocator>(markers: bool, at: u64, len: u16, parts: &[&[u8]], out
     }
 }
 
-/// Appends all of a frame without markers that stands before its CRC field, of a ULPDU that is a header and a payload.
+/// Appends a frame without markers, with a CRC field of zero, of a ULPDU that is a header and a payload.
 #[inline(always)]
 fn put_plain_segment<const N: usize, A: Allocator>(
     len: u16,
@@ -171,14 +156,11 @@ fn put_plain_segment<const N: usize, A: Allocator>(
     requires few { N ≤ 18 }
     requires len { len ≡ length (header ++ payload.now) }
     requires room { vec_len out.old + frame_size len ≤ vec_capacity out.old }
-    ensures items { out.new.items ≡ out.old.items ++ bare_data (header.entry ++ payload.now) }
-    ensures room { vec_len out.new + 4 ≤ vec_capacity out.new }
+    ensures { out.new.items ≡ out.old.items ++ bare_frame (header.entry ++ payload.now) }
 {
     append_front(len, header, out);
     append(out, payload);
-    let end = out.len() + pad_of(len) as usize;
-    append(out, &[0; 4]);
-    out.truncate(end);
+    append_end(pad_of(len), out);
 }
 
 /// Appends the length field and the header of a frame, with the markers before and among them.
@@ -201,7 +183,7 @@ fn put_head<const N: usize, A: Allocator>(
     writer.put_short(&front_of(len, header)[..2 + N], out);
 }
 
-/// Appends all of a frame with markers that stands before its CRC field, of a ULPDU that is a header and a payload.
+/// Appends a frame with markers, with a CRC field of zero, of a ULPDU that is a header and a payload.
 #[inline(always)]
 fn put_segment_among_markers<const N: usize, A: Allocator>(
     at: u64,
@@ -216,10 +198,9 @@ fn put_segment_among_markers<const N: usize, A: Allocator>(
     requires len { len ≡ length (header ++ payload.now) }
     requires short { len ≤ max_sent }
     requires room { vec_len out.old + (frame_end true at len - at) ≤ vec_capacity out.old }
-    ensures items { out.new.items ≡ out.old.items
+    ensures { out.new.items ≡ out.old.items
         ++ laid true (frame_start true at) (data_index true at) (bare_data (header.entry ++ payload.now)) at
-        (field_place true at len) }
-    ensures room { vec_len out.new + 4 ≤ vec_capacity out.new }
+        (field_place true at len) ++ (0 ∷ 0 ∷ 0 ∷ 0 ∷ []) }
 {
     let mut writer = Writer {
         start: start_at(at),
@@ -227,11 +208,10 @@ fn put_segment_among_markers<const N: usize, A: Allocator>(
     };
     put_head(&mut writer, len, header, out);
     writer.put(payload, out);
-    writer.put_pad(pad_of(len), out);
-    writer.put_marker(out);
+    writer.put_end(pad_of(len), out);
 }
 
-/// Appends all of a frame that stands before its CRC field, of a ULPDU that is a header and a payload.
+/// Appends a frame with a CRC field of zero, of a ULPDU that is a header and a payload.
 #[inline(always)]
 fn put_segment<const N: usize, A: Allocator>(
     markers: bool,
@@ -247,10 +227,9 @@ fn put_segment<const N: usize, A: Allocator>(
     requires len { len ≡ length (header ++ payload.now) }
     requires short { len ≤ max_sent }
     requires room { vec_len out.old + (frame_end markers at len - at) ≤ vec_capacity out.old }
-    ensures items { out.new.items ≡ out.old.items
+    ensures { out.new.items ≡ out.old.items
         ++ laid markers (frame_start markers at) (data_index markers at) (bare_data (header.entry ++ payload.now)) at
-        (field_place markers at len) }
-    ensures room { vec_len out.new + 4 ≤ vec_capacity out.new }
+        (field_place markers at len) ++ (0 ∷ 0 ∷ 0 ∷ 0 ∷ []) }
 {
     if markers {
         put_segment_among_markers(at, len, header, payload, out);
@@ -347,7 +326,7 @@ pub fn write_bare<const N: usize, A: Allocator>(
 }
 
 /// Appends the frame of a ULPDU that is a header and a payload, to stand from frame place `at` on, by laying it out there.
-#[inline(always)]
+#[inline(never)]
 fn write_laid<const N: usize, A: Allocator>(
     layout: Layout,
     at: u64,
@@ -369,6 +348,11 @@ fn write_laid<const N: usize, A: Allocator>(
     out.reserve(room)?;
     let mark = out.len();
     put_segment(layout.markers, at, len, header, payload, out);
+    if !layout.crc {
+        return Ok(());
+    }
+    let place = out.len() - 4;
+    out.truncate(place);
     let (_, written) = out.as_slice().split_at(mark);
     let field = crc_field(layout, at, written);
     append(out, &field);

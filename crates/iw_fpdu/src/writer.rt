@@ -22,6 +22,21 @@ pub(crate) fn append<A: Allocator>(out: &mut Vec<u8, A>, octets: &[u8])
     let _ = out.extend_from_slice(octets);
 }
 
+/// Appends the pad and a CRC field of zero: each number of octets by an append of its own, whose length is known.
+#[inline(always)]
+pub(crate) fn append_end<A: Allocator>(pad: u64, out: &mut Vec<u8, A>)
+    requires few { pad < 4 }
+    requires room { vec_len out.old + pad + 4 ≤ vec_capacity out.old }
+    ensures { out.new.items ≡ out.old.items ++ replicate (pad + 4) 0 }
+{
+    match pad {
+        0 => append(out, &[0; 4]),
+        1 => append(out, &[0; 5]),
+        2 => append(out, &[0; 6]),
+        _ => append(out, &[0; 7]),
+    }
+}
+
 /// The marker at a place: two reserved octets, and how far the frame's start lies before it.
 #[tactic(auto, using(crate::proofs::Counted::marker_value_is))]
 fn marker(start: u64, at: u64) -> [u8; 4]
@@ -198,5 +213,24 @@ impl Writer {
         append(out, &[0; 4]);
         out.truncate(len);
         self.at += pad;
+    }
+    /// Appends the pad and a CRC field of zero, with the marker between them, if there is one: at once where there is none.
+    #[inline(always)]
+    pub(crate) fn put_end<A: Allocator>(&mut self, pad: u64, out: &mut Vec<u8, A>)
+        requires room { HasRoom true self.old.start self.old.at (pad + 4) (vec_len out.old) (vec_capacity out.old) }
+        requires few { pad < 4 }
+        requires aligned { (data_index true self.old.at + pad) % 4 ≡ 0 }
+        ensures { out.new.items ≡ out.old.items
+            ++ laid true self.old.start (data_index true self.old.at) (replicate pad 0)
+            self.old.at (place_after true self.old.at pad)
+            ++ marker_before true self.old.start (place_after true self.old.at pad) ++ (0 ∷ 0 ∷ 0 ∷ 0 ∷ []) }
+    {
+        if (self.at + pad) % SPACING != 0 {
+            append_end(pad, out);
+            return;
+        }
+        self.put_pad(pad, out);
+        self.put_marker(out);
+        append(out, &[0; 4]);
     }
 }
