@@ -1,5 +1,5 @@
 -- The outstanding Reads of this end: the request was sent, and the last segment of the response had no turn yet.
-use Rattle.std.specs.Prelude.{ℕ, ◌≡◌, ◌+◌, ◌-◌, ◌%◌, ◌^◌, ◌≤◌, ◌==◌, ◌&&◌, ◌||◌, Bool, not, nat_le, List, [], ◌∷◌, ◌++◌, length, drop, All, if◌then◌else◌, Option, Some, None}
+use Rattle.std.specs.Prelude.{ℕ, ◌≡◌, ◌+◌, ◌-◌, ◌%◌, ◌^◌, ◌<◌, ◌≤◌, ◌==◌, ◌&&◌, ◌||◌, Bool, not, nat_le, List, [], ◌∷◌, ◌++◌, length, drop, All, if◌then◌else◌, Option, Some, None}
 use Rattle.std.specs.List.{list_any}
 use Rattle.iw_octets.specs.declared.fault.Fault.{Fault}
 use Rattle.iw_octets.specs.declared.fault.TheConstants.Fault as faults
@@ -79,3 +79,8 @@ pub record HoldsLimits (reads : List Outstanding) : Type 0 where
   pub few : length reads ≤ most_reads
   pub within : All (λ read. read.turned ≤ read.request.size) reads
   pub in_order : All (λ read. read.turned ≡ 0) (drop 1 reads)
+
+-- they keep the limits, and where there are any, there are places for as many as may be outstanding
+pub record HasPlaces (reads : List Outstanding) (capacity : ℕ) : Type 0 where
+  pub limits : HoldsLimits reads
+  pub places : 0 < length reads → most_reads ≤ capacity

@@ -1,7 +1,7 @@
 //! What a stream keeps of Reads (RFC 5040 4.4, 4.5, 5.2): at the end that asked the Reads that are outstanding, and at
 //! the end that was asked the Read Requests that wait for their responses, with how each response is cut and fetched.
 //!
-//! No call takes memory.
+//! No call takes memory but [`Reads::add`], for all Reads at once.
 #![tactic(auto)]
 
 mod laws;

@@ -6,8 +6,8 @@ ghost use Rattle.iw_reads.specs.Outstanding.{same_stag, is_inside, asks_for, is_
 ghost use Rattle.iw_reads.specs.Outstanding.{goes_on, response_turn_fault, reads_turned, finished_read};
 
 use crate::response::past_part;
-use arrayvec::ArrayVec;
 use iw_octets::{Fault, ReadRequest, Stag, TaggedHead};
+use std::alloc::{AllocError, Allocator, Global};
 use std::marker::Model;
 
 /// How many Reads may be outstanding at one end of a stream.
@@ -47,46 +47,31 @@ impl Model for Kept {
     } };
 }
 
-// What a place holds that no Read was put in.
-impl Default for Kept {
-    fn default() -> Kept {
-        Kept {
-            ticket: 0,
-            sink_to: 0,
-            source_to: 0,
-            size: 0,
-            turned: 0,
-            sink: Stag::new(0, 0, 0),
-            source: Stag::new(0, 0, 0),
-        }
-    }
-}
-
 /// The outstanding Reads of one end of a stream, oldest first, at most [`MAX_READS`].
 #[derive(Drop)]
-pub struct Reads {
-    reads: ArrayVec<Kept, MAX_READS>,
+pub struct Reads<A: Allocator = Global> {
+    reads: Vec<Kept, A>,
 }
 
-impl Model for Reads {
-    ghost use Rattle.std.specs.Prelude.{List};
+impl<A: Allocator> Model for Reads<A> {
+    ghost use Rattle.std.specs.Prelude.{List, vec_capacity};
     ghost use Rattle.iw_reads.specs.declared.reads.Outstanding.{Outstanding};
-    ghost use Rattle.iw_reads.specs.Outstanding.{HoldsLimits};
+    ghost use Rattle.iw_reads.specs.Outstanding.{HasPlaces};
 
     ghost Value = { List Outstanding };
 
     ghost view = { λ s. s.reads.items };
 
-    ghost invariant = { λ s. HoldsLimits s.reads.items };
+    ghost invariant = { λ s. HasPlaces s.reads.items (vec_capacity s.reads) };
 }
 
-impl Reads {
-    /// No Read is outstanding.
-    pub fn new() -> Reads
+impl<A: Allocator> Reads<A> {
+    /// No Read is outstanding. It takes no memory yet.
+    pub fn new(alloc: A) -> Reads<A>
         ensures { result ≡ [] }
     {
         Reads {
-            reads: ArrayVec::new(),
+            reads: Vec::new(alloc),
         }
     }
 
@@ -119,11 +104,17 @@ impl Reads {
     }
 
     /// The request of the Read with this ticket was sent. There must be room for it.
-    pub fn add(&mut self, ticket: u64, request: ReadRequest)
+    ///
+    /// The first Read takes the memory of all [`MAX_READS`], so an `Err`, which is want of memory, comes only where none
+    /// is outstanding. It changes nothing.
+    pub fn add(&mut self, ticket: u64, request: ReadRequest) -> Result<(), AllocError>
         requires { length self.old < most_reads }
-        ensures { self.new ≡ asked_for self.old ticket request }
+        ensures ok { OnOk result (self.new ≡ asked_for self.old ticket request) }
+        ensures err { OnErr result (self.new ≡ self.old) }
+        ensures memory { OnErr result (self.old ≡ []) }
     {
-        self.reads.push(Kept {
+        self.reads.reserve_exact(MAX_READS - self.reads.len())?;
+        self.reads.push_reserved(Kept {
             ticket,
             sink_to: request.sink_to,
             source_to: request.source_to,
@@ -132,6 +123,7 @@ impl Reads {
             sink: request.sink,
             source: request.source,
         });
+        Ok(())
     }
 
     /// Whether a segment of a Read Response with this header and `n` octets of payload was asked for: a Read is
