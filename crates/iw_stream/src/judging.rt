@@ -200,7 +200,12 @@ pub(crate) fn right_of(response: bool) -> Right
 
 // Whether a Read asked for the `n` octets of a Read Response. A Write is not asked for.
 #[inline(always)]
-fn check_sink(response: bool, head: &TaggedHead, n: usize, reads: &Reads) -> Result<(), Fault>
+fn check_sink<A: Allocator>(
+    response: bool,
+    head: &TaggedHead,
+    n: usize,
+    reads: &Reads<A>,
+) -> Result<(), Fault>
     ensures { result_err result ≡ (if response then sink_fault reads.now head.now n else None) }
 {
     if !response {
@@ -220,7 +225,7 @@ pub(crate) fn land_tagged<A: Allocator, B: Allocator>(
     fpdu: &Fpdu<'_, A>,
     payload: Pieces<'_>,
     domain: u8,
-    reads: &Reads,
+    reads: &Reads<B>,
     memory: &mut Memory<B>,
 ) -> Result<Placed, Fault>
     requires holds { HoldsSpan fpdu.now }
@@ -267,7 +272,7 @@ fn place_response<A: Allocator, B: Allocator>(
     head: TaggedHead,
     fpdu: &Fpdu<'_, A>,
     domain: u8,
-    reads: &Reads,
+    reads: &Reads<B>,
     memory: &mut Memory<B>,
 ) -> Result<Landing, Fault>
     requires holds { HoldsSpan fpdu.now }
@@ -326,7 +331,7 @@ fn land<A: Allocator, B: Allocator>(
     head: Head,
     fpdu: &Fpdu<'_, A>,
     domain: u8,
-    reads: &Reads,
+    reads: &Reads<B>,
     memory: &mut Memory<B>,
     receiving: &mut RecvQueue<B>,
 ) -> Result<Landing, Fault>
@@ -352,7 +357,7 @@ fn land_by<A: Allocator, B: Allocator>(
     first: &[u8],
     fpdu: &Fpdu<'_, A>,
     domain: u8,
-    reads: &Reads,
+    reads: &Reads<B>,
     asked: &Requests,
     memory: &mut Memory<B>,
     receiving: &mut RecvQueue<B>,
@@ -376,7 +381,7 @@ fn land_by<A: Allocator, B: Allocator>(
 pub(crate) fn land_frame<A: Allocator, B: Allocator>(
     fpdu: &Fpdu<'_, A>,
     domain: u8,
-    reads: &Reads,
+    reads: &Reads<B>,
     asked: &Requests,
     memory: &mut Memory<B>,
     receiving: &mut RecvQueue<B>,
@@ -427,7 +432,7 @@ fn land_tagged_early<A: Allocator, B: Allocator>(
     fpdu: &Fpdu<'_, A>,
     payload: Pieces<'_>,
     domain: u8,
-    reads: &Reads,
+    reads: &Reads<B>,
     memory: &mut Memory<B>,
 ) -> Option<Landing>
     requires holds { HoldsSpan fpdu.now }
@@ -449,7 +454,7 @@ fn land_tagged_early<A: Allocator, B: Allocator>(
 pub(crate) fn land_early<A: Allocator, B: Allocator>(
     fpdu: &Fpdu<'_, A>,
     domain: u8,
-    reads: &Reads,
+    reads: &Reads<B>,
     asked: &Requests,
     memory: &mut Memory<B>,
     receiving: &mut RecvQueue<B>,

@@ -48,7 +48,7 @@ pub struct Stream<A: Allocator = Global> {
     queue: SendQueue<A>,
     receiving: RecvQueue<A>,
     // The Reads of this end whose responses have not come whole.
-    reads: Reads,
+    reads: Reads<A>,
     // The peer's Read Requests.
     asked: Requests,
     start: Start,
@@ -113,7 +113,7 @@ impl<A: Allocator> Stream<A> {
             numbers: Numbers::first(),
             queue: SendQueue::new(alloc),
             receiving,
-            reads: Reads::new(),
+            reads: Reads::new(alloc),
             asked: Requests::new(),
             start,
         })

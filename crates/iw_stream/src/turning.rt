@@ -132,10 +132,10 @@ pub(crate) fn is_response(head: &TaggedHead) -> bool
 /// Gives a tagged segment with `n` octets that was placed its turn, and tells the ticket of the Read that it finishes. An
 /// `Err` changes nothing.
 #[inline(always)]
-pub(crate) fn turn_reads(
+pub(crate) fn turn_reads<A: Allocator>(
     head: TaggedHead,
     n: usize,
-    reads: &mut Reads,
+    reads: &mut Reads<A>,
 ) -> Result<Option<u64>, Fault>
     ensures turn { answered result ≡ tagged_turn reads.old head n }
     ensures ok { OnOk result (reads.new ≡ tagged_left reads.old head n) }
@@ -149,7 +149,11 @@ pub(crate) fn turn_reads(
 
 // Gives a tagged segment with `n` octets that was placed its turn. An `Err` changes nothing.
 #[inline(always)]
-fn turn_tagged(head: TaggedHead, n: usize, reads: &mut Reads) -> Result<Turning, Fault>
+fn turn_tagged<A: Allocator>(
+    head: TaggedHead,
+    n: usize,
+    reads: &mut Reads<A>,
+) -> Result<Turning, Fault>
     ensures turn { result ≡ tagged_turn reads.old head n }
     ensures ok { OnOk result (reads.new ≡ tagged_left reads.old head n) }
     ensures err { OnErr result (reads.new ≡ reads.old) }
@@ -163,7 +167,7 @@ fn turn_tagged(head: TaggedHead, n: usize, reads: &mut Reads) -> Result<Turning,
 pub(crate) fn turn_frame<A: Allocator, B: Allocator>(
     frame: &PlacedFrame,
     domain: u8,
-    reads: &mut Reads,
+    reads: &mut Reads<B>,
     memory: &mut Memory<B>,
     receiving: &mut RecvQueue<A>,
 ) -> Result<Turning, Fault>

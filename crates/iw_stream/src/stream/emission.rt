@@ -6,35 +6,65 @@ ghost use Rattle.iw_octets.specs.declared.segment.Segment.TheVariants.{Tagged};
 ghost use Rattle.iw_memory.specs.Table.{Table};
 ghost use Rattle.iw_stream.specs.Starting.{is_open, first_place_out};
 ghost use Rattle.iw_reads.specs.Outstanding.{most_reads};
+ghost use Rattle.iw_queues.specs.Segments.{numbers_beyond};
+ghost use Rattle.iw_queues.specs.Shown.{shown_part};
+ghost use Rattle.iw_stream.specs.Emitting.{numbers_of};
 ghost use Rattle.iw_stream.specs.Stream.{is_read, reads_with};
 
 use super::Stream;
 use crate::answer::Emission;
-use crate::emitting::{write_part, write_tagged, write_terminate};
+use crate::emitting::{Numbers, write_part, write_tagged, write_terminate};
 use crate::ending::Ending;
 use crate::terminating::{over, terminate_fetched};
 use bytes::Bytes;
 use iw_memory::Memory;
-use iw_queues::Request;
+use iw_octets::Message;
+use iw_queues::{Part, Request};
 use iw_reads::{Reads, ResponsePart, fetch};
 use std::alloc::{AllocError, Allocator};
 
 // A Read is not begun while 16 are outstanding.
-pub(super) fn must_wait<A: Allocator>(reads: &Reads, request: &Request<Bytes<A>>) -> bool
+pub(super) fn must_wait<A: Allocator>(reads: &Reads<A>, request: &Request<Bytes<A>>) -> bool
     ensures { result ≡ is_read request.now && nat_le most_reads (length reads.now) }
 {
     matches!(request, Request::Read(_)) && reads.is_full()
 }
 
-// A Read is outstanding once its request was sent.
-fn read_sent<A: Allocator>(reads: &mut Reads, ticket: u64, request: &Request<Bytes<A>>)
+// A Read is outstanding once its request was sent. An `Err` is want of memory.
+fn read_sent<A: Allocator>(
+    reads: &mut Reads<A>,
+    ticket: u64,
+    request: &Request<Bytes<A>>,
+) -> Result<(), AllocError>
     requires { (is_read request.now && nat_le most_reads (length reads.old)) ≡ false }
-    ensures { reads.new ≡ reads_with reads.old ticket request.now }
+    ensures ok { OnOk result (reads.new ≡ reads_with reads.old ticket request.now) }
+    ensures err { OnErr result (reads.new ≡ reads.old) }
 {
     match request {
-        Request::Message(_) => {}
+        Request::Message(_) => Ok(()),
         Request::Read(request) => reads.add(ticket, *request),
     }
+}
+
+// Counts a part that was sent: the numbers of the next messages go on, and a Read is outstanding. A Write changes neither.
+// An `Err` is want of memory, and changes nothing.
+#[inline(always)]
+fn count_part<A: Allocator>(
+    numbers: &mut Numbers,
+    reads: &mut Reads<A>,
+    part: &Part<&Request<Bytes<A>>>,
+) -> Result<(), AllocError>
+    requires { (is_read part.now.message.now && nat_le most_reads (length reads.old)) ≡ false }
+    ensures numbers { OnOk result (numbers_of numbers.new ≡ numbers_beyond (numbers_of numbers.old) (shown_part part.now)) }
+    ensures reads { OnOk result (reads.new ≡ reads_with reads.old part.now.ticket part.now.message.now) }
+    ensures err { OnErr result ((numbers.new ≡ numbers.old) × (reads.new ≡ reads.old)) }
+{
+    if let Request::Message(Message::Write { .. }) = part.message {
+        return Ok(());
+    }
+    read_sent(reads, part.ticket, part.message)?;
+    *numbers = numbers.beyond(part);
+    Ok(())
 }
 
 impl<A: Allocator> Stream<A> {
@@ -227,11 +257,13 @@ impl<A: Allocator> Stream<A> {
         }
         let before = out.len();
         write_part(self.start.sending(), place, self.numbers, &part, out)?;
+        if let Err(refused) = count_part(&mut self.numbers, &mut self.reads, &part) {
+            out.truncate(before);
+            return Err(refused);
+        }
         let len = out.len() - before;
         let from = self.sent;
         let (n, last) = (part.n, part.last);
-        self.numbers = self.numbers.beyond(&part);
-        read_sent(&mut self.reads, part.ticket, part.message);
         self.queue.part_sent(n, last);
         self.sent += len as u64;
         Ok(Emission::Frame { from, len })

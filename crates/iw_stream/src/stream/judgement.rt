@@ -100,7 +100,7 @@ fn judge_early<A: Allocator, B: Allocator>(
     frame: EarlyFrame,
     arrived: &mut Incoming<A>,
     domain: u8,
-    reads: &Reads,
+    reads: &Reads<B>,
     asked: &Requests,
     memory: &mut Memory<B>,
     receiving: &mut RecvQueue<B>,

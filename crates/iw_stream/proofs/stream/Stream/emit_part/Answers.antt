@@ -6,7 +6,7 @@ use Rattle.iw_queues.specs.Segments.{segment_of}
 use Rattle.iw_queues.specs.Shown.{shown_part}
 use Rattle.iw_stream.specs.Emitting.{numbers_of}
 use Rattle.iw_stream.specs.Fields.{state_of}
-use Rattle.iw_stream.specs.Kept.{AreAwaited}
+use Rattle.iw_stream.specs.Kept.{AreAwaited, Keeps}
 use Rattle.iw_stream.specs.Starting.{is_open, first_place_out}
 use Rattle.iw_stream.specs.Stream.{StreamState, NextPart, NoneDue, may_go, part_due, frame_of_part, left_due}
 use Rattle.std.specs.Option.{option_map_or}
@@ -38,12 +38,23 @@ returns-clause-after g c = λ table.
     let long : length c.write_part.new.out.items ≡ length c.args.out.now.items + length (frame_of_part s part) =
     ap length c.in_ok-write_part.ensures.ok ∙ length-append c.args.out.now.items _ ∙ ap (λ xs. length c.args.out.now.items + length xs) frame in
     let sent : s.sent + (c.len.result - c.len-before.result) ≡ s.sent + length (frame_of_part s part) = omega (arith, long, c.len.ensures, c.len-before.ensures) in
-    (λ i. record s { queue = queue i; numbers = c.beyond-self-inside.ensures i; sent = sent i; reads = c.read_sent.ensures i })
+    (λ i. record s { queue = queue i; numbers = c.in_default-count_part.ensures.numbers i; sent = sent i; reads = c.in_default-count_part.ensures.reads i })
     ∙ ap (λ o. left_due table s (option_map_or NextPart o NoneDue)) (sym due)
     ∙ ap (λ (t : StreamState). left_due table t (option_map_or NextPart (part_due t) NoneDue)) c.self.view_is
 
 pub invariant_of-self : goal.invariant_of-self
 invariant_of-self g c = record {
+  keeps =
+      let s = c.self.inside in
+      let same : record (state_of s) { numbers = numbers_of c.count_part.new.numbers; reads = c.count_part.new.reads } ≡ state_of s =
+      (λ i. record (state_of s) { numbers = numbers_of (c.in-Err.ensures.err.0 i); reads = c.in-Err.ensures.err.1 i }) in
+      subst Keeps (sym same) c.self.invariant.keeps;
+  layout = c.self.invariant.layout;
+  base = c.self.invariant.base;
+}
+
+pub invariant_of-self-2 : goal.invariant_of-self-2
+invariant_of-self-2 g c = record {
   keeps =
       let s = c.self.inside in
       let first = c.first_place_out.result in
@@ -56,11 +67,11 @@ invariant_of-self g c = record {
       let long : length c.write_part.new.out.items ≡ length c.args.out.now.items + length frame = ap length c.in_ok-write_part.ensures.ok ∙ length-append c.args.out.now.items frame in
       let all : s.sent - first_place_out (state_of c.self.inside).start + (c.len.result - c.len-before.result) ≡ s.sent - first + length frame = omega (arith, long, c.len.ensures, c.len-before.ensures, at) in
       let after : c.part_sent.new.self ≡ part_sent c.self.inside.queue (Some (shown_part c.in-Some.part)) = c.part_sent.ensures (record { max = c.self.inside.mulpdu; least = c.self.invariant.keeps.enough; part = part; shown = sym c.in-Some.ensures.part; octets = refl; ends = refl }) in
-      keeps_sent (state_of s) c.part_sent.new.self (numbers_of c.beyond-self-inside.result) (c.len.result - c.len-before.result) c.read_sent.new.reads s.asked running low
+      keeps_sent (state_of s) c.part_sent.new.self (numbers_of c.count_part.new.numbers) (c.len.result - c.len-before.result) c.count_part.new.reads s.asked running low
       (ap (λ n. n % 4) all ∙ aligned_past c.sending.result (s.sent - first) u (ap (λ n. (s.sent - n) % 4) at ∙ c.self.invariant.keeps.aligned))
       (subst (λ (q : Queue). q.sent.first < 2 ^ 64) (sym after) (first_sent s.queue (Some part) c.self.invariant.keeps.first))
-      (λ runs. subst (λ (q : Queue). AreAwaited q.sent c.read_sent.new.reads) (sym after)
-      (subst (AreAwaited (part_sent c.self.inside.queue (Some (shown_part c.in-Some.part))).sent) (sym c.read_sent.ensures) (awaited_sent s.queue _ part s.reads c.limits.ensures c.self.invariant.keeps.first (sym c.in-Some.ensures.part) (c.self.invariant.keeps.awaited runs))))
+      (λ runs. subst (λ (q : Queue). AreAwaited q.sent c.count_part.new.reads) (sym after)
+      (subst (AreAwaited (part_sent c.self.inside.queue (Some (shown_part c.in-Some.part))).sent) (sym c.in_default-count_part.ensures.reads) (awaited_sent s.queue _ part s.reads c.limits.ensures c.self.invariant.keeps.first (sym c.in-Some.ensures.part) (c.self.invariant.keeps.awaited runs))))
       c.self.invariant.keeps;
   layout = c.self.invariant.layout;
   base = c.self.invariant.base;
