@@ -180,7 +180,11 @@ fn put_head<const N: usize, A: Allocator>(
     ensures len { vec_len out.new ≡ vec_len out.old + (writer.new.at - writer.old.at) }
     ensures capacity { vec_capacity out.old ≤ vec_capacity out.new }
 {
-    writer.put_short(&front_of(len, header)[..2 + N], out);
+    if 2 + N <= writer.before_marker() {
+        writer.put_run(&front_of(len, header)[..2 + N], out);
+    } else {
+        writer.put(&front_of(len, header)[..2 + N], out);
+    }
 }
 
 /// Appends a frame with markers, with a CRC field of zero, of a ULPDU that is a header and a payload.
@@ -252,6 +256,7 @@ fn crc_before(markers: bool, at: u64) -> Crc
 }
 
 /// The CRC field of a frame of which all before that field was written at `at`.
+#[inline(never)]
 fn crc_field(layout: Layout, at: u64, written: &[u8]) -> [u8; 4]
     ensures { result ≡ (if layout.crc then to_le_bytes w32 (crc32c (marker_beyond layout.markers at ++ written.now))
         else 0 ∷ 0 ∷ 0 ∷ 0 ∷ []) }
@@ -326,7 +331,7 @@ pub fn write_bare<const N: usize, A: Allocator>(
 }
 
 /// Appends the frame of a ULPDU that is a header and a payload, to stand from frame place `at` on, by laying it out there.
-#[inline(never)]
+#[inline(always)]
 fn write_laid<const N: usize, A: Allocator>(
     layout: Layout,
     at: u64,

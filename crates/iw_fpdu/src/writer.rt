@@ -58,6 +58,14 @@ pub(crate) struct Writer {
 }
 
 impl Writer {
+    /// How many octets of the frame come before the next marker.
+    #[inline(always)]
+    pub(crate) fn before_marker(&self) -> usize
+        ensures { result ≡ (512 - self.now.at % 512) % 512 }
+    {
+        ((SPACING - self.at % SPACING) % SPACING) as usize
+    }
+
     /// Appends the marker, which is next. The frame's next octet is next then.
     #[inline(always)]
     fn put_next_marker<A: Allocator>(&mut self, out: &mut Vec<u8, A>)
@@ -111,8 +119,7 @@ impl Writer {
         ensures items { out.new.items ++ laid_from self.old.start self.new.at result.now
             ≡ out.old.items ++ laid_from self.old.start self.old.at octets.now }
     {
-        let before_marker = (SPACING - self.at % SPACING) % SPACING;
-        let run = octets.len().min(before_marker as usize);
+        let run = octets.len().min(self.before_marker());
         let (front, back) = octets.split_at(run);
         append(out, front);
         self.at += run as u64;
@@ -141,24 +148,20 @@ impl Writer {
         }
     }
 
-    /// Appends octets of the frame as `put` does, and at once where no marker stands before or among them.
+    /// Appends octets of the frame at once, of which no more are there than come before the next marker.
     #[inline(always)]
-    pub(crate) fn put_short<A: Allocator>(&mut self, octets: &[u8], out: &mut Vec<u8, A>)
-        requires { HasRoom true self.old.start self.old.at (length octets.now)
+    pub(crate) fn put_run<A: Allocator>(&mut self, octets: &[u8], out: &mut Vec<u8, A>)
+        requires room { HasRoom true self.old.start self.old.at (length octets.now)
             (vec_len out.old) (vec_capacity out.old) }
+        requires run { length octets.now ≤ (512 - self.old.at % 512) % 512 }
         ensures start { self.new.start ≡ self.old.start }
         ensures place { self.new.at ≡ place_after true self.old.at (length octets.now) }
         ensures items { out.new.items ≡ out.old.items ++ laid_from self.old.start self.old.at octets.now }
         ensures len { vec_len out.new ≡ vec_len out.old + (self.new.at - self.old.at) }
         ensures capacity { vec_capacity out.old ≤ vec_capacity out.new }
     {
-        let before_marker = (SPACING - self.at % SPACING) % SPACING;
-        if octets.len() <= before_marker as usize {
-            append(out, octets);
-            self.at += octets.len() as u64;
-        } else {
-            self.put(octets, out);
-        }
+        append(out, octets);
+        self.at += octets.len() as u64;
     }
 
     /// Appends the pieces one after the other, as `put` does each.
@@ -214,6 +217,7 @@ impl Writer {
         out.truncate(len);
         self.at += pad;
     }
+
     /// Appends the pad and a CRC field of zero, with the marker between them, if there is one: at once where there is none.
     #[inline(always)]
     pub(crate) fn put_end<A: Allocator>(&mut self, pad: u64, out: &mut Vec<u8, A>)

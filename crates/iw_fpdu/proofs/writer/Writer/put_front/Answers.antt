@@ -10,7 +10,7 @@ pub append-requires : goal.append-requires
 append-requires g c =
     let at = c.args.self.now.at in
     let n = c.min-run.result in
-    let front = run_before at n c.requires.edge (omega (arith, c.min-run.ensures)) in
+    let front = run_before at n c.requires.edge (omega (arith, c.min-run.ensures, c.before_marker.ensures)) in
     let past = after_front at n (length c.args.octets.now) (length c.split_at.result.1.now) c.requires.edge front (omega (arith, c.split_at.ensures.back_len)) in
     omega (arith, c.requires.room, past.1, c.split_at.ensures.front_len)
 
@@ -18,7 +18,7 @@ pub overflow_add-self : goal.overflow_add-self
 overflow_add-self g c =
     let at = c.args.self.now.at in
     let n = c.min-run.result in
-    let front = run_before at n c.requires.edge (omega (arith, c.min-run.ensures)) in
+    let front = run_before at n c.requires.edge (omega (arith, c.min-run.ensures, c.before_marker.ensures)) in
     let past = after_front at n (length c.args.octets.now) (length c.split_at.result.1.now) c.requires.edge front (omega (arith, c.split_at.ensures.back_len)) in
     omega (arith, c.requires.low, past.1)
 
@@ -26,7 +26,7 @@ pub returns-clause-room : goal.returns-clause-room
 returns-clause-room g c =
     let at = c.args.self.now.at in
     let n = c.min-run.result in
-    let front = run_before at n c.requires.edge (omega (arith, c.min-run.ensures)) in
+    let front = run_before at n c.requires.edge (omega (arith, c.min-run.ensures, c.before_marker.ensures)) in
     let past = after_front at n (length c.args.octets.now) (length c.split_at.result.1.now) c.requires.edge front (omega (arith, c.split_at.ensures.back_len)) in
     record {
       edge = past.2;
@@ -39,7 +39,7 @@ pub returns-clause-end : goal.returns-clause-end
 returns-clause-end g c =
     let at = c.args.self.now.at in
     let n = c.min-run.result in
-    let front = run_before at n c.requires.edge (omega (arith, c.min-run.ensures)) in
+    let front = run_before at n c.requires.edge (omega (arith, c.min-run.ensures, c.before_marker.ensures)) in
     (after_front at n (length c.args.octets.now) (length c.split_at.result.1.now) c.requires.edge front (omega (arith, c.split_at.ensures.back_len))).0
 
 pub returns-clause-items : goal.returns-clause-items
@@ -50,7 +50,7 @@ returns-clause-items g c =
     let back = c.split_at.result.1.now in
     let old = c.args.out.now.items in
     let n = c.min-run.result in
-    let front = run_before at n c.requires.edge (omega (arith, c.min-run.ensures)) in
+    let front = run_before at n c.requires.edge (omega (arith, c.min-run.ensures, c.before_marker.ensures)) in
     let past = after_front at n (length octets) (length back) c.requires.edge front (omega (arith, c.split_at.ensures.back_len)) in
     let to = place_after true at (length octets) in
     ap (λ ys. ys ++ laid true start (data_index true (at + n)) back (at + n) (place_after true (at + n) (length back))) (c.append.ensures.items ∙ ap (λ ys. old ++ ys) c.split_at.ensures.front)

@@ -1,44 +1,43 @@
-use Rattle.std.proofs.Common.{◌≡◌, true, ◌≤◌, ◌+◌, ◌++◌, [], length, take, drop, sym, ap, ◌∙◌, arith, refl}
+use Rattle.std.proofs.Common.{◌≡◌, true, ◌+◌, ◌++◌, [], length, take, drop, sym, ap, ◌∙◌, arith, refl}
 use Rattle.std.proofs.lemmas.List.{append-nil, take_all}
 use Rattle.iw_fpdu.specs.Places.{data_index, place_after}
-use Rattle.iw_fpdu.specs.Frame.{laid}
 use Rattle.iw_fpdu.proofs.Counted.{run_before, after_front, place_after_none}
 use Rattle.iw_fpdu.proofs.Laid.{laid_rest, laid_none}
-use Rattle.iw_fpdu.proofs.writer.Writer.put_short.Goals as goal
+use Rattle.iw_fpdu.proofs.writer.Writer.put_run.Goals as goal
 
 pub append-requires : goal.append-requires
 append-requires g c =
     let at = c.args.self.now.at in
     let n = length c.args.octets.now in
-    let front = run_before at n c.requires.edge (omega (arith, c.if-octets-before_marker.true)) in
-    let past = after_front at n n 0 c.requires.edge front (omega arith) in
-    omega (arith, c.requires.room, past.1)
+    let front = run_before at n c.requires.room.edge c.requires.run in
+    let past = after_front at n n 0 c.requires.room.edge front (omega arith) in
+    omega (arith, c.requires.room.room, past.1)
 
 pub overflow_add-self : goal.overflow_add-self
 overflow_add-self g c =
     let at = c.args.self.now.at in
     let n = length c.args.octets.now in
-    let front = run_before at n c.requires.edge (omega (arith, c.if-octets-before_marker.true)) in
-    let past = after_front at n n 0 c.requires.edge front (omega arith) in
-    omega (arith, c.requires.low, past.1)
+    let front = run_before at n c.requires.room.edge c.requires.run in
+    let past = after_front at n n 0 c.requires.room.edge front (omega arith) in
+    omega (arith, c.requires.room.low, past.1)
 
-pub returns-then-octets-before_marker-clause-place : goal.returns-then-octets-before_marker-clause-place
-returns-then-octets-before_marker-clause-place g c =
+pub returns-clause-place : goal.returns-clause-place
+returns-clause-place g c =
     let at = c.args.self.now.at in
     let n = length c.args.octets.now in
-    let front = run_before at n c.requires.edge (omega (arith, c.if-octets-before_marker.true)) in
-    let past = after_front at n n 0 c.requires.edge front (omega arith) in
+    let front = run_before at n c.requires.room.edge c.requires.run in
+    let past = after_front at n n 0 c.requires.room.edge front (omega arith) in
     sym (place_after_none true (at + n) 0 refl) ∙ past.0
 
-pub returns-then-octets-before_marker-clause-items : goal.returns-then-octets-before_marker-clause-items
-returns-then-octets-before_marker-clause-items g c =
+pub returns-clause-items : goal.returns-clause-items
+returns-clause-items g c =
     let start = c.args.self.now.start in
     let at = c.args.self.now.at in
     let octets = c.args.octets.now in
     let old = c.args.out.now.items in
     let n = length octets in
-    let front = run_before at n c.requires.edge (omega (arith, c.if-octets-before_marker.true)) in
-    let past = after_front at n n 0 c.requires.edge front (omega arith) in
+    let front = run_before at n c.requires.room.edge c.requires.run in
+    let past = after_front at n n 0 c.requires.room.edge front (omega arith) in
     let to = place_after true at n in
     let here : to ≡ at + n = sym past.0 ∙ place_after_none true (at + n) 0 refl in
     c.append.ensures.items
