@@ -105,7 +105,16 @@ impl<A: Allocator> Incoming<A> {
         self.judged.len()
     }
 
-    /// Takes in octets that came, or drops them, as [`Islands::add`] does.
+    // Whether the `n` octets from `place` on came before. The first that hasn't come is not looked up.
+    #[inline(always)]
+    fn has_come(&self, place: u64, n: usize) -> bool
+        ensures { IsTrue result → (p : ℕ) → place ≤ p → p < place + n → p + 1 < 2 ^ 64 → has_come self.now.arrived p ≡ true }
+    {
+        place != self.islands.missing() && self.islands.came(place, place.saturating_add(n as u64))
+    }
+
+    /// Takes in octets that came, or drops them, as [`Islands::add`] does. Of octets that all came before nothing need be
+    /// searched again.
     pub(crate) fn add(&mut self, place: u64, octets: &[u8]) -> Result<Delivery, AllocError>
         ensures answer { IfOk result (λ answer. answer ≡ delivery self.old.arrived place (length octets.now)) }
         ensures ok { OnOk result (self.new.arrived ≡ delivered self.old.arrived place octets.now) }
@@ -115,8 +124,12 @@ impl<A: Allocator> Incoming<A> {
         ensures same { IsSameStart self.old self.new }
     {
         self.islands.limits();
+        let came = self.has_come(place, octets.len());
         match self.islands.add(place, octets) {
             Ok(Delivery::Kept) => {
+                if came {
+                    return Ok(Delivery::Kept);
+                }
                 let from = place.saturating_sub(self.locator.base);
                 let to = (place + octets.len() as u64).saturating_sub(self.locator.base);
                 self.unsearched.delivered(from, to);
