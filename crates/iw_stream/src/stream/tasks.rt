@@ -50,13 +50,13 @@ impl<A: Allocator> Stream<A> {
         if self.ending.has_ended() {
             return Ok(self.hand_back());
         }
+        if self.start.is_open() {
+            return self.work_frames(memory);
+        }
         if self.start.awaits_frame() {
             return Ok(self.hear());
         }
-        if !self.start.is_open() {
-            return Ok(Step::Idle);
-        }
-        self.work_frames(memory)
+        Ok(Step::Idle)
     }
 
     // Does the step of an open stream that has to do with frames.
