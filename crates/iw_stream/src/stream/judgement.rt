@@ -384,12 +384,31 @@ impl<A: Allocator> Stream<A> {
         self.try_apart(memory)
     }
 
-    // The same, in a call of its own, with a search.
-    #[inline(never)]
-    pub(crate) fn try_apart(
+    // The same, with a search, in a call of its own. Its answer has a place of its own, as that of `frames_aside`.
+    #[inline(always)]
+    pub(crate) fn try_aside(
         &mut self,
         memory: &mut Memory<A>,
     ) -> Result<Step<Octets<A>>, AllocError>
+        requires open { is_open self.old.start ≡ true }
+        requires runs { ended self.old ≡ false }
+        requires place { self.old.arrived.floor ≤ 2 ^ 62 }
+        requires waiting { waiting self.old ≡ None }
+        requires lacking { next_frame self.old ≡ None }
+        ensures step { IfOk result (λ step. step ≡ step_of memory.old self.old (option_map_or Try (early_frame self.old) Rest)) }
+        ensures after { OnOk result (self.new ≡ left_by memory.old self.old (option_map_or Try (early_frame self.old) Rest)) }
+        ensures memory { OnOk result (memory.new ≡ table_left memory.old self.old (option_map_or Try (early_frame self.old) Rest)) }
+        ensures err { OnErr result ((self.new ≡ self.old) × (memory.new ≡ memory.old)) }
+        ensures want { OnErr result (is_some (early_frame self.old) ≡ true) }
+        ensures floor { self.new.arrived.floor ≡ self.old.arrived.floor }
+        ensures within { IfOk result IsWithinBuffer }
+    {
+        self.try_apart(memory)
+    }
+
+    // The same.
+    #[inline(never)]
+    fn try_apart(&mut self, memory: &mut Memory<A>) -> Result<Step<Octets<A>>, AllocError>
         requires open { is_open self.old.start ≡ true }
         requires runs { ended self.old ≡ false }
         requires place { self.old.arrived.floor ≤ 2 ^ 62 }

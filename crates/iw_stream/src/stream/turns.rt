@@ -12,7 +12,7 @@ use crate::judging::{PlacedFrame, Turning};
 use crate::terminating::{over, terminate_turned};
 use crate::turning::{is_response, turn_frame, turn_reads};
 use iw_memory::Memory;
-use iw_octets::Octets;
+use iw_octets::{Octets, Segment};
 use iw_rdmap::tagged_head;
 use iw_untagged::Received;
 use std::alloc::Allocator;
@@ -38,7 +38,7 @@ impl<A: Allocator> Stream<A> {
         let Some(frame) = &self.front else {
             return false;
         };
-        let Some(head) = tagged_head(frame.header.as_slice()) else {
+        let Ok(Segment::Tagged(head, _)) = Segment::read(frame.header.as_slice()) else {
             return false;
         };
         if is_response(&head) {

@@ -8,7 +8,7 @@ use Rattle.iw_stream.proofs.stream.Stream.work_frames.Given as given
 use Rattle.iw_stream.proofs.stream.Stream.work_frames.Goals as goal
 
 -- nothing waits, and no frame is whole
-rests : (g : given.Over) (c : goal.After-try_apart g) → IsUnjudged c.args.memory.now c.judge.new.memory c.args.self.now c.judge.new.self
+rests : (g : given.Over) (c : goal.After-try_aside g) → IsUnjudged c.args.memory.now c.judge.new.memory c.args.self.now c.judge.new.self
 rests g c =
     let table = c.args.memory.now in
     let same : c.turn_early.new.self ≡ c.args.self.now = c.in-Ok.ensures.kept c.if-turned.false in
@@ -18,15 +18,15 @@ rests g c =
 
 pub returns-in_default-found-clause-step : goal.returns-in_default-found-clause-step
 returns-in_default-found-clause-step g c =
-    subst (λ x. IfOk c.try_apart.result (λ step. step ≡ x)) (tries step_of c.args.memory.now c.judge.new.memory c.args.self.now c.judge.new.self (rests g c)) c.try_apart.ensures.step
+    subst (λ x. IfOk c.try_aside.result (λ step. step ≡ x)) (tries step_of c.args.memory.now c.judge.new.memory c.args.self.now c.judge.new.self (rests g c)) c.try_aside.ensures.step
 
 pub returns-in_default-found-clause-after : goal.returns-in_default-found-clause-after
 returns-in_default-found-clause-after g c =
-    subst (λ x. OnOk c.try_apart.result (c.try_apart.new.self ≡ x)) (tries left_by c.args.memory.now c.judge.new.memory c.args.self.now c.judge.new.self (rests g c)) c.try_apart.ensures.after
+    subst (λ x. OnOk c.try_aside.result (c.try_aside.new.self ≡ x)) (tries left_by c.args.memory.now c.judge.new.memory c.args.self.now c.judge.new.self (rests g c)) c.try_aside.ensures.after
 
 pub returns-in_default-found-clause-memory : goal.returns-in_default-found-clause-memory
 returns-in_default-found-clause-memory g c =
-    subst (λ x. OnOk c.try_apart.result (c.try_apart.new.memory ≡ x)) (tries table_left c.args.memory.now c.judge.new.memory c.args.self.now c.judge.new.self (rests g c)) c.try_apart.ensures.memory
+    subst (λ x. OnOk c.try_aside.result (c.try_aside.new.memory ≡ x)) (tries table_left c.args.memory.now c.judge.new.memory c.args.self.now c.judge.new.self (rests g c)) c.try_aside.ensures.memory
 
 -- the one there was judged
 judges : (g : given.Over) (c : goal.After-landed_step g) → option_map_or Judge (next_frame c.turn_early.new.self) Rest ≡ frame_task c.args.self.now
