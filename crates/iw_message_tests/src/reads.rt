@@ -48,17 +48,17 @@ fn reading(size: u32, sink_to: u64, source: u32, source_to: u64) -> ReadRequest 
 }
 
 // A Read of four octets into a sink whose offsets wrap in its middle.
-fn outstanding() -> Reads {
-    let mut reads = Reads::new();
+fn outstanding(alloc: Global) -> Result<Reads, Fail> {
+    let mut reads = Reads::new(alloc);
     if !reads.is_full() {
-        reads.add(7, reading(4, u64::MAX - 1, SOURCE, 0));
+        reads.add(7, reading(4, u64::MAX - 1, SOURCE, 0))?;
     }
-    reads
+    Ok(reads)
 }
 
 #[test]
-fn a_sink_is_looked_for(rt: HostRuntime) {
-    let reads = outstanding();
+fn a_sink_is_looked_for(rt: HostRuntime) -> Result<(), Fail> {
+    let reads = outstanding(rt.alloc())?;
     let asked = [
         (u64::MAX - 1, 4, true),
         (0, 2, true),
@@ -80,11 +80,12 @@ fn a_sink_is_looked_for(rt: HostRuntime) {
         reads.check(&head_of(0x01000001, 0, false), 0),
         Err(Fault::OPERATION_UNEXPECTED)
     );
+    Ok(())
 }
 
 #[test]
-fn a_response_has_its_turns(rt: HostRuntime) {
-    let mut reads = outstanding();
+fn a_response_has_its_turns(rt: HostRuntime) -> Result<(), Fail> {
+    let mut reads = outstanding(rt.alloc())?;
     let bounds = Err(Fault::PROTECTION_BOUNDS);
     let turns = [
         (SINK, 0, 1, false, bounds),
@@ -102,19 +103,21 @@ fn a_response_has_its_turns(rt: HostRuntime) {
         assert_eq!(rt; reads.turn(&head_of(stag, to, last), n), outcome);
     }
     assert!(rt; reads.is_empty());
+    Ok(())
 }
 
 #[test]
-fn sixteen_are_outstanding_at_most(rt: HostRuntime) {
-    let mut reads = Reads::new();
+fn sixteen_are_outstanding_at_most(rt: HostRuntime) -> Result<(), Fail> {
+    let mut reads = Reads::new(rt.alloc());
     for ticket in 0..17u64 {
         if !reads.is_full() {
-            reads.add(ticket, reading(0, 0, SOURCE, 0));
+            reads.add(ticket, reading(0, 0, SOURCE, 0))?;
         }
     }
     assert_eq!(rt; reads.len(), 16);
     assert_eq!(rt; reads.turn(&head_of(SINK, 0, true), 0), Ok(Some(0)));
     assert_eq!(rt; reads.turn(&head_of(SINK, 0, true), 0), Ok(Some(1)));
+    Ok(())
 }
 
 // Regions of 120 octets: one of domain 1 that may be read, one that may not, and one of domain 2.
