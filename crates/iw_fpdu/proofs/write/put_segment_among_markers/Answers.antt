@@ -1,4 +1,4 @@
-use Rattle.std.proofs.Common.{◌≡◌, ℕ, List, ◌+◌, ◌-◌, ◌%◌, ◌/◌, ◌≤◌, ◌<◌, ◌*◌, ◌^◌, length, ◌++◌, true, [], ◌∷◌, replicate, refl, sym, ap, ◌∙◌, arith}
+use Rattle.std.proofs.Common.{◌≡◌, ℕ, List, ◌+◌, ◌%◌, ◌/◌, ◌≤◌, ◌<◌, ◌*◌, ◌^◌, length, ◌++◌, true, [], ◌∷◌, replicate, refl, sym, ap, ◌∙◌, arith}
 use Rattle.std.proofs.lemmas.List.{length-append, length-replicate}
 use Rattle.iw_fpdu.specs.Places.{data_place, data_index, place_after, frame_start}
 use Rattle.iw_fpdu.specs.Frame.{frame_size, pad_len, laid, bare_data, field_place}

@@ -1,4 +1,4 @@
-use Rattle.std.proofs.Common.{◌≡◌, ◌++◌, ◌+◌, ◌≤◌, List, ℕ, length, sym, ap, subst, vec_len, vec_capacity}
+use Rattle.std.proofs.Common.{◌≡◌, ◌++◌, ◌+◌, ◌≤◌, List, ℕ, length, sym, subst, vec_len, vec_capacity}
 use Rattle.std.specs.Prelude.{OnOk}
 use Rattle.iw_fpdu.specs.Frame.{bare_frame, frame_octets}
 use Rattle.iw_fpdu.proofs.Written.{frame_bare}

@@ -1,11 +1,10 @@
-use Rattle.std.proofs.Common.{◌≡◌, ◌<◌, ◌+◌, ◌-◌, ◌%◌, ◌++◌, true, List, ℕ, [], ◌∷◌, replicate, ap, ◌∙◌, sym, arith, inr}
+use Rattle.std.proofs.Common.{◌≡◌, ◌<◌, ◌+◌, ◌%◌, ◌++◌, true, List, ℕ, [], ◌∷◌, replicate, ap, ◌∙◌, sym, arith, inr}
 use Rattle.std.proofs.lemmas.List.{append_assoc, append-nil}
-use Rattle.iw_fpdu.specs.Places.{data_place, data_index, place_after}
+use Rattle.iw_fpdu.specs.Places.{data_index, place_after}
 use Rattle.iw_fpdu.specs.Frame.{laid}
-use Rattle.iw_fpdu.specs.Laying.{HasRoom, marker_before}
 use Rattle.iw_fpdu.proofs.Counted.{past_edge, after_high, at_most_after, four_past, index_after}
 use Rattle.iw_fpdu.proofs.Laid.{no_marker}
-use Rattle.iw_fpdu.proofs.Rooms.{room_front, room_past}
+use Rattle.iw_fpdu.proofs.Rooms.{room_past}
 use Rattle.iw_fpdu.proofs.Written.{pad_past, laid_pad, four_more}
 use Rattle.iw_fpdu.proofs.writer.Writer.put_end.Goals as goal
 
