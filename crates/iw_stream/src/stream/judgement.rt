@@ -147,6 +147,7 @@ impl<A: Allocator> Stream<A> {
         ensures after { OnOk result (self.new ≡ left_by memory.old self.old (option_map_or Judge (next_frame self.old) Rest)) }
         ensures memory { OnOk result (memory.new ≡ table_left memory.old self.old (option_map_or Judge (next_frame self.old) Rest)) }
         ensures err { OnErr result ((self.new ≡ self.old) × (memory.new ≡ memory.old)) }
+        ensures other { OnErr result (is_some (next_frame self.old) ≡ true) }
         ensures reach { self.new.arrived.floor ≤ self.old.arrived.floor + 2 ^ 18 }
     {
         if self.arrived.missing() <= self.arrived.floor() {
@@ -183,7 +184,24 @@ impl<A: Allocator> Stream<A> {
         }
     }
 
-    // Judges the frame at the in-order point, whatever it is, where it is whole.
+    // Judges the frame at the in-order point, whatever it is, where it is whole, in a call of its own.
+    #[inline(always)]
+    pub(crate) fn judge_aside(&mut self, memory: &mut Memory<A>) -> Step<Octets<A>>
+        requires open { is_open self.old.start ≡ true }
+        requires runs { ended self.old ≡ false }
+        requires place { self.old.arrived.floor + 2 ^ 18 ≤ 2 ^ 63 }
+        requires waiting { waiting self.old ≡ None }
+        requires clear { (frame : Frame) → next_frame self.old ≡ Some frame → clashes self.old frame ≡ false }
+        ensures step { result ≡ step_of memory.old self.old (option_map_or Judge (next_frame self.old) Rest) }
+        ensures after { self.new ≡ left_by memory.old self.old (option_map_or Judge (next_frame self.old) Rest) }
+        ensures memory { memory.new ≡ table_left memory.old self.old (option_map_or Judge (next_frame self.old) Rest) }
+        ensures reach { self.new.arrived.floor ≤ self.old.arrived.floor + 2 ^ 18 }
+        ensures within { IsWithinBuffer result }
+    {
+        self.judge_apart(memory)
+    }
+
+    // The same.
     #[inline(never)]
     fn judge_apart(&mut self, memory: &mut Memory<A>) -> Step<Octets<A>>
         requires open { is_open self.old.start ≡ true }
@@ -384,7 +402,7 @@ impl<A: Allocator> Stream<A> {
         self.try_apart(memory)
     }
 
-    // The same, with a search, in a call of its own. Its answer has a place of its own, as that of `frames_aside`.
+    // The same, with a search, in a call of its own.
     #[inline(always)]
     pub(crate) fn try_aside(
         &mut self,

@@ -77,16 +77,16 @@ impl<A: Allocator> Stream<A> {
             if self.turn() {
                 return Ok(Step::Passed);
             }
-            return self.frames_aside(memory);
+            return Ok(self.turn_aside(memory));
         }
         let Ok(turned) = self.turn_early() else {
-            return self.frames_aside(memory);
+            return self.work_aside(memory);
         };
         if turned {
             return Ok(Step::Passed);
         }
         let Ok(found) = self.judge(memory) else {
-            return self.frames_aside(memory);
+            return Ok(self.judge_aside(memory));
         };
         let Some(landing) = found else {
             if self.is_quiet() {
@@ -97,12 +97,14 @@ impl<A: Allocator> Stream<A> {
         Ok(landed_step(landing))
     }
 
-    // The step of frames, in a call of its own. Its answer has a place of its own, so that the others need none in memory.
+    // The step of frames where one that was placed early may be that at the in-order point, or lie over it, in a call of its
+    // own. Its answer has a place of its own, so that the others need none in memory; likewise each call named so.
     #[inline(always)]
-    fn frames_aside(&mut self, memory: &mut Memory<A>) -> Result<Step<Octets<A>>, AllocError>
+    fn work_aside(&mut self, memory: &mut Memory<A>) -> Result<Step<Octets<A>>, AllocError>
         requires open { is_open self.old.start ≡ true }
         requires runs { ended self.old ≡ false }
         requires place { self.old.arrived.floor ≤ 2 ^ 62 }
+        requires front { self.old.front ≡ None }
         ensures step { IfOk result (λ step. step ≡ step_of memory.old self.old (frame_task self.old)) }
         ensures after { OnOk result (self.new ≡ left_by memory.old self.old (frame_task self.old)) }
         ensures memory { OnOk result (memory.new ≡ table_left memory.old self.old (frame_task self.old)) }
@@ -111,27 +113,6 @@ impl<A: Allocator> Stream<A> {
         ensures reach { self.new.arrived.floor ≤ self.old.arrived.floor + 2 ^ 18 }
         ensures within { IfOk result IsWithinBuffer }
     {
-        self.frames_apart(memory)
-    }
-
-    // The same: for those of other kinds than Writes and Read Responses, for those with a
-    // fault, and for one that a frame which was placed early may be, or lie over.
-    #[inline(never)]
-    fn frames_apart(&mut self, memory: &mut Memory<A>) -> Result<Step<Octets<A>>, AllocError>
-        requires open { is_open self.old.start ≡ true }
-        requires runs { ended self.old ≡ false }
-        requires place { self.old.arrived.floor ≤ 2 ^ 62 }
-        ensures step { IfOk result (λ step. step ≡ step_of memory.old self.old (frame_task self.old)) }
-        ensures after { OnOk result (self.new ≡ left_by memory.old self.old (frame_task self.old)) }
-        ensures memory { OnOk result (memory.new ≡ table_left memory.old self.old (frame_task self.old)) }
-        ensures err { OnErr result ((self.new ≡ self.old) × (memory.new ≡ memory.old)) }
-        ensures want { OnErr result (IsTry (frame_task self.old)) }
-        ensures reach { self.new.arrived.floor ≤ self.old.arrived.floor + 2 ^ 18 }
-        ensures within { IfOk result IsWithinBuffer }
-    {
-        if self.front.is_some() {
-            return Ok(self.turn_apart(memory));
-        }
         self.work_among(memory)
     }
 

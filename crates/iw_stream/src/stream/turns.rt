@@ -140,9 +140,25 @@ impl<A: Allocator> Stream<A> {
         true
     }
 
-    // Gives the frame at the in-order point, which was placed, its turn, whatever it is. Most are Read Responses.
+    // Gives the frame at the in-order point, which was placed, its turn, whatever it is, in a call of its own.
+    #[inline(always)]
+    pub(crate) fn turn_aside(&mut self, memory: &mut Memory<A>) -> Step<Octets<A>>
+        requires open { is_open self.old.start ≡ true }
+        requires runs { ended self.old ≡ false }
+        requires placed { IsSome self.old.front }
+        requires place { self.old.arrived.floor + 2 ^ 18 ≤ 2 ^ 63 }
+        ensures step { result ≡ step_of memory.old self.old (option_map_or Turn self.old.front Rest) }
+        ensures after { self.new ≡ left_by memory.old self.old (option_map_or Turn self.old.front Rest) }
+        ensures memory { memory.new ≡ table_left memory.old self.old (option_map_or Turn self.old.front Rest) }
+        ensures reach { self.new.arrived.floor ≤ self.old.arrived.floor + 2 ^ 18 }
+        ensures within { IsWithinBuffer result }
+    {
+        self.turn_apart(memory)
+    }
+
+    // The same. Most are Read Responses.
     #[inline(never)]
-    pub(crate) fn turn_apart(&mut self, memory: &mut Memory<A>) -> Step<Octets<A>>
+    fn turn_apart(&mut self, memory: &mut Memory<A>) -> Step<Octets<A>>
         requires open { is_open self.old.start ≡ true }
         requires runs { ended self.old ≡ false }
         requires placed { IsSome self.old.front }

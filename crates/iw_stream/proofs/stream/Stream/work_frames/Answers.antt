@@ -53,3 +53,36 @@ pub returns-clause-memory : goal.returns-clause-memory
 returns-clause-memory g c =
     let same : c.turn_early.new.self ≡ c.args.self.now = c.in-Ok.ensures.kept c.if-turned.false in
     c.in-Ok-judge.ensures.memory ∙ (λ i. table_left c.args.memory.now (same i) (judges g c i))
+
+-- there is one of another kind, or with a fault, and nothing was done
+record IsOther (g : given.Over) (c : goal.After-judge_aside g) : Type 0 where
+  same : c.judge.new.self ≡ c.args.self.now
+  table : c.judge.new.memory ≡ c.args.memory.now
+  task : option_map_or Judge (next_frame c.judge.new.self) Rest ≡ frame_task c.args.self.now
+
+other : (g : given.Over) (c : goal.After-judge_aside g) → IsOther g c
+other g c =
+    let early : c.turn_early.new.self ≡ c.args.self.now = c.in-Ok.ensures.kept c.if-turned.false in
+    let same : c.judge.new.self ≡ c.args.self.now = c.in_default-judge.ensures.err.0 ∙ early in
+    let there = ap (λ (t : StreamState). is_some (next_frame t)) (sym early) ∙ c.in_default-judge.ensures.other in
+    record {
+      same = same;
+      table = c.in_default-judge.ensures.err.1;
+      task = ap (λ (t : StreamState). option_map_or Judge (next_frame t) Rest) same
+          ∙ task_front c.args.self.now (c.in-Ok.ensures.waiting c.if-turned.false) there (c.in-Ok.ensures.clear c.if-turned.false);
+    }
+
+pub returns-in_default-judge-clause-step : goal.returns-in_default-judge-clause-step
+returns-in_default-judge-clause-step g c =
+    let w = other g c in
+    c.judge_aside.ensures.step ∙ (λ i. step_of (w.table i) (w.same i) (w.task i))
+
+pub returns-in_default-judge-clause-after : goal.returns-in_default-judge-clause-after
+returns-in_default-judge-clause-after g c =
+    let w = other g c in
+    c.judge_aside.ensures.after ∙ (λ i. left_by (w.table i) (w.same i) (w.task i))
+
+pub returns-in_default-judge-clause-memory : goal.returns-in_default-judge-clause-memory
+returns-in_default-judge-clause-memory g c =
+    let w = other g c in
+    c.judge_aside.ensures.memory ∙ (λ i. table_left (w.table i) (w.same i) (w.task i))
