@@ -9,7 +9,7 @@ ghost use Rattle.iw_fpdu.specs.Laying.{HasRoom, laid_from, marker_beyond};
 ghost use Rattle.iw_fpdu.specs.Places.{data_index, frame_start, place_after};
 
 use crate::layout::{Layout, MARKER, SPACING, end_of, pad_of};
-use crate::writer::{Writer, append, append_end};
+use crate::writer::{Writer, append, append_end, append_pad};
 use iw_octets::{Crc, MAX_ULPDU, UNTAGGED_HEADER};
 use std::alloc::{AllocError, Allocator};
 use thiserror::Error;
@@ -90,9 +90,7 @@ fn put_plain<A: Allocator>(len: u16, parts: &[&[u8]], out: &mut Vec<u8, A>)
 {
     append(out, &[(len / 256) as u8, (len % 256) as u8]);
     append_all(parts, out);
-    let end = out.len() + pad_of(len) as usize;
-    append(out, &[0; 4]);
-    out.truncate(end);
+    append_pad(pad_of(len), out);
 }
 
 /// The frame place where the frame begins that is written at this place: there, or past the marker there.
@@ -145,7 +143,7 @@ fn put_bare<A: Allocator>(markers: bool, at: u64, len: u16, parts: &[&[u8]], out
     }
 }
 
-/// Appends a frame without markers, with a CRC field of zero, of a ULPDU that is a header and a payload.
+/// Appends all of a frame without markers that stands before its CRC field, of a ULPDU that is a header and a payload.
 #[inline(always)]
 fn put_plain_segment<const N: usize, A: Allocator>(
     len: u16,
@@ -156,11 +154,12 @@ fn put_plain_segment<const N: usize, A: Allocator>(
     requires few { N ≤ 18 }
     requires len { len ≡ length (header ++ payload.now) }
     requires room { vec_len out.old + frame_size len ≤ vec_capacity out.old }
-    ensures { out.new.items ≡ out.old.items ++ bare_frame (header.entry ++ payload.now) }
+    ensures items { out.new.items ≡ out.old.items ++ bare_data (header.entry ++ payload.now) }
+    ensures room { vec_len out.new + 4 ≤ vec_capacity out.new }
 {
     append_front(len, header, out);
     append(out, payload);
-    append_end(pad_of(len), out);
+    append_pad(pad_of(len), out);
 }
 
 /// Appends the length field and the header of a frame, with the markers before and among them.
@@ -187,7 +186,7 @@ fn put_head<const N: usize, A: Allocator>(
     }
 }
 
-/// Appends a frame with markers, with a CRC field of zero, of a ULPDU that is a header and a payload.
+/// Appends all of a frame with markers that stands before its CRC field, of a ULPDU that is a header and a payload.
 #[inline(always)]
 fn put_segment_among_markers<const N: usize, A: Allocator>(
     at: u64,
@@ -202,9 +201,10 @@ fn put_segment_among_markers<const N: usize, A: Allocator>(
     requires len { len ≡ length (header ++ payload.now) }
     requires short { len ≤ max_sent }
     requires room { vec_len out.old + (frame_end true at len - at) ≤ vec_capacity out.old }
-    ensures { out.new.items ≡ out.old.items
+    ensures items { out.new.items ≡ out.old.items
         ++ laid true (frame_start true at) (data_index true at) (bare_data (header.entry ++ payload.now)) at
-        (field_place true at len) ++ (0 ∷ 0 ∷ 0 ∷ 0 ∷ []) }
+        (field_place true at len) }
+    ensures room { vec_len out.new + 4 ≤ vec_capacity out.new }
 {
     let mut writer = Writer {
         start: start_at(at),
@@ -215,7 +215,7 @@ fn put_segment_among_markers<const N: usize, A: Allocator>(
     writer.put_end(pad_of(len), out);
 }
 
-/// Appends a frame with a CRC field of zero, of a ULPDU that is a header and a payload.
+/// Appends all of a frame that stands before its CRC field, of a ULPDU that is a header and a payload.
 #[inline(always)]
 fn put_segment<const N: usize, A: Allocator>(
     markers: bool,
@@ -231,9 +231,10 @@ fn put_segment<const N: usize, A: Allocator>(
     requires len { len ≡ length (header ++ payload.now) }
     requires short { len ≤ max_sent }
     requires room { vec_len out.old + (frame_end markers at len - at) ≤ vec_capacity out.old }
-    ensures { out.new.items ≡ out.old.items
+    ensures items { out.new.items ≡ out.old.items
         ++ laid markers (frame_start markers at) (data_index markers at) (bare_data (header.entry ++ payload.now)) at
-        (field_place markers at len) ++ (0 ∷ 0 ∷ 0 ∷ 0 ∷ []) }
+        (field_place markers at len) }
+    ensures room { vec_len out.new + 4 ≤ vec_capacity out.new }
 {
     if markers {
         put_segment_among_markers(at, len, header, payload, out);
@@ -255,18 +256,27 @@ fn crc_before(markers: bool, at: u64) -> Crc
     crc
 }
 
-/// The CRC field of a frame of which all before that field was written at `at`.
+/// The CRC of a frame of which all before the CRC field was written at `at`, as it stands in that field.
 #[inline(never)]
+fn crc_octets(markers: bool, at: u64, written: &[u8]) -> [u8; 4]
+    ensures { result ≡ to_le_bytes w32 (crc32c (marker_beyond markers at ++ written.now)) }
+{
+    let mut crc = crc_before(markers, at);
+    crc.add(written);
+    crc.finish().to_le_bytes()
+}
+
+/// The CRC field of a frame of which all before that field was written at `at`.
+#[inline(always)]
 fn crc_field(layout: Layout, at: u64, written: &[u8]) -> [u8; 4]
     ensures { result ≡ (if layout.crc then to_le_bytes w32 (crc32c (marker_beyond layout.markers at ++ written.now))
         else 0 ∷ 0 ∷ 0 ∷ 0 ∷ []) }
 {
-    if !layout.crc {
-        return [0; 4];
+    if layout.crc {
+        crc_octets(layout.markers, at, written)
+    } else {
+        [0; 4]
     }
-    let mut crc = crc_before(layout.markers, at);
-    crc.add(written);
-    crc.finish().to_le_bytes()
 }
 
 /// Appends the frame of a ULPDU that comes in parts, to stand from frame place `at` on: where there are markers and 512
@@ -353,11 +363,6 @@ fn write_laid<const N: usize, A: Allocator>(
     out.reserve(room)?;
     let mark = out.len();
     put_segment(layout.markers, at, len, header, payload, out);
-    if !layout.crc {
-        return Ok(());
-    }
-    let place = out.len() - 4;
-    out.truncate(place);
     let (_, written) = out.as_slice().split_at(mark);
     let field = crc_field(layout, at, written);
     append(out, &field);

@@ -11,7 +11,8 @@ use std::alloc::Allocator;
 /// The octets of the frames from one marker to the next.
 const RUN: usize = (SPACING - MARKER) as usize;
 
-/// Appends octets, for which there is room.
+/// Appends octets, for which there is room: that is asked here, so that no call of the allocator is left where this is
+/// inlined.
 #[inline(always)]
 pub(crate) fn append<A: Allocator>(out: &mut Vec<u8, A>, octets: &[u8])
     requires { vec_len out.old + length octets.now ≤ vec_capacity out.old }
@@ -19,6 +20,9 @@ pub(crate) fn append<A: Allocator>(out: &mut Vec<u8, A>, octets: &[u8])
     ensures len { vec_len out.new ≡ vec_len out.old + length octets.now }
     ensures capacity { vec_capacity out.old ≤ vec_capacity out.new }
 {
+    if octets.len() > out.capacity() - out.len() {
+        return;
+    }
     let _ = out.extend_from_slice(octets);
 }
 
@@ -35,6 +39,20 @@ pub(crate) fn append_end<A: Allocator>(pad: u64, out: &mut Vec<u8, A>)
         2 => append(out, &[0; 6]),
         _ => append(out, &[0; 7]),
     }
+}
+
+/// Appends the pad, for which there is room with the CRC field past it: four octets at once, cut off where it ends.
+#[inline(always)]
+pub(crate) fn append_pad<A: Allocator>(pad: u64, out: &mut Vec<u8, A>)
+    requires few { pad < 4 }
+    requires room { vec_len out.old + pad + 4 ≤ vec_capacity out.old }
+    ensures items { out.new.items ≡ out.old.items ++ replicate pad 0 }
+    ensures len { vec_len out.new ≡ vec_len out.old + pad }
+    ensures capacity { vec_capacity out.old ≤ vec_capacity out.new }
+{
+    let end = out.len() + pad as usize;
+    append(out, &[0; 4]);
+    out.truncate(end);
 }
 
 /// The marker at a place: two reserved octets, and how far the frame's start lies before it.
@@ -212,29 +230,23 @@ impl Writer {
         ensures len { vec_len out.new ≡ vec_len out.old + (self.new.at - self.old.at) }
         ensures capacity { vec_capacity out.old ≤ vec_capacity out.new }
     {
-        let len = out.len() + pad as usize;
-        append(out, &[0; 4]);
-        out.truncate(len);
+        append_pad(pad, out);
         self.at += pad;
     }
 
-    /// Appends the pad and a CRC field of zero, with the marker between them, if there is one: at once where there is none.
+    /// Appends the pad, and the marker past it, if there is one; there is room for the CRC field after them.
     #[inline(always)]
     pub(crate) fn put_end<A: Allocator>(&mut self, pad: u64, out: &mut Vec<u8, A>)
         requires room { HasRoom true self.old.start self.old.at (pad + 4) (vec_len out.old) (vec_capacity out.old) }
         requires few { pad < 4 }
         requires aligned { (data_index true self.old.at + pad) % 4 ≡ 0 }
-        ensures { out.new.items ≡ out.old.items
+        ensures items { out.new.items ≡ out.old.items
             ++ laid true self.old.start (data_index true self.old.at) (replicate pad 0)
             self.old.at (place_after true self.old.at pad)
-            ++ marker_before true self.old.start (place_after true self.old.at pad) ++ (0 ∷ 0 ∷ 0 ∷ 0 ∷ []) }
+            ++ marker_before true self.old.start (place_after true self.old.at pad) }
+        ensures room { vec_len out.new + 4 ≤ vec_capacity out.new }
     {
-        if (self.at + pad) % SPACING != 0 {
-            append_end(pad, out);
-            return;
-        }
         self.put_pad(pad, out);
         self.put_marker(out);
-        append(out, &[0; 4]);
     }
 }

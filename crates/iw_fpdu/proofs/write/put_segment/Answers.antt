@@ -1,7 +1,5 @@
-use Rattle.std.proofs.Common.{ℕ, List, [], ◌∷◌, ◌≤◌, ◌<◌, ◌*◌, ◌^◌, ◌++◌, sym, ap, ◌∙◌, arith}
-use Rattle.std.proofs.lemmas.List.{append_assoc}
+use Rattle.std.proofs.Common.{ℕ, List, ◌≤◌, ◌<◌, ◌*◌, ◌^◌, ◌++◌, sym, ap, ◌∙◌, arith}
 use Rattle.iw_fpdu.specs.Places.{frame_start}
-use Rattle.iw_fpdu.specs.Frame.{bare_data}
 use Rattle.iw_fpdu.proofs.Counted.{end_without}
 use Rattle.iw_fpdu.proofs.Written.{plain_written}
 use Rattle.iw_fpdu.proofs.write.put_segment.Goals as goal
@@ -12,12 +10,9 @@ put_plain_segment-requires g c =
     let fits : g.row.N * 1 < 2 ^ 63 = omega (arith, few) in
     (fits, (few, (c.requires.len, omega (arith, c.requires.room, end_without c.args.markers c.args.at c.args.len c.if-markers.false))))
 
-pub returns-else-markers : goal.returns-else-markers
-returns-else-markers g c =
+pub returns-else-markers-clause-items : goal.returns-else-markers-clause-items
+returns-else-markers-clause-items g c =
     let m = c.args.markers in
     let ulpdu : List ℕ = c.args.header ++ c.args.payload.now in
-    let field : List ℕ = 0 ∷ 0 ∷ 0 ∷ 0 ∷ [] in
-    let old : List ℕ = c.args.out.now.items in
-    c.put_plain_segment.ensures
-    ∙ sym (append_assoc old (bare_data ulpdu) field)
-    ∙ ap (λ xs. old ++ xs ++ field) (sym (plain_written m c.args.at (frame_start m c.args.at) c.args.len ulpdu c.if-markers.false c.requires.len))
+    c.put_plain_segment.ensures.items
+    ∙ ap (λ xs. c.args.out.now.items ++ xs) (sym (plain_written m c.args.at (frame_start m c.args.at) c.args.len ulpdu c.if-markers.false c.requires.len))

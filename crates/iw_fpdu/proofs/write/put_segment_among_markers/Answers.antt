@@ -1,4 +1,4 @@
-use Rattle.std.proofs.Common.{◌≡◌, ℕ, List, ◌+◌, ◌%◌, ◌/◌, ◌≤◌, ◌<◌, ◌*◌, ◌^◌, length, ◌++◌, true, [], ◌∷◌, replicate, refl, sym, ap, ◌∙◌, arith}
+use Rattle.std.proofs.Common.{◌≡◌, ℕ, List, ◌+◌, ◌%◌, ◌/◌, ◌≤◌, ◌<◌, ◌*◌, ◌^◌, length, ◌++◌, true, ◌∷◌, replicate, refl, sym, ap, ◌∙◌, arith}
 use Rattle.std.proofs.lemmas.List.{length-append, length-replicate}
 use Rattle.iw_fpdu.specs.Places.{data_place, data_index, place_after, frame_start}
 use Rattle.iw_fpdu.specs.Frame.{frame_size, pad_len, laid, bare_data, field_place}
@@ -78,8 +78,8 @@ put_end-requires-clause-aligned g c =
     let pad : c.pad_of.result ≡ pad_len len = c.pad_of.ensures.value in
     omega (arith, index, pad, index_aligned m at c.requires.aligned, long)
 
-pub returns : goal.returns
-returns g c =
+pub returns-clause-items : goal.returns-clause-items
+returns-clause-items g c =
     let m = true in
     let at = c.args.at in
     let start = c.start_at.result in
@@ -88,7 +88,6 @@ returns g c =
     let payload : List ℕ = c.args.payload.now in
     let ulpdu : List ℕ = header ++ payload in
     let head : List ℕ = len / 256 ∷ len % 256 ∷ header in
-    let field : List ℕ = 0 ∷ 0 ∷ 0 ∷ 0 ∷ [] in
     let first = c.put_head in
     let second = c.put in
     let b = first.new.writer.at in
@@ -111,7 +110,7 @@ returns g c =
     first.ensures.items
     (second.ensures.items ∙ ap (λ s. first.new.out.items ++ laid m s (data_index m b) payload b (place_after m b (length payload))) one)
     refl refl in
-    c.put_end.ensures
-    ∙ ap (λ s. second.new.out.items ++ laid m s (data_index m d) zeros d (place_after m d k) ++ marker_before m s (place_after m d k) ++ field) two
-    ∙ ap (λ n. second.new.out.items ++ laid m start (data_index m d) zeros d (place_after m d n) ++ marker_before m start (place_after m d n) ++ field) (sym long)
-    ∙ ap (λ xs. xs ++ field) (whole ∙ ap (λ n. c.args.out.now.items ++ laid m (frame_start m at) (data_index m at) (bare_data ulpdu) at (field_place m at n)) (sym c.requires.len))
+    c.put_end.ensures.items
+    ∙ ap (λ s. second.new.out.items ++ laid m s (data_index m d) zeros d (place_after m d k) ++ marker_before m s (place_after m d k)) two
+    ∙ ap (λ n. second.new.out.items ++ laid m start (data_index m d) zeros d (place_after m d n) ++ marker_before m start (place_after m d n)) (sym long)
+    ∙ whole ∙ ap (λ n. c.args.out.now.items ++ laid m (frame_start m at) (data_index m at) (bare_data ulpdu) at (field_place m at n)) (sym c.requires.len)
