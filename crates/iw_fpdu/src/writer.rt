@@ -11,8 +11,8 @@ use std::alloc::Allocator;
 /// The octets of the frames from one marker to the next.
 const RUN: usize = (SPACING - MARKER) as usize;
 
-/// Appends octets, for which there is room: that is asked here, so that no call of the allocator is left where this is
-/// inlined.
+/// Appends octets, for which there is room: tested though it is known, so that no call of the allocator is left where
+/// this is inlined.
 #[inline(always)]
 pub(crate) fn append<A: Allocator>(out: &mut Vec<u8, A>, octets: &[u8])
     requires { vec_len out.old + length octets.now ≤ vec_capacity out.old }
