@@ -37,6 +37,17 @@ unfolding in_marker data_place data_index
 place_index true p h = let high : 4 ≤ p % 512 = grind (arith, nat_tests) in omega arith
 place_index false p h = refl
 
+-- where no marker stands between them, data octets lie side by side
+pub place_unmarked : (m : Bool) (p n : ℕ) → m ≡ false → p + n ≡ data_place m (data_index m p + n)
+unfolding data_place data_index
+place_unmarked false p n e = refl
+place_unmarked true p n e = cc
+
+pub place_within : (m : Bool) (p n : ℕ) → in_marker m p ≡ false → p % 512 + n < 512 → p + n ≡ data_place m (data_index m p + n)
+unfolding in_marker data_place data_index
+place_within true p n h fits = let high : 4 ≤ p % 512 = grind (arith, nat_tests) in omega arith
+place_within false p n h fits = refl
+
 pub run_place : (m : Bool) (a n i : ℕ) → IsRun m a n → i < n → (in_marker m (a + i) ≡ false) × (data_index m (a + i) ≡ data_index m a + i)
 unfolding in_marker data_index
 run_place true a n i run lt = (let high : 4 ≤ (a + i) % 512 = omega (arith, run.0, run.1) in grind (arith, nat_tests), omega (arith, run.0, run.1))

@@ -7,7 +7,7 @@ ghost use Rattle.iw_fpdu.specs.Reading.{end_at, length_at};
 ghost use Rattle.iw_fpdu.specs.Found.{octet_in, IsWhole, LacksOctet, IsKept, HoldsSpan, ulpdu_len, ulpdu, mismatch};
 
 use crate::check::check_span;
-use crate::layout::{Layout, end_of, index_of, place_of, span_of};
+use crate::layout::{Layout, end_of, place_past, span_of};
 use crate::pieces::Pieces;
 use iw_octets::gather;
 use iw_ranges::Islands;
@@ -161,8 +161,7 @@ impl<'a, A: Allocator> Fpdu<'a, A> {
     {
         let k = k.min(usize::from(self.len));
         let markers = self.layout.markers;
-        let index = index_of(markers, self.start) + 2 + k as u64;
-        let from = place_of(markers, index);
+        let from = place_past(markers, self.start, 2 + k as u64);
         let octets = self.islands.part(self.base + from, self.base + self.end);
         Pieces::new(octets, from, markers, usize::from(self.len) - k)
     }

@@ -32,7 +32,7 @@ impl Layout {
         requires { at < 2 ^ 63 }
         ensures { result ≡ frame_start self.markers at }
     {
-        place_of(self.markers, index_of(self.markers, at))
+        start_of(self.markers, at)
     }
 
     /// The frame place past the frame that begins at frame place `start` with a ULPDU of `len` octets.
@@ -70,6 +70,38 @@ pub(crate) fn index_of(markers: bool, place: u64) -> u64
     }
 }
 
+/// The place at `at` or past it that is no marker's.
+#[tactic(auto, unfolding(crate::specs::Places::data_place, crate::specs::Places::data_index))]
+#[inline(always)]
+fn start_of(markers: bool, at: u64) -> u64
+    requires { at < 2 ^ 63 }
+    ensures { result ≡ frame_start markers at }
+{
+    if markers {
+        let into = at % SPACING;
+        at - into + into.max(MARKER)
+    } else {
+        at
+    }
+}
+
+/// The place of the data octet that comes `n` data octets past the one at `place`.
+#[inline(always)]
+pub(crate) fn place_past(markers: bool, place: u64, n: u64) -> u64
+    requires data { in_marker markers place ≡ false }
+    requires low { place < 2 ^ 63 }
+    requires near { n < 2 ^ 20 }
+    ensures { result ≡ data_place markers (data_index markers place + n) }
+{
+    if !markers {
+        return place + n;
+    }
+    if place % SPACING + n < SPACING {
+        return place + n;
+    }
+    place_of(true, index_of(true, place) + n)
+}
+
 /// Where the span of a frame begins that begins at frame place `start`: with the marker directly before it, or with the
 /// frame.
 #[tactic(auto, unfolding(crate::specs::Places::span_start))]
@@ -86,6 +118,7 @@ pub fn span_of(markers: bool, start: u64) -> u64
 }
 
 /// How many pad octets stand past a ULPDU of this length.
+#[inline(always)]
 pub(crate) fn pad_of(len: u16) -> u64
     ensures value { result ≡ pad_len len }
     ensures few { result < 4 }
@@ -93,6 +126,7 @@ pub(crate) fn pad_of(len: u16) -> u64
     (4 - (u64::from(len) + 2) % 4) % 4
 }
 
+#[inline(always)]
 pub(crate) fn end_of(markers: bool, start: u64, len: u16) -> u64
     requires { start < 2 ^ 63 }
     ensures value { result ≡ frame_end markers start len }

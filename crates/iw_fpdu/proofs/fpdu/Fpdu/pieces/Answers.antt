@@ -16,10 +16,9 @@ overflow_add-self-inside g c =
     let m = a.layout.markers in
     let k' = c.min-k.result in
     let least : k' ≤ a.len = omega (arith, c.min-k.ensures, c.from.ensures) in
-    let index : c.index_of.result + 2 + k' ≡ data_index m a.start + (2 + k') = omega (arith, c.index_of.ensures.value) in
-    let from : c.place_of-from.result ≡ data_place m (data_index m a.start + (2 + k')) = c.place_of-from.ensures.value ∙ ap (data_place m) index in
+    let from : c.place_past-from.result ≡ data_place m (data_index m a.start + (2 + k')) = c.place_past-from.ensures in
     let to : a.end ≡ frame_end m a.start a.len = c.self.invariant.end in
-    let low : c.place_of-from.result < a.end = omega (arith, from, to, data_high m a.start a.len (2 + k') (omega arith)) in
+    let low : c.place_past-from.result < a.end = omega (arith, from, to, data_high m a.start a.len (2 + k') (omega arith)) in
     omega (arith, low, to, c.self.invariant.read.fits, ap (frame_end m a.start) c.self.invariant.read.len)
 
 pub part-octets-requires : goal.part-octets-requires
@@ -28,17 +27,16 @@ part-octets-requires g c = λ p high_enough low_enough.
     let m = a.layout.markers in
     let k' = c.min-k.result in
     let least : k' ≤ a.len = omega (arith, c.min-k.ensures, c.from.ensures) in
-    let index : c.index_of.result + 2 + k' ≡ data_index m a.start + (2 + k') = omega (arith, c.index_of.ensures.value) in
-    let from : c.place_of-from.result ≡ data_place m (data_index m a.start + (2 + k')) = c.place_of-from.ensures.value ∙ ap (data_place m) index in
+    let from : c.place_past-from.result ≡ data_place m (data_index m a.start + (2 + k')) = c.place_past-from.ensures in
     let to : a.end ≡ frame_end m a.start a.len = c.self.invariant.end in
-    let low : c.place_of-from.result < a.end = omega (arith, from, to, data_high m a.start a.len (2 + k') (omega arith)) in
+    let low : c.place_past-from.result < a.end = omega (arith, from, to, data_high m a.start a.len (2 + k') (omega arith)) in
     let held = subst HoldsSpan (sym c.self.view_is) c.requires in
     here_in (found_by c.self.inside) a.len c.self.invariant.read held p (omega (arith, from, span_low m a.start, data_low m a.start (2 + k') c.self.invariant.read.start)) (omega (arith, to))
 
 pub new-requires-clause-begins : goal.new-requires-clause-begins
 new-requires-clause-begins g c =
     let m = c.self.inside.layout.markers in
-    ap (in_marker m) c.place_of-from.ensures.value ∙ data_no_marker m (c.index_of.result + 2 + c.min-k.result)
+    ap (in_marker m) c.place_past-from.ensures ∙ data_no_marker m (data_index m c.self.inside.start + (2 + c.min-k.result))
 
 pub new-requires-clause-reaches : goal.new-requires-clause-reaches
 new-requires-clause-reaches g c = λ k lt.
@@ -46,13 +44,12 @@ new-requires-clause-reaches g c = λ k lt.
     let m = a.layout.markers in
     let k' = c.min-k.result in
     let least : k' ≤ a.len = omega (arith, c.min-k.ensures, c.from.ensures) in
-    let index : c.index_of.result + 2 + k' ≡ data_index m a.start + (2 + k') = omega (arith, c.index_of.ensures.value) in
-    let from : c.place_of-from.result ≡ data_place m (data_index m a.start + (2 + k')) = c.place_of-from.ensures.value ∙ ap (data_place m) index in
-    let here : data_index m c.place_of-from.result ≡ data_index m a.start + (2 + k') = ap (data_index m) from ∙ index_place m (data_index m a.start + (2 + k')) in
+    let from : c.place_past-from.result ≡ data_place m (data_index m a.start + (2 + k')) = c.place_past-from.ensures in
+    let here : data_index m c.place_past-from.result ≡ data_index m a.start + (2 + k') = ap (data_index m) from ∙ index_place m (data_index m a.start + (2 + k')) in
     let to : a.end ≡ frame_end m a.start a.len = c.self.invariant.end in
-    let low : c.place_of-from.result < a.end = omega (arith, from, to, data_high m a.start a.len (2 + k') (omega arith)) in
-    let long = length_part a.islands.now.arrived (a.base + c.place_of-from.result) (a.base + a.end) c.part-octets.result.now c.part-octets.ensures in
-    let place : data_place m (data_index m c.place_of-from.result + k) ≡ data_place m (data_index m a.start + (2 + k' + k)) = ap (data_place m) (omega (arith, here)) in
+    let low : c.place_past-from.result < a.end = omega (arith, from, to, data_high m a.start a.len (2 + k') (omega arith)) in
+    let long = length_part a.islands.now.arrived (a.base + c.place_past-from.result) (a.base + a.end) c.part-octets.result.now c.part-octets.ensures in
+    let place : data_place m (data_index m c.place_past-from.result + k) ≡ data_place m (data_index m a.start + (2 + k' + k)) = ap (data_place m) (omega (arith, here)) in
     omega (arith, long, place, to, low, data_high m a.start a.len (2 + k' + k) (omega (arith, c.from-2.ensures, lt)))
 
 pub returns : goal.returns
@@ -61,18 +58,17 @@ returns g c =
     let m = a.layout.markers in
     let k' = c.min-k.result in
     let least : k' ≤ a.len = omega (arith, c.min-k.ensures, c.from.ensures) in
-    let index : c.index_of.result + 2 + k' ≡ data_index m a.start + (2 + k') = omega (arith, c.index_of.ensures.value) in
-    let from : c.place_of-from.result ≡ data_place m (data_index m a.start + (2 + k')) = c.place_of-from.ensures.value ∙ ap (data_place m) index in
+    let from : c.place_past-from.result ≡ data_place m (data_index m a.start + (2 + k')) = c.place_past-from.ensures in
     let to : a.end ≡ frame_end m a.start a.len = c.self.invariant.end in
-    let i = data_index m c.place_of-from.result in
+    let i = data_index m c.place_past-from.result in
     let here : i ≡ data_index m a.start + (2 + k') = ap (data_index m) from ∙ index_place m (data_index m a.start + (2 + k')) in
     let n = c.from-2.result - k' in
     let octet : ℕ → ℕ = octet_in a.islands.now.arrived a.base in
     let len : c.from-2.result ≡ a.len = c.from-2.ensures in
     c.new.ensures
-    ∙ same_data (octet_from c.place_of-from.result c.part-octets.result.now) octet m i n (λ j lt.
+    ∙ same_data (octet_from c.place_past-from.result c.part-octets.result.now) octet m i n (λ j lt.
     let place : data_place m (i + j) ≡ data_place m (data_index m a.start + (2 + k' + j)) = ap (data_place m) (omega (arith, here)) in
-    part_agrees a.islands.now.arrived a.base c.place_of-from.result a.end c.part-octets.result.now c.part-octets.ensures (data_place m (i + j))
+    part_agrees a.islands.now.arrived a.base c.place_past-from.result a.end c.part-octets.result.now c.part-octets.ensures (data_place m (i + j))
     (omega (arith, from, ap (data_place m) here, place_mono m i (i + j) (omega arith)))
     (omega (arith, place, to, data_high m a.start a.len (2 + k' + j) (omega (arith, len, lt)))))
     ∙ ap (λ x. data_at octet m x n) (let e : i ≡ data_index m a.start + 2 + k' = omega (arith, here) in e)
