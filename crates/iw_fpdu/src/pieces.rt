@@ -46,6 +46,18 @@ impl<'a> Pieces<'a> {
         }
     }
 
+    /// All the octets, where no marker stands among them.
+    #[inline(always)]
+    pub fn whole(&self) -> Option<&'a [u8]>
+        ensures { IfSome result (λ octets. self.now ≡ octets.now) }
+    {
+        if self.run < self.left {
+            return None;
+        }
+        let (octets, _) = self.rest.split_at(self.left);
+        Some(octets)
+    }
+
     /// The first `k` octets, where more than these stand before the next marker, and all that come past them.
     #[inline(always)]
     pub fn split_front(&self, k: usize) -> Option<(&'a [u8], Pieces<'a>)>
