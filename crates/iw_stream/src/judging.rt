@@ -24,7 +24,8 @@ use arrayvec::ArrayVec;
 use iw_fpdu::{Fpdu, Mismatch, Pieces};
 use iw_memory::{Memory, Right};
 use iw_octets::{
-    Fault, ReadRequest, Stag, TAGGED_HEADER, TaggedHead, UNTAGGED_HEADER, UntaggedHead, is_tagged,
+    Fault, ReadRequest, Stag, TAGGED_HEADER, TaggedHead, UNTAGGED_HEADER, UntaggedHead, gather,
+    is_tagged,
 };
 use iw_rdmap::{FIRST_OCTETS, Head, early, judge, tagged_head};
 use iw_reads::{Reads, Requests, check_source};
@@ -168,6 +169,27 @@ fn first_piece<'a, A: Allocator>(fpdu: &Fpdu<'a, A>) -> Option<&'a [u8]>
     Some(first)
 }
 
+// Copies the octets of a payload among which markers stand.
+#[inline(never)]
+fn copy_divided(payload: Pieces<'_>, out: &mut [u8])
+    requires { length out.old ≡ length payload }
+    ensures { out.new ≡ payload.entry }
+{
+    gather(payload, out);
+}
+
+// Copies the octets of a payload.
+#[inline(always)]
+fn copy_payload(payload: Pieces<'_>, out: &mut [u8])
+    requires { length out.old ≡ length payload }
+    ensures { out.new ≡ payload.entry }
+{
+    match payload.whole() {
+        Some(octets) => out.copy_from_slice(octets),
+        None => copy_divided(payload, out),
+    }
+}
+
 // Places the payload of a tagged segment. An `Err` changes nothing.
 #[inline(always)]
 fn place_tagged<A: Allocator, B: Allocator>(
@@ -186,8 +208,10 @@ fn place_tagged<A: Allocator, B: Allocator>(
     ensures err { OnErr result (memory.new ≡ memory.old) }
 {
     let n = fpdu.len() - TAGGED_HEADER;
-    let placed = iw_tagged::place(head, n, payload, memory, domain, right)?;
-    Ok(placed)
+    let TaggedHead { stag, to, .. } = head;
+    iw_tagged::check(head, n, memory, domain, right)?;
+    copy_payload(payload, memory.part_mut(domain, stag, to, n, right));
+    Ok(Placed { stag, to, n })
 }
 
 /// The right that a tagged segment is placed with.
