@@ -178,6 +178,16 @@ fn run_added(remainder: u32, octets: &[u8]) -> u32
     words_added(so_far, &octets[32 * turns + 32..])
 }
 
+/// The octets that are left of a long run: nine turns, and two octets.
+#[inline(always)]
+fn span_added(octets: &[u8]) -> u32
+    requires { length octets.now ≡ 290 }
+    ensures { result ≡ after_octets 0 octets.now }
+{
+    let so_far = turns_added(0, octets, 8);
+    octets_added(so_far, &octets[288..])
+}
+
 /// Any octets: of a long run, all but the last are folded away.
 fn added(remainder: u32, octets: &[u8]) -> u32
     ensures { result ≡ after_octets remainder octets.now }
@@ -185,7 +195,7 @@ fn added(remainder: u32, octets: &[u8]) -> u32
     if octets.len() < 600 {
         return run_added(remainder, octets);
     }
-    run_added(0, &folded(remainder, octets))
+    span_added(&folded(remainder, octets))
 }
 
 /// The CRC-32C of octets that come in any pieces (RFC 5044 4.4).
