@@ -49,6 +49,12 @@ fn send(alloc: Global) -> Result<Request<Bytes>, Fail> {
     }))
 }
 
+// Posts a receive buffer of so many octets.
+pub(crate) fn receive(alloc: Global, stream: &mut Stream, len: usize) -> Result<(), Fail> {
+    let _ = stream.post_recv(vec![in alloc; 0u8; len]?);
+    Ok(())
+}
+
 // Appends what is due next.
 pub(crate) fn emit(stream: &mut Stream, memory: &Memory, wire: &mut Vec<u8>) -> Result<(), Fail> {
     if stream.sent() <= MAX_PLACE {
@@ -95,7 +101,7 @@ fn emitted(alloc: Global, stream: &mut Stream) -> Result<Vec<u8>, Fail> {
 fn told(alloc: Global, stream: &mut Stream, wire: &[u8]) -> Result<String, Fail> {
     let mut memory = shared(alloc)?;
     let mut told = String::new(alloc);
-    let _ = stream.post_recv(vec![in alloc; 0u8; 4]?);
+    receive(alloc, stream, 4)?;
     stream.deliver(0, wire)?;
     steps(stream, &mut memory, 5, &mut told)?;
     Ok(told)
@@ -128,29 +134,47 @@ fn a_write_and_a_send_come_over(rt: HostRuntime) -> Result<(), Fail> {
     Ok(())
 }
 
+// What a stream does in three steps to which nothing came.
+fn three_steps(alloc: Global, stream: &mut Stream) -> Result<String, Fail> {
+    let mut memory = Memory::new(alloc)?;
+    let mut told = String::new(alloc);
+    steps(stream, &mut memory, 3, &mut told)?;
+    Ok(told)
+}
+
+// Where a Write and a Send were sent.
+fn told_of_sent(alloc: Global, stream: &mut Stream) -> Result<String, Fail> {
+    let _ = emitted(alloc, stream)?;
+    three_steps(alloc, stream)
+}
+
 // Both messages are finished once they were sent.
 #[test]
 fn messages_are_handed_back(rt: HostRuntime) -> Result<(), Fail> {
     let mut stream = open(rt.alloc(), false, false)?;
-    let mut memory = Memory::new(rt.alloc())?;
-    let mut told = String::new(rt.alloc());
-    let _ = emitted(rt.alloc(), &mut stream)?;
-    steps(&mut stream, &mut memory, 3, &mut told)?;
-    assert_eq!(rt; told.as_str(), "Done(Write)\nDone(Send)\nIdle\n");
+    assert_eq!(rt;
+        told_of_sent(rt.alloc(), &mut stream)?.as_str(),
+        "Done(Write)\nDone(Send)\nIdle\n"
+    );
     Ok(())
+}
+
+// Where a buffer and a Send were posted, and the link broke.
+fn told_of_broken(alloc: Global, stream: &mut Stream) -> Result<String, Fail> {
+    receive(alloc, stream, 1)?;
+    let _ = stream.post(send(alloc)?);
+    stream.break_link();
+    three_steps(alloc, stream)
 }
 
 // A stream whose link broke hands back what was posted, unsent messages first.
 #[test]
 fn a_broken_stream_hands_back(rt: HostRuntime) -> Result<(), Fail> {
     let mut stream = open(rt.alloc(), false, false)?;
-    let mut memory = Memory::new(rt.alloc())?;
-    let mut told = String::new(rt.alloc());
-    let _ = stream.post_recv(vec![in rt.alloc(); 0u8; 1]?);
-    let _ = stream.post(send(rt.alloc())?);
-    stream.break_link();
-    steps(&mut stream, &mut memory, 3, &mut told)?;
-    assert_eq!(rt; told.as_str(), HANDED_BACK);
+    assert_eq!(rt;
+        told_of_broken(rt.alloc(), &mut stream)?.as_str(),
+        HANDED_BACK
+    );
     Ok(())
 }
 
@@ -166,14 +190,23 @@ const ENDS: &str =
 Fault(Fault { layer: 1, kind: 2, code: 5 }) | 0017414300000000000000000000000100000000010203040500000000000000
 Terminated(Fault { layer: 1, kind: 1, code: 0 }) | 00164147000000000000000200000001000000001100000000000000";
 
+fn first_step(
+    alloc: Global,
+    stream: &mut Stream,
+    memory: &mut Memory,
+    frame: &[u8],
+) -> Result<String, Fail> {
+    receive(alloc, stream, 4)?;
+    stream.deliver(0, frame)?;
+    let step = work(stream, memory)?;
+    Ok(format!(in alloc; "{step:?}")?)
+}
+
 // The first step where these octets came.
 fn judged(alloc: Global, frame: &[u8]) -> Result<String, Fail> {
     let mut stream = open(alloc, false, false)?;
     let mut memory = shared(alloc)?;
-    let _ = stream.post_recv(vec![in alloc; 0u8; 4]?);
-    stream.deliver(0, frame)?;
-    let step = work(&mut stream, &mut memory)?;
-    Ok(format!(in alloc; "{step:?}")?)
+    first_step(alloc, &mut stream, &mut memory, frame)
 }
 
 #[test]

@@ -56,25 +56,54 @@ const LISTENED: [&str; 2] = [
     "kill -9 $!; wait $!; echo $?; rm $lines; timeout 20 $0 connect --port $port",
 ];
 
+// The words of a row.
+fn add_words(command: &mut Command, row: &str) -> anyhow::Result<()> {
+    for word in row.split(' ') {
+        let word = if word == "SELF" { SELF } else { word };
+        command.arg(word)?;
+    }
+    Ok(())
+}
+
+// A command without input: what it writes, and how it ends.
+fn tell<R: Runtime + AllocGlobal + Processes>(rt: &R, command: &mut Command) -> anyhow::Result<()> {
+    command.stdin(Stdio::null());
+    let output = command.output(rt)?;
+    let text = str::from_utf8(output.stdout.as_slice())?;
+    print!(rt; "{text}")?;
+    let status = output.status;
+    println!(rt; "{status}")?;
+    Ok(())
+}
+
+// The same, with the number of octets that it writes.
+fn tell_count<R: Runtime + AllocGlobal + Processes>(
+    rt: &R,
+    command: &mut Command,
+) -> anyhow::Result<()> {
+    command.stdin(Stdio::null());
+    let output = command.output(rt)?;
+    let status = output.status;
+    let written = output.stdout.len();
+    println!(rt; "{written} octets, {status}")?;
+    let told = str::from_utf8(output.stderr.as_slice())?;
+    print!(rt; "{told}")?;
+    Ok(())
+}
+
 fn run_script<R: Runtime + AllocGlobal + Processes>(
     rt: &R,
     program: &str,
     before: &str,
     script: &str,
 ) -> anyhow::Result<()> {
+    println!(rt; "$ {script}")?;
     let whole = format!(in rt.alloc(); "{before}{script}")?;
     let mut command = Command::new(rt.alloc(), "/bin/sh")?;
     command.arg("-c")?;
     command.arg(whole.as_str())?;
     command.arg(program)?;
-    command.stdin(Stdio::null());
-    let output = command.output(rt)?;
-    println!(rt; "$ {script}")?;
-    let text = str::from_utf8(output.stdout.as_slice())?;
-    print!(rt; "{text}")?;
-    let status = output.status;
-    println!(rt; "{status}")?;
-    Ok(())
+    tell(rt, &mut command)
 }
 
 fn run_scripts<R: Runtime + AllocGlobal + Processes>(rt: &R, program: &str) -> anyhow::Result<()> {
@@ -88,43 +117,20 @@ fn run_scripts<R: Runtime + AllocGlobal + Processes>(rt: &R, program: &str) -> a
 }
 
 fn run_row<R: Runtime + AllocGlobal + Processes>(rt: &R, row: &str) -> anyhow::Result<()> {
-    let mut command = Command::new(rt.alloc(), SELF)?;
-    for word in row.split(' ') {
-        if word == "SELF" {
-            command.arg(SELF)?;
-        } else {
-            command.arg(word)?;
-        }
-    }
-    command.stdin(Stdio::null());
-    let output = command.output(rt)?;
     println!(rt; "$ iwarp {row}")?;
-    let text = str::from_utf8(output.stdout.as_slice())?;
-    print!(rt; "{text}")?;
-    let status = output.status;
-    println!(rt; "{status}")?;
-    Ok(())
+    let mut command = Command::new(rt.alloc(), SELF)?;
+    add_words(&mut command, row)?;
+    tell(rt, &mut command)
 }
 
 // A text of so many octets on each of 64 connections. The lines of 4,096 octets are more than a pipe holds.
 fn run_long<R: Runtime + AllocGlobal + Processes>(rt: &R, length: usize) -> anyhow::Result<()> {
+    print!(rt; "64 texts of {length} octets: ")?;
     let text = "a".repeat(rt.alloc(), length)?;
     let mut command = Command::new(rt.alloc(), SELF)?;
-    command.arg("pair")?;
-    command.arg("--program")?;
-    command.arg(SELF)?;
-    command.arg("--count")?;
-    command.arg("64")?;
-    command.arg("--text")?;
+    add_words(&mut command, "pair --program SELF --count 64 --text")?;
     command.arg(text.as_str())?;
-    command.stdin(Stdio::null());
-    let output = command.output(rt)?;
-    let status = output.status;
-    let written = output.stdout.len();
-    println!(rt; "64 texts of {length} octets: {written} octets, {status}")?;
-    let told = str::from_utf8(output.stderr.as_slice())?;
-    print!(rt; "{told}")?;
-    Ok(())
+    tell_count(rt, &mut command)
 }
 
 fn run_rows<R: Runtime + AllocGlobal + Processes>(rt: &R) -> anyhow::Result<()> {
