@@ -40,6 +40,7 @@ enum Call {
     StreamPostRecv,
     StreamDeliver,
     StreamEmit,
+    StreamEmitRead,
     StreamWork,
     ReadSchedule,
     WorldRun,
@@ -47,7 +48,7 @@ enum Call {
     Replay,
 }
 
-const CALLS: [Call; 22] = [
+const CALLS: [Call; 23] = [
     Call::MemoryNew,
     Call::MemoryRegister,
     Call::IslandsNew,
@@ -65,6 +66,7 @@ const CALLS: [Call; 22] = [
     Call::StreamPostRecv,
     Call::StreamDeliver,
     Call::StreamEmit,
+    Call::StreamEmitRead,
     Call::StreamWork,
     Call::ReadSchedule,
     Call::WorldRun,
@@ -125,22 +127,25 @@ const LAYOUT: Layout = Layout {
     crc: true,
 };
 
+// Registers octets that were handed over, and has them handed back where they are not taken.
+fn registers<'h>(memory: &mut Memory<Heap<'h>>, handed: &mut Option<Vec<u8, Heap<'h>>>) -> bool {
+    let Some(octets) = handed.take() else {
+        return false;
+    };
+    match memory.register(1, 0, octets, RIGHTS) {
+        Ok(_) => true,
+        Err((_, octets)) => {
+            *handed = Some(octets);
+            false
+        }
+    }
+}
+
 fn register(heap: Heap<'_>, n: u64) -> Result<Outcome, AllocError> {
     let mut memory = Memory::new(heap)?;
     let _ = memory.add_domain(1);
     let mut handed = Some(Vec::from_slice(heap, b"octets")?);
-    Ok(tried(heap, n, || {
-        let Some(octets) = handed.take() else {
-            return false;
-        };
-        match memory.register(1, 0, octets, RIGHTS) {
-            Ok(_) => true,
-            Err((_, octets)) => {
-                handed = Some(octets);
-                false
-            }
-        }
-    }))
+    Ok(tried(heap, n, || registers(&mut memory, &mut handed)))
 }
 
 fn add(heap: Heap<'_>, n: u64) -> Result<Outcome, AllocError> {
@@ -165,21 +170,26 @@ fn record(heap: Heap<'_>, n: u64) -> Outcome {
     tried(heap, n, || judged.ready().is_ok())
 }
 
+fn posts_buffer<'h>(
+    queue: &mut RecvQueue<Heap<'h>>,
+    handed: &mut Option<Vec<u8, Heap<'h>>>,
+) -> bool {
+    let Some(buffer) = handed.take() else {
+        return false;
+    };
+    match queue.post(buffer) {
+        Ok(()) => true,
+        Err((_, buffer)) => {
+            *handed = Some(buffer);
+            false
+        }
+    }
+}
+
 fn post_buffer(heap: Heap<'_>, n: u64) -> Result<Outcome, AllocError> {
     let mut queue = RecvQueue::new(heap)?;
     let mut handed = Some(Vec::from_slice(heap, b"octets")?);
-    Ok(tried(heap, n, || {
-        let Some(buffer) = handed.take() else {
-            return false;
-        };
-        match queue.post(buffer) {
-            Ok(()) => true,
-            Err((_, buffer)) => {
-                handed = Some(buffer);
-                false
-            }
-        }
-    }))
+    Ok(tried(heap, n, || posts_buffer(&mut queue, &mut handed)))
 }
 
 fn expect(heap: Heap<'_>, n: u64) -> Outcome {
@@ -214,21 +224,26 @@ fn read<'h>() -> Request<Bytes<Heap<'h>>> {
     })
 }
 
+fn posts_message<'h>(
+    queue: &mut SendQueue<Heap<'h>>,
+    handed: &mut Option<Request<Bytes<Heap<'h>>>>,
+) -> bool {
+    let Some(message) = handed.take() else {
+        return false;
+    };
+    match queue.post(message) {
+        Ok(_) => true,
+        Err((_, message)) => {
+            *handed = Some(message);
+            false
+        }
+    }
+}
+
 fn post_message(heap: Heap<'_>, n: u64) -> Result<Outcome, AllocError> {
     let mut queue = SendQueue::new(heap);
     let mut handed = Some(send(heap)?);
-    Ok(tried(heap, n, || {
-        let Some(message) = handed.take() else {
-            return false;
-        };
-        match queue.post(message) {
-            Ok(_) => true,
-            Err((_, message)) => {
-                handed = Some(message);
-                false
-            }
-        }
-    }))
+    Ok(tried(heap, n, || posts_message(&mut queue, &mut handed)))
 }
 
 fn opened<'h>(heap: Heap<'h>, markers: bool) -> Result<Stream<Heap<'h>>, AllocError> {
@@ -240,6 +255,22 @@ fn opened<'h>(heap: Heap<'h>, markers: bool) -> Result<Stream<Heap<'h>>, AllocEr
     Stream::new(heap, 1, Role::Preset, config)
 }
 
+fn stream_posts<'h>(
+    stream: &mut Stream<Heap<'h>>,
+    handed: &mut Option<Request<Bytes<Heap<'h>>>>,
+) -> bool {
+    let Some(request) = handed.take() else {
+        return false;
+    };
+    match stream.post(request) {
+        Ok(()) => true,
+        Err((_, request)) => {
+            *handed = Some(request);
+            false
+        }
+    }
+}
+
 fn stream_post<'h>(
     heap: Heap<'h>,
     n: u64,
@@ -247,35 +278,29 @@ fn stream_post<'h>(
 ) -> Result<Outcome, AllocError> {
     let mut stream = opened(heap, false)?;
     let mut handed = Some(request);
-    Ok(tried(heap, n, || {
-        let Some(request) = handed.take() else {
-            return false;
-        };
-        match stream.post(request) {
-            Ok(()) => true,
-            Err((_, request)) => {
-                handed = Some(request);
-                false
-            }
+    Ok(tried(heap, n, || stream_posts(&mut stream, &mut handed)))
+}
+
+fn stream_posts_recv<'h>(
+    stream: &mut Stream<Heap<'h>>,
+    handed: &mut Option<Vec<u8, Heap<'h>>>,
+) -> bool {
+    let Some(buffer) = handed.take() else {
+        return false;
+    };
+    match stream.post_recv(buffer) {
+        Ok(()) => true,
+        Err((_, buffer)) => {
+            *handed = Some(buffer);
+            false
         }
-    }))
+    }
 }
 
 fn stream_post_recv(heap: Heap<'_>, n: u64) -> Result<Outcome, AllocError> {
     let mut stream = opened(heap, false)?;
     let mut handed = Some(Vec::from_slice(heap, b"octets")?);
-    Ok(tried(heap, n, || {
-        let Some(buffer) = handed.take() else {
-            return false;
-        };
-        match stream.post_recv(buffer) {
-            Ok(()) => true,
-            Err((_, buffer)) => {
-                handed = Some(buffer);
-                false
-            }
-        }
-    }))
+    Ok(tried(heap, n, || stream_posts_recv(&mut stream, &mut handed)))
 }
 
 fn stream_deliver(heap: Heap<'_>, n: u64) -> Result<Outcome, AllocError> {
@@ -291,17 +316,31 @@ fn emits<'h>(
     stream.sent() < 1 && stream.emit(memory, out).is_ok() && !out.is_empty()
 }
 
-fn stream_emit<'h>(heap: Heap<'h>, n: u64) -> Result<Outcome, AllocError> {
-    let memory = Memory::new(heap)?;
-    let mut stream = opened(heap, false)?;
-    let _ = stream.post(send(heap)?);
+// Tries the emission of what was posted.
+fn tried_emit<'h>(
+    heap: Heap<'h>,
+    n: u64,
+    stream: &mut Stream<Heap<'h>>,
+    memory: &Memory<Heap<'h>>,
+) -> Outcome {
     let mut out = Vec::new(heap);
     heap.refuse_after(n);
-    let is_made = emits(&mut stream, &memory, &mut out);
-    Ok(match first(heap, is_made) {
+    let is_made = emits(stream, memory, &mut out);
+    match first(heap, is_made) {
         Some(outcome) => outcome,
-        None => second(emits(&mut stream, &memory, &mut out)),
-    })
+        None => second(emits(stream, memory, &mut out)),
+    }
+}
+
+fn stream_emit<'h>(
+    heap: Heap<'h>,
+    n: u64,
+    request: Request<Bytes<Heap<'h>>>,
+) -> Result<Outcome, AllocError> {
+    let mut stream = opened(heap, false)?;
+    let _ = stream.post(request);
+    let memory = Memory::new(heap)?;
+    Ok(tried_emit(heap, n, &mut stream, &memory))
 }
 
 // A Write of four octets after a marker, at the stream place 512 (RFC 5044 4.1 to 4.3), to offset 0 of region 01000000.
@@ -317,19 +356,36 @@ fn places<'h>(stream: &mut Stream<Heap<'h>>, memory: &mut Memory<Heap<'h>>) -> b
     }
 }
 
-// A frame that is judged before its turn leaves a record.
-fn stream_work<'h>(heap: Heap<'h>, n: u64) -> Result<Outcome, AllocError> {
+// Tries a step that places a frame.
+fn tried_work<'h>(
+    heap: Heap<'h>,
+    n: u64,
+    stream: &mut Stream<Heap<'h>>,
+    memory: &mut Memory<Heap<'h>>,
+) -> Outcome {
+    heap.refuse_after(n);
+    let is_made = places(stream, memory);
+    match first(heap, is_made) {
+        Some(outcome) => outcome,
+        None => second(places(stream, memory)),
+    }
+}
+
+// Domain 1 with a region of six octets.
+fn shared<'h>(heap: Heap<'h>) -> Result<Memory<Heap<'h>>, AllocError> {
+    let octets = Vec::from_slice(heap, b"octets")?;
     let mut memory = Memory::new(heap)?;
     let _ = memory.add_domain(1);
-    let _ = memory.register(1, 0, Vec::from_slice(heap, b"octets")?, RIGHTS);
+    let _ = memory.register(1, 0, octets, RIGHTS);
+    Ok(memory)
+}
+
+// A frame that is judged before its turn leaves a record.
+fn stream_work<'h>(heap: Heap<'h>, n: u64) -> Result<Outcome, AllocError> {
     let mut stream = opened(heap, true)?;
     let _ = stream.deliver(512, MARKED_WRITE)?;
-    heap.refuse_after(n);
-    let is_made = places(&mut stream, &mut memory);
-    Ok(match first(heap, is_made) {
-        Some(outcome) => outcome,
-        None => second(places(&mut stream, &mut memory)),
-    })
+    let mut memory = shared(heap)?;
+    Ok(tried_work(heap, n, &mut stream, &mut memory))
 }
 
 const SCHEDULE: &str = "a domain 1\na register 1 0 w 00*8\na open 0 1 preset m beef\na recv 0 2\n";
@@ -385,7 +441,8 @@ fn attempt(heap: Heap<'_>, call: Call, n: u64) -> Result<Outcome, AllocError> {
         Call::StreamPostRead => stream_post(heap, n, read()),
         Call::StreamPostRecv => stream_post_recv(heap, n),
         Call::StreamDeliver => stream_deliver(heap, n),
-        Call::StreamEmit => stream_emit(heap, n),
+        Call::StreamEmit => stream_emit(heap, n, send(heap)?),
+        Call::StreamEmitRead => stream_emit(heap, n, read()),
         Call::StreamWork => stream_work(heap, n),
         Call::ReadSchedule => Ok(tried(heap, n, || {
             read_schedule(heap, SCHEDULE.as_bytes()).is_ok()

@@ -122,24 +122,38 @@ fn buffer<A: Allocator + Copy>(alloc: A) -> Result<Vec<u8, A>, AllocError> {
     }
 }
 
-// Posts a Write and a Send of the text, and emits both.
-fn sends<A: Allocator + Copy>(alloc: A, wire: &mut Vec<u8, A>) -> Result<bool, AllocError> {
-    let mut endpoint = endpoint(alloc)?;
+fn posts_write<A: Allocator + Copy>(
+    alloc: A,
+    endpoint: &mut Endpoint<A>,
+) -> Result<bool, AllocError> {
     let write = Message::Write {
         stag: Stag::new(DOMAIN, 0, 0),
         to: 0,
         octets: octets(alloc)?,
     };
+    Ok(posts(endpoint, Request::Message(write)))
+}
+
+fn posts_send<A: Allocator + Copy>(
+    alloc: A,
+    endpoint: &mut Endpoint<A>,
+) -> Result<bool, AllocError> {
     let send = Message::Send {
         octets: octets(alloc)?,
         solicited: false,
         invalidate: None,
     };
+    Ok(posts(endpoint, Request::Message(send)))
+}
+
+// Posts a Write and a Send of the text, and emits both.
+fn sends<A: Allocator + Copy>(alloc: A, wire: &mut Vec<u8, A>) -> Result<bool, AllocError> {
+    let mut endpoint = endpoint(alloc)?;
     Ok(
         endpoint.add_domain(DOMAIN).is_ok()
             && opens(&mut endpoint, false)
-            && posts(&mut endpoint, Request::Message(write))
-            && posts(&mut endpoint, Request::Message(send))
+            && posts_write(alloc, &mut endpoint)?
+            && posts_send(alloc, &mut endpoint)?
             && emits(&mut endpoint, wire)
             && emits(&mut endpoint, wire),
     )
@@ -159,19 +173,32 @@ fn hands_out_text<A: Allocator>(endpoint: &mut Endpoint<A>) -> bool {
     false
 }
 
+// The STag of a region in a domain of its own.
+fn shares<A: Allocator + Copy>(
+    alloc: A,
+    endpoint: &mut Endpoint<A>,
+) -> Result<Option<Stag>, AllocError> {
+    let octets = buffer(alloc)?;
+    if endpoint.add_domain(DOMAIN).is_err() {
+        return Ok(None);
+    }
+    Ok(registers(endpoint, octets))
+}
+
 // Takes what was emitted: whether the text then stands in the region, and in the message that is handed out.
-fn receives<A: Allocator + Copy>(alloc: A, wire: &[u8]) -> Result<bool, AllocError> {
-    let mut endpoint = endpoint(alloc)?;
-    let added = endpoint.add_domain(DOMAIN).is_ok();
-    let Some(stag) = registers(&mut endpoint, buffer(alloc)?) else {
+fn receives<A: Allocator + Copy>(
+    alloc: A,
+    endpoint: &mut Endpoint<A>,
+    wire: &[u8],
+) -> Result<bool, AllocError> {
+    let Some(stag) = shares(alloc, endpoint)? else {
         return Ok(false);
     };
     Ok(
-        added
-            && opens(&mut endpoint, false)
-            && posts_recv(&mut endpoint, buffer(alloc)?)
-            && takes(&mut endpoint, 0, wire)
-            && hands_out_text(&mut endpoint)
+        opens(endpoint, false)
+            && posts_recv(endpoint, buffer(alloc)?)
+            && takes(endpoint, 0, wire)
+            && hands_out_text(endpoint)
             && endpoint.local(stag) == Some(TEXT),
     )
 }
@@ -189,30 +216,34 @@ fn places_once<A: Allocator>(endpoint: &mut Endpoint<A>) -> Option<bool> {
     }
 }
 
+// A step that places octets of a region, made again where there was no memory: how it went.
+fn places<A: Allocator>(endpoint: &mut Endpoint<A>, stag: Stag) -> Early {
+    match places_once(endpoint) {
+        Some(true) => Early::Placed { is_second: false },
+        Some(false) => Early::Not,
+        None if endpoint.local(stag) == Some(&[0; 13]) && places_once(endpoint) == Some(true) => {
+            Early::Placed { is_second: true }
+        }
+        None => Early::Not,
+    }
+}
+
 // Takes a frame that came whole before the octets in front of it: whether it was placed by one step and is not placed by
 // another, and what then stands in the region.
-fn places_early<A: Allocator + Copy>(alloc: A) -> Result<Early, AllocError> {
-    let mut endpoint = endpoint(alloc)?;
-    let added = endpoint.add_domain(DOMAIN).is_ok();
-    let Some(stag) = registers(&mut endpoint, buffer(alloc)?) else {
+fn places_early<A: Allocator + Copy>(
+    alloc: A,
+    endpoint: &mut Endpoint<A>,
+) -> Result<Early, AllocError> {
+    let Some(stag) = shares(alloc, endpoint)? else {
         return Ok(Early::Not);
     };
-    if !(added && opens(&mut endpoint, true) && takes(&mut endpoint, 512, MARKED_WRITE)) {
+    if !(opens(endpoint, true) && takes(endpoint, 512, MARKED_WRITE)) {
         return Ok(Early::Not);
     }
-    let first = places_once(&mut endpoint);
-    let is_untouched = endpoint.local(stag) == Some(&[0; 13]);
-    let is_placed = match first {
-        Some(placed) => placed,
-        None => is_untouched && places_once(&mut endpoint) == Some(true),
-    };
-    if is_placed
-        && places_once(&mut endpoint) == Some(false)
-        && endpoint.local(stag) == Some(b"text\0\0\0\0\0\0\0\0\0")
-    {
-        Ok(Early::Placed {
-            is_second: first.is_none(),
-        })
+    let early = places(endpoint, stag);
+    let is_once = places_once(endpoint) == Some(false);
+    if is_once && endpoint.local(stag) == Some(b"text\0\0\0\0\0\0\0\0\0") {
+        Ok(early)
     } else {
         Ok(Early::Not)
     }
@@ -255,7 +286,8 @@ fn receiving_stands_each_refusal(rt: HostRuntime) -> Result<(), Fail> {
     assert!(rt; sends(rt.alloc(), &mut wire)?);
     for n in 0..100u64 {
         let heap = FailsAt::new(rt.alloc(), n);
-        assert!(rt; receives(&heap, &wire)?, "at allocation {n}");
+        let mut endpoint = endpoint(&heap)?;
+        assert!(rt; receives(&heap, &mut endpoint, &wire)?, "at allocation {n}");
         if !heap.has_refused() {
             break;
         }
@@ -272,7 +304,8 @@ fn judging_early_stands_each_refusal(rt: HostRuntime) -> Result<(), Fail> {
     let mut second_steps = 0u64;
     for n in 0..100u64 {
         let heap = FailsAt::new(rt.alloc(), n);
-        match places_early(&heap)? {
+        let mut endpoint = endpoint(&heap)?;
+        match places_early(&heap, &mut endpoint)? {
             Early::Placed { is_second: true } => second_steps = second_steps.saturating_add(1),
             Early::Placed { is_second: false } => {}
             Early::Not => assert!(rt; false, "at allocation {n}"),

@@ -32,23 +32,43 @@ fn opened<'h>(heap: Heap<'h>) -> Result<Stream<Heap<'h>>, AllocError> {
     Stream::new(heap, 1, Role::Preset, config)
 }
 
+// Emits a Write of octets `k` to tagged offset 0.
+fn write<'h>(
+    heap: Heap<'h>,
+    k: u8,
+    stream: &mut Stream<Heap<'h>>,
+    wire: &mut Vec<u8, Heap<'h>>,
+) -> Result<(), Fail> {
+    let payload = vec![in heap; k; PAYLOAD]?;
+    let _ = stream.post(Request::Message(Message::Write {
+        stag: Stag::new(1, 0, 0),
+        to: 0,
+        octets: Bytes::from_vec(payload)?,
+    }));
+    let memory = Memory::new(heap)?;
+    if stream.sent() <= MAX_PLACE {
+        stream.emit(&memory, wire)?;
+    }
+    Ok(())
+}
+
 // Four Writes to tagged offset 0, the k-th of octets k. Their frames have 512 octets each, the marker before them among these.
 fn frames<'h>(heap: Heap<'h>) -> Result<Vec<u8, Heap<'h>>, Fail> {
-    let memory = Memory::new(heap)?;
     let mut stream = opened(heap)?;
     let mut wire = Vec::new(heap);
     for k in 0..4u8 {
-        let payload = vec![in heap; k; PAYLOAD]?;
-        let _ = stream.post(Request::Message(Message::Write {
-            stag: Stag::new(1, 0, 0),
-            to: 0,
-            octets: Bytes::copy_from_slice(heap, payload.as_slice())?,
-        }));
-        if stream.sent() <= MAX_PLACE {
-            stream.emit(&memory, &mut wire)?;
-        }
+        write(heap, k, &mut stream, &mut wire)?;
     }
     Ok(wire)
+}
+
+// Domain 1 with a region.
+fn shared<'h>(heap: Heap<'h>) -> Result<Memory<Heap<'h>>, Fail> {
+    let octets = vec![in heap; 0u8; PAYLOAD + 4]?;
+    let mut memory = Memory::new(heap)?;
+    let _ = memory.add_domain(1);
+    let _ = memory.register(1, 0, octets, RIGHTS);
+    Ok(memory)
 }
 
 // The receiving end, and how many of its steps were refused memory.
@@ -62,12 +82,9 @@ struct Receiver<'h> {
 
 impl<'h> Receiver<'h> {
     fn new(heap: Heap<'h>) -> Result<Receiver<'h>, Fail> {
-        let mut memory = Memory::new(heap)?;
-        let _ = memory.add_domain(1);
-        let _ = memory.register(1, 0, vec![in heap; 0u8; PAYLOAD + 4]?, RIGHTS);
         Ok(Receiver {
             stream: opened(heap)?,
-            memory,
+            memory: shared(heap)?,
             refused: 0,
             placed: 0,
         })
@@ -105,24 +122,35 @@ impl<'h> Receiver<'h> {
     }
 }
 
-// Two pairs of frames come, the later of each first, with one request for memory refused. `None` where there was none left
-// to refuse; otherwise how many steps were refused for the first pair. None is for the second, which finds the room made.
+// Two frames come, the later first: how many steps were refused memory.
+fn take_pair(end: &mut Receiver<'_>, wire: &[u8], from: usize) -> Result<u32, Fail> {
+    let before = end.refused;
+    let middle = from.saturating_add(FRAME);
+    end.take(wire, middle, middle.saturating_add(FRAME))?;
+    end.take(wire, from, middle)?;
+    Ok(end.refused.saturating_sub(before))
+}
+
+// Two pairs of frames come: how many steps were refused for the first. None is for the second, which finds the room made.
+fn take_pairs(end: &mut Receiver<'_>, wire: &[u8]) -> Result<u32, Fail> {
+    let first = take_pair(end, wire, 0)?;
+    let second = take_pair(end, wire, 2 * FRAME)?;
+    if second != 0 || end.placed != 4 {
+        return Err(
+            "a step was refused memory for the second pair, or a frame was not placed".into(),
+        );
+    }
+    Ok(first)
+}
+
+// The same with one request for memory refused; `None` where there was none left to refuse.
 fn refused_at(alloc: Global, n: u64) -> Result<Option<u32>, Fail> {
     let heap = FailsAt::new(alloc, u64::MAX);
     let wire = frames(&heap)?;
     let mut end = Receiver::new(&heap)?;
     heap.refuse_after(n);
-    end.take(wire.as_slice(), 512, 1_024)?;
-    end.take(wire.as_slice(), 0, 512)?;
-    let before = end.refused;
-    end.take(wire.as_slice(), 1_536, 2_048)?;
-    end.take(wire.as_slice(), 1_024, 1_536)?;
-    if end.refused != before || end.placed != 4 {
-        return Err(
-            "a step was refused memory for the second pair, or a frame was not placed".into(),
-        );
-    }
-    Ok(heap.has_refused().then_some(before))
+    let refused = take_pairs(&mut end, wire.as_slice())?;
+    Ok(heap.has_refused().then_some(refused))
 }
 
 #[test]
