@@ -1,5 +1,5 @@
 -- How the program ends.
-use Rattle.std.specs.Prelude.{ℕ, List, [], ◌∷◌, None, true, if◌then◌else◌}
+use Rattle.std.specs.Prelude.{List, [], ◌∷◌, None, true, if◌then◌else◌}
 use Rattle.iw_status.specs.declared.Status.{Status}
 use Rattle.iw_status.specs.declared.Status.TheVariants.{Completed, Failed, Refused}
 use Rattle.iw_status.specs.Status.{with}

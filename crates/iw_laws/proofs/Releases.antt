@@ -5,7 +5,7 @@ use Rattle.std.specs.Option.{option_map_or}
 use Rattle.std.proofs.lemmas.Bool.{true≢false, false≢true}
 use Rattle.iw_octets.specs.declared.fault.Fault.{Fault}
 use Rattle.iw_memory.specs.Table.{Table}
-use Rattle.iw_ranges.specs.Arrived.{Arrived, Gone, given_up, advanced, released}
+use Rattle.iw_ranges.specs.Arrived.{Arrived, given_up, advanced, released}
 use Rattle.iw_ranges.specs.InOrder.{is_gone, IsHeld}
 use Rattle.iw_ranges.specs.Laws.{IsLeftOf}
 use Rattle.iw_ranges.proofs.InOrder.{held_moves}

@@ -1,8 +1,8 @@
-use Rattle.std.proofs.Common.{◌≡◌, ℕ, ◌-◌, ◌<◌, ◌≤◌, Bool, true, false, cond, List, length, get_or, max, refl, sym, ap, ◌∙◌, subst, arith, inl, inr}
+use Rattle.std.proofs.Common.{◌≡◌, ℕ, Bool, true, false, cond, List, length, max, refl, sym, ap, ◌∙◌, subst, arith, inl, inr}
 use Rattle.std.proofs.lemmas.Bool.{cases_lt}
 use Rattle.std.proofs.lemmas.Bool.Decides.{nat_tests}
 use Rattle.std.specs.Prelude.{nat_lt}
-use Rattle.iw_ranges.specs.Arrived.{Cell, Missing, Here, Gone, Arrived, cell_at, first_copy, in_segment, is_dropped, taken_in, delivered, advanced, drawn, end_of}
+use Rattle.iw_ranges.specs.Arrived.{Gone, Arrived, cell_at, in_segment, is_dropped, taken_in, delivered, advanced}
 use Rattle.iw_ranges.proofs.ByPlace.{cell_at-taken_in, first_copy-gone, gives_up_before}
 use Rattle.iw_ranges.proofs.Keeps.{taken_none, taken_some}
 use Rattle.ranges_bench.specs.Whole.{IsWhole}

@@ -1,4 +1,4 @@
-use Rattle.std.proofs.Common.{ℕ, ◌≤◌, ◌<◌, length}
+use Rattle.std.proofs.Common.{◌≤◌, ◌<◌, length}
 use Rattle.iw_commands.proofs.pairing.drain.Given as goal
 
 abbrev pub invariant-reads : goal.invariant-reads

@@ -1,4 +1,4 @@
-use Rattle.std.proofs.Common.{◌≡◌, ℕ, List, length, take, arith, refl, sym, take_all, rules}
+use Rattle.std.proofs.Common.{◌≡◌, length, take, arith, take_all}
 use Rattle.std.proofs.KnownBytes.{Appends-kept}
 use Rattle.iw_commands.proofs.printing.print_text.Goals as goal
 

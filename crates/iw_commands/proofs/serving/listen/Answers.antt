@@ -1,6 +1,6 @@
 use Rattle.std.proofs.Common.{◌≡◌, ◌∙◌}
 use Rattle.iw_commands.specs.Port.{port_line}
-use Rattle.iw_commands.proofs.MoreLines.{no_port, port_stops, lines_stop, prints_port}
+use Rattle.iw_commands.proofs.MoreLines.{no_port, port_stops, lines_stop}
 use Rattle.iw_commands.proofs.serving.listen.Goals as goal
 
 pub returns-in_default-clause-stopped : goal.returns-in_default-clause-stopped

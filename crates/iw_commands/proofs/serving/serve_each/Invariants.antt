@@ -1,4 +1,4 @@
-use Rattle.std.proofs.Common.{ℕ, ◌<◌, length}
+use Rattle.std.proofs.Common.{◌<◌, length}
 use Rattle.iw_commands.specs.Printed.{Prints}
 use Rattle.iw_commands.proofs.serving.serve_each.Given as goal
 
