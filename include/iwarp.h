@@ -25,9 +25,9 @@
  * - No call from a signal handler, nor from the forked child of a process that has threads.
  * - The program's malloc, realloc and free are of one allocator, and align to 16.
  *
- * Each function but iwarp_free returns IWARP_OK, or the first reason that holds why it did nothing. Where it is not
- * IWARP_OK, the handle and all that the call may write are as they were, but for a length that is told with IWARP_NO_ROOM,
- * and for the steps that iwarp_work_on has done by then.
+ * Each function but iwarp_free returns IWARP_OK, or the first reason that holds why it did nothing. If it is not IWARP_OK,
+ * the handle and all that the call may write are as they were, but for a length that is told with IWARP_NO_ROOM (by
+ * iwarp_emit with IWARP_NO_MEMORY too), and for the steps that iwarp_work_on has done by then.
  * IWARP_NO_MEMORY comes where malloc refused; the call may be made again. What a call copies it copies before its other
  * checks, so that IWARP_NO_MEMORY can come in place of another reason there.
  *
@@ -203,7 +203,8 @@ int32_t iwarp_post_recv(struct iwarp *handle, uint8_t stream, size_t n);
 /* ---- octets that come and go */
 
 /* Takes octets that came, the first of them at the stream place `from`: the number of octets that came before it. `*kept` is
- * 1, or 0 where they are dropped: where one of them is too far ahead, and where the stream has ended. */
+ * 1, or 0 if all of them are dropped: because one lies 262,144 or more past the in-order point, because there would be more
+ * than 1,024 islands (runs of octets with a gap before them), or because the stream has ended. */
 int32_t iwarp_deliver(struct iwarp *handle, uint8_t stream, uint64_t from, const uint8_t *octets, size_t n, uint32_t *kept);
 
 /* What a step of work did. */
@@ -282,7 +283,7 @@ struct iwarp_emission {
 
 /* Emits the next frame of a stream to the front of `out`, to be written to its connection whole and in order. To be called
  * until it tells IWARP_NOTHING; after IWARP_DENIED a Terminate is due. `*n` is how many octets the frame has, with
- * IWARP_NO_ROOM too: nothing has moved then. 66,000 octets are enough for any frame. */
+ * IWARP_NO_ROOM and IWARP_NO_MEMORY too: nothing has moved then. 66,000 octets are enough for any frame. */
 int32_t iwarp_emit(struct iwarp *handle, uint8_t stream, uint8_t *out, size_t room, size_t *n, struct iwarp_emission *emission);
 
 #ifdef __cplusplus

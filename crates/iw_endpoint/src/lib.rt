@@ -18,8 +18,9 @@
 //! A stream whose number was never opened is answered with [`NoSuchStream`] before all else. A number stays taken once it was
 //! opened. What one domain is answered and what its calls leave do not depend on any other domain: [`domains_are_alone`].
 //!
-//! `new`, `register`, `open`, `post`, `post_recv`, `deliver` and `emit` may want memory, and then change nothing; what was
-//! handed in is given back, and the call may be made again. No other call takes memory.
+//! `new`, `register`, `open`, `post`, `post_recv`, `deliver` and `emit` may be out of memory, and so may `work`, if it judges
+//! a frame before its turn. Then nothing has changed, what was handed in is given back, and the call may be made again. No
+//! other call takes memory.
 #![tactic(auto)]
 
 mod endpoint;
