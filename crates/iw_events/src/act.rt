@@ -6,7 +6,7 @@ use iw_startup::{Agreed, NotAsked, StartupFault};
 use iw_stream::{Delivery, Kind, OpenRefusal, PostRefusal, RecvRefusal, Role, SizeRefusal};
 
 /// What a call to emit gave, with its octets.
-#[derive(Debug, PartialEq, Drop)]
+#[derive(Drop)]
 pub enum Shown<O> {
     /// A frame, whose first octet has the stream place `from`.
     Frame {
@@ -29,7 +29,7 @@ pub enum Shown<O> {
 }
 
 /// What a step of work did, with the octets that it placed or handed out.
-#[derive(Debug, PartialEq, Drop)]
+#[derive(Drop)]
 pub enum Seen<O> {
     /// The oldest posted message is finished.
     Done(Kind),
@@ -86,7 +86,7 @@ pub enum Seen<O> {
 }
 
 /// A call of a stream with its answer. Where a call may be refused, `refused: None` says that it was not.
-#[derive(Debug, PartialEq, Drop)]
+#[derive(Drop)]
 pub enum StreamAct<O> {
     Recv {
         len: u32,
@@ -127,7 +127,7 @@ pub enum StreamAct<O> {
 }
 
 /// A call with its answer.
-#[derive(Debug, PartialEq, Drop)]
+#[derive(Drop)]
 pub enum Act<O> {
     Domain {
         pd: u8,
@@ -169,7 +169,7 @@ pub enum Act<O> {
 }
 
 /// A call at one of the ends, with its answer.
-#[derive(Debug, PartialEq, Drop)]
+#[derive(Drop)]
 pub struct Entry<O> {
     pub end: End,
     pub act: Act<O>,

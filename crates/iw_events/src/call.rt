@@ -20,7 +20,7 @@ pub struct Options {
 }
 
 /// A call of a stream.
-#[derive(Debug, PartialEq, Drop)]
+#[derive(Drop)]
 pub enum StreamCall<O> {
     /// Posts a receive buffer of `len` zero octets.
     Recv { len: u32 },
@@ -45,7 +45,7 @@ pub enum StreamCall<O> {
 }
 
 /// A call at an end: of its memory, an opening, or a call of one of its streams.
-#[derive(Debug, PartialEq, Drop)]
+#[derive(Drop)]
 pub enum Call<O> {
     /// Adds a protection domain.
     Domain {
@@ -88,7 +88,7 @@ pub enum Call<O> {
 }
 
 /// A call at one of the ends.
-#[derive(Debug, PartialEq, Drop)]
+#[derive(Drop)]
 pub struct Event<O> {
     pub end: End,
     pub call: Call<O>,
