@@ -32,7 +32,7 @@ use Rattle.iw_endpoint.specs.Isolation.{HasDomains, IsOwn, Concerns, OwnStep, Op
 use Rattle.iw_endpoint.proofs.Tables.{AreAlike, worked-alike, verdict-alike, early-alike, turn-alike, judged-alike, fetched-alike, octets-alike, region-alike, none_taken, undenied}
 use Rattle.iw_endpoint.proofs.Parts.{empty_size, seen_alone, stream_alike, alone_own}
 use Rattle.iw_endpoint.proofs.Steps.{at_own, open_alike, concerns_one}
-use Rattle.iw_endpoint.proofs.Alone.{AreOwned, concerns, stay_owned, nothing_owned, alone_all}
+use Rattle.iw_endpoint.proofs.Alone.{AreOwned, concerns, stay_owned, nothing_owned}
 use Rattle.iw_events.specs.declared.call.End.{End}
 use Rattle.iw_events.specs.declared.call.End.TheVariants.{A, B}
 use Rattle.iw_events.specs.declared.act.Act.{Act}
@@ -45,6 +45,7 @@ use Rattle.iw_events.specs.declared.act.Entry.{Entry}
 use Rattle.iw_laws.specs.Words.{Octets, acts, acts_if}
 use Rattle.iw_laws.specs.Rules.{State, start, end_of, with_end, shown_of, seen_of, StreamRule, EndRule, call_made, end_after, after_entry, Follows}
 use Rattle.iw_laws.specs.Isolated.{calls_made, only_acts, AreOwn, Isolated}
+use Rattle.iw_laws.proofs.Whole.{follows_split}
 use Rattle.iw_laws.proofs.Seeing.{LandsAs, LandsTagged, lands_as, early_lands}
 
 -- ---- what is shown is the domain's own
@@ -234,9 +235,8 @@ from_start : (x : End) (done : List (Act Octets)) → AreAnswered (end_of x star
 from_start A done h = h
 from_start B done h = h
 
--- at each end each domain is answered, and is left with, what it would be with no other domain there
+-- at each end each domain is answered what it would be with no other domain there
 pub isolated_all : (trace : List (Entry Octets)) → Follows start trace → Isolated trace
-isolated_all trace follows x whose opens d = record {
-  answered = own_from whose (acts x trace) fresh empty_size (nothing_owned whose) opens (from_start x (acts x trace) (answered_from x trace start follows)) d;
-  left = (alone_all whose (calls_made (acts x trace)) opens d).part;
-}
+isolated_all trace follows past future is x whose opens d =
+    let before : Follows start past = (follows_split past future start (subst (Follows start) is follows)).0 in
+    own_from whose (acts x past) fresh empty_size (nothing_owned whose) opens (from_start x (acts x past) (answered_from x past start before)) d

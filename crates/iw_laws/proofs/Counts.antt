@@ -40,7 +40,7 @@ use Rattle.iw_octets.specs.Operation.{control_of, opcode_of, tagged_opcode, unta
 use Rattle.iw_queues.specs.Laws.{kinds_in, IsHandedOut}
 use Rattle.iw_queues.proofs.Order.{keeps_order}
 use Rattle.iw_laws.specs.Words.{Octets}
-use Rattle.iw_laws.specs.Turns.{is_last}
+use Rattle.iw_laws.specs.Turns.{is_last, carries_response}
 use Rattle.iw_laws.specs.Sends.{count_reads, farewells}
 use Rattle.iw_laws.specs.Faithful.{count_done}
 use Rattle.iw_laws.specs.Merged.{Item, Post, Response, posts_in, response_segment, ItemSegments, numbers_past, AreMerged}
@@ -49,7 +49,7 @@ use Rattle.iw_reads.specs.Response.{response_head}
 use Rattle.iw_stream.specs.Stream.{reads_with}
 use Rattle.iw_octets.proofs.Spelled.{is_tagged-first_octet}
 use Rattle.iw_laws.proofs.Lists.{Each}
-use Rattle.iw_laws.proofs.Sending.{IsSendable, shows, version_of, is_answer}
+use Rattle.iw_laws.proofs.Sending.{IsSendable, shows, version_of}
 use Rattle.iw_laws.proofs.Located.{none_first}
 
 abbrev pub one_for : Bool → ℕ
@@ -331,7 +331,7 @@ not_extra numbers (Posted (Write stag to payload)) offset last octets = refl
 not_extra numbers (Posted (Send payload solicited invalidate)) offset last octets = send_extra solicited (is_some invalidate)
 not_extra numbers (Read request) offset last octets = refl
 
-not_answer : (numbers : Numbers) (m : Request Octets) (offset : ℕ) (last : Bool) (octets : Octets) → is_answer (segment_with numbers m offset last octets) ≡ false
+not_answer : (numbers : Numbers) (m : Request Octets) (offset : ℕ) (last : Bool) (octets : Octets) → carries_response (segment_with numbers m offset last octets) ≡ false
 not_answer numbers (Posted (Write stag to payload)) offset last octets = refl
 not_answer numbers (Posted (Send payload solicited invalidate)) offset last octets = refl
 not_answer numbers (Read request) offset last octets = refl
@@ -350,7 +350,7 @@ one_part q max part e read =
 pub last_of : (numbers : Numbers) (q : Queue) (max : ℕ) (part : Part (Request Octets)) → next_part q max ≡ Some part → is_last (segment_of numbers part) ≡ part.last
 last_of numbers q max part e = last_with numbers part.message part.offset part.last (take part.n (drop part.offset (payload part.message))) (one_part q max part e)
 
-pub plain_part : (numbers : Numbers) (part : Part (Request Octets)) → is_answer (segment_of numbers part) ≡ false
+pub plain_part : (numbers : Numbers) (part : Part (Request Octets)) → carries_response (segment_of numbers part) ≡ false
 plain_part numbers part = not_answer numbers part.message part.offset part.last (take part.n (drop part.offset (payload part.message)))
 
 pub whole_of : (numbers : Numbers) (q : Queue) (max : ℕ) (part : Part (Request Octets)) → next_part q max ≡ Some part → is_whole (segment_of numbers part) ≡ part.last

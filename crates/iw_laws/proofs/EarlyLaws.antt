@@ -1,5 +1,5 @@
 -- Frames that are judged before their turn, and those that were placed: what is so of each step of work by what is judged, and by what there is to do.
-use Rattle.std.proofs.Common.{◌≡◌, ℕ, ◌+◌, ◌≤◌, Bool, true, false, cond, List, length, Option, Some, None, Ok, Err, refl, sym, ap, ◌∙◌, subst, arith, inl, inr}
+use Rattle.std.proofs.Common.{◌≡◌, ℕ, ◌≤◌, Bool, true, false, cond, List, length, Option, Some, None, Ok, Err, refl, sym, ap, ◌∙◌, subst, arith, inl, inr}
 use Rattle.std.specs.Prelude.{nat_lt, ◌&&◌, Result, MatchOption}
 use Rattle.std.specs.Option.{option_map, option_map_or}
 use Rattle.std.proofs.lemmas.Bool.{true≢false, false≢true}
@@ -13,16 +13,14 @@ use Rattle.iw_ranges.proofs.InOrder.{floor_moves}
 use Rattle.iw_fpdu.specs.declared.fpdu.Mismatch.{Mismatch}
 use Rattle.iw_locate.specs.Free.{IsFree}
 use Rattle.iw_locate.specs.Next.{IsLowest}
-use Rattle.iw_locate.specs.Records.{added, max_records}
+use Rattle.iw_locate.specs.Records.{max_records}
 use Rattle.iw_locate.specs.Lowest.{early_place, lowest_free}
-use Rattle.iw_locate.specs.declared.judged.State.TheVariants.{Tried}
 use Rattle.iw_locate.proofs.Telling.{lowest_is_told}
 use Rattle.iw_rdmap.specs.declared.head.Head.{Head}
 use Rattle.iw_rdmap.specs.declared.head.Head.TheVariants as heads
 use Rattle.iw_stream.specs.declared.judging.Landing.{Landing}
-use Rattle.iw_stream.specs.declared.judging.Landing.TheVariants as landing
 use Rattle.iw_stream.specs.declared.judging.PlacedFrame.{PlacedFrame}
-use Rattle.iw_stream.specs.Frames.{Frame, segment_in, payload_of, payload_len, placed, head_in, record_of}
+use Rattle.iw_stream.specs.Frames.{Frame, segment_in, payload_of, payload_len, placed, head_in}
 use Rattle.iw_stream.specs.Judging.{Standing, verdict, early_verdict, head_verdict, judged_head, may_be_early, landing_in, fault_or, mismatch_fault, turn_of, segment_turn}
 use Rattle.iw_stream.specs.Kept.{IsTagged}
 use Rattle.iw_stream.specs.Starting.{StartState, AtOnce, Unheard, Heard, is_open, awaits_frame, expecting, first_place_in}
@@ -34,7 +32,7 @@ use Rattle.iw_events.specs.declared.act.StreamAct.{StreamAct}
 use Rattle.iw_laws.specs.Words.{Octets, deed, acts, stream_acts, ended, OnSome, OnStream, of_stream}
 use Rattle.iw_laws.specs.Turns.{Story, in_order_point, scene, next_frame, early_frame, seen_tried, seen_turned, IsJudged, IsEarly, HasTurn, TurnsSeen, TurnsStream, Turns, story_of, standing}
 use Rattle.iw_laws.specs.Rest.{HasRest, Over, AwaitsFrame, AwaitsAnswer, NoFrame, IdleSeen, IdleStream, IdleOnlyAtRest}
-use Rattle.iw_laws.specs.Early.{NoneIsFree, HasPlace, CanBePlaced, IsJudgedEarly, LeavesRecord, EarlySeen, EarlyStream, JudgesEarly, TurnsPlaced, SecondSeen, SecondStream, ChecksOnce}
+use Rattle.iw_laws.specs.Early.{NoneIsFree, HasPlace, CanBePlaced, IsJudgedEarly, EarlySeen, EarlyStream, JudgesEarly, TurnsPlaced, SecondSeen, SecondStream, ChecksOnce}
 use Rattle.iw_laws.proofs.Seeing.{early_lands}
 
 -- ---- where there is nothing to do
@@ -115,22 +113,6 @@ judged_early t s step w = record {
   left = λ none. w.answer ∙ ap (seen_tried (first_place_in t.start) w.frame) (not_placed s w.frame none);
 }
 
-left_at : (base place : ℕ) (frame : Frame) (o : Option Landing) → seen.Tried place ≡ seen_tried base frame o → place ≡ base + frame.start
-left_at base place frame None e = cc e
-left_at base place frame (Some (landing.Write at)) e = absurd (cc e)
-left_at base place frame (Some (landing.Response at)) e = absurd (cc e)
-left_at base place frame (Some (landing.Send msn mo len)) e = absurd (cc e)
-left_at base place frame (Some (landing.Request request)) e = absurd (cc e)
-left_at base place frame (Some (landing.Terminate fault)) e = absurd (cc e)
-
-leaves : (t : Story) (s : Standing) (place : ℕ) → IsEarly t s (seen.Tried place) → LeavesRecord t s place
-leaves t s place w = record {
-  frame = w.frame;
-  at = left_at (first_place_in t.start) place w.frame (early_verdict s w.frame) w.answer;
-  story = ap (λ o. record t { early = option_map_or (λ f. added t.early (record_of f Tried)) o t.early }) w.is_early;
-  table = refl;
-}
-
 -- a frame that is judged when its turn is next is whole
 next_whole : (t : Story) (s : Standing) (step : Seen Octets) → IsJudged t s step → next_frame t ≡ None → ⊥
 next_whole t s step w none = none-some _ (sym none ∙ w.is_next)
@@ -141,7 +123,7 @@ early_seen over t s before (seen.Placed right stag to octets) i w =
     λ none. elim w.1 [ inl judged ↦ absurd (next_whole t s (seen.Placed right stag to octets) judged none) | inr early ↦ judged_early t s (seen.Placed right stag to octets) early ]
 early_seen over t s before (seen.Buffered msn mo len) i w =
     λ none. elim w.1 [ inl judged ↦ absurd (next_whole t s (seen.Buffered msn mo len) judged none) | inr early ↦ judged_early t s (seen.Buffered msn mo len) early ]
-early_seen over t s before (seen.Tried place) i w = (judged_early t s (seen.Tried place) w.1, leaves t s place w.1)
+early_seen over t s before (seen.Tried place) i w = judged_early t s (seen.Tried place) w.1
 early_seen over t s before (seen.Done kind) i w = tt
 early_seen over t s before (seen.Flushed kind) i w = tt
 early_seen over t s before (seen.FlushedRecv octets) i w = tt

@@ -78,16 +78,17 @@ use Rattle.iw_laws.specs.Words.{Octets, other, acts, deed, buffers, handed_kinds
 use Rattle.iw_laws.specs.Safe.{IsHonest, InOrder, CoversWrites, Covered, Fits, Within, WithinStream}
 use Rattle.iw_laws.specs.Merged.{AreMerged, posts_in, response_segment}
 use Rattle.iw_laws.specs.Faithful.{FetchShown, FetchStream, count_done, AnswersReads, Answering}
-use Rattle.iw_laws.specs.Sends.{farewells, terminate_segment, IsLastWord, AreFirstFrames, Emission, AreAllFrames, HasNothing, Over, Closed, AllSent, ReadWaits, MaySend, FewReads, NothingShown, NothingStream, NothingOnlyAtRest, FrameSized, SizedStream, Sized, FrameAllowed, SpeaksStream, Speaks, CanFinish, FinishedStream, Finished}
+use Rattle.iw_laws.specs.Sends.{farewells, terminate_segment, IsStartFrame, IsLastWord, AreFirstFrames, Emission, AreAllFrames, HasNothing, Over, Closed, AllSent, ReadWaits, MaySend, FewReads, NothingShown, NothingStream, NothingOnlyAtRest, FrameSized, SizedStream, Sized, FrameAllowed, SpeaksStream, Speaks, CanFinish, FinishedStream, Finished}
 use Rattle.iw_laws.specs.Sends.{Silent as Muted}
 use Rattle.iw_laws.specs.Turns.{Answer, is_last, story, story_of, standing, TurnsSeen, TurnsStream, Turns}
 use Rattle.iw_laws.specs.Rest.{IdleStream, IdleOnlyAtRest}
 use Rattle.iw_laws.specs.Ends.{HoldsNoMessage, HoldsNothing, EndSeen, IsStartDue, EndShown, EndsStream, Ends}
-use Rattle.iw_laws.specs.Calls.{deregister_answer, invalidate_refusal, IsNew, open_refusal_by, EndAnswered, ShowsMemory, recv_refusal_by, post_refusal_by, may_answer_by, Accepted, Rejected, StreamAnswered, AnsweredStream, Answered, delivery_by, KeptStream, KeepsOctets, CarriedStream, CarriesOctets}
+use Rattle.iw_laws.specs.Calls.{deregister_answer, invalidate_refusal, IsNew, open_refusal_by, EndAnswered, ShowsMemory, recv_refusal_by, post_refusal_by, may_answer_by, Accepted, Rejected, StreamAnswered, AnsweredStream, Answered, delivery_by, KeptStream, KeepsOctets, CarriedStream, CarriesOctets, OpenedStream, OpensFirst}
 use Rattle.iw_laws.specs.Words.{OnSome, OnStream, AtEach}
 use Rattle.iw_endpoint.specs.Endpoint.{stream_numbers, has_stream, open_refusal, unasked}
 use Rattle.iw_endpoint.specs.Isolation.{answer_or}
-use Rattle.iw_laws.specs.Rules.{EndState, State, end_of, start, Rule, EndRule, PeerRule, WireRule, StreamRule, state_after, Follows, wire_at}
+use Rattle.iw_laws.specs.Rules.{EndState, State, end_of, start, Rule, EndRule, PeerRule, WireRule, StreamRule, needs_peer, state_after, Follows, wire_at}
+use Rattle.iw_events.specs.Events.{stream_call_of}
 use Rattle.iw_laws.proofs.States.{Connected, connected_at}
 use Rattle.iw_laws.specs.Bounds.{LacksStream, AsksTooMuch, AsksOver}
 use Rattle.iw_laws.specs.Stops.{NamesNoStream, AsksNotSent, IsUnopened}
@@ -101,7 +102,7 @@ use Rattle.iw_laws.proofs.Tales.{Tale, tale_of}
 use Rattle.iw_laws.proofs.Counts.{plain_part, message_at}
 use Rattle.iw_laws.proofs.Merges.{asked_or}
 use Rattle.iw_laws.proofs.Sending.{shown_good, Rests, Ended, Shut, Silent, Sent, MaySpeak, none_left, shows, EmitsStart, EmitsLast, EmitsPart, EmitsResponse, emits_as, terminate_small, terminate_good}
-use Rattle.iw_laws.proofs.Owns.{first_fits, Own, out_of, alone_out, lives, all_spoken, owes_some, runs_unbroken, answers_part, part_is_of, within, WithinTale, IsFramed, Unspoken, Spoken, past_start, before_start}
+use Rattle.iw_laws.proofs.Owns.{first_fits, Own, out_of, alone_out, lives, all_spoken, owes_some, runs_unbroken, answers_part, part_is_of, frame_plain, within, WithinTale, IsFramed, Unspoken, Spoken, below, past_start, before_start}
 use Rattle.iw_laws.proofs.Messages.{start_frame_is, open_is, sequence_is, can_finish, cannot_finish}
 use Rattle.iw_laws.proofs.Heard.{IsHeard, hears_all}
 use Rattle.iw_laws.proofs.Delivered.{whole_of, received_prefix, writes_covered}
@@ -401,11 +402,16 @@ part_within q max part limits e =
     reach zero len room begun = omega arith
     reach (suc k) len room begun = let more : suc k < len = begun (omega arith) in omega (arith, more)
 
+-- the start-up frame goes out first
+start_frame : (o : Opening) (c : Connected) (done : List (StreamAct Octets)) (from : ℕ) (octets : Octets) → EmitsStart c.stream from octets → Own o c (tale_of o done) → IsStartFrame (story o done) (sent done) octets
+start_frame o c done from octets p own =
+    let t : Tale = tale_of o done in
+    let some : c.stream.sent < length (own_frame c.stream.start) = below c.stream.sent (length (own_frame c.stream.start)) (owes_some c.stream p.owes).1 in
+    ((before_start c.stream t own.emits own.sent p.owes).0, p.octets_are ∙ sym (start_frame_is c.stream t own.track), λ none. omega (arith, some, ap length p.octets_are, ap length none))
+
 frame_sized : (o : Opening) (c : Connected) (done : List (StreamAct Octets)) (from : ℕ) (octets : Octets) → Own o c (tale_of o done) → EmitsStart c.stream from octets ⊎ (EmitsLast c.stream from octets ⊎ EmitsPart c.stream from octets)
     → FrameSized (story o done) (size_set done) (sent done) (Frame from octets)
-frame_sized o c done from octets own (inl p) =
-    let t : Tale = tale_of o done in
-    (p.from_is ∙ own.sent, inl ((before_start c.stream t own.emits own.sent p.owes).0, p.octets_are ∙ sym (start_frame_is c.stream t own.track)))
+frame_sized o c done from octets own (inl p) = (p.from_is ∙ own.sent, inl (start_frame o c done from octets p own))
 frame_sized o c done from octets own (inr (inl p)) =
     let s : StreamState = c.stream in
     let t : Tale = tale_of o done in
@@ -499,7 +505,7 @@ shown_allowed o c done table (Emit (Frame from octets)) rule own = go (emits_as 
     t = tale_of o done
 
     go : EmitsStart c.stream from octets ⊎ (EmitsLast c.stream from octets ⊎ EmitsPart c.stream from octets) → FrameAllowed (has_ended_by done) (story o done) (sent done) (Frame from octets)
-    go (inl p) = inl ((before_start c.stream t own.emits own.sent p.owes).0, p.octets_are ∙ sym (start_frame_is c.stream t own.track))
+    go (inl p) = inl (start_frame o c done from octets p own)
     go (inr (inl p)) = inr (inl (last_word_of o c done from octets p own))
     go (inr (inr p)) = inr (inr (record { running = sym own.ended ∙ p.is_loud.running; open_now = open_is c.stream t own.track ∙ p.is_loud.started; loud = sym (silent_is c.stream t own.track) ∙ p.is_loud.loud }))
 shown_allowed o c done table (Emit (Fetched from frame stag to octets)) rule own = may_send o c done (emits_as table c.stream (Fetched from frame stag to octets) rule).speaks own
@@ -548,7 +554,7 @@ turns_all trace follows = each_stream TurnsStream trace follows turns_at
 -- ---- what is fetched
 
 fetch_shown : (done : List (Act Octets)) (n : ℕ) (s : EndState) (c : Connected) (act : StreamAct Octets) → EndKept s done → c.stream.domain ≡ domain_of n done → StreamRule s.endpoint.table c.stream act → Own (opening_of n done) c (tale n done)
-    → OnSome (FetchShown (story_of n done) (work.standing s.endpoint.table c.stream)) (deed act).shown
+    → OnSome (FetchShown (story_of n done) (work.standing s.endpoint.table c.stream) (size_set (stream_acts n done))) (deed act).shown
 fetch_shown done n s c (Emit (Fetched from frame stag to octets)) k domain rule own =
     let t : Tale = tale n done in
     let w = answers_part s.endpoint.table c.stream t from frame stag to octets (emits_as s.endpoint.table c.stream (Fetched from frame stag to octets) rule) own.emits.asks in
@@ -569,20 +575,14 @@ fetch_shown done n s c (Emit (Denied fault)) k domain rule own =
     let p = emits_as s.endpoint.table c.stream (Denied fault) rule in
     let w = part_is_of c.stream p.part p.is_due in
     let fetched = own.emits.asks.fetched in
-    let within = denied_within c.stream.asked.fetched w.oldest.request.size (c.stream.mulpdu - 14) (subst (λ z. requests.IsBegun z c.stream.asked.fetched) w.waiting own.emits.asks.begun) in
     record {
       oldest = w.oldest;
       waits = record { others = w.others; is = ap (λ (z : Requested). z.unanswered) own.emits.asks.asked ∙ w.waiting };
-      n = min (w.oldest.request.size - c.stream.asked.fetched) (c.stream.mulpdu - 14);
-      asked_for = omega (arith, fetched, within);
-      denied = (λ i. reading_fault s.endpoint.table c.stream.domain w.oldest.request.source (w.oldest.request.source_to + sym fetched i) (min (w.oldest.request.size - c.stream.asked.fetched) (c.stream.mulpdu - 14)))
+      denied = (λ i. reading_fault s.endpoint.table c.stream.domain w.oldest.request.source (w.oldest.request.source_to + sym fetched i) (min (w.oldest.request.size - sym fetched i) (sym own.emits.size i - 14)))
           ∙ ap (fetch_fault s.endpoint.table c.stream.domain) (sym w.is) ∙ p.denied;
     }
-  where
-    denied_within : (n size room : ℕ) → (0 < n → n < size) → n + min (size - n) room ≤ size
-    denied_within zero size room h = omega arith
-    denied_within (suc n) size room h = let more : suc n < size = h (omega arith) in omega (arith, more)
-fetch_shown done n s c (Emit (Frame from octets)) k domain rule own = tt
+fetch_shown done n s c (Emit (Frame from octets)) k domain rule own =
+    frame_plain s.endpoint.table c.stream (tale n done) from octets rule own.track.begins.start own.sent own.emits
 fetch_shown done n s c (Emit Nothing) k domain rule own = tt
 fetch_shown done n s c (Post m refused) k domain rule own = tt
 fetch_shown done n s c (Recv len refused) k domain rule own = tt
@@ -596,7 +596,7 @@ fetch_shown done n s c Break k domain rule own = tt
 
 pub fetched_all : (trace : List (Entry Octets)) → Follows start trace → AtEach (OnStream FetchStream) trace
 fetched_all trace follows = each_stream FetchStream trace follows (λ done s n c act k domain rule own.
-    subst (λ z. OnSome (FetchShown (story_of n done) z) (deed act).shown) (same_standing done n s c k domain own) (fetch_shown done n s c act k domain rule own))
+    subst (λ z. OnSome (FetchShown (story_of n done) z (size_set (stream_acts n done))) (deed act).shown) (same_standing done n s c k domain own) (fetch_shown done n s c act k domain rule own))
 
 -- ---- Reads that are outstanding
 
@@ -764,7 +764,7 @@ end_shown o c done table (Frame from octets) rule own = λ over. go over (emits_
     go : has_ended_by done ≡ true → EmitsStart c.stream from octets ⊎ (EmitsLast c.stream from octets ⊎ EmitsPart c.stream from octets) → IsStartDue (story o done) (sent done) octets ⊎ IsLastWord (story o done) (sent done) octets
     go over (inl p) = inl (record {
       unbroken = ap is_broken own.emits.parts.ending ∙ (owes_some c.stream p.owes).0;
-      is = ((before_start c.stream t own.emits own.sent p.owes).0, p.octets_are ∙ sym (start_frame_is c.stream t own.track));
+      is = start_frame o c done from octets p own;
     })
     go over (inr (inl p)) = inr (last_word_of o c done from octets p own)
     go over (inr (inr p)) = absurd (false≢true (sym p.is_loud.running ∙ own.ended ∙ over))
@@ -946,6 +946,36 @@ carries_octets trace follows past e future is =
     let m = moment past e future trace follows is in
     let w : State = state_after start past in
     octets_carried (end_of (other e.end) w) (acts (other e.end) past) e.act (λ n. (m.0.pairs e.end n).own_peer.own.wire) m.1.1
+
+-- ---- streams that are there
+
+-- the stream of an act is there, at the other end too where octets of it are delivered
+stream_opened : (s peer : EndState) (own others : List (Act Octets)) (act : Act Octets) → EndKept s own → EndKept peer others → Rule s peer act → OnStream (OpenedStream others) own act
+stream_opened s peer own others (Stream n act) k j rule = (sym (k.opened n) ∙ rule.0.0, go act rule.1.0)
+  where
+    go : (act : StreamAct Octets) → (needs_peer (stream_call_of act) ≡ true → has_stream peer.endpoint n ≡ true) → OnSome (λ c. c.raw ≡ false → was_opened (openings n others) ≡ true) (deed act).coming
+    go (Deliver from octets delivery) h = λ raw. sym (j.opened n) ∙ h refl
+    go (Raw from octets delivery) h = λ raw. absurd (false≢true (sym raw))
+    go (Recv len refused) h = tt
+    go (Post m refused) h = tt
+    go (Emit shown) h = tt
+    go (Mulpdu size refused) h = tt
+    go (Accept private answer) h = tt
+    go (Reject private refused) h = tt
+    go (Work step) h = tt
+    go Break h = tt
+stream_opened s peer own others (Domain pd refused) k j rule = tt
+stream_opened s peer own others (Register pd base rights octets answer) k j rule = tt
+stream_opened s peer own others (Deregister stag answer) k j rule = tt
+stream_opened s peer own others (Invalidate stag refused) k j rule = tt
+stream_opened s peer own others (Store stag to octets refused) k j rule = tt
+stream_opened s peer own others (Open n pd role options private refused) k j rule = tt
+
+pub opens_first : (trace : List (Entry Octets)) → Follows start trace → OpensFirst trace
+opens_first trace follows past e future is =
+    let m = moment past e future trace follows is in
+    let w : State = state_after start past in
+    stream_opened (end_of e.end w) (end_of (other e.end) w) (acts e.end past) (acts (other e.end) past) e.act (m.0.ends e.end) (m.0.ends (other e.end)) m.1
 
 -- ---- events that cannot happen
 

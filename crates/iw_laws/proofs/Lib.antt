@@ -29,6 +29,7 @@ pub mod Owns
 pub mod Messages
 pub mod Refused
 pub mod RefusedReads
+pub mod RefusedSent
 pub mod RefusedEnds
 pub mod Heard
 pub mod Responses

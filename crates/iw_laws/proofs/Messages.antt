@@ -41,7 +41,7 @@ module _ (s : StreamState) (t : Tale) (k : Track s t) where
   pub sequence_is : (us : List (Segment Octets)) → own_frame t.story.start ++ sequence (sending t.story.start) 0 (map segment_octets us) ≡ own_frame s.start ++ sequence (sending s.start) 0 (map segment_octets us)
   sequence_is us = λ i. own_frame (k.begins.start i) ++ sequence (sending (k.begins.start i)) 0 (map segment_octets us)
 
-no_frames : (l : Layout) → sequence l 0 [] ≡ []
+pub no_frames : (l : Layout) → sequence l 0 [] ≡ []
 unfolding sequence
 no_frames l = refl
 

@@ -44,7 +44,7 @@ use Rattle.std.specs.Option.{option_map, option_map_or}
 use Rattle.std.specs.Prelude.{IsSomeAnd, nat_le, min, not}
 use Rattle.std.proofs.lemmas.Option.{same_Some}
 use Rattle.std.proofs.lemmas.List.{length-set}
-use Rattle.iw_laws.specs.Turns.{Answer, Story, story_after, segment_out, read_out, is_last, is_silent, sends_segment, says_farewell, fetches_for, asked_in, next_reads, next_asked, terminate_next, was_placed}
+use Rattle.iw_laws.specs.Turns.{Answer, Story, story_after, segment_out, read_out, is_last, is_silent, sends_segment, says_farewell, fetches_for, asked_in, next_reads, next_asked, terminate_next, was_placed, carries_response}
 use Rattle.iw_laws.specs.Merged.{Item, Response, posts_in, response_segment}
 use Rattle.iw_laws.specs.Rules.{FitsPosted}
 use Rattle.iw_laws.proofs.Merges.{Merges, BeginsResponse, asked_or, merges_post, merges_part, merges_last, merges_front}
@@ -117,7 +117,7 @@ use Rattle.iw_laws.proofs.Fills.{Fills, fill_after}
 use Rattle.iw_laws.proofs.Tracks.{Track, by_ended, shown_stays, sound, silent_is, next_whole, next_none, next_reads_are, was_placed_is, tracking, MayAnswer, may, accepting, refusing, unanswered}
 use Rattle.iw_laws.proofs.Lists.{Each, each-push, each-first, each-last}
 use Rattle.iw_laws.proofs.Counts.{marks, length-marks, count_reads-kinds, map-take, take-all, count_done-append, read_mark, message_at, Hands, Counts, Handing, handing_of, same_handing, one_handed, same_counts, posted_counts, part_counts, handed_counts, answered_counts, part_ticket, hands, one_for, count_last, count_last-append, last_of, plain_part, whole_of}
-use Rattle.iw_laws.proofs.Sending.{FitsNumbers, IsSendable, accepted, EmitsStart, EmitsLast, EmitsPart, EmitsResponse, emits_as, shown_good, response_good, shows, past_small, is_answer, terminate_few, terminate_good}
+use Rattle.iw_laws.proofs.Sending.{FitsNumbers, IsSendable, accepted, EmitsStart, EmitsLast, EmitsPart, EmitsResponse, emits_as, shown_good, response_good, shows, past_small, terminate_few, terminate_good}
 use Rattle.iw_laws.proofs.Checks.{HasBuffer, checked_buffer, same_lengths, index_of, length_of, length-splice}
 
 -- what was sent is the start-up frame, if there is one, and the frames of these segments; or neither yet
@@ -670,7 +670,7 @@ no_frame : (sent : ℕ) (xs : Octets) → sent ≡ 0 → nat_lt sent (length xs)
 no_frame sent [] e h = refl
 no_frame sent (x ∷ xs) e h = absurd (let n : length (x ∷ xs) ≤ sent = grind (arith, nat_tests) in omega (arith, n, e))
 
-below : (n m : ℕ) → nat_lt n m ≡ true → n < m
+pub below : (n m : ℕ) → nat_lt n m ≡ true → n < m
 below n m h = grind (arith, nat_tests)
 
 -- where no octet of the start-up frame is left, it has been sent, if there is one
@@ -705,7 +705,7 @@ before_start s t e sent owes = go e.framed
 record IsRead (s : StreamState) (t : Tale) (from : ℕ) (octets : Octets) (segment : Segment Octets) (segments : List (Segment Octets)) : Type 0 where
   pub framed : t.sent ++ octets ≡ own_frame s.start ++ sequence (sending s.start) 0 (map segment_octets (segments ++ segment ∷ []))
   pub past : nat_lt from (first_place_out t.story.start) ≡ false
-  pub told : is_answer segment ≡ false → segment_out t.story from octets ≡ Some segment
+  pub told : carries_response segment ≡ false → segment_out t.story from octets ≡ Some segment
 
 not_below : (n m : ℕ) → nat_lt n m ≡ false → m ≤ n
 not_below n m h = grind (arith, nat_tests)
@@ -912,6 +912,43 @@ sends_frame table s t from octets rule start sent e = go (emits_as table s (Fram
     go (inl p) = subst (λ d. Emits (left_frame s d) (tale_after t (Emit (Frame from octets)))) (sym p.next) (sends_start s t from octets p start sent e)
     go (inr (inl p)) = subst (λ d. Emits (left_frame s d) (tale_after t (Emit (Frame from octets)))) (sym p.next) (sends_last s t from octets p start sent e)
     go (inr (inr p)) = subst (λ d. Emits (left_frame s d) (tale_after t (Emit (Frame from octets)))) (sym p.next) (sends_part s t from octets p start sent e)
+
+-- of what is shown as a frame alone nothing is of a response
+abbrev IsPlain : Option (Segment Octets) → Type 0
+IsPlain o = OnSome (λ segment. carries_response segment ≡ false) o
+
+start_plain : (s : StreamState) (t : Tale) (from : ℕ) (octets : Octets) → EmitsStart s from octets → t.story.start ≡ s.start → IsPlain (segment_out t.story from octets)
+start_plain s t from octets p start =
+    let first : nat_lt from (first_place_out t.story.start) ≡ true = (λ i. nat_lt (p.from_is i) (first_place_out (start i))) ∙ (owes_some s p.owes).1 in
+    let none : segment_out t.story from octets ≡ None =
+    ap (λ b. cond b None (option_map_or (λ (first : Carried × Octets). read_segment first.0.ulpdu) (first_frame (sending t.story.start) (from - first_place_out t.story.start) octets) None)) first in
+    subst IsPlain (sym none) tt
+
+last_plain : (s : StreamState) (t : Tale) (from : ℕ) (octets : Octets) → (p : EmitsLast s from octets) → t.story.start ≡ s.start → s.sent ≡ length t.sent → Emits s t → IsPlain (segment_out t.story from octets)
+last_plain s t from octets p start sent e =
+    let segment : Segment Octets = terminate_segment p.payload in
+    let good : IsSendable segment = terminate_good p.payload (e.parts.short p.payload p.is_due) in
+    let fresh : t.story.farewell ≡ None = elim e.parts.once [ inl none ↦ none | inr o ↦ absurd (none-some _ (sym o.quiet ∙ p.is_due)) ] in
+    let spoken : nat_lt s.sent (first_place_out s.start) ≡ false = all_spoken s p.spoken (word_unbroken s.ending p.payload p.is_due) in
+    subst IsPlain (sym ((reads_again s t from octets segment start p.from_is spoken p.octets_are good sent e (ap farewells fresh)).told refl)) refl
+
+part_plain : (s : StreamState) (t : Tale) (from : ℕ) (octets : Octets) → (p : EmitsPart s from octets) → t.story.start ≡ s.start → s.sent ≡ length t.sent → Emits s t → IsPlain (segment_out t.story from octets)
+part_plain s t from octets p start sent e =
+    let loud = p.is_loud in
+    let l = lives s t e loud.running in
+    let segment : Segment Octets = segment_of s.numbers p.part in
+    let good : IsSendable segment = shown_good s.numbers s.queue s.mulpdu p.part loud.part_is l.limits e.enough e.few e.numbers (first_fits s.queue l.fit) in
+    let spoken : nat_lt s.sent (first_place_out s.start) ≡ false = all_spoken s loud.spoken (runs_unbroken s.ending loud.running) in
+    let plain : carries_response segment ≡ false = plain_part s.numbers p.part in
+    subst IsPlain (sym ((reads_again s t from octets segment start p.from_is spoken p.octets_are good sent e l.none).told plain)) plain
+
+pub frame_plain : (table : Table) (s : StreamState) (t : Tale) (from : ℕ) (octets : Octets) → Frame from octets ≡ shown_of table (emission_of table s) (emitted table s) → t.story.start ≡ s.start → s.sent ≡ length t.sent → Emits s t
+    → OnSome (λ segment. carries_response segment ≡ false) (segment_out t.story from octets)
+frame_plain table s t from octets rule start sent e = elim (emits_as table s (Frame from octets) rule) [
+  | inl p ↦ start_plain s t from octets p start
+  | inr (inl p) ↦ last_plain s t from octets p start sent e
+  | inr (inr p) ↦ part_plain s t from octets p start sent e
+]
 
 -- ---- responses
 

@@ -16,7 +16,7 @@ use Rattle.iw_queues.specs.declared.request.Request.{Request}
 use Rattle.iw_queues.specs.declared.request.Request.TheVariants.{Message as Posted, Read}
 use Rattle.iw_queues.specs.Joined.{IsPrefixOf, Cell, count_writes}
 use Rattle.iw_laws.specs.Words.{Octets, sunk}
-use Rattle.iw_laws.specs.Turns.{Answer}
+use Rattle.iw_laws.specs.Turns.{Answer, carries_response}
 use Rattle.iw_laws.specs.Sends.{asked_of, farewells}
 use Rattle.std.proofs.lemmas.Bool.{false≢true}
 use Rattle.iw_laws.specs.Rules.{FitsPosted}
@@ -26,7 +26,7 @@ use Rattle.iw_laws.proofs.Lists.{Each, each-first, each-both}
 use Rattle.iw_laws.proofs.Tales.{Tale}
 use Rattle.iw_laws.proofs.Nexts.{Front, fore, segment_in, segment_at}
 use Rattle.iw_laws.proofs.Joins.{count_responses, responses-append, sunk_waiting, count_ended, ended-append, requests_in, requests-append}
-use Rattle.iw_laws.proofs.Sending.{is_answer, IsSendable}
+use Rattle.iw_laws.proofs.Sending.{IsSendable}
 use Rattle.iw_laws.proofs.Tracks.{Track}
 use Rattle.iw_laws.proofs.Owns.{Emits, out_of}
 use Rattle.iw_laws.proofs.Heard.{IsHeard}
@@ -85,9 +85,9 @@ asked_first c t d u e k heard of =
 
 -- so what it answers is read as it was written
 reread_same : (s : Segment Octets) → IsSendable s → AnswerFits s → reread s ≡ s
-reread_same s h fits = same_Some _ _ (sym (again s h) ∙ read_segment-spelled s (go (is_answer s) refl))
+reread_same s h fits = same_Some _ _ (sym (again s h) ∙ read_segment-spelled s (go (carries_response s) refl))
   where
-    go : (b : Bool) → is_answer s ≡ b → FitsSegment s
+    go : (b : Bool) → carries_response s ≡ b → FitsSegment s
     go true e = fits e
     go false e = h.fits e
 

@@ -32,7 +32,7 @@ use Rattle.iw_events.specs.declared.act.Act.TheVariants.{Domain}
 use Rattle.iw_events.specs.declared.act.Seen.TheVariants as seen
 use Rattle.iw_events.specs.declared.act.StreamAct.TheVariants.{Emit, Deliver, Accept}
 use Rattle.iw_events.specs.declared.act.Shown.TheVariants.{Frame}
-use Rattle.iw_laws.specs.Words.{Octets, acts, stream_acts, openings, ended, sent, size_set, posted, handed_kinds, table_after}
+use Rattle.iw_laws.specs.Words.{Octets, acts, stream_acts, openings, ended, sent, size_set, posted, handed_kinds, received, buffers, table_after}
 use Rattle.iw_laws.specs.Turns.{Story, story, story_of}
 use Rattle.std.proofs.lemmas.List.{append-nil}
 use Rattle.iw_events.specs.declared.act.Shown.TheVariants as shows
@@ -45,6 +45,16 @@ use Rattle.iw_laws.specs.WrongRuns.{RefusesFramesBehindFault, RefusesFramesUnope
 use Rattle.iw_laws.proofs.Messages.{nothing_sent}
 use Rattle.iw_laws.proofs.Counts.{last_in, tagged_told}
 use Rattle.iw_laws.proofs.Sending.{version_of}
+use Rattle.iw_laws.specs.WrongRuns.{delivers_nothing, delivers_unopened, sends_empty, places_readable, buffers_one, buffers_past}
+use Rattle.iw_laws.specs.WrongRuns.{RefusesActUnopened, RefusesDeliveryUnopened, RefusesEmptyFrame, RefusesPlacedUnwritable, RefusesBufferedPast}
+
+pub refuses_act_unopened : RefusesActUnopened
+unfolding acts openings
+refuses_act_unopened h = false≢true (h [] (a (works seen.Idle)) [] refl).0
+
+pub refuses_delivery_unopened : RefusesDeliveryUnopened
+unfolding acts openings
+refuses_delivery_unopened h = false≢true ((h (take 2 delivers_unopened) (a delivers_nothing) [] refl).1 refl)
 
 pub refuses_frames_past_fault : RefusesFramesBehindFault
 unfolding acts stream_acts ended
@@ -141,6 +151,17 @@ unfolding acts stream_acts openings story sent size_set large_octets
 refuses_too_large h = elim (h (take 4 sends_too_large) (a (emits large_octets)) [] refl).1 [
   | inl s ↦ absurd (omega (arith, large_size, ap length s.1))
   | inr f ↦ not_large (segment_octets f.segment) f.is f.fits
+]
+
+-- a frame has octets
+not_empty : (u : Octets) → [] ≡ frame_octets plain 0 u → ⊥
+not_empty u e = omega (arith, ap length e, length_written plain 0 u, low_after (frame_size (length u)))
+
+pub refuses_empty_frame : RefusesEmptyFrame
+unfolding acts stream_acts openings story sent size_set
+refuses_empty_frame h = elim (h (take 3 sends_empty) (a (emits [])) [] refl).1 [
+  | inl s ↦ s.2 refl
+  | inr f ↦ not_empty (segment_octets f.segment) f.is
 ]
 
 cut_ulpdu : Octets
@@ -240,3 +261,17 @@ refuses_read_unanswered h =
     let r = h (take 4 reads_unanswered) (a (works (seen.Done kinds.Read))) [] refl in
     let answered : 1 ≤ t.answered = subst (IsAnswered t (Read read_one ∷ [])) (sym (same_Some _ _ r.is)) r.answered in
     omega (arith, answered, (shown_stays (story_of 0 (acts A (take 3 reads_unanswered))) (shows.Frame 0 request_frame)).answered)
+
+pub refuses_placed_unwritable : RefusesPlacedUnwritable
+unfolding acts stream_acts openings table_after empty
+refuses_placed_unwritable h = elim (h (take 4 places_readable) (b (works places)) [] refl).0 [
+  | inl none ↦ absurd (omega (arith, none))
+  | inr there ↦ absurd (false≢true there.1.granted)
+]
+
+pub refuses_buffered_past : RefusesBufferedPast
+unfolding acts stream_acts buffers received
+refuses_buffered_past h =
+    let r = (h (take 4 buffers_past) (b buffers_one) [] refl).1 in
+    let none : 0 ≡ r.0 = same_Some _ _ r.1 in
+    omega (arith, none, r.2)

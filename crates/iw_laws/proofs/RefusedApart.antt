@@ -1,5 +1,6 @@
 -- Each wrong run of two domains breaks the law that keeps them apart.
 use Rattle.std.proofs.Common.{◌≡◌, ℕ, zero, suc, [], ◌∷◌, ◌++◌, replicate, Some, None, Ok, Err, sym, ap, arith}
+use Rattle.std.proofs.lemmas.List.{append-nil}
 use Rattle.std.proofs.lemmas.Option.{none-some}
 use Rattle.iw_octets.specs.declared.stag.Stag.{Stag}
 use Rattle.iw_memory.specs.Table.{empty}
@@ -29,7 +30,7 @@ slot_of (Err refusal) = 0
 
 pub refuses_numbered_over_all : RefusesNumberedOverAll
 unfolding acts empty no_streams
-refuses_numbered_over_all h = let no : 1 ≡ 0 = ap slot_of (h B whose numbers_own 2).answered.1.1.0 in omega (arith, no)
+refuses_numbered_over_all h = let no : 1 ≡ 0 = ap slot_of (h numbers_over_all [] (sym (append-nil numbers_over_all)) B whose numbers_own 2).1.1.0 in omega (arith, no)
 
 full_own : OpensOwn whose (calls_made (acts B full_for_all))
 unfolding acts
@@ -41,4 +42,4 @@ full_own = (λ n d h. absurd h, (λ n d h. cc, (λ n d h. absurd h, (λ n d h. c
 
 pub refuses_full_for_all : RefusesFullForAll
 unfolding acts empty no_streams
-refuses_full_for_all h = none-some _ (sym (h B whose full_own 2).answered.1.1.0.1)
+refuses_full_for_all h = none-some _ (sym (h full_for_all [] (sym (append-nil full_for_all)) B whose full_own 2).1.1.0.1)

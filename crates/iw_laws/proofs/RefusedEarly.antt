@@ -1,10 +1,11 @@
 -- The wrong runs of frames that are placed before their turn, or once, break their laws.
-use Rattle.std.proofs.Common.{◌≡◌, ℕ, ◌+◌, ◌<◌, List, [], ◌∷◌, ◌++◌, map, take, drop, replicate, Some, None, true, false, Ok, refl, sym, ap, ◌∙◌, subst, arith, inl, inr}
-use Rattle.std.specs.Prelude.{slice_get, ◌||◌, is_some}
+use Rattle.std.proofs.Common.{◌≡◌, ℕ, ◌+◌, ◌<◌, List, [], ◌∷◌, ◌++◌, map, take, drop, replicate, Some, None, true, false, Ok, Err, refl, sym, ap, ◌∙◌, subst, arith, inl, inr}
+use Rattle.std.specs.Prelude.{slice_get, ◌||◌, is_some, Result}
 use Rattle.std.specs.List.{Contains, list_all, range_with_len}
-use Rattle.std.specs.Option.{option_map, option_map_or, option_or}
+use Rattle.std.specs.Option.{option_map, option_or}
 use Rattle.std.proofs.lemmas.List.{append-nil}
 use Rattle.std.proofs.lemmas.Option.{same_Some}
+use Rattle.iw_octets.specs.declared.fault.Fault.{Fault}
 use Rattle.iw_octets.specs.declared.fault.TheConstants.Fault as faults
 use Rattle.iw_octets.specs.Head.{read_tagged, read_untagged}
 use Rattle.iw_octets.specs.Segment.{read_segment}
@@ -21,12 +22,11 @@ use Rattle.iw_fpdu.proofs.Follows.{frames_follow}
 use Rattle.iw_fpdu.proofs.Sequences.{written_is_first}
 use Rattle.iw_fpdu.proofs.Written.{frame_is}
 use Rattle.iw_locate.specs.Free.{Scene, scene_of, IsFree, front_of}
-use Rattle.iw_locate.specs.declared.judged.State.TheVariants.{Tried}
-use Rattle.iw_locate.specs.Records.{added}
+use Rattle.iw_stream.specs.declared.judging.Landing.{Landing}
 use Rattle.iw_stream.specs.declared.judging.Landing.TheVariants as landing
 use Rattle.iw_stream.specs.declared.judging.Turning.TheVariants as turning
 use Rattle.arrayvec.specs.ArrayVec.{ArrayVec}
-use Rattle.iw_stream.specs.Frames.{Frame, EarlyRecord, standing_at, placed, placed_at, record_of}
+use Rattle.iw_stream.specs.Frames.{Frame, EarlyRecord, standing_at, placed, placed_at}
 use Rattle.iw_untagged.specs.Receiving.{nothing_received, with_buffer, buffer_fault}
 use Rattle.iw_stream.specs.Judging.{Standing, verdict, fault_or, turn_of}
 use Rattle.iw_stream.specs.Starting.{AtOnce, plain, expecting, first_place_in}
@@ -35,6 +35,7 @@ use Rattle.iw_events.specs.declared.act.Seen.TheVariants as seen
 use Rattle.iw_laws.specs.Words.{Octets, acts, stream_acts, openings, opening_of, ended}
 use Rattle.iw_laws.specs.Turns.{Story, Located, story, story_of, was_placed, standing, next_frame, frames_in, located_of, judged_frame, early_frame, seen_turned}
 use Rattle.iw_laws.specs.Turns as turns
+use Rattle.iw_laws.specs.Early.{HasPlace, IsJudgedEarly}
 use Rattle.iw_laws.specs.Once.{Span, NoneOverlap, judged_span, spans_placed, span_of}
 use Rattle.iw_laws.specs.WrongRuns.{b, works, write_frame, send_frame}
 use Rattle.iw_laws.specs.EarlyRuns.{idles_while_free, tries_send, checks_again, places_twice, RefusesIdleWhileFree, RefusesTriedSend, RefusesSecondCheck, RefusesSecondPlacement}
@@ -197,26 +198,30 @@ send_lands : (s : Standing) → s.receiving ≡ with_buffer nothing_received (0 
 unfolding the_send send_ulpdu read_segment read_untagged
 send_lands s posted = ap (λ r. fault_or (buffer_fault r 1 0 1) (landing.Send 1 0 1)) posted
 
--- one record begins where the other does
-one_start : (r x : EarlyRecord) → added [] r ≡ added [] x → r.start ≡ x.start
-one_start r x e = ap first_start e
+-- a frame that is tried stands where the step says
+tried_at : (t : Story) (s : Standing) (place : ℕ) → (j : IsJudgedEarly t s (seen.Tried place)) → place ≡ first_place_in t.start + j.frame.start
+tried_at t s place j = go (verdict s j.frame) refl
   where
-    first_start : List EarlyRecord → ℕ
-    first_start [] = 0
-    first_start (y ∷ ys) = y.start
+    tried : ((at : Landing) → verdict s j.frame ≡ Ok at → HasPlace at → ⊥) → place ≡ first_place_in t.start + j.frame.start
+    tried none = let e : seen.Tried place ≡ seen.Tried (first_place_in t.start + j.frame.start) = j.left (λ can. none can.0 can.1 can.2) in cc e
+
+    go : (r : Result Landing Fault) → verdict s j.frame ≡ r → place ≡ first_place_in t.start + j.frame.start
+    go (Err fault) e = tried (λ at is there. let no : Err fault ≡ Ok at = sym e ∙ is in cc no)
+    go (Ok (landing.Write at)) e = absurd (cc (j.placed (landing.Write at) e tt))
+    go (Ok (landing.Response at)) e = absurd (cc (j.placed (landing.Response at) e tt))
+    go (Ok (landing.Send msn mo len)) e = absurd (cc (j.placed (landing.Send msn mo len) e tt))
+    go (Ok (landing.Request request)) e =
+        tried (λ at is there. let same : Ok at ≡ Ok (landing.Request request) = sym is ∙ e in let lands : at ≡ landing.Request request = cc same in subst HasPlace lands there)
+    go (Ok (landing.Terminate fault)) e =
+        tried (λ at is there. let same : Ok at ≡ Ok (landing.Terminate fault) = sym is ∙ e in let lands : at ≡ landing.Terminate fault = cc same in subst HasPlace lands there)
 
 pub refuses_tried_send : RefusesTriedSend
 unfolding acts stream_acts openings story
 refuses_tried_send h =
     let t : Story = story_of 0 (acts B (take 4 tries_send)) in
     let s : Standing = standing 0 (acts B (take 4 tries_send)) in
-    let r = h (take 4 tries_send) (b (works (seen.Tried 516))) [] refl in
-    let j = r.0 in
-    let left = r.1 in
-    let same : j.frame.start ≡ left.frame.start =
-    one_start (record_of j.frame Tried) (record_of left.frame Tried)
-    (ap (λ o. option_map_or (λ f. added t.early (record_of f Tried)) o t.early) (sym j.lowest) ∙ ap (λ (z : Story). z.early) left.story) in
-    let start : j.frame.start ≡ 516 = omega (arith, same, left.at) in
+    let j = h (take 4 tries_send) (b (works (seen.Tried 516))) [] refl in
+    let start : j.frame.start ≡ 516 = omega (arith, tried_at t s 516 j) in
     let o = open_at (turns.scene t) j.frame (omega arith) j.lowest in
     let frame : j.frame ≡ the_send = o.is ∙ (λ i. frame_in (send_scene i) (start i)) ∙ send_read in
     let lands : verdict s j.frame ≡ Ok (landing.Send 1 0 1) = ap (verdict s) frame ∙ send_lands s refl in

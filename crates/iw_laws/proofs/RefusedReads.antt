@@ -1,7 +1,8 @@
 -- Each wrong run with Reads breaks its law.
-use Rattle.std.proofs.Common.{◌≡◌, ℕ, zero, suc, ◌+◌, ◌*◌, ◌%◌, ◌-◌, ◌^◌, ◌<◌, ◌≤◌, List, [], ◌∷◌, ◌++◌, length, take, drop, map, replicate, Some, None, Err, Bool, true, false, cond, refl, sym, ap, ◌∙◌, subst, arith, inl, inr}
+use Rattle.std.proofs.Common.{◌≡◌, ℕ, zero, suc, ◌+◌, ◌*◌, ◌%◌, ◌-◌, ◌^◌, ◌<◌, ◌≤◌, List, [], ◌∷◌, ◌++◌, length, take, drop, map, replicate, Option, Some, None, Err, Bool, true, false, cond, refl, sym, ap, ◌∙◌, subst, arith, inl, inr}
 use Rattle.std.specs.Prelude.{fold, nat_eq, nat_lt, slice_get}
 use Rattle.std.specs.Option.{option_map, option_map_or}
+use Rattle.std.proofs.lemmas.Bool.{true≢false}
 use Rattle.std.proofs.lemmas.Bool.Decides.{nat_tests}
 use Rattle.std.proofs.lemmas.List.{append-nil, length_push}
 use Rattle.std.proofs.lemmas.Option.{none-some, same_Some}
@@ -12,13 +13,13 @@ use Rattle.iw_octets.specs.Head.{tagged_octets, untagged_octets}
 use Rattle.iw_octets.specs.Payload.{FitsRequest, request_octets, request_fields, read_request}
 use Rattle.iw_octets.specs.Segment.{segment_octets, read_segment, FitsSegment}
 use Rattle.iw_octets.specs.Stag.{number_of}
-use Rattle.iw_octets.proofs.Segments.{read_segment-spelled, length-segment_octets_untagged}
+use Rattle.iw_octets.proofs.Segments.{read_segment-spelled, length-segment_octets_tagged, length-segment_octets_untagged}
 use Rattle.iw_octets.proofs.Spelled.{length-request_octets, read_request-spelled}
 use Rattle.iw_queues.specs.declared.request.Kind.TheVariants as kinds
 use Rattle.iw_queues.specs.Joined.{Cell, count_writes}
 use Rattle.iw_queues.specs.Segments.{request_segment, write_segment}
 use Rattle.iw_memory.specs.declared.rights.Right.TheVariants as rights
-use Rattle.iw_memory.specs.Table.{Table}
+use Rattle.iw_memory.specs.Table.{Table, empty}
 use Rattle.iw_rdmap.specs.Judging.{judged_segment}
 use Rattle.iw_ranges.specs.Arrived.{nothing, in_order, taken_in, held}
 use Rattle.iw_reads.specs.declared.reads.Outstanding.{Outstanding}
@@ -26,6 +27,7 @@ use Rattle.iw_reads.specs.declared.requests.Asked.{Asked}
 use Rattle.iw_reads.specs.Outstanding.{asked_for}
 use Rattle.iw_reads.specs.Requests.{Requested, nothing_asked, taken_up}
 use Rattle.iw_reads.specs.Response.{response_head}
+use Rattle.iw_reads.specs.Source.{reading_fault}
 use Rattle.iw_fpdu.specs.Places.{data_place, data_index, in_marker, place_after, span_start, frame_start}
 use Rattle.iw_fpdu.specs.Frame.{max_sent, frame_octets, laid, octet_at, marker_value}
 use Rattle.iw_fpdu.specs.Laws.{IsBetween}
@@ -43,16 +45,16 @@ use Rattle.iw_events.specs.declared.call.End.{End}
 use Rattle.iw_events.specs.declared.call.End.TheVariants.{A, B}
 use Rattle.iw_events.specs.declared.act.Seen.TheVariants as seen
 use Rattle.iw_events.specs.declared.act.Shown.TheVariants as shows
-use Rattle.iw_laws.specs.Words.{Octets, Opening, acts, stream_acts, openings, opening_of, has_raw, posted, finished_kinds, handed_kinds, placings}
-use Rattle.iw_laws.specs.Turns.{Answer, fetches_for, Located, Story, located_of, frames_in, next_frame, next_reads, asked_in, next_asked, segment_out, read_out, sends_segment, says_farewell, story_shown, story_after, untold, story, story_of, standing, seen_judged, seen_turned, front_verdict}
+use Rattle.iw_laws.specs.Words.{Octets, Opening, OnSome, acts, stream_acts, openings, opening_of, has_raw, posted, received, finished_kinds, handed_kinds, placings, size_set, table_after}
+use Rattle.iw_laws.specs.Turns.{Answer, fetches_for, Located, Story, located_of, frames_in, next_frame, next_reads, asked_in, next_asked, segment_out, read_out, sends_segment, says_farewell, story_shown, story_after, untold, story, story_of, standing, carries_response, seen_judged, seen_turned, front_verdict}
 use Rattle.iw_laws.specs.Merged.{response_segment}
 use Rattle.iw_laws.specs.Sends.{IsAnswered}
 use Rattle.iw_stream.specs.Ending.{last_word}
 use Rattle.iw_queues.specs.declared.request.Request.TheVariants.{Read}
 use Rattle.iw_laws.specs.Faithful as faithful
 use Rattle.iw_laws.specs.Safe.{IsHonest}
-use Rattle.iw_laws.specs.WrongRuns.{Run, a, b, works, stag, read_one, request_frame, write_frame, fetches_others, fetches_elsewhere, five, long_response, places_past, three, short_response, ends_early, done_by_write, reads_out, seventeen_reads, sinks_unfetched, first_four, done_unplaced, done_unanswered}
-use Rattle.iw_laws.specs.WrongRuns.{RefusesFetchElsewhere, RefusesPlacesPast, RefusesEndsEarly, RefusesDoneByWrite, RefusesSeventeenReads, RefusesSinksUnfetched, RefusesDoneUnplaced, RefusesDoneUnanswered}
+use Rattle.iw_laws.specs.WrongRuns.{Run, a, b, works, stag, read_one, read_two, asking_frame, emits_response, leaks_region, denies_first, denies_readable, writes_twice, receives_unwritten, request_frame, write_frame, fetches_others, fetches_elsewhere, five, long_response, places_past, three, short_response, ends_early, done_by_write, reads_out, seventeen_reads, sinks_unfetched, first_four, done_unplaced, done_unanswered}
+use Rattle.iw_laws.specs.WrongRuns.{RefusesUntoldResponse, RefusesDeniedReadable, RefusesWriteTwice, RefusesSendBeforeWrite, RefusesFetchElsewhere, RefusesPlacesPast, RefusesEndsEarly, RefusesDoneByWrite, RefusesSeventeenReads, RefusesSinksUnfetched, RefusesDoneUnplaced, RefusesDoneUnanswered}
 use Rattle.iw_laws.proofs.Located.{located_first}
 use Rattle.iw_laws.proofs.Merges.{asked_or}
 use Rattle.iw_laws.proofs.Responses.{fields_again}
@@ -98,11 +100,17 @@ fits_one = record {
   source_to = omega arith;
 }
 
+asking_fits : (read : ReadRequest) (msn : ℕ) → msn < 2 ^ 32 → FitsSegment (request_segment msn read)
+asking_fits read msn low = record { ddp_version = omega arith; control = omega arith; tail = omega arith; queue = omega arith; msn = low; mo = omega arith }
+
+asking_short : (read : ReadRequest) (msn : ℕ) → length (segment_octets (request_segment msn read)) ≤ max_sent
+asking_short read msn = omega (arith, length-segment_octets_untagged (record { last = true; ddp_version = 1; control = 0x41; tail = 0; queue = 1; msn = msn; mo = 0 }) (request_octets read), length-request_octets read)
+
 request_fits : (msn : ℕ) → msn < 2 ^ 32 → FitsSegment (request_segment msn read_one)
-request_fits msn low = record { ddp_version = omega arith; control = omega arith; tail = omega arith; queue = omega arith; msn = low; mo = omega arith }
+request_fits msn low = asking_fits read_one msn low
 
 request_short : (msn : ℕ) → length (segment_octets (request_segment msn read_one)) ≤ max_sent
-request_short msn = omega (arith, length-segment_octets_untagged (record { last = true; ddp_version = 1; control = 0x41; tail = 0; queue = 1; msn = msn; mo = 0 }) (request_octets read_one), length-request_octets read_one)
+request_short msn = asking_short read_one msn
 
 request_out : (msn : ℕ) → read_out (request_segment msn read_one) ≡ Some read_one
 request_out msn =
@@ -154,22 +162,26 @@ unfolding taken_in held request_octets
 request_came = refl
 
 -- the Read that is taken up
-pub record Takes (t : Story) : Type 0 where
+pub record Takes (t : Story) (read : ReadRequest) : Type 0 where
   pub asked : Asked
   pub is : (next_asked t).unanswered ≡ asked ∷ []
-  pub request : asked.request ≡ read_one
+  pub request : asked.request ≡ read
 
-takes : (t : Story) → t.start ≡ AtOnce plain → t.turns ≡ 0 → t.asked ≡ nothing_asked → in_order t.came ≡ request_frame → Takes t
-takes t start turns none came =
-    let u : Octets = segment_octets (request_segment 1 read_one) in
+takes_up : (read : ReadRequest) → FitsRequest read → frame_octets plain 0 (segment_octets (request_segment 1 read)) ≡ asking_frame read
+    → (t : Story) → t.start ≡ AtOnce plain → t.turns ≡ 0 → t.asked ≡ nothing_asked → in_order t.came ≡ asking_frame read → Takes t read
+takes_up read fits framed t start turns none came =
+    let u : Octets = segment_octets (request_segment 1 read) in
     let frame : Frame = standing_at (frame_start false 0) (intact u) in
-    let next : next_frame t ≡ Some frame = comes_next t u start turns (came ∙ sym request_framed) (request_short 1) in
-    let carries : segment_in frame ≡ Some (request_segment 1 read_one) = read_segment-spelled (request_segment 1 read_one) (request_fits 1 (omega arith)) in
+    let next : next_frame t ≡ Some frame = comes_next t u start turns (came ∙ sym framed) (asking_short read 1) in
+    let carries : segment_in frame ≡ Some (request_segment 1 read) = read_segment-spelled (request_segment 1 read) (asking_fits read 1 (omega arith)) in
     record {
       asked = asked_in frame;
       is = ap (λ (z : Requested). z.unanswered) (ap (λ o. option_map_or (λ f. taken_up t.asked (asked_in f)) o t.asked) next ∙ ap (λ z. taken_up z (asked_in frame)) none);
-      request = ap (λ o. request_fields (payload_of o)) carries ∙ fields_again read_one fits_one;
+      request = ap (λ o. request_fields (payload_of o)) carries ∙ fields_again read fits;
     }
+
+takes : (t : Story) → t.start ≡ AtOnce plain → t.turns ≡ 0 → t.asked ≡ nothing_asked → in_order t.came ≡ request_frame → Takes t read_one
+takes t start turns none came = takes_up read_one fits_one request_framed t start turns none came
 
 pub refuses_fetch_elsewhere : RefusesFetchElsewhere
 unfolding acts stream_acts openings story
@@ -180,10 +192,53 @@ refuses_fetch_elsewhere h =
     let first : r.oldest.request.source_to ≡ 0 = ap (λ (z : Asked). z.request.source_to) (sym same) ∙ ap (λ (z : ReadRequest). z.source_to) w.request in
     omega (arith, r.place, first)
 
+-- ---- a denial of more than the part that is due
+
+fits_two : FitsRequest read_two
+fits_two = record { sink = fits_one.sink; sink_to = omega arith; size = omega arith; source = fits_one.source; source_to = omega arith }
+
+two_ulpdu : Octets
+two_ulpdu = (0x41 ∷ 0x41 ∷ []) ++ replicate 7 0 ++ (1 ∷ []) ++ replicate 3 0 ++ (1 ∷ []) ++ replicate 4 0 ++ request_octets read_two
+
+two_is : segment_octets (request_segment 1 read_two) ≡ two_ulpdu
+unfolding two_ulpdu segment_octets untagged_octets request_octets
+two_is = refl
+
+two_framed : frame_octets plain 0 (segment_octets (request_segment 1 read_two)) ≡ asking_frame read_two
+unfolding two_ulpdu request_octets data_place data_index in_marker place_after marker_value span_start octet_at laid
+two_framed = ap (frame_octets plain 0) two_is ∙ frame_is plain 0 two_ulpdu refl
+
+two_came : in_order (taken_in nothing 0 (asking_frame read_two)) ≡ asking_frame read_two
+unfolding taken_in held request_octets
+two_came = refl
+
+pub refuses_denied_readable : RefusesDeniedReadable
+unfolding acts stream_acts openings story size_set table_after empty
+refuses_denied_readable h =
+    let r = h (take 6 denies_readable) (b denies_first) [] refl in
+    let t : Story = story_of 0 (acts B (take 6 denies_readable)) in
+    let s : Standing = standing 0 (acts B (take 6 denies_readable)) in
+    let asks : Story = story_of 0 (acts B (take 5 denies_readable)) in
+    let w = takes_up read_two fits_two two_framed asks refl refl refl two_came in
+    let same : w.asked ≡ r.oldest = ap (asked_or w.asked) (sym w.is ∙ r.waits.is) in
+    let request : r.oldest.request ≡ read_two = ap (λ (z : Asked). z.request) (sym same) ∙ w.request in
+    let allowed : reading_fault s.table s.domain read_two.source (read_two.source_to + length t.begun) (faithful.octets_due t 128 read_two) ≡ None = refl in
+    none-some _ (sym (ap (λ (q : ReadRequest). reading_fault s.table s.domain q.source (q.source_to + length t.begun) (faithful.octets_due t 128 q)) request ∙ allowed) ∙ r.denied)
+
 -- ---- responses that are too long, and too short
 
 response_fits : (last : Bool) (octets : Octets) → FitsSegment (response_segment read_one 0 last octets)
 response_fits last octets = record { ddp_version = omega arith; control = omega arith; stag = fits_one.sink; to = omega arith }
+
+-- one goes out as a frame of which nothing is told
+pub refuses_untold_response : RefusesUntoldResponse
+unfolding acts stream_acts openings story
+refuses_untold_response h =
+    let t : Story = story_of 0 (acts B (take 6 leaks_region)) in
+    let answer : Segment Octets = response_segment read_one 0 true first_four in
+    let size : length (segment_octets answer) ≡ 18 = length-segment_octets_tagged (response_head read_one 0 true) first_four in
+    let out : segment_out t 0 (frame_octets plain 0 (segment_octets answer)) ≡ Some answer = goes_out t 0 answer refl (omega arith) (response_fits true first_four) (omega (arith, size)) in
+    true≢false (subst (λ (o : Option (Segment Octets)). OnSome (λ segment. carries_response segment ≡ false) o) out (h (take 6 leaks_region) (b emits_response) [] refl))
 
 -- the end that asked, behind its request
 abbrev outstanding : ℕ → List Outstanding
@@ -349,7 +404,7 @@ refuses_sinks_unfetched h =
     calm B = refl
 
 -- the answer to the Read of four octets
-answered_whole : (t : Story) (w : Takes t) → t.begun ≡ [] → t.answers ≡ []
+answered_whole : (t : Story) (w : Takes t read_one) → t.begun ≡ [] → t.answers ≡ []
     → (fetches_for (record t { turns = t.turns + 1; asked = next_asked t }) (next_asked t).unanswered first_four).answers ≡ record { request = read_one; octets = first_four } ∷ []
 answered_whole t w none first =
     let next : Story = record t { turns = t.turns + 1; asked = next_asked t } in
@@ -387,5 +442,34 @@ refuses_done_unanswered h =
     opened B = refl
 
     calm : (x : End) → has_raw (stream_acts 0 (acts x done_unanswered)) ≡ false
+    calm A = refl
+    calm B = refl
+
+-- ---- Writes of an honest stream
+
+written_cell : Cell
+written_cell = record { stag = number_of stag; to = 0; octet = 0xaa }
+
+pub refuses_write_twice : RefusesWriteTwice
+unfolding acts stream_acts openings has_raw posted placings received opened_at_once written_cell
+refuses_write_twice h = let r = h writes_twice [] refl A 0 (honest writes_twice opened calm) written_cell in omega (arith, r.most)
+  where
+    opened : (x : End) → openings 0 (acts x writes_twice) ≡ opened_at_once ∷ []
+    opened A = refl
+    opened B = refl
+
+    calm : (x : End) → has_raw (stream_acts 0 (acts x writes_twice)) ≡ false
+    calm A = refl
+    calm B = refl
+
+pub refuses_send_before_write : RefusesSendBeforeWrite
+unfolding acts stream_acts openings has_raw posted placings received opened_at_once written_cell
+refuses_send_before_write h = let r = h receives_unwritten [] refl A 0 (honest receives_unwritten opened calm) written_cell in omega (arith, r.before 0 (omega arith))
+  where
+    opened : (x : End) → openings 0 (acts x receives_unwritten) ≡ opened_at_once ∷ []
+    opened A = refl
+    opened B = refl
+
+    calm : (x : End) → has_raw (stream_acts 0 (acts x receives_unwritten)) ≡ false
     calm A = refl
     calm B = refl

@@ -21,14 +21,13 @@ use Rattle.iw_queues.specs.Segments.{Numbers, first_numbers, numbers_after, writ
 use Rattle.iw_reads.specs.declared.requests.Asked.{Asked}
 use Rattle.iw_stream.specs.Stream.{StreamState}
 use Rattle.iw_laws.specs.Words.{Octets}
-use Rattle.iw_laws.specs.Turns.{Answer}
+use Rattle.iw_laws.specs.Turns.{Answer, carries_response}
 use Rattle.iw_laws.specs.Merged.{Item, Post, Response, posts_in, answers_in, response_segment, AreMerged}
 use Rattle.iw_laws.specs.Rules.{FitsPosted}
 use Rattle.iw_laws.specs.Faithful.{laid, begun_for, responses, reads_among}
 use Rattle.iw_laws.proofs.Lists.{Each, each-both, each-first}
 use Rattle.iw_laws.proofs.Tales.{Tale}
 use Rattle.iw_laws.proofs.Joins.{count_writes-append, count_responses, responses-append, count_ended, ended-append, requests_in, requests-append}
-use Rattle.iw_laws.proofs.Sending.{is_answer}
 use Rattle.iw_laws.proofs.Merges.{GoesWith, BeginsPost, BeginsResponse, answers-append, posts-append, goes_to, some_merged}
 use Rattle.iw_laws.specs.Sends.{farewells}
 use Rattle.iw_laws.proofs.Owns.{Emits, out_of}
@@ -246,7 +245,7 @@ merged_requests numbers offset (Response a ∷ items) ss (mine, later, is, one, 
 
 -- a segment of a response fits its fields
 abbrev pub AnswerFits : Segment Octets → Type 0
-AnswerFits s = is_answer s ≡ true → FitsSegment s
+AnswerFits s = carries_response s ≡ true → FitsSegment s
 
 abbrev pub SinkFits : ReadRequest → Type 0
 SinkFits request = FitsStag request.sink

@@ -1,6 +1,6 @@
 -- The parts that an end sends, and their segments.
 use Rattle.std.proofs.Common.{◌≡◌, ℕ, zero, suc, ◌+◌, ◌-◌, ◌%◌, ◌^◌, ◌<◌, ◌≤◌, List, [], ◌∷◌, ◌++◌, length, take, drop, Option, Some, None, Bool, true, false, cond, refl, sym, subst, arith, length-append, length-take, inl, inr, ◌⊎◌, ◌||◌, ◌&&◌, not, ◌∙◌}
-use Rattle.std.specs.Prelude.{All, is_some, min, nat_le, nat_eq}
+use Rattle.std.specs.Prelude.{All, is_some, min, nat_le}
 use Rattle.std.proofs.lemmas.Bool.{true≢false}
 use Rattle.std.specs.Option.{option_map, option_map_or}
 use Rattle.std.proofs.lemmas.Option.{none-some, same_Some}
@@ -21,7 +21,7 @@ use Rattle.iw_queues.specs.Queue.{Queue, next_part, part_of_first, part_from, Is
 use Rattle.iw_queues.specs.Queue as queues
 use Rattle.iw_queues.specs.Segments.{Numbers, numbers_after, numbers_beyond, segment_with, segment_of}
 use Rattle.iw_octets.specs.declared.operation.UntaggedOperation.TheVariants as untagged
-use Rattle.iw_octets.specs.Operation.{control_of, opcode_of, untagged_opcode}
+use Rattle.iw_octets.specs.Operation.{control_of, untagged_opcode}
 use Rattle.iw_stream.specs.declared.answer.PostRefusal.TheVariants as post_refusals
 use Rattle.iw_stream.specs.Starting.{is_open, own_frame}
 use Rattle.iw_stream.specs.Judging.{fault_or}
@@ -41,6 +41,7 @@ use Rattle.iw_laws.specs.Rules.{FitsPosted, FitsOptional}
 use Rattle.iw_laws.specs.Words.{Octets}
 use Rattle.iw_laws.specs.Rules.{shown_of}
 use Rattle.iw_laws.specs.Sends.{terminate_segment}
+use Rattle.iw_laws.specs.Turns.{carries_response}
 use Rattle.iw_stream.specs.Ending.{last_word}
 use Rattle.iw_rdmap.specs.Laws.{terminate_head}
 use Rattle.iw_rdmap.specs.Terminate.{header_len as front_len, has_segment, has_request, word_for, terminate_octets}
@@ -58,14 +59,9 @@ abbrev pub version_of : Segment Octets → ℕ
 version_of (Tagged head payload) = head.ddp_version
 version_of (Untagged head payload) = head.ddp_version
 
--- a segment of the response to a Read of the peer
-abbrev pub is_answer : Segment Octets → Bool
-is_answer (Tagged head payload) = nat_eq (opcode_of head.control) 2
-is_answer (Untagged head payload) = false
-
 -- a segment that is read again as it was written, but for the sink of a response, whose number the peer gave
 pub record IsSendable (segment : Segment Octets) : Type 0 where
-  pub fits : is_answer segment ≡ false → FitsSegment segment
+  pub fits : carries_response segment ≡ false → FitsSegment segment
   pub version : version_of segment < 4
   pub small : length (segment_octets segment) ≤ 64512
 

@@ -140,3 +140,16 @@ abbrev pub CarriesOctets : List (Entry Octets) → Type 0
 CarriesOctets trace =
     (past : List (Entry Octets)) (e : Entry Octets) (future : List (Entry Octets)) → trace ≡ past ++ e ∷ future
     → OnStream CarriedStream (acts (other e.end) past) e.act
+
+-- ---- streams that are there
+
+-- the stream was opened at its end and, where octets that are not raw come, at the other
+abbrev pub OpenedStream : List (Act Octets) → List (Act Octets) → ℕ → StreamAct Octets → Type 0
+OpenedStream peer before n act =
+    (was_opened (openings n before) ≡ true) × OnSome (λ c. c.raw ≡ false → was_opened (openings n peer) ≡ true) (deed act).coming
+
+-- each act of a stream comes past its opening, and a delivery past both
+abbrev pub OpensFirst : List (Entry Octets) → Type 0
+OpensFirst trace =
+    (past : List (Entry Octets)) (e : Entry Octets) (future : List (Entry Octets)) → trace ≡ past ++ e ∷ future
+    → OnStream (OpenedStream (acts (other e.end) past)) (acts e.end past) e.act

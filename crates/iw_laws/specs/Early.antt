@@ -1,12 +1,11 @@
 -- Frames that are judged before their turn, and their turn when it comes.
 use Rattle.std.specs.Prelude.{◌≡◌, ◌⊎◌, ℕ, ◌+◌, ◌≤◌, true, false, Bool, List, length, Some, None, Ok}
 use Rattle.iw_memory.specs.Table.{Table}
-use Rattle.iw_locate.specs.declared.judged.State.TheVariants.{Tried}
 use Rattle.iw_locate.specs.Free.{IsFree}
-use Rattle.iw_locate.specs.Records.{added, max_records}
+use Rattle.iw_locate.specs.Records.{max_records}
 use Rattle.iw_stream.specs.declared.judging.Landing.{Landing}
 use Rattle.iw_stream.specs.declared.judging.Landing.TheVariants as landing
-use Rattle.iw_stream.specs.Frames.{Frame, placed, head_in, record_of}
+use Rattle.iw_stream.specs.Frames.{Frame, placed, head_in}
 use Rattle.iw_stream.specs.Judging.{Standing, verdict, turn_of}
 use Rattle.iw_stream.specs.Kept.{IsTagged}
 use Rattle.iw_stream.specs.Starting.{is_open, expecting, first_place_in}
@@ -15,9 +14,9 @@ use Rattle.iw_events.specs.declared.act.StreamAct.{StreamAct}
 use Rattle.iw_events.specs.declared.act.Seen.{Seen}
 use Rattle.iw_events.specs.declared.act.Seen.TheVariants as seen
 use Rattle.iw_events.specs.declared.act.Entry.{Entry}
-use Rattle.iw_laws.specs.Words.{Octets, deed, stream_acts, ended, table_seen}
+use Rattle.iw_laws.specs.Words.{Octets, deed, stream_acts, ended}
 use Rattle.iw_laws.specs.Words.{OnSome, OnStream, AtEach}
-use Rattle.iw_laws.specs.Turns.{Story, scene, next_frame, early_frame, was_placed, story_seen, seen_judged, seen_turned, story_of, standing}
+use Rattle.iw_laws.specs.Turns.{Story, scene, next_frame, early_frame, was_placed, seen_judged, seen_turned, story_of, standing}
 
 -- ---- before their turn
 
@@ -45,18 +44,11 @@ pub record IsJudgedEarly (t : Story) (s : Standing) (step : Seen Octets) : Type 
   pub placed : (at : Landing) → verdict s frame ≡ Ok at → HasPlace at → step ≡ seen_judged frame (Ok at)
   pub left : (CanBePlaced s frame → ⊥) → step ≡ seen.Tried (first_place_in t.start + frame.start)
 
--- a frame that is left changes nothing but that it has a record
-pub record LeavesRecord (t : Story) (s : Standing) (place : ℕ) : Type 0 where
-  pub frame : Frame
-  pub at : place ≡ first_place_in t.start + frame.start
-  pub story : story_seen t (seen.Tried place) ≡ record t { early = added t.early (record_of frame Tried) }
-  pub table : table_seen s.table (seen.Tried place) ≡ s.table
-
 abbrev pub EarlySeen : Bool → Story → Standing → Seen Octets → Type 0
 EarlySeen over t s seen.Idle = over ≡ false → is_open t.start ≡ true → (expecting t.start).markers ≡ true → NoneIsFree t
 EarlySeen over t s (seen.Placed right stag to octets) = next_frame t ≡ None → IsJudgedEarly t s (seen.Placed right stag to octets)
 EarlySeen over t s (seen.Buffered msn mo len) = next_frame t ≡ None → IsJudgedEarly t s (seen.Buffered msn mo len)
-EarlySeen over t s (seen.Tried place) = IsJudgedEarly t s (seen.Tried place) × LeavesRecord t s place
+EarlySeen over t s (seen.Tried place) = IsJudgedEarly t s (seen.Tried place)
 EarlySeen over t s (seen.Done kind) = Unit {0}
 EarlySeen over t s (seen.Flushed kind) = Unit {0}
 EarlySeen over t s (seen.FlushedRecv octets) = Unit {0}

@@ -1,5 +1,6 @@
 -- What is answered to the peer's Reads, and what becomes of the answers.
-use Rattle.std.specs.Prelude.{◌≡◌, ℕ, ◌+◌, ◌-◌, ◌≤◌, ◌==◌, List, [], ◌∷◌, ◌++◌, length, take, map, Some}
+use Rattle.std.specs.Prelude.{◌≡◌, ℕ, ◌+◌, ◌-◌, ◌≤◌, ◌==◌, min, List, [], ◌∷◌, ◌++◌, length, take, map, false, Some}
+use Rattle.iw_octets.specs.declared.constants.TheConstants.{TAGGED_HEADER}
 use Rattle.iw_octets.specs.declared.fault.Fault.{Fault}
 use Rattle.iw_octets.specs.declared.message.Message.TheVariants.{Write}
 use Rattle.iw_octets.specs.declared.payload.ReadRequest.{ReadRequest}
@@ -23,9 +24,9 @@ use Rattle.iw_events.specs.declared.act.Shown.TheVariants.{Frame, Fetched, Fault
 use Rattle.iw_events.specs.declared.act.Entry.{Entry}
 use Rattle.iw_stream.specs.Judging.{Standing}
 use Rattle.iw_stream.specs.Starting.{sending, first_place_out}
-use Rattle.iw_laws.specs.Words.{Octets, Fetching, other, acts, deed, stream_acts, posted, finished_kinds, placings, sunk}
+use Rattle.iw_laws.specs.Words.{Octets, Fetching, other, acts, deed, stream_acts, posted, finished_kinds, placings, sunk, size_set}
 use Rattle.iw_laws.specs.Words.{OnSome, OnStream, AtEach}
-use Rattle.iw_laws.specs.Turns.{Answer, Story, story_of, standing}
+use Rattle.iw_laws.specs.Turns.{Answer, Story, story_of, standing, segment_out, carries_response}
 use Rattle.iw_laws.specs.Merged.{response_segment}
 use Rattle.iw_laws.specs.Safe.{IsHonest}
 use Rattle.iw_laws.specs.Sends.{asked_of}
@@ -51,24 +52,29 @@ pub record IsFetch (t : Story) (s : Standing) (from : ℕ) (frame : Octets) (fet
       (segment_octets
       (response_segment oldest.request (length t.begun) (length t.begun + length fetching.octets == oldest.request.size) fetching.octets))
 
--- octets that were to be fetched for the oldest request are denied so
-pub record IsDenial (t : Story) (s : Standing) (fault : Fault) : Type 0 where
+-- how many octets of the response to a Read are due next, where a ULPDU may have this size: as many as fit past its header, or all that
+-- were not fetched before
+abbrev pub octets_due : Story → ℕ → ReadRequest → ℕ
+octets_due t size request = min (request.size - length t.begun) (size - TAGGED_HEADER)
+
+-- the octets that are due next for the oldest request are denied so
+pub record IsDenial (t : Story) (s : Standing) (size : ℕ) (fault : Fault) : Type 0 where
   pub oldest : Asked
   pub waits : IsOldest t oldest
-  pub n : ℕ
-  pub asked_for : length t.begun + n ≤ oldest.request.size
-  pub denied : reading_fault s.table s.domain oldest.request.source (oldest.request.source_to + length t.begun) n ≡ Some fault
+  pub denied : reading_fault s.table s.domain oldest.request.source (oldest.request.source_to + length t.begun) (octets_due t size oldest.request) ≡ Some fault
 
-abbrev pub FetchShown : Story → Standing → Shown Octets → Type 0
-FetchShown t s (Frame from octets) = Unit {0}
-FetchShown t s (Fetched from frame stag to octets) = IsFetch t s from frame (record { stag = stag; to = to; octets = octets })
-FetchShown t s (Denied fault) = IsDenial t s fault
-FetchShown t s Nothing = Unit {0}
+-- a frame that is not told as fetched has no octets of a response
+abbrev pub FetchShown : Story → Standing → ℕ → Shown Octets → Type 0
+FetchShown t s size (Frame from octets) = OnSome (λ segment. carries_response segment ≡ false) (segment_out t from octets)
+FetchShown t s size (Fetched from frame stag to octets) = IsFetch t s from frame (record { stag = stag; to = to; octets = octets })
+FetchShown t s size (Denied fault) = IsDenial t s size fault
+FetchShown t s size Nothing = Unit {0}
 
 abbrev pub FetchStream : List (Act Octets) → ℕ → StreamAct Octets → Type 0
-FetchStream before n act = OnSome (FetchShown (story_of n before) (standing n before)) (deed act).shown
+FetchStream before n act = OnSome (FetchShown (story_of n before) (standing n before) (size_set (stream_acts n before))) (deed act).shown
 
--- whatever came, what is fetched for a Read is what the peer asked for, where it may be read, as it stands there
+-- whatever came, no response goes out but with octets that are fetched for it, and these are what the peer asked for, where it may be read,
+-- as it stands there
 abbrev pub Faithful : List (Entry Octets) → Type 0
 Faithful = AtEach (OnStream FetchStream)
 

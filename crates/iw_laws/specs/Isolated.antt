@@ -1,7 +1,7 @@
 -- No domain of an end sees another, nor changes what is another's.
-use Rattle.std.specs.Prelude.{◌≡◌, ℕ, ◌==◌, List, [], ◌∷◌, map, filter}
+use Rattle.std.specs.Prelude.{◌≡◌, ℕ, ◌==◌, List, [], ◌∷◌, ◌++◌, map, filter}
 use Rattle.iw_endpoint.specs.Endpoint.{fresh}
-use Rattle.iw_endpoint.specs.Isolation.{Call, Part, part_of, alone, own_after, own_after_all, after_all, concerned, only, OpensOwn}
+use Rattle.iw_endpoint.specs.Isolation.{Call, Part, part_of, alone, own_after, concerned, OpensOwn}
 use Rattle.iw_events.specs.declared.call.End.{End}
 use Rattle.iw_events.specs.declared.act.Act.{Act}
 use Rattle.iw_events.specs.declared.act.Entry.{Entry}
@@ -21,11 +21,9 @@ abbrev pub AreOwn : ℕ → Part → List (Act Octets) → Type 0
 AreOwn d part [] = Unit {0}
 AreOwn d part (act ∷ done) = EndRule (alone d part) act × AreOwn d (own_after d part (call_made act)) done
 
--- the acts that concern the domain are answered so, one after the other, with none of the others; and these leave what it then has
-pub record IsApart (whose : ℕ → ℕ) (d : ℕ) (done : List (Act Octets)) : Type 0 where
-  pub answered : AreOwn d (part_of d fresh) (only_acts whose d done)
-  pub left : part_of d (after_all fresh (calls_made done)) ≡ own_after_all d (part_of d fresh) (only whose d (calls_made done))
-
--- at each end, where each stream number that is opened, or asked to be, is asked for in one domain alone
+-- at every moment, at each end: as long as each stream number that was opened, or asked to be, was asked for in one domain alone, the acts
+-- that concern a domain were answered so, one after the other, with none of the others
 abbrev pub Isolated : List (Entry Octets) → Type 0
-Isolated trace = (x : End) (whose : ℕ → ℕ) → OpensOwn whose (calls_made (acts x trace)) → (d : ℕ) → IsApart whose d (acts x trace)
+Isolated trace =
+    (past future : List (Entry Octets)) → trace ≡ past ++ future → (x : End) (whose : ℕ → ℕ) → OpensOwn whose (calls_made (acts x past))
+    → (d : ℕ) → AreOwn d (part_of d fresh) (only_acts whose d (acts x past))

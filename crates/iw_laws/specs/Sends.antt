@@ -94,9 +94,9 @@ pub record IsFrameOf (t : Story) (size : ℕ) (before octets : Octets) : Type 0 
   pub fits : length (segment_octets segment) ≤ size
   pub full : is_last segment ≡ false → length (segment_octets segment) ≡ size
 
--- they are the start-up frame, and nothing went out before
+-- they are the start-up frame of an end that has one, and nothing went out before
 abbrev pub IsStartFrame : Story → Octets → Octets → Type 0
-IsStartFrame t before octets = (before ≡ []) × (octets ≡ own_frame t.start)
+IsStartFrame t before octets = (before ≡ []) × (octets ≡ own_frame t.start) × (octets ≢ [])
 
 -- n octets that are fetched fill a ULPDU of this size past their header, but for those at the end of a response
 pub record IsFetchSized (t : Story) (size n : ℕ) : Type 0 where

@@ -3,11 +3,12 @@ use Rattle.std.specs.Prelude.{◌≡◌, ◌⊎◌, ℕ, zero, suc, ◌+◌, ◌
 use Rattle.std.specs.Option.{option_map, option_map_or, option_or}
 use Rattle.arrayvec.specs.ArrayVec.{ArrayVec}
 use Rattle.iw_octets.specs.declared.fault.Fault.{Fault}
+use Rattle.iw_octets.specs.declared.operation.TaggedOperation.TheVariants.{ReadResponse}
 use Rattle.iw_octets.specs.declared.operation.UntaggedOperation.TheVariants.{ReadRequest as AsksRead}
 use Rattle.iw_octets.specs.declared.payload.ReadRequest.{ReadRequest}
 use Rattle.iw_octets.specs.declared.segment.Segment.{Segment}
 use Rattle.iw_octets.specs.declared.segment.Segment.TheVariants.{Tagged, Untagged}
-use Rattle.iw_octets.specs.Operation.{queue_of}
+use Rattle.iw_octets.specs.Operation.{opcode_of, tagged_opcode, queue_of}
 use Rattle.iw_octets.specs.Payload.{request_fields, read_request}
 use Rattle.iw_octets.specs.Segment.{read_segment}
 use Rattle.iw_memory.specs.declared.rights.Right.TheVariants as rights
@@ -219,6 +220,11 @@ story_seen t seen.Idle = t
 abbrev pub is_last : Segment Octets → Bool
 is_last (Tagged head payload) = head.last
 is_last (Untagged head payload) = head.last
+
+-- it has octets of the response to a Read
+abbrev pub carries_response : Segment Octets → Bool
+carries_response (Tagged head payload) = opcode_of head.control == tagged_opcode ReadResponse
+carries_response (Untagged head payload) = false
 
 -- the segment of a frame that goes out from a place on; none of the start-up frame
 abbrev pub segment_out : Story → ℕ → Octets → Option (Segment Octets)

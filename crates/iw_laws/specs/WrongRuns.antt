@@ -23,7 +23,7 @@ use Rattle.iw_events.specs.declared.act.Act.{Act}
 use Rattle.iw_events.specs.declared.act.Act.TheVariants.{Domain, Register, Invalidate, Open, Stream}
 use Rattle.iw_events.specs.declared.act.StreamAct.{StreamAct}
 use Rattle.iw_events.specs.declared.act.StreamAct.TheVariants.{Recv, Post, Emit, Deliver, Raw, Mulpdu, Accept, Work, Break}
-use Rattle.iw_events.specs.declared.act.Shown.TheVariants.{Frame, Fetched}
+use Rattle.iw_events.specs.declared.act.Shown.TheVariants.{Frame, Fetched, Fault as Denied, Nothing}
 use Rattle.iw_events.specs.declared.act.Seen.{Seen}
 use Rattle.iw_events.specs.declared.act.Seen.TheVariants as seen
 use Rattle.iw_events.specs.declared.act.Entry.{Entry}
@@ -32,11 +32,11 @@ use Rattle.iw_laws.specs.Turns.{Turns}
 use Rattle.iw_laws.specs.Rest.{IdleOnlyAtRest}
 use Rattle.iw_laws.specs.Merged.{response_segment}
 use Rattle.iw_laws.specs.Faithful.{Faithful, Answering}
-use Rattle.iw_laws.specs.Safe.{InOrder}
+use Rattle.iw_laws.specs.Safe.{InOrder, Covered, Within}
 use Rattle.iw_laws.specs.Isolated.{Isolated}
 use Rattle.iw_laws.specs.Ends.{Ends}
-use Rattle.iw_laws.specs.Sends.{Sized, Speaks, Finished, FewReads}
-use Rattle.iw_laws.specs.Calls.{ShowsMemory, Answered, KeepsOctets, CarriesOctets}
+use Rattle.iw_laws.specs.Sends.{Emission, Sized, Speaks, NothingOnlyAtRest, Finished, FewReads}
+use Rattle.iw_laws.specs.Calls.{ShowsMemory, Answered, KeepsOctets, CarriesOctets, OpensFirst}
 
 -- ---- entries
 
@@ -86,6 +86,25 @@ send_frame = (0 ∷ 19 ∷ 0x41 ∷ 0x43 ∷ []) ++ replicate 11 0 ++ (1 ∷ 0 �
 abbrev pub emits : Octets → Act Octets
 emits octets = on (Emit (Frame 0 octets))
 
+-- ---- streams that were not opened
+
+-- a stream has nothing to do that was never opened
+abbrev pub idles_unopened : Run
+idles_unopened = a (works seen.Idle) ∷ []
+
+-- no octets are delivered from an end that has no such stream
+abbrev pub delivers_nothing : Act Octets
+delivers_nothing = on (Deliver 0 [] Kept)
+
+abbrev pub delivers_unopened : Run
+delivers_unopened = opens a Preset ++ (a delivers_nothing ∷ [])
+
+abbrev pub RefusesActUnopened : Type 0
+RefusesActUnopened = ¬ OpensFirst idles_unopened
+
+abbrev pub RefusesDeliveryUnopened : Type 0
+RefusesDeliveryUnopened = ¬ OpensFirst delivers_unopened
+
 -- ---- frames after a fault, and before the stream is open
 
 abbrev pub reads_past_fault : Run
@@ -133,6 +152,30 @@ RefusesFinishedUnsent = ¬ Finished finished_unsent
 
 abbrev pub RefusesFinishedAsWrite : Type 0
 RefusesFinishedAsWrite = ¬ Finished finished_as_write
+
+-- ---- a Send that nobody posted, one that is held back, and an empty frame
+
+abbrev pub sends_unposted : Run
+sends_unposted = opens a Preset ++ (a (emits send_frame) ∷ [])
+
+abbrev pub emits_nothing : Act Octets
+emits_nothing = on (Emit Nothing)
+
+abbrev pub holds_back : Run
+holds_back = opens a Preset ++ (a sends_one ∷ a emits_nothing ∷ [])
+
+-- of an end that sends no start-up frame
+abbrev pub sends_empty : Run
+sends_empty = opens a Preset ++ (a sends_one ∷ a (emits []) ∷ [])
+
+abbrev pub RefusesUnpostedSend : Type 0
+RefusesUnpostedSend = ¬ Emission sends_unposted
+
+abbrev pub RefusesHeldBack : Type 0
+RefusesHeldBack = ¬ NothingOnlyAtRest holds_back
+
+abbrev pub RefusesEmptyFrame : Type 0
+RefusesEmptyFrame = ¬ Sized sends_empty
 
 -- ---- a frame that is too large, one at another place, and one after the end
 
@@ -205,6 +248,48 @@ RefusesWrongRefusal = ¬ ShowsMemory refuses_first_domain
 
 abbrev pub RefusesSameStag : Type 0
 RefusesSameStag = ¬ ShowsMemory answers_stag_again
+
+-- ---- Writes of an honest stream
+
+-- a Write of one octet
+abbrev pub writes_one : Act Octets
+writes_one = on (Post (Posted (messages.Write stag 0 (0xaa ∷ []))) None)
+
+-- it is placed twice
+abbrev pub writes_twice : Run
+writes_twice = opens a Preset ++ opens b Preset ++ (a writes_one ∷ b (works places) ∷ b (works places) ∷ [])
+
+-- the Send past it is received, though it was not placed
+abbrev pub receives_unwritten : Run
+receives_unwritten = opens a Preset ++ opens b Preset ++ (a writes_one ∷ a sends_one ∷ b (works (seen.Received (0x68 ∷ []) false None)) ∷ [])
+
+abbrev pub RefusesWriteTwice : Type 0
+RefusesWriteTwice = ¬ Covered writes_twice
+
+abbrev pub RefusesSendBeforeWrite : Type 0
+RefusesSendBeforeWrite = ¬ Covered receives_unwritten
+
+-- ---- octets that change where they may not
+
+-- a Write is placed in a region that may only be read
+abbrev pub places_readable : Run
+places_readable =
+    opens b Preset
+    ++ (b (Register 1 0 (record { write = false; read = true; sink = false; invalidate = false }) (0 ∷ []) (Ok stag))
+    ∷ b (raw 0 write_frame) ∷ b (works places) ∷ [])
+
+-- an octet of a Send is placed past the end of its receive buffer
+abbrev pub buffers_one : Act Octets
+buffers_one = works (seen.Buffered 1 0 1)
+
+abbrev pub buffers_past : Run
+buffers_past = opens b Preset ++ (b (on (Recv 0 None)) ∷ b (raw 0 send_frame) ∷ b buffers_one ∷ [])
+
+abbrev pub RefusesPlacedUnwritable : Type 0
+RefusesPlacedUnwritable = ¬ Within places_readable
+
+abbrev pub RefusesBufferedPast : Type 0
+RefusesBufferedPast = ¬ Within buffers_past
 
 -- ---- domains that see one another
 
@@ -295,6 +380,31 @@ fetches_elsewhere =
 
 abbrev pub RefusesFetchElsewhere : Type 0
 RefusesFetchElsewhere = ¬ Faithful fetches_elsewhere
+
+-- the response to it goes out as a frame of which nothing is told, though the region was invalidated
+abbrev pub emits_response : Act Octets
+emits_response = emits (frame_octets plain 0 (segment_octets (response_segment read_one 0 true first_four)))
+
+abbrev pub leaks_region : Run
+leaks_region =
+    opens b Preset
+    ++ (b (lends first_four) ∷ b (raw 0 request_frame) ∷ b (works (seen.Requested 4 stag 0)) ∷ b (Invalidate stag None) ∷ b emits_response ∷ [])
+
+abbrev pub RefusesUntoldResponse : Type 0
+RefusesUntoldResponse = ¬ Faithful leaks_region
+
+-- a Read of 119 octets is denied, though the first 114, which are due, may be read
+abbrev pub denies_first : Act Octets
+denies_first = on (Emit (Denied faults.PROTECTION_BOUNDS))
+
+abbrev pub denies_readable : Run
+denies_readable =
+    opens b Preset
+    ++ (b (on (Mulpdu 128 None)) ∷ b (lends (replicate 114 0x44)) ∷ b (raw 0 (asking_frame read_two)) ∷ b (works (seen.Requested 119 stag 0))
+    ∷ b denies_first ∷ [])
+
+abbrev pub RefusesDeniedReadable : Type 0
+RefusesDeniedReadable = ¬ Faithful denies_readable
 
 -- a region of eight octets for its response
 abbrev pub sinks_eight : Act Octets

@@ -12,6 +12,21 @@ ghost use Rattle.iw_laws.specs.WrongRuns.{RefusesSeventeenReads, RefusesSinksUnf
 ghost use Rattle.iw_laws.specs.WrongRuns.{RefusesDoneUnplaced, RefusesDoneUnanswered, RefusesSkippedSend};
 ghost use Rattle.iw_laws.specs.WrongRuns.{RefusesSecondTerminate, RefusesForgottenMessage};
 ghost use Rattle.iw_laws.specs.WrongRuns.{RefusesFinishedFlushed, RefusesBufferFirst, RefusesPlacedInvalidated};
+ghost use Rattle.iw_laws.specs.WrongRuns.{RefusesActUnopened, RefusesDeliveryUnopened};
+ghost use Rattle.iw_laws.specs.WrongRuns.{RefusesUnpostedSend, RefusesHeldBack, RefusesEmptyFrame};
+ghost use Rattle.iw_laws.specs.WrongRuns.{RefusesWriteTwice, RefusesSendBeforeWrite};
+ghost use Rattle.iw_laws.specs.WrongRuns.{RefusesPlacedUnwritable, RefusesBufferedPast};
+ghost use Rattle.iw_laws.specs.WrongRuns.{RefusesUntoldResponse, RefusesDeniedReadable};
+
+/// A stream that was never opened does nothing, not even rest.
+pub fn refuses_act_unopened()
+    ensures { RefusesActUnopened }
+{}
+
+/// Nothing is delivered from an end at which the stream was never opened, not even no octets.
+pub fn refuses_delivery_unopened()
+    ensures { RefusesDeliveryUnopened }
+{}
 
 /// A frame is not placed after a fault, though its region was registered since.
 pub fn refuses_frames_past_fault()
@@ -41,6 +56,21 @@ pub fn refuses_finished_unsent()
 /// A Send is not finished as a Write.
 pub fn refuses_finished_as_write()
     ensures { RefusesFinishedAsWrite }
+{}
+
+/// No Send goes out that was not posted.
+pub fn refuses_unposted_send()
+    ensures { RefusesUnpostedSend }
+{}
+
+/// A Send that may go out is not held back.
+pub fn refuses_held_back()
+    ensures { RefusesHeldBack }
+{}
+
+/// An end that sends no start-up frame sends no empty one either.
+pub fn refuses_empty_frame()
+    ensures { RefusesEmptyFrame }
 {}
 
 /// No ULPDU is larger than the size that was set.
@@ -88,6 +118,26 @@ pub fn refuses_same_stag()
     ensures { RefusesSameStag }
 {}
 
+/// On an honest stream a Write is not placed twice.
+pub fn refuses_write_twice()
+    ensures { RefusesWriteTwice }
+{}
+
+/// On an honest stream no Send is received before the Write in front of it was placed.
+pub fn refuses_send_before_write()
+    ensures { RefusesSendBeforeWrite }
+{}
+
+/// No Write is placed in a region that may only be read.
+pub fn refuses_placed_unwritable()
+    ensures { RefusesPlacedUnwritable }
+{}
+
+/// No octet of a Send is placed past the end of its receive buffer.
+pub fn refuses_buffered_past()
+    ensures { RefusesBufferedPast }
+{}
+
 /// STags aren't numbered over all domains: the second domain's first region is in its first slot.
 pub fn refuses_numbered_over_all()
     ensures { RefusesNumberedOverAll }
@@ -111,6 +161,16 @@ pub fn refuses_read_unanswered()
 /// What is fetched for a Read stands nowhere else than where it was asked for, though it may be read there.
 pub fn refuses_fetch_elsewhere()
     ensures { RefusesFetchElsewhere }
+{}
+
+/// No response goes out as a frame of which it isn't told what was fetched for it.
+pub fn refuses_untold_response()
+    ensures { RefusesUntoldResponse }
+{}
+
+/// A Read is not denied for octets past the part that is due.
+pub fn refuses_denied_readable()
+    ensures { RefusesDeniedReadable }
 {}
 
 /// No response is placed past the size that was asked for.
