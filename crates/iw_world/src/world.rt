@@ -12,7 +12,7 @@ ghost use Rattle.iw_laws.specs.Rest.{IdleOnlyAtRest};
 ghost use Rattle.iw_laws.specs.Early.{JudgesEarly, ChecksOnce};
 ghost use Rattle.iw_laws.specs.Once.{PlacesOnce};
 ghost use Rattle.iw_laws.specs.Ends.{Ends};
-ghost use Rattle.iw_laws.specs.Calls.{ShowsMemory, Answered, KeepsOctets, CarriesOctets};
+ghost use Rattle.iw_laws.specs.Calls.{ShowsMemory, Answered, KeepsOctets, CarriesOctets, OpensFirst};
 ghost use Rattle.iw_laws.specs.Isolated.{Isolated};
 ghost use Rattle.iw_laws.specs.Bounds.{IsShortState, LacksStream, AsksTooMuch};
 ghost use Rattle.iw_laws.specs.Stops.{StopsAt};
@@ -100,6 +100,8 @@ impl<A: Allocator + Copy> World<A> {
         // A message that is finished is the oldest that was not handed back, and was sent to its last segment; a Read
         // was answered.
         ensures finished { IfOk result (λ trace. Finished trace.items) }
+        // Each act of a stream comes after its opening, and a delivery after both.
+        ensures opened { IfOk result (λ trace. OpensFirst trace.items) }
         // Octets that are delivered are those that the other end sent.
         ensures carried { IfOk result (λ trace. CarriesOctets trace.items) }
         // Octets that come are kept, but after the end of the stream and where there is no room for them.
@@ -118,7 +120,8 @@ impl<A: Allocator + Copy> World<A> {
         ensures ended { IfOk result (λ trace. Ends trace.items) }
         // What changed lay where it was allowed.
         ensures within { IfOk result (λ trace. Within trace.items) }
-        // What is fetched for a Read is what the peer asked for, where it may be read, as it stands there.
+        // No response goes out but with octets that are fetched for it: what the peer asked for, where it may be read, as
+        // it stands there.
         ensures faithful { IfOk result (λ trace. Faithful trace.items) }
         // When a Read is done, each octet of its response was placed, and none too often.
         ensures answering { IfOk result (λ trace. Answering trace.items) }

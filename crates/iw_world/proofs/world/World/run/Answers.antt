@@ -7,7 +7,7 @@ use Rattle.iw_laws.specs.Words.{Octets, other, acts}
 use Rattle.iw_laws.specs.Rules.{State, start, state_after, after_entry, end_of, Rule, Follows}
 use Rattle.iw_laws.specs.Bounds.{IsShortState, LacksStream, AsksTooMuch}
 use Rattle.iw_laws.proofs.Whole.{follows_push, state_after-push, seen_after}
-use Rattle.iw_laws.proofs.Laws.{in_order, covered, emission, sized_all, speaks_all, nothing_at_rest, finished_all, turns_all, idle_at_rest, early_all, second_all, once_all, ends_all, within_all, shows_memory, answered_all, keeps_octets, carries_octets, fetched_all, answering_all, few_reads, names_no_stream, asks_not_sent}
+use Rattle.iw_laws.proofs.Laws.{in_order, covered, emission, sized_all, speaks_all, nothing_at_rest, finished_all, turns_all, idle_at_rest, early_all, second_all, once_all, ends_all, within_all, shows_memory, answered_all, keeps_octets, carries_octets, opens_first, fetched_all, answering_all, few_reads, names_no_stream, asks_not_sent}
 use Rattle.iw_laws.proofs.Apart.{isolated_all}
 use Rattle.iw_laws.proofs.Shorts.{short_state}
 use Rattle.iw_world.proofs.world.World.run.Goals as goal
@@ -58,6 +58,9 @@ returns-clause-kept g c = keeps_octets c.loop-event.trace.items c.loop-event.inv
 
 pub returns-clause-carried : goal.returns-clause-carried
 returns-clause-carried g c = carries_octets c.loop-event.trace.items c.loop-event.invariant.follows
+
+pub returns-clause-opened : goal.returns-clause-opened
+returns-clause-opened g c = opens_first c.loop-event.trace.items c.loop-event.invariant.follows
 
 pub returns-clause-faithful : goal.returns-clause-faithful
 returns-clause-faithful g c = fetched_all c.loop-event.trace.items c.loop-event.invariant.follows
