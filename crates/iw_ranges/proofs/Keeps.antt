@@ -6,8 +6,8 @@ use Rattle.std.proofs.lemmas.Bool.Decides.{nat_tests}
 use Rattle.std.specs.Prelude.{nat_lt}
 use Rattle.iw_ranges.specs.Spans.{in_spans, IsFromStart, AreSpans, first_end, add_span, octet_after}
 use Rattle.iw_ranges.specs.declared.Delivery.TheVariants.{Kept, Dropped}
-use Rattle.iw_ranges.specs.Arrived.{Cell, Missing, Here, Gone, Arrived, cell_at, in_segment, first_copy, taken_in, is_dropped, delivery, delivered, drawn, end_of, window}
-use Rattle.iw_ranges.specs.Fields.{Fields, cell_of, arrived_in, IsSound, max_held}
+use Rattle.iw_ranges.specs.Arrived.{Cell, Missing, Here, Gone, Arrived, cell_at, in_segment, first_copy, taken_in, is_dropped, delivery, delivered, drawn, end_of, window, max_held}
+use Rattle.iw_ranges.specs.Fields.{Fields, cell_of, arrived_in, IsSound}
 use Rattle.iw_ranges.proofs.Reaches.{in_order_start}
 use Rattle.iw_ranges.proofs.Adds.{in_add, add_from_start, add_first}
 use Rattle.iw_ranges.proofs.Fills.{in_octets, in_the_spans}

@@ -136,5 +136,9 @@ pub record IsWithinLimits (a : Arrived) : Type 0 where
 abbrev pub max_idle : ℕ
 max_idle = 131072
 
+-- and the most that is ever had: for a window, and a quarter of one that lies before the in-order point
+abbrev pub max_held : ℕ
+max_held = 327680
+
 abbrev pub IsIdleWithin : Held → Type 0
 IsIdleWithin h = h.arrived.cells ≡ [] → h.memory ≤ max_idle

@@ -2,7 +2,7 @@
 use Rattle.std.specs.Prelude.{ℕ, ◌≡◌, ◌≤◌, ◌<◌, ◌+◌, ◌-◌, ◌^◌, true, List, length, if◌then◌else◌, slice_index, vec_capacity}
 use Rattle.std.specs.VecDeque.{deque_len, deque_capacity}
 use Rattle.iw_ranges.specs.Spans.{in_spans, IsFromStart, AreSpans, first_end}
-use Rattle.iw_ranges.specs.Arrived.{Cell, Missing, Here, Gone, Arrived, Held, drawn, window, max_idle}
+use Rattle.iw_ranges.specs.Arrived.{Cell, Missing, Here, Gone, Arrived, Held, drawn, window, max_idle, max_held}
 use Rattle.iw_ranges.specs.declared.spans.Span.{Span}
 use Rattle.iw_ranges.specs.declared.Islands.TheInside.{Inside}
 
@@ -28,10 +28,6 @@ arrived_in f = drawn f.floor f.end (cell_of f)
 abbrev pub held_by : {A : Type 0} → Inside A → Held
 held_by {A} a = record { arrived = arrived_in (fields_of a); room = deque_capacity a.gone - deque_len a.gone; memory = vec_capacity a.octets }
 
--- a buffer holds a window, and up to a quarter of one that lies before the in-order point
-abbrev pub max_held : ℕ
-max_held = 327680
-
 pub record IsSound (f : Fields) : Type 0 where
   pub base : f.base ≤ f.floor
   pub order : IsFromStart f.spans
@@ -50,3 +46,4 @@ pub record IsSound (f : Fields) : Type 0 where
 pub record IsKept (f : Fields) (memory : ℕ) : Type 0 where
   pub sound : IsSound f
   pub idle : f.floor ≡ f.end → memory ≤ max_idle
+  pub most : memory ≤ max_held

@@ -4,3 +4,4 @@ pub mod Fields
 pub mod Parts
 pub mod Laws
 pub mod InOrder
+pub mod Nearest

@@ -78,6 +78,22 @@ fn room_for(capacity: usize, len: usize) -> usize
     capacity.saturating_add(capacity).min(most).max(len)
 }
 
+/// Makes the buffer `len` octets long, with zeros past those that stand in it. There is room for them.
+///
+/// std's calls that append many octets don't say that they leave the capacity as it is.
+#[inline(never)]
+fn extend_to<A: Allocator>(buffer: &mut Vec<u8, A>, len: usize)
+    requires longer { vec_len buffer.old ≤ len }
+    requires room { len ≤ vec_capacity buffer.old }
+    ensures octets { (i : ℕ) → slice_index buffer.new.items i ≡ slice_index buffer.old.items i }
+    ensures len { vec_len buffer.new ≡ len }
+    ensures memory { vec_capacity buffer.new ≡ vec_capacity buffer.old }
+{
+    'zeros: while buffer.len() < len {
+        buffer.push_reserved(0);
+    }
+}
+
 /// Puts the octets at index `at`, past all that stands in the buffer, with zeros between. There is room for them.
 fn lay_past<A: Allocator>(buffer: &mut Vec<u8, A>, at: usize, octets: &[u8])
     requires past { vec_len buffer.old ≤ at }
@@ -86,9 +102,10 @@ fn lay_past<A: Allocator>(buffer: &mut Vec<u8, A>, at: usize, octets: &[u8])
         ≡ (if nat_le at i && nat_lt i (at + length octets.now) then slice_index octets.now (i - at)
         else slice_index buffer.old.items i) }
     ensures len { vec_len buffer.new ≡ at + length octets.now }
+    ensures memory { vec_capacity buffer.new ≡ vec_capacity buffer.old }
 {
-    let _ = buffer.resize(at, 0);
-    let _ = buffer.extend_from_slice(octets);
+    extend_to(buffer, at + octets.len());
+    write_at(buffer, at, octets);
 }
 
 /// Puts the octets at index `at`, past all that stands in the buffer, with zeros between. An `Err` changes nothing.
@@ -102,6 +119,7 @@ fn append<A: Allocator>(buffer: &mut Vec<u8, A>, at: usize, octets: &[u8]) -> Re
         ≡ (if nat_lt 0 (length octets.now) then at + length octets.now else vec_len buffer.old)) }
     ensures err { OnErr result (buffer.new.items ≡ buffer.old.items) }
     ensures err_memory { OnErr result (vec_capacity buffer.new ≡ vec_capacity buffer.old) }
+    ensures memory { vec_capacity buffer.new ≤ max (vec_capacity buffer.old) 327680 }
 {
     if octets.is_empty() {
         return Ok(());
@@ -121,13 +139,12 @@ fn lay<A: Allocator>(buffer: &mut Vec<u8, A>, at: usize, octets: &[u8])
         ≡ (if nat_le at i && nat_lt i (at + length octets.now) then slice_index octets.now (i - at)
         else slice_index buffer.old.items i) }
     ensures len { vec_len buffer.new ≡ max (vec_len buffer.old) (at + length octets.now) }
+    ensures memory { vec_capacity buffer.new ≡ vec_capacity buffer.old }
 {
-    if octets.len() <= buffer.len() - at {
-        write_at(buffer, at, octets);
-        return;
+    if octets.len() > buffer.len() - at {
+        extend_to(buffer, at + octets.len());
     }
-    buffer.truncate(at);
-    let _ = buffer.extend_from_slice(octets);
+    write_at(buffer, at, octets);
 }
 
 /// Whether the buffer, which begins at place `base`, has room for the octets from place `from` on.
@@ -173,6 +190,7 @@ pub(crate) fn put_after<A: Allocator>(
     ensures len { vec_len buffer.new ≡ max (vec_len buffer.old) (from + length octets.now - base) }
     ensures octets { (i : ℕ)
         → slice_index buffer.new.items i ≡ octet_after base spans.old.items from octets.now buffer.old.items i }
+    ensures memory { vec_capacity buffer.new ≡ vec_capacity buffer.old }
 {
     lay(buffer, (from - base) as usize, octets);
     lengthen(spans, from + octets.len() as u64);
@@ -203,6 +221,7 @@ pub(crate) fn put<A: Allocator>(
     ensures err_spans { OnErr result (spans.new.items ≡ spans.old.items) }
     ensures err_octets { OnErr result (buffer.new.items ≡ buffer.old.items) }
     ensures err_memory { OnErr result (vec_capacity buffer.new ≡ vec_capacity buffer.old) }
+    ensures memory { vec_capacity buffer.new ≤ max (vec_capacity buffer.old) 327680 }
 {
     let at = (from - base) as usize;
     let inside = octets.len().min(buffer.len().saturating_sub(at));
@@ -219,6 +238,7 @@ pub(crate) fn put<A: Allocator>(
 fn give_back<A: Allocator>(octets: &mut Vec<u8, A>)
     ensures len { vec_len octets.new ≤ vec_len octets.old }
     ensures memory { vec_capacity octets.new ≤ 131072 }
+    ensures less { vec_capacity octets.new ≤ vec_capacity octets.old }
 {
     if octets.capacity() > MAX_IDLE {
         octets.clear();
@@ -239,6 +259,7 @@ pub(crate) fn let_go<A: Allocator>(octets: &mut Vec<u8, A>, base: &mut u64, end:
     ensures low { base.old ≤ base.new }
     ensures high { base.new ≤ to }
     ensures idle { to ≡ end → vec_capacity octets.new ≤ 131072 }
+    ensures memory { vec_capacity octets.new ≤ vec_capacity octets.old }
 {
     if to == end {
         give_back(octets);

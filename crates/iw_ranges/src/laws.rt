@@ -1,6 +1,7 @@
 //! What the calls of [`Islands`](crate::Islands) leave, said of each place of the stream.
 ghost use Rattle.iw_ranges.specs.Laws.{KeepsFirstCopies, AddsPlaces, StaysCome, InOrderGrows};
 ghost use Rattle.iw_ranges.specs.Laws.{GivesUpPlaces, GivesUpBefore};
+ghost use Rattle.iw_ranges.specs.Nearest.{TellsPlaces, KnownPlaces};
 
 /// Of an octet that came twice the first copy stays.
 pub fn first_copies_stay()
@@ -30,4 +31,14 @@ pub fn the_in_order_point_gives_up_what_is_before()
 /// What came in order stands past the in-order point without a gap, and grows at its end with each delivery.
 pub fn what_is_in_order_grows()
     ensures { InOrderGrows }
+{}
+
+/// Of the places near to one, no two have the same number.
+pub fn numbers_tell_places()
+    ensures { TellsPlaces }
+{}
+
+/// The definition gives worked places.
+pub fn known_places()
+    ensures { KnownPlaces }
 {}

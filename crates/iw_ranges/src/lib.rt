@@ -10,10 +10,11 @@ ghost use Rattle.std.specs.List.{concat};
 ghost use Rattle.std.specs.Iterator.{YieldsFirstBy, item_count};
 ghost use Rattle.iw_ranges.specs.Arrived.{nothing, cell_at, has_come, cells_between, window, IsHere, Here, Missing};
 ghost use Rattle.iw_ranges.specs.Arrived.{delivery, delivered, advanced, released, BringsOctets};
-ghost use Rattle.iw_ranges.specs.Arrived.{IsWithinLimits, IsIdleWithin};
+ghost use Rattle.iw_ranges.specs.Arrived.{IsWithinLimits, IsIdleWithin, max_held};
 
 mod buffer;
 pub mod laws;
+pub mod nearest;
 mod spans;
 
 use buffer::{fits_after, let_go, put, put_after, shorten};
@@ -213,9 +214,10 @@ impl<A: Allocator> Islands<A> {
         let _ = &self.spans;
     }
 
-    /// For how many octets there is memory: for 131,072 at most where nothing came past the in-order point.
+    /// For how many octets there is memory: for 327,680 at most, and for 131,072 where nothing came past the in-order point.
     pub fn memory(&self) -> usize
         ensures memory { result ≡ self.now.memory }
+        ensures most { self.now.memory ≤ max_held }
         ensures idle { IsIdleWithin self.now }
     {
         self.octets.capacity()

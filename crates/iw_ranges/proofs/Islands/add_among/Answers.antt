@@ -27,6 +27,7 @@ invariant_of-self g c =
     record {
       sound = sound_put f after c.self.invariant.sound from (c.args.place + n) c.args.octets.now (omega (arith, some)) (omega (arith, c.requires.near, ap (λ (h : Held). h.arrived.floor) c.self.view_is)) (omega (arith, c.if-fits_after.ensures)) puts (omega (arith, c.put_after.ensures.few, ap length c.put_after.ensures.spans, c.self.invariant.sound.few));
       idle = λ e. absurd (omega (arith, e, some, c.max-self-inside.ensures, c.if-place-self.true, c.self.invariant.sound.missing, c.self.invariant.sound.reached));
+      most = omega (arith, c.put_after.ensures.memory, c.self.invariant.most);
     }
 
 pub returns-then-fits_after-clause-answer : goal.returns-then-fits_after-clause-answer

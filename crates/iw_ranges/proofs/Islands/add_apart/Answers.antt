@@ -115,6 +115,7 @@ invariant_of-self-2 g c =
     record {
       sound = sound_put f after sound from (c.args.place + n) c.split_at.result.1.now (omega (arith, some, c.saturating_sub-before.ensures, c.if-to-self.false)) (omega (arith, c.requires.near, ap (λ (h : Held). h.arrived.floor) c.self.view_is)) (omega (arith, c.shorten.ensures.room)) puts c.if-is_one_too_many.ensures;
       idle = λ e. absurd (omega (arith, e, c.max-self-inside.ensures, c.if-to-self.false, c.self.invariant.sound.missing, c.self.invariant.sound.reached));
+      most = omega (arith, c.put.ensures.memory, c.shorten.ensures.memory, c.self.invariant.most);
     }
 
 pub returns-clause-answer : goal.returns-clause-answer
@@ -188,6 +189,7 @@ invariant_of-self g c =
     record {
       sound = sound_same f _ _ c.in_err-put.ensures.err_octets c.in_err-put.ensures.err_spans sound;
       idle = λ e. omega (arith, c.in_err-put.ensures.err_memory, c.shorten.ensures.memory, c.self.invariant.idle e);
+      most = omega (arith, c.put.ensures.memory, c.shorten.ensures.memory, c.self.invariant.most);
     }
 
 pub returns-in_err-put-clause-err : goal.returns-in_err-put-clause-err

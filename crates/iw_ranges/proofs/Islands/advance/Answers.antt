@@ -35,6 +35,7 @@ invariant_of-self g c =
         high = c.let_go.ensures.high;
       });
       idle = λ e. c.let_go.ensures.idle (omega (arith, e));
+      most = omega (arith, c.let_go.ensures.memory, c.self.invariant.most);
     }
 
 pub returns-clause-arrived : goal.returns-clause-arrived

@@ -15,6 +15,7 @@ invariant_of-self g c =
     record {
       sound = sound_release f _ c.self.invariant.sound from c.args.to c.if-from-to.true came (record { base = refl; floor = refl; missing = refl; end = refl; octets = refl; spans = refl; gone = c.join.ensures.items });
       idle = c.self.invariant.idle;
+      most = c.self.invariant.most;
     }
 
 pub returns-then-from-to-clause-arrived : goal.returns-then-from-to-clause-arrived
