@@ -46,7 +46,7 @@ impl<'a> Pieces<'a> {
         }
     }
 
-    /// All the octets, where no marker stands among them.
+    /// All the octets, where no marker stands among them. `None` may come at any time, and says nothing: it costs speed alone.
     #[inline(always)]
     pub fn whole(&self) -> Option<&'a [u8]>
         ensures { IfSome result (λ octets. self.now ≡ octets.now) }
@@ -58,7 +58,8 @@ impl<'a> Pieces<'a> {
         Some(octets)
     }
 
-    /// The first `k` octets, where more than these stand before the next marker, and all that come past them.
+    /// The first `k` octets, where more than these stand before the next marker, and all that come past them. `None` may come
+    /// at any time, and says nothing: it costs speed alone.
     #[inline(always)]
     pub fn split_front(&self, k: usize) -> Option<(&'a [u8], Pieces<'a>)>
         ensures { IfSome result (λ parts. (self.now ≡ parts.0.now ++ parts.1) × (length parts.0.now ≡ k)) }

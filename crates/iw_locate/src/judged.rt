@@ -81,7 +81,8 @@ impl<T, A: Allocator> Judged<T, A> {
         }
     }
 
-    /// Makes room for one record. The room stays until it is used. A refusal changes nothing.
+    /// Makes room for one record. The room stays until it is used, and while there is any no memory is asked for. A refusal
+    /// changes nothing.
     pub fn ready(&mut self) -> Result<(), RecordRefusal>
         ensures records { self.new.records ≡ self.old.records }
         ensures room { self.old.room ≤ self.new.room }
@@ -89,6 +90,7 @@ impl<T, A: Allocator> Judged<T, A> {
         ensures few { OnOk result (length self.new.records < max_records) }
         ensures full { max_records ≤ length self.old.records → result ≡ Err RecordRefusal.Full }
         ensures memory { length self.old.records < max_records → IfErr result (λ refusal. refusal ≡ RecordRefusal.NoMemory) }
+        ensures wants { length self.old.records < max_records → OnErr result (self.old.room ≡ 0) }
     {
         if self.records.len() >= MAX_RECORDS {
             return Err(RecordRefusal::Full);
@@ -164,6 +166,7 @@ impl<T, A: Allocator> Judged<T, A> {
     }
 
     /// Where the frames end that lie at `place` and on from there without a gap, as far as `limit`; or `place` where none does.
+    /// It may stop earlier, or at `place`, at any time: a shorter run costs speed alone.
     pub(crate) fn run_to(&self, place: u64, limit: u64) -> u64
         ensures covered { (q : ℕ) → place ≤ q → q < result → (r : Record T) × Contains self.now.records r × (from_of r ≤ q) × (q < r.end) }
         ensures low { place ≤ result }

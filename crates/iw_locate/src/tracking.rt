@@ -39,7 +39,8 @@ impl Locator {
         }
     }
 
-    /// Whether it is plain without a search that no place is free, or that none may be taken.
+    /// Whether it is plain without a search that no place is free, or that none may be taken. `false` may come at any time, and
+    /// says nothing: a search that could be spared costs speed alone.
     #[inline(always)]
     pub fn is_quiet<T, A: Allocator, B: Allocator>(
         &self,

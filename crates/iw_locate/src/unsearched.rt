@@ -98,6 +98,7 @@ impl Unsearched {
     }
 
     /// No frame that begins among those with a record can be judged early: the run of them from `low` on need not be looked at.
+    /// How far `low` moves on, if at all, is speed alone.
     #[inline]
     pub fn pass_judged<T, A: Allocator>(&mut self, judged: &Judged<T, A>)
         ensures rest { self.new ≡ from_low self.old self.new.low }
