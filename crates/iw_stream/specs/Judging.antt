@@ -8,7 +8,6 @@ use Rattle.iw_octets.specs.declared.head.UntaggedHead.{UntaggedHead}
 use Rattle.iw_octets.specs.declared.operation.TaggedOperation.{TaggedOperation}
 use Rattle.iw_octets.specs.declared.operation.TaggedOperation.TheVariants as tagged
 use Rattle.iw_octets.specs.declared.operation.UntaggedOperation.{UntaggedOperation}
-use Rattle.iw_octets.specs.declared.operation.UntaggedOperation.TheVariants as untagged
 use Rattle.iw_octets.specs.declared.payload.TerminateWord.{TerminateWord}
 use Rattle.iw_octets.specs.declared.segment.Segment.{Segment}
 use Rattle.iw_octets.specs.declared.segment.Segment.TheVariants.{Tagged, Untagged}
@@ -23,6 +22,7 @@ use Rattle.iw_memory.specs.declared.rights.Right.TheVariants as rights
 use Rattle.iw_memory.specs.Table.{Table, put, invalidate_denial, invalidated}
 use Rattle.iw_fpdu.specs.declared.fpdu.Mismatch.{Mismatch}
 use Rattle.iw_fpdu.specs.declared.fpdu.Mismatch.TheVariants.{CrcMismatch, MarkerMismatch}
+use Rattle.iw_queues.specs.Joined as joined
 use Rattle.iw_rdmap.specs.declared.head.Head.{Head}
 use Rattle.iw_rdmap.specs.declared.head.Head.TheVariants as heads
 use Rattle.iw_rdmap.specs.Head.{is_early}
@@ -165,18 +165,13 @@ receiving_tried r frame (Some at) = receiving_landed r (payload_of (segment_in f
 
 -- ---- its turn
 
--- what a Send does to its receiver beside the message, by its opcode (RFC 5040 4.3): it is solicited, and it has an STag to invalidate
+-- what a Send does to its receiver beside the message, by its opcode (RFC 5040 4.1, 4.6, 5.3): it is solicited, and it has an STag to
+-- invalidate
 abbrev pub is_solicited : Option UntaggedOperation → Bool
-is_solicited None = false
-is_solicited (Some untagged.ReadRequest) = false
-is_solicited (Some (untagged.Send solicited invalidates)) = solicited
-is_solicited (Some untagged.Terminate) = false
+is_solicited = joined.is_solicited
 
 abbrev pub has_stag : Option UntaggedOperation → Bool
-has_stag None = false
-has_stag (Some untagged.ReadRequest) = false
-has_stag (Some (untagged.Send solicited invalidates)) = invalidates
-has_stag (Some untagged.Terminate) = false
+has_stag = joined.is_invalidating
 
 abbrev pub stag_to_invalidate : UntaggedHead → Option Stag
 stag_to_invalidate head = if has_stag (untagged_operation (opcode_of head.control)) then Some (stag_of head.tail) else None

@@ -1,5 +1,5 @@
 -- The state of a stream, and what each call but work leaves of it.
-use Rattle.std.specs.Prelude.{ℕ, ◌+◌, ◌-◌, ◌==◌, nat_lt, nat_le, Bool, true, false, not, ◌&&◌, ◌||◌, List, [], length, if◌then◌else◌, Option, Some, None, Result, Ok, Err}
+use Rattle.std.specs.Prelude.{ℕ, ◌≡◌, ◌+◌, ◌-◌, ◌==◌, nat_lt, nat_le, Bool, true, false, not, ◌&&◌, ◌||◌, List, [], length, if◌then◌else◌, Option, Some, None, Result, Ok, Err}
 use Rattle.std.specs.Option.{option_map, option_map_or}
 use Rattle.iw_octets.specs.declared.fault.Fault.{Fault}
 use Rattle.iw_octets.specs.declared.segment.Segment.{Segment}
@@ -223,6 +223,14 @@ left_due table s (NextPart part) = record s {
   reads = reads_with s.reads part.ticket part.message;
 }
 left_due table s NoneDue = s
+
+-- a Read is begun while none is outstanding: memory for all that may be is taken then
+abbrev pub BeginsReads : StreamState → Due → Type 0
+BeginsReads s StartUp = ⊥
+BeginsReads s (LastWord payload) = ⊥
+BeginsReads s (Response part) = ⊥
+BeginsReads s (NextPart part) = (is_read part.message ≡ true) × (s.reads ≡ [])
+BeginsReads s NoneDue = ⊥
 
 -- what a call to emit appends, answers and leaves
 abbrev pub emitted : Table → StreamState → List ℕ

@@ -124,8 +124,8 @@ pub enum Step<O> {
         stag: Stag,
         to: u64,
     },
-    /// The frame whose first octet has this stream place was judged before its turn and is left for it: only its place is
-    /// kept.
+    /// The frame whose first octet has this stream place was judged before its turn and is left for it: only its place, its
+    /// length and where it ends are kept.
     Tried(u64),
     /// A frame had its turn, and there is nothing more to say of it.
     Passed,

@@ -1,4 +1,5 @@
-ghost use Rattle.std.specs.Prelude.{◌≡◌, ◌+◌, ◌-◌, ◌<◌, ◌≤◌, ◌%◌, ◌^◌, ◌++◌, length, OnOk, OnErr};
+ghost use Rattle.std.specs.Prelude.{◌≡◌, ◌+◌, ◌-◌, ◌<◌, ◌≤◌, ◌%◌, ◌^◌, ◌++◌, length, OnOk, OnErr, IsOk};
+ghost use Rattle.std.specs.Prelude.{vec_len, vec_capacity};
 ghost use Rattle.iw_octets.specs.declared.segment.Segment.TheVariants.{Tagged, Untagged};
 ghost use Rattle.iw_octets.specs.Segment.{segment_octets};
 ghost use Rattle.iw_fpdu.specs.Frame.{frame_octets, max_sent};
@@ -108,7 +109,7 @@ fn request_head(msn: u32) -> UntaggedHead
 
 /// Appends the frame of a tagged segment, to stand at frame place `at`.
 ///
-/// An `Err` leaves `out` as it was.
+/// An `Err` is want of memory, comes only where `out` has no room for the frame, and leaves `out` as it was.
 #[tactic(auto, unfolding(iw_octets::specs::Segment::segment_octets))]
 #[inline(never)]
 pub(crate) fn write_tagged<A: Allocator>(
@@ -124,11 +125,13 @@ pub(crate) fn write_tagged<A: Allocator>(
     requires short { 14 + length payload.now ≤ max_sent }
     ensures ok { OnOk result (out.new.items ≡ out.old.items ++ frame_octets layout at (segment_octets (Tagged head payload.now))) }
     ensures err { OnErr result (out.new.items ≡ out.old.items) }
+    ensures memory { vec_len out.old + length (frame_octets layout at (segment_octets (Tagged head payload.now))) ≤ vec_capacity out.old
+        → IsOk result }
 {
     write_segment(layout, at, head.write(), payload, out)
 }
 
-// Appends the frame of an untagged segment, to stand at frame place `at`. An `Err` leaves `out` as it was.
+// Appends the frame of an untagged segment, to stand at frame place `at`. An `Err` is as at `write_tagged`.
 #[tactic(auto, unfolding(iw_octets::specs::Segment::segment_octets))]
 #[inline(never)]
 fn write_untagged<A: Allocator>(
@@ -144,13 +147,15 @@ fn write_untagged<A: Allocator>(
     requires short { 18 + length payload.now ≤ max_sent }
     ensures ok { OnOk result (out.new.items ≡ out.old.items ++ frame_octets layout at (segment_octets (Untagged head payload.now))) }
     ensures err { OnErr result (out.new.items ≡ out.old.items) }
+    ensures memory { vec_len out.old + length (frame_octets layout at (segment_octets (Untagged head payload.now))) ≤ vec_capacity out.old
+        → IsOk result }
 {
     write_segment(layout, at, head.write(), payload, out)
 }
 
 /// Appends the frame of a part, to stand at frame place `at`, where the next messages have these numbers.
 ///
-/// An `Err` leaves `out` as it was.
+/// An `Err` is want of memory, comes only where `out` has no room for the frame, and leaves `out` as it was.
 #[inline(always)]
 pub(crate) fn write_part<A: Allocator, B: Allocator>(
     layout: Layout,
@@ -166,6 +171,8 @@ pub(crate) fn write_part<A: Allocator, B: Allocator>(
     requires offset { part.now.offset < 2 ^ 32 }
     ensures ok { OnOk result (out.new.items ≡ out.old.items ++ frame_octets layout at (segment_octets (segment_of (numbers_of numbers) (shown_part part.now)))) }
     ensures err { OnErr result (out.new.items ≡ out.old.items) }
+    ensures memory { vec_len out.old + length (frame_octets layout at (segment_octets (segment_of (numbers_of numbers) (shown_part part.now)))) ≤ vec_capacity out.old
+        → IsOk result }
 {
     match part.message {
         Request::Message(Message::Write { stag, to, .. }) => {
@@ -218,7 +225,7 @@ fn terminate_head() -> UntaggedHead
 
 /// Appends the frame of a Terminate with this payload, to stand at frame place `at`.
 ///
-/// An `Err` leaves `out` as it was.
+/// An `Err` is want of memory, comes only where `out` has no room for the frame, and leaves `out` as it was.
 pub(crate) fn write_terminate<A: Allocator>(
     layout: Layout,
     at: u64,
@@ -230,6 +237,8 @@ pub(crate) fn write_terminate<A: Allocator>(
     requires short { length payload.now ≤ MAX_TERMINATE }
     ensures ok { OnOk result (out.new.items ≡ out.old.items ++ frame_octets layout at (segment_octets (Untagged terminate_head payload.now))) }
     ensures err { OnErr result (out.new.items ≡ out.old.items) }
+    ensures memory { vec_len out.old + length (frame_octets layout at (segment_octets (Untagged terminate_head payload.now))) ≤ vec_capacity out.old
+        → IsOk result }
 {
     write_untagged(layout, at, terminate_head(), payload, out)
 }

@@ -1,4 +1,4 @@
-ghost use Rattle.std.specs.Prelude.{◌≡◌, ◌+◌, ◌-◌, ◌<◌, ◌≤◌, ◌^◌, ℕ, [], length, true};
+ghost use Rattle.std.specs.Prelude.{◌≡◌, ◌+◌, ◌-◌, ◌<◌, ◌≤◌, ◌^◌, ◌⊎◌, ℕ, [], length, true};
 ghost use Rattle.std.specs.Prelude.{IfOk, IfSome, OnOk, OnErr, IsTrue, MatchOption, Some, None};
 ghost use Rattle.std.specs.Option.{option_map};
 ghost use Rattle.iw_ranges.specs.Arrived.{Missing, cell_at, has_come, IsWithinLimits};
@@ -209,7 +209,7 @@ impl<A: Allocator> Incoming<A> {
         self.judged.overlaps_placed(start, end)
     }
 
-    /// Whether it is plain without a search that none can be judged early.
+    /// Whether it is plain without a search that none can be judged early. `false` may come at any time: it costs speed alone.
     #[inline(always)]
     pub(crate) fn is_quiet(&self) -> bool
         requires low { self.now.arrived.floor ≤ 2 ^ 62 }
@@ -236,11 +236,13 @@ impl<A: Allocator> Incoming<A> {
             .early_since(&self.islands, &self.judged, &mut self.unsearched)
     }
 
-    /// Makes room for one record and one release. An `Err` is want of memory.
+    /// Makes room for one record and one release. An `Err` is want of memory, and comes only where there is no room for one of
+    /// them.
     pub(crate) fn ready(&mut self) -> Result<(), AllocError>
         requires { length self.old.early < max_records }
         ensures room { OnOk result (0 < self.new.room) }
         ensures releases { OnOk result (0 < self.new.releases) }
+        ensures wants { OnErr result ((self.old.room ≡ 0) ⊎ (self.old.releases ≡ 0)) }
         ensures same { IsSameScene self.old self.new }
         ensures unsearched { self.new.unsearched ≡ self.old.unsearched }
     {
@@ -288,7 +290,7 @@ impl<A: Allocator> Incoming<A> {
         self.pass_judged();
     }
 
-    /// No frame need be looked for among those with a record.
+    /// No frame need be looked for among those with a record: to leave what has to be looked at as it is costs speed alone.
     #[inline(always)]
     fn pass_judged(&mut self)
         ensures same { IsSameScene self.old self.new }

@@ -11,7 +11,8 @@
 //!    [`Step::Asked`], the owner accepts or rejects the peer's Request.
 //!
 //! A stream ends by a fault, by the peer's Terminate, in its start-up, or where its owner says that the link broke
-//! (`break_link`). After a fault `emit` appends one Terminate, and nothing more; `work` hands back what was posted.
+//! (`break_link`). After a fault `emit` appends one Terminate, behind a start-up frame that is still owed, and nothing more; a
+//! responder at which no frame of the peer had its turn sends none (RFC 5044 7.1.2). `work` hands back what was posted.
 //!
 //! After 3 and 4 there may be more to emit. The regions that the peer may use are an `iw_memory::Memory`, lent to each call
 //! of `work`, and of `emit`, which answers the peer's Reads from them. No call does input or output; `post`, `post_recv`,

@@ -1,4 +1,5 @@
-ghost use Rattle.std.specs.Prelude.{◌≡◌, ◌+◌, ◌≤◌, ◌^◌, ◌++◌, [], length, true, is_ok, Some, IfOk, IfSome, OnOk, OnErr};
+ghost use Rattle.std.specs.Prelude.{◌≡◌, ◌+◌, ◌≤◌, ◌^◌, ◌++◌, [], length, true, is_ok, Some, IfOk, IfSome, OnOk, OnErr, IsOk};
+ghost use Rattle.std.specs.Prelude.{vec_len, vec_capacity};
 ghost use Rattle.iw_ranges.specs.Arrived.{advanced, in_order};
 ghost use Rattle.iw_startup.specs.declared.side.Reply.TheVariants.{Accept, Reject};
 ghost use Rattle.std.specs.Option.{option_map_or};
@@ -191,7 +192,8 @@ impl Start {
         }
     }
 
-    /// Appends this end's start-up frame, and tells its length. An `Err` leaves `out` as it was.
+    /// Appends this end's start-up frame, and tells its length. An `Err` is want of memory, comes only where `out` has no room
+    /// for it, and leaves `out` as it was.
     pub(crate) fn append_frame<A: Allocator>(
         &self,
         out: &mut Vec<u8, A>,
@@ -200,6 +202,7 @@ impl Start {
         ensures fits { IfOk result (λ len. len ≤ MAX_FRAME) }
         ensures ok { OnOk result (out.new.items ≡ out.old.items ++ own_frame self.now) }
         ensures err { OnErr result (out.new.items ≡ out.old.items) }
+        ensures memory { vec_len out.old + length (own_frame self.now) ≤ vec_capacity out.old → IsOk result }
     {
         let Some(startup) = &self.frames else {
             return Ok(0);

@@ -1,5 +1,5 @@
 ghost use Rattle.std.specs.Prelude.{◌≡◌, ◌≤◌, ◌^◌, ◌++◌, ◌&&◌, nat_le, length, true, false};
-ghost use Rattle.std.specs.Prelude.{is_ok, Some, None, Ok, IfOk, IsSome, OnOk, OnErr};
+ghost use Rattle.std.specs.Prelude.{◌+◌, [], is_ok, Some, None, Ok, IfOk, IsOk, IsSome, OnOk, OnErr, vec_len, vec_capacity};
 ghost use Rattle.std.specs.Option.{option_map_or};
 ghost use Rattle.iw_octets.specs.declared.fault.Fault.{Fault};
 ghost use Rattle.iw_octets.specs.declared.segment.Segment.TheVariants.{Tagged};
@@ -30,7 +30,7 @@ pub(super) fn must_wait<A: Allocator>(reads: &Reads<A>, request: &Request<Bytes<
     matches!(request, Request::Read(_)) && reads.is_full()
 }
 
-// A Read is outstanding once its request was sent. An `Err` is want of memory.
+// A Read is outstanding once its request was sent. An `Err` is want of memory, and comes only where none was.
 fn read_sent<A: Allocator>(
     reads: &mut Reads<A>,
     ticket: u64,
@@ -39,6 +39,7 @@ fn read_sent<A: Allocator>(
     requires { (is_read request.now && nat_le most_reads (length reads.old)) ≡ false }
     ensures ok { OnOk result (reads.new ≡ reads_with reads.old ticket request.now) }
     ensures err { OnErr result (reads.new ≡ reads.old) }
+    ensures memory { OnErr result ((is_read request.now ≡ true) × (reads.old ≡ [])) }
 {
     match request {
         Request::Message(_) => Ok(()),
@@ -47,7 +48,7 @@ fn read_sent<A: Allocator>(
 }
 
 // Counts a part that was sent: the numbers of the next messages go on, and a Read is outstanding. A Write changes neither.
-// An `Err` is want of memory, and changes nothing.
+// An `Err` is want of memory, comes only where a Read is begun while none is outstanding, and changes nothing.
 #[inline(always)]
 fn count_part<A: Allocator>(
     numbers: &mut Numbers,
@@ -58,6 +59,7 @@ fn count_part<A: Allocator>(
     ensures numbers { OnOk result (numbers_of numbers.new ≡ numbers_beyond (numbers_of numbers.old) (shown_part part.now)) }
     ensures reads { OnOk result (reads.new ≡ reads_with reads.old part.now.ticket part.now.message.now) }
     ensures err { OnErr result ((numbers.new ≡ numbers.old) × (reads.new ≡ reads.old)) }
+    ensures memory { OnErr result ((is_read part.now.message.now ≡ true) × (reads.old ≡ [])) }
 {
     if let Request::Message(Message::Write { .. }) = part.message {
         return Ok(());
@@ -72,7 +74,7 @@ impl<A: Allocator> Stream<A> {
     ghost use Rattle.iw_stream.specs.Stream.{owes_frame, is_mute, keeps_silent, part_due, response_due, frame_of};
     ghost use Rattle.iw_stream.specs.Stream.{StartUp, LastWord, Response, NextPart, NoneDue};
     ghost use Rattle.iw_stream.specs.Stream.{octets_due, emission_due, left_due, emission_fetched, left_fetched};
-    ghost use Rattle.iw_stream.specs.Stream.{emission_of, emitted, after_emit};
+    ghost use Rattle.iw_stream.specs.Stream.{due, emission_of, emitted, after_emit, BeginsReads};
 
     // This end's start-up frame is to be emitted.
     pub(super) fn owes_frame(&self) -> bool
@@ -101,7 +103,8 @@ impl<A: Allocator> Stream<A> {
     /// are outstanding, and what was posted after it waits too.
     ///
     /// The octets of a response are fetched as they are sent; where the peer may not read them, nothing is appended and the
-    /// stream has ended. An `Err` is want of memory, comes only where something is appended, and changes nothing.
+    /// stream has ended. An `Err` is want of memory, and changes nothing. It comes only where something is appended: where `out`
+    /// has no room for it, or where a Read is begun while none is outstanding, and memory is taken for 16 of them.
     pub fn emit(&mut self, memory: &Memory<A>, out: &mut Vec<u8, A>) -> Result<Emission, AllocError>
         requires { self.old.sent ≤ 2 ^ 62 }
         ensures emission { IfOk result (λ emission. emission ≡ emission_of memory.now self.old) }
@@ -110,6 +113,7 @@ impl<A: Allocator> Stream<A> {
         ensures err { OnErr result ((self.new ≡ self.old) × (out.new.items ≡ out.old.items)) }
         ensures memory { emission_of memory.now self.old ≡ Emission.Nothing → is_ok result ≡ true }
         ensures denied { (fault : Fault) → emission_of memory.now self.old ≡ Emission.Fault fault → is_ok result ≡ true }
+        ensures room { vec_len out.old + length (emitted memory.now self.old) ≤ vec_capacity out.old → OnErr result (BeginsReads self.old (due self.old)) }
     {
         if self.owes_frame() {
             return self.emit_startup(out);
@@ -134,6 +138,7 @@ impl<A: Allocator> Stream<A> {
         ensures out { (table : Table) → OnOk result (out.new.items ≡ out.old.items ++ octets_due table self.old StartUp) }
         ensures after { (table : Table) → OnOk result (self.new ≡ left_due table self.old StartUp) }
         ensures err { OnErr result ((self.new ≡ self.old) × (out.new.items ≡ out.old.items)) }
+        ensures room { (table : Table) → vec_len out.old + length (octets_due table self.old StartUp) ≤ vec_capacity out.old → OnErr result (BeginsReads self.old StartUp) }
     {
         let from = self.sent;
         let len = self.start.append_frame(out)?;
@@ -151,6 +156,7 @@ impl<A: Allocator> Stream<A> {
         ensures out { (table : Table) → OnOk result (out.new.items ≡ out.old.items ++ octets_due table self.old (option_map_or LastWord (last_word self.old.ending) NoneDue)) }
         ensures after { (table : Table) → OnOk result (self.new ≡ left_due table self.old (option_map_or LastWord (last_word self.old.ending) NoneDue)) }
         ensures err { OnErr result ((self.new ≡ self.old) × (out.new.items ≡ out.old.items)) }
+        ensures room { (table : Table) → vec_len out.old + length (octets_due table self.old (option_map_or LastWord (last_word self.old.ending) NoneDue)) ≤ vec_capacity out.old → OnErr result (BeginsReads self.old (option_map_or LastWord (last_word self.old.ending) NoneDue)) }
     {
         let Ending::Over(Some(terminate)) = &self.ending else {
             return Ok(Emission::Nothing);
@@ -190,6 +196,7 @@ impl<A: Allocator> Stream<A> {
         ensures out { OnOk result (out.new.items ≡ out.old.items ++ octets_due memory.now self.old (Response part)) }
         ensures after { OnOk result (self.new ≡ left_due memory.now self.old (Response part)) }
         ensures err { OnErr result ((self.new ≡ self.old) × (out.new.items ≡ out.old.items)) }
+        ensures room { vec_len out.old + length (octets_due memory.now self.old (Response part)) ≤ vec_capacity out.old → OnErr result (BeginsReads self.old (Response part)) }
         ensures denied { (fault : Fault) → emission_due memory.now self.old (Response part) ≡ Emission.Fault fault → is_ok result ≡ true }
     {
         match fetch(&part, memory, self.domain) {
@@ -218,6 +225,7 @@ impl<A: Allocator> Stream<A> {
         ensures out { OnOk result (out.new.items ≡ out.old.items ++ frame_of self.old (Tagged part.head octets.now)) }
         ensures after { OnOk result (self.new ≡ left_fetched self.old part (Ok (frame_of self.old (Tagged part.head octets.now)))) }
         ensures err { OnErr result ((self.new ≡ self.old) × (out.new.items ≡ out.old.items)) }
+        ensures room { vec_len out.old + length (frame_of self.old (Tagged part.head octets.now)) ≤ vec_capacity out.old → IsOk result }
     {
         let place = self.sent - self.start.first_place_out();
         let before = out.len();
@@ -245,6 +253,7 @@ impl<A: Allocator> Stream<A> {
         ensures out { (table : Table) → OnOk result (out.new.items ≡ out.old.items ++ octets_due table self.old (option_map_or NextPart (part_due self.old) NoneDue)) }
         ensures after { (table : Table) → OnOk result (self.new ≡ left_due table self.old (option_map_or NextPart (part_due self.old) NoneDue)) }
         ensures err { OnErr result ((self.new ≡ self.old) × (out.new.items ≡ out.old.items)) }
+        ensures room { (table : Table) → vec_len out.old + length (octets_due table self.old (option_map_or NextPart (part_due self.old) NoneDue)) ≤ vec_capacity out.old → OnErr result (BeginsReads self.old (option_map_or NextPart (part_due self.old) NoneDue)) }
         ensures memory { part_due self.old ≡ None → is_ok result ≡ true }
     {
         let place = self.sent - self.start.first_place_out();

@@ -366,7 +366,7 @@ impl<A: Allocator> Stream<A> {
         Ok(self.judge_apart(memory))
     }
 
-    // Whether it is plain without a search that no frame can be judged early.
+    // Whether it is plain without a search that no frame can be judged early. `false` may come at any time: it costs speed alone.
     #[inline(always)]
     pub(crate) fn is_quiet(&self) -> bool
         requires place { self.now.arrived.floor ≤ 2 ^ 62 }

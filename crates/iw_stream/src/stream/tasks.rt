@@ -27,7 +27,8 @@ impl<A: Allocator> Stream<A> {
     /// in its receive buffer ([`Step::Buffered`]), and any other is left as it is ([`Step::Tried`]). A Send is complete once all
     /// its frames, and all before them, had their turns.
     ///
-    /// An `Err` is want of memory for the record of such a frame, and changes nothing.
+    /// An `Err` is want of memory for the record of such a frame, or for the range of its octets that are given up, and changes
+    /// nothing.
     ///
     /// Where the stream has ended, each posted message is handed out in posting order, as finished or as given up, and then
     /// each receive buffer.
