@@ -58,8 +58,9 @@ use Rattle.iw_octets.specs.Segment.{read_segment}
 use Rattle.iw_octets.proofs.Spelled.{length-tagged_octets, is_tagged-first_octet}
 use Rattle.iw_octets.proofs.Front.{tagged_fields-append, read_segment-long_tagged}
 use Rattle.std.proofs.lemmas.List.{drop_at}
-use Rattle.iw_laws.proofs.Merges.{posts-append, answers-append, octets-append, goes_to, some_merged}
-use Rattle.iw_laws.specs.Merged.{Item, Post, Response, posts_in, answers_in, octets_of, response_segment, AreMerged}
+use Rattle.iw_laws.proofs.Merges.{posts-append, answers-append, goes_to, some_merged}
+use Rattle.iw_laws.specs.Merged.{Item, Post, Response, posts_in, answers_in, octets_of, responded, response_segment, AreMerged}
+use Rattle.iw_laws.proofs.Responded.{sent_octets}
 use Rattle.iw_laws.specs.Turns.{Answer}
 use Rattle.iw_octets.specs.declared.segment.Segment.TheVariants.{Tagged, Untagged}
 use Rattle.iw_octets.specs.declared.payload.ReadRequest.{ReadRequest}
@@ -336,7 +337,7 @@ pub record Whole (t : Tale) (segments : List (Segment Octets)) (asked : List Rea
   pub merged : AreMerged first_numbers 0 items (segments ++ later)
   pub posts : posts_in items ≡ t.posted
   pub requests : map (λ (a : Answer). a.request) (answers_in items) ≡ asked
-  pub octets : IsPrefixOf fetched (octets_of (answers_in items))
+  pub octets : responded segments ≡ fetched
 
 pub whole_of : (s : StreamState) (t : Tale) (e : Emits s t) → Whole t e.segments (map (λ (a : Answer). a.request) t.story.answers ++ map (λ (a : Asked). a.request) s.asked.unanswered) (octets_of t.story.answers ++ t.story.begun)
 whole_of s t e =
@@ -350,10 +351,8 @@ whole_of s t e =
       posts = posts-append k.items g.items ∙ ap (λ z. posts_in k.items ++ z) g.posts ∙ k.posts;
       requests = ap (map (λ (a : Answer). a.request)) (answers-append k.items g.items) ∙ map-append (λ (a : Answer). a.request) (answers_in k.items) (answers_in g.items)
           ∙ (λ i. map (λ (a : Answer). a.request) (k.are i) ++ g.requests i);
-      octets = (
-        g.more,
-        append_assoc (octets_of t.story.answers) t.story.begun g.more ∙ (λ i. octets_of (sym k.are i) ++ sym g.octets i) ∙ sym (octets-append (answers_in k.items) (answers_in g.items)) ∙ ap octets_of (sym (answers-append k.items g.items)),
-      );
+      octets = sent_octets e.kept s.numbers s.asked.unanswered t.story.begun k.items g.items e.segments m.0 g.goes k.apart m.1 (k.goes_on g.items m.0 g.goes m.1)
+          ∙ ap (λ z. octets_of z ++ t.story.begun) k.are;
     }
 
 -- the segments that were sent go on to all that was posted

@@ -33,6 +33,7 @@ pub mod RefusedSent
 pub mod RefusedEnds
 pub mod Heard
 pub mod Responses
+pub mod Responded
 pub mod Delivered
 pub mod Placed
 pub mod Ends

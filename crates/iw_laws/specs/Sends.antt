@@ -26,7 +26,7 @@ use Rattle.iw_stream.specs.Ending.{is_broken, last_word}
 use Rattle.iw_laws.specs.Words.{Octets, acts, deed, stream_acts, posted, handed_kinds, ended, sent, size_set}
 use Rattle.iw_stream.specs.Starting.{is_open, sending, own_frame}
 use Rattle.iw_laws.specs.Turns.{Story, story_of, is_silent, is_last}
-use Rattle.iw_laws.specs.Merged.{Item, AreMerged, posts_in, answers_in, octets_of}
+use Rattle.iw_laws.specs.Merged.{Item, AreMerged, posts_in, answers_in, octets_of, responded}
 use Rattle.iw_laws.specs.Words.{OnSome, OnStream, AtEach}
 
 -- ---- all that was sent
@@ -55,16 +55,16 @@ farewells None = []
 farewells (Some payload) = terminate_segment payload ∷ []
 
 -- these octets are the start-up frame and the frames of the first of the segments that carry what was posted, in order, and the
--- responses to what the peer asked for, in order, which begin with the octets that were fetched; and past them of a Terminate, where
--- one went out; or they are none
+-- responses to what the peer asked for, in order; of the responses those have exactly the octets that were fetched; and past them the
+-- frame of a Terminate, if one went out; or there are no octets
 pub record AreFirstFrames (t : Story) (octets : Octets) (messages : List (Request Octets)) : Type 0 where
   pub items : List Item
   pub posts : posts_in items ≡ messages
   pub answers : map (λ a. a.request) (answers_in items) ≡ asked_of t
-  pub fetched : IsPrefixOf (fetched_of t) (octets_of (answers_in items))
   pub begun : List (Segment Octets)
   pub later : List (Segment Octets)
   pub carry : AreMerged first_numbers 0 items (begun ++ later)
+  pub fetched : responded begun ≡ fetched_of t
   pub framed : ((octets ≡ []) × (begun ≡ [])) ⊎ (octets ≡ own_frame t.start ++ sequence (sending t.start) 0 (map segment_octets (begun ++ farewells t.farewell)))
   pub closed : is_open t.start ≡ false → begun ++ farewells t.farewell ≡ []
   pub silent : is_silent t ≡ true → begun ++ farewells t.farewell ≡ []
