@@ -1,12 +1,12 @@
 -- What follows where no check of an untagged segment fails.
-use Rattle.std.proofs.Common.{◌≡◌, ℕ, zero, suc, ◌+◌, ◌<◌, ◌≤◌, List, [], ◌∷◌, ◌++◌, length, take, drop, map, Some, None, Bool, true, false, cond, refl, sym, ap, ◌∙◌, arith, length-append, length-drop, length-take}
+use Rattle.std.proofs.Common.{◌≡◌, ℕ, zero, suc, ◌+◌, ◌<◌, ◌≤◌, List, [], ◌∷◌, ◌++◌, length, take, drop, Some, None, Bool, true, false, cond, refl, sym, arith, length-append, length-drop, length-take}
 use Rattle.std.specs.Prelude.{slice_get, slice_set, slice_index_or, nat_le, nat_lt}
 use Rattle.std.proofs.lemmas.Bool.Decides.{nat_tests}
 use Rattle.std.proofs.lemmas.Option.{none-some}
 use Rattle.iw_octets.specs.declared.fault.TheConstants.Fault as faults
 use Rattle.iw_octets.specs.declared.head.UntaggedHead.{UntaggedHead}
 use Rattle.iw_octets.specs.Octets.{splice}
-use Rattle.iw_untagged.specs.Receiving.{Receiving, ahead_of, buffer_of, buffer_fault, turn_fault}
+use Rattle.iw_untagged.specs.Receiving.{Receiving, ahead_of, buffer_of, buffer_fault}
 
 -- the buffer is there, with room
 pub record HasBuffer (bs : List (List ℕ)) (i end : ℕ) : Type 0 where
@@ -35,9 +35,6 @@ checked_buffer r head n e =
     let p = passed r head.msn head.mo n e in
     record { buffer = buffer_of r head.msn; is = get_within r.buffers (ahead_of r.due head.msn) p.0; room = p.1 }
 
-pub turned_first : (r : Receiving) (msn mo : ℕ) → turn_fault r msn mo ≡ None → ahead_of r.due msn ≡ 0
-turned_first r msn mo e = grind (arith, nat_tests)
-
 -- ---- a buffer that is written
 
 pub get_set : (bs : List (List ℕ)) (i : ℕ) (new old : List ℕ) → slice_get bs i ≡ Some old → slice_get (slice_set bs i new) i ≡ Some new
@@ -45,20 +42,10 @@ get_set [] i new old e = absurd (none-some _ e)
 get_set (b ∷ bs) zero new old e = refl
 get_set (b ∷ bs) (suc i) new old e = get_set bs i new old e
 
-pub same_lengths : (bs : List (List ℕ)) (i : ℕ) (new old : List ℕ) → slice_get bs i ≡ Some old → length new ≡ length old → map length (slice_set bs i new) ≡ map length bs
-same_lengths [] i new old e len = absurd (none-some _ e)
-same_lengths (b ∷ bs) zero new old e len = let same : b ≡ old = cc in ap (λ n. n ∷ map length bs) (len ∙ ap length (sym same))
-same_lengths (b ∷ bs) (suc i) new old e len = ap (λ z. length b ∷ z) (same_lengths bs i new old e len)
-
 pub index_of : (bs : List (List ℕ)) (i : ℕ) (old : List ℕ) → slice_get bs i ≡ Some old → slice_index_or bs i [] ≡ old
 index_of [] i old e = absurd (none-some _ e)
 index_of (b ∷ bs) zero old e = cc
 index_of (b ∷ bs) (suc i) old e = index_of bs i old e
-
-pub length_of : (bs : List (List ℕ)) (i : ℕ) (old : List ℕ) → slice_get bs i ≡ Some old → slice_get (map length bs) i ≡ Some (length old)
-length_of [] i old e = absurd (none-some _ e)
-length_of (b ∷ bs) zero old e = let same : b ≡ old = cc in ap (λ z. Some (length z)) same
-length_of (b ∷ bs) (suc i) old e = length_of bs i old e
 
 pub length-splice : (old new : List ℕ) (at : ℕ) → at + length new ≤ length old → length (splice old at new) ≡ length old
 length-splice old new at fits =

@@ -74,7 +74,7 @@ use Rattle.iw_events.specs.declared.act.Shown.{Shown}
 use Rattle.iw_events.specs.declared.act.Seen.{Seen}
 use Rattle.iw_events.specs.declared.act.Seen.TheVariants as seen
 use Rattle.iw_events.specs.declared.act.Entry.{Entry}
-use Rattle.iw_laws.specs.Words.{Octets, other, acts, deed, buffers, handed_kinds, size_set, stream_acts, Opening, opening_in, opening_of, openings, was_opened, domain_of, posted, sends, received, ended as has_ended_by, sent, placings, written, sunk, finished_kinds, table_after}
+use Rattle.iw_laws.specs.Words.{Octets, other, acts, deed, handed_kinds, size_set, stream_acts, Opening, opening_in, opening_of, openings, was_opened, domain_of, posted, sends, received, ended as has_ended_by, sent, placings, written, sunk, finished_kinds, table_after}
 use Rattle.iw_laws.specs.Safe.{IsHonest, InOrder, CoversWrites, Covered, Fits, Within, WithinStream}
 use Rattle.iw_laws.specs.Merged.{AreMerged, posts_in, response_segment}
 use Rattle.iw_laws.specs.Faithful.{FetchShown, FetchStream, count_done, AnswersReads, Answering}
@@ -833,12 +833,12 @@ shows_memory trace follows past e future is =
     end_answered (acts e.end past) (end_of e.end w) e.act (m.0.ends e.end) m.1.0
 
 -- the buffers and the messages that count for a refusal
-recv_refused : (o : Opening) (c : Connected) (done : List (StreamAct Octets)) → Own o c (tale_of o done) → recv_refusal c.stream ≡ recv_refusal_by done
-recv_refused o c done own = go (ended c.stream) (nat_le 256 (length c.stream.receiving.buffers)) own.ended (ap (nat_le 256) (sym (length-map c.stream.receiving.buffers (length {A = ℕ})) ∙ ap length own.lengths))
+recv_refused : (o : Opening) (c : Connected) (done : List (StreamAct Octets)) → Own o c (tale_of o done) → recv_refusal c.stream ≡ recv_refusal_by (story o done) done
+recv_refused o c done own = go (ended c.stream) (nat_le 256 (length c.stream.receiving.buffers)) own.ended (ap (λ (r : Receiving). nat_le 256 (length r.buffers)) (sym own.track.receiving))
   where
-    go : (over full : Bool) → over ≡ has_ended_by done → full ≡ nat_le 256 (length (buffers done))
-        → cond over (Some recv_refusals.Ended) (option_map recv_refusal_of (cond full (Some buffer_refusals.Full) None)) ≡ cond (has_ended_by done) (Some recv_refusals.Ended) (cond (nat_le 256 (length (buffers done))) (Some recv_refusals.Full) None)
-    go true full a b = ap (λ z. cond z (Some recv_refusals.Ended) (cond (nat_le 256 (length (buffers done))) (Some recv_refusals.Full) None)) a
+    go : (over full : Bool) → over ≡ has_ended_by done → full ≡ nat_le 256 (length (story o done).receiving.buffers)
+        → cond over (Some recv_refusals.Ended) (option_map recv_refusal_of (cond full (Some buffer_refusals.Full) None)) ≡ cond (has_ended_by done) (Some recv_refusals.Ended) (cond (nat_le 256 (length (story o done).receiving.buffers)) (Some recv_refusals.Full) None)
+    go true full a b = ap (λ z. cond z (Some recv_refusals.Ended) (cond (nat_le 256 (length (story o done).receiving.buffers)) (Some recv_refusals.Full) None)) a
     go false true a b = (λ i. cond (a i) (Some recv_refusals.Ended) (cond (b i) (Some recv_refusals.Full) None))
     go false false a b = (λ i. cond (a i) (Some recv_refusals.Ended) (cond (b i) (Some recv_refusals.Full) None))
 

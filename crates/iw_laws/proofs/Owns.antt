@@ -1,7 +1,7 @@
 -- What the state of a stream has in common with what its acts say, and that changes stay within what was allowed.
-use Rattle.std.proofs.Common.{◌≡◌, ℕ, zero, suc, take, length-drop, ◌+◌, ◌-◌, ◌%◌, ◌^◌, ◌<◌, ◌≤◌, List, [], ◌∷◌, ◌++◌, length, drop, map, replicate, Option, Some, None, Bool, true, false, cond, refl, sym, ap, ◌∙◌, subst, arith, length-append, append_assoc, length-take, inl, inr, ◌⊎◌, Ok, Err, add-one}
-use Rattle.std.specs.Prelude.{slice_get, slice_index_or, nat_lt, nat_eq, is_some, ◌&&◌}
-use Rattle.std.proofs.lemmas.List.{append-nil, map-append, length-map, take-append-le, length-replicate, length_push}
+use Rattle.std.proofs.Common.{◌≡◌, ℕ, zero, suc, take, length-drop, ◌+◌, ◌-◌, ◌%◌, ◌^◌, ◌<◌, ◌≤◌, List, [], ◌∷◌, ◌++◌, length, drop, map, Option, Some, None, Bool, true, false, cond, refl, sym, ap, ◌∙◌, subst, arith, length-append, append_assoc, length-take, inl, inr, ◌⊎◌, Ok, Err, add-one}
+use Rattle.std.specs.Prelude.{slice_get, nat_lt, nat_eq, is_some, ◌&&◌}
+use Rattle.std.proofs.lemmas.List.{append-nil, map-append, length-map, take-append-le, length_push}
 use Rattle.std.proofs.lemmas.Option.{none-some}
 use Rattle.std.proofs.lemmas.Bool.Decides.{nat_tests}
 use Rattle.std.proofs.lemmas.Bool.{true≢false, false≢true}
@@ -50,7 +50,6 @@ use Rattle.iw_laws.specs.Rules.{FitsPosted}
 use Rattle.iw_laws.proofs.Merges.{Merges, BeginsResponse, asked_or, merges_post, merges_part, merges_last, merges_front}
 use Rattle.iw_octets.specs.declared.segment.Segment.{Segment}
 use Rattle.iw_octets.specs.declared.segment.Segment.TheVariants.{Tagged, Untagged}
-use Rattle.iw_octets.specs.Octets.{splice}
 use Rattle.iw_octets.specs.Segment.{segment_octets}
 use Rattle.iw_memory.specs.Table.{Table, region_at, denial, octets_at}
 use Rattle.iw_memory.specs.Laws.{Allows}
@@ -62,7 +61,7 @@ use Rattle.iw_fpdu.specs.Frame.{frame_octets}
 use Rattle.iw_fpdu.specs.Sequence.{sequence, place_past}
 use Rattle.iw_fpdu.proofs.Sequences.{sequences_join, place_is}
 use Rattle.iw_fpdu.proofs.Follows.{frames_follow}
-use Rattle.iw_untagged.specs.Receiving.{Receiving, ahead_of, buffer_fault, written}
+use Rattle.iw_untagged.specs.Receiving.{Receiving, ahead_of, buffer_fault}
 use Rattle.iw_queues.specs.declared.request.Kind.{Kind}
 use Rattle.iw_queues.specs.declared.request.Request.{Request}
 use Rattle.iw_queues.specs.declared.completions.Done.{Done}
@@ -103,13 +102,13 @@ use Rattle.iw_events.specs.declared.act.StreamAct.TheVariants.{Recv, Post, Emit,
 use Rattle.iw_events.specs.declared.act.Shown.{Shown}
 use Rattle.iw_events.specs.declared.act.Shown.TheVariants.{Frame, Fetched, Fault as Denied, Nothing}
 use Rattle.iw_events.specs.declared.act.Seen.TheVariants as seen
-use Rattle.iw_laws.specs.Words.{Octets, deed, Opening, posted_by, finished_by, handed_by, size_after, received_by, ended_after, octets_shown, is_denied, sent_by, buffers_after, Sent, private_data}
+use Rattle.iw_laws.specs.Words.{Octets, deed, Opening, posted_by, finished_by, handed_by, size_after, received_by, ended_after, octets_shown, is_denied, sent_by, Sent, private_data}
 use Rattle.iw_laws.specs.Rules.{StreamRule, shown_of}
 use Rattle.iw_laws.proofs.States.{Connected}
 use Rattle.iw_laws.specs.Safe.{InBuffer}
 use Rattle.iw_laws.specs.Words.{OnSome}
 use Rattle.iw_laws.proofs.Nexts.{Front, fore, segment_at, turned_by, standing}
-use Rattle.iw_laws.proofs.Told.{Told, judged_payload, payload_there, payload_early, Hears, GivesUp, fault_front, left_frame, after_shown, after_act, told, asked_front, reads_front, finishes_read, with_finished}
+use Rattle.iw_laws.proofs.Told.{Told, Hears, GivesUp, fault_front, left_frame, after_shown, after_act, told, asked_front, reads_front, finishes_read, with_finished}
 use Rattle.iw_laws.proofs.Tales.{Tale, tale_after}
 use Rattle.iw_laws.proofs.Paid.{IsPaid, paying}
 use Rattle.iw_laws.proofs.Onces.{Onces, once_after}
@@ -118,7 +117,7 @@ use Rattle.iw_laws.proofs.Tracks.{Track, by_ended, shown_stays, sound, silent_is
 use Rattle.iw_laws.proofs.Lists.{Each, each-push, each-first, each-last}
 use Rattle.iw_laws.proofs.Counts.{marks, length-marks, count_reads-kinds, map-take, take-all, count_done-append, read_mark, message_at, Hands, Counts, Handing, handing_of, same_handing, one_handed, same_counts, posted_counts, part_counts, handed_counts, answered_counts, part_ticket, hands, one_for, count_last, count_last-append, last_of, plain_part, whole_of}
 use Rattle.iw_laws.proofs.Sending.{FitsNumbers, IsSendable, accepted, EmitsStart, EmitsLast, EmitsPart, EmitsResponse, emits_as, shown_good, response_good, shows, past_small, terminate_few, terminate_good}
-use Rattle.iw_laws.proofs.Checks.{HasBuffer, checked_buffer, same_lengths, index_of, length_of, length-splice}
+use Rattle.iw_laws.proofs.Checks.{checked_buffer}
 
 -- what was sent is the start-up frame, if there is one, and the frames of these segments; or neither yet
 pub data IsFramed (start : StartState) (sent : Octets) (segments : List (Segment Octets)) : Type 0 where
@@ -210,7 +209,6 @@ pub record Doing (t : Tale) : Type 0 where
 pub record Own (o : Opening) (c : Connected) (t : Tale) : Type 0 where
   pub wire : c.wire ≡ t.sent
   pub sent : c.stream.sent ≡ length t.sent
-  pub lengths : map length c.stream.receiving.buffers ≡ t.buffers
   pub due : c.stream.receiving.due ≡ (1 + length t.received) % 2 ^ 32
   pub starts : IsStartOf o c.stream.start
   pub small : length o.config.private.items ≤ 512
@@ -298,65 +296,10 @@ emission_sent table s Nothing rule = omega arith
 next_due : (d n : ℕ) → d ≡ (1 + n) % 2 ^ 32 → (d + 1) % 2 ^ 32 ≡ (1 + (n + 1)) % 2 ^ 32
 next_due d n e = omega arith
 
--- the buffer that octets are written into keeps its length
-kept_lengths : (r : Receiving) (head : UntaggedHead) (payload octets : Octets) (msn mo : ℕ) → buffer_fault r head.msn head.mo (length payload) ≡ None → msn ≡ head.msn → mo ≡ head.mo → octets ≡ payload
-    → map length (written r msn mo octets).buffers ≡ map length r.buffers
-kept_lengths r head payload octets msn mo checked msn_is mo_is same =
-    let b : HasBuffer r.buffers (ahead_of r.due head.msn) (head.mo + length payload) = checked_buffer r head (length payload) checked in
-    let i : ℕ = ahead_of r.due head.msn in
-    let old : slice_index_or r.buffers i [] ≡ b.buffer = index_of r.buffers i b.buffer b.is in
-    let size : length (splice (slice_index_or r.buffers i []) head.mo payload) ≡ length b.buffer =
-    ap (λ z. length (splice z head.mo payload)) old ∙ length-splice b.buffer payload head.mo b.room in
-    (λ k. map length (written r (msn_is k) (mo_is k) (same k)).buffers) ∙ same_lengths r.buffers i (splice (slice_index_or r.buffers i []) head.mo payload) b.buffer b.is size
-
-one_less : (bs : List (List ℕ)) → map length (drop 1 bs) ≡ drop 1 (map length bs)
-one_less [] = refl
-one_less (b ∷ bs) = refl
-
-turned_lengths : (r : Receiving) (o : Option (Segment Octets)) → (turned_by r o).buffers ≡ r.buffers
-turned_lengths r None = refl
-turned_lengths r (Some (Tagged head payload)) = refl
-turned_lengths r (Some (Untagged head payload)) = refl
-
 turned_due : (r : Receiving) (o : Option (Segment Octets)) → (turned_by r o).due ≡ r.due
 turned_due r None = refl
 turned_due r (Some (Tagged head payload)) = refl
 turned_due r (Some (Untagged head payload)) = refl
-
-lengths_are : (table : Table) (s : StreamState) (act : StreamAct Octets) → Told table s act → map length (after_act s act).receiving.buffers ≡ buffers_after (map length s.receiving.buffers) act
-lengths_are table s (Recv len None) rule = map-append length s.receiving.buffers (replicate len 0 ∷ []) ∙ ap (λ n. map length s.receiving.buffers ++ n ∷ []) (length-replicate len 0)
-lengths_are table s (Recv len (Some refusal)) rule = refl
-lengths_are table s (Post m None) rule = refl
-lengths_are table s (Post m (Some refusal)) rule = refl
-lengths_are table s (Emit shown) rule = ap (λ (r : Receiving). map length r.buffers) (left_heard s shown).receiving
-lengths_are table s (Deliver from octets Kept) rule = refl
-lengths_are table s (Raw from octets Kept) rule = refl
-lengths_are table s (Deliver from octets Dropped) rule = refl
-lengths_are table s (Raw from octets Dropped) rule = refl
-lengths_are table s (Mulpdu size None) rule = refl
-lengths_are table s (Mulpdu size (Some refusal)) rule = refl
-lengths_are table s (Accept private (Ok agreed)) rule = refl
-lengths_are table s (Accept private (Err refusal)) rule = refl
-lengths_are table s (Reject private None) rule = refl
-lengths_are table s (Reject private (Some refusal)) rule = refl
-lengths_are table s (Work (seen.Asked private)) rule = refl
-lengths_are table s (Work (seen.Opened agreed private)) rule = refl
-lengths_are table s (Work (seen.Closed fault)) rule = refl
-lengths_are table s (Work (seen.Done kind)) rule = refl
-lengths_are table s (Work (seen.Placed right stag to octets)) rule = refl
-lengths_are table s (Work (seen.Tried place)) rule = refl
-lengths_are table s (Work (seen.Buffered msn mo len)) (inl (j, w)) = kept_lengths s.receiving w.head w.payload (judged_payload s) msn mo w.checked w.msn_is w.mo_is (payload_there s (Untagged w.head w.payload) w.fronts)
-lengths_are table s (Work (seen.Buffered msn mo len)) (inr (j, w)) =
-    kept_lengths s.receiving w.head w.payload (judged_payload s) msn mo w.checked w.msn_is w.mo_is (payload_early s w.frame (Untagged w.head w.payload) j.none w.is_early w.carries)
-lengths_are table s (Work (seen.Requested size stag to)) rule = refl
-lengths_are table s (Work seen.Passed) rule = ap (map length) (turned_lengths s.receiving (segment_at (fore s)))
-lengths_are table s (Work (seen.Received octets solicited invalidate)) rule = one_less s.receiving.buffers
-lengths_are table s (Work (seen.Flushed kind)) rule = refl
-lengths_are table s (Work (seen.FlushedRecv octets)) rule = one_less s.receiving.buffers
-lengths_are table s (Work (seen.Terminated fault)) rule = refl
-lengths_are table s Break rule = refl
-lengths_are table s (Work (seen.Fault fault)) rule = refl
-lengths_are table s (Work seen.Idle) rule = refl
 
 same_due : (d : ℕ) (done : List Sent) → d ≡ (1 + length done) % 2 ^ 32 → d ≡ (1 + length (done ++ [])) % 2 ^ 32
 same_due d done e = e ∙ ap (λ z. (1 + length z) % 2 ^ 32) (sym (append-nil done))
@@ -1809,7 +1752,6 @@ owning o table c t act given own =
     record {
       wire = ap (λ z. z ++ sent_by act) own.wire;
       sent = sent_is table c.stream act t.sent rule own.sent;
-      lengths = lengths_are table c.stream act rule ∙ ap (λ z. buffers_after z act) own.lengths;
       due = due_is c.stream act t.received own.due;
       starts = starting o table c.stream act rule own.starts;
       small = own.small;
@@ -1826,21 +1768,19 @@ owning o table c t act given own =
 abbrev pub WithinTale : Table → ℕ → Tale → StreamAct Octets → Type 0
 WithinTale table domain t act =
     OnSome (λ p. Allows table domain p.stag p.to (length p.octets) p.right) (deed act).placing
-    × OnSome (λ b. InBuffer t.buffers ((1 + length t.received) % 2 ^ 32) b.msn b.mo b.len) (deed act).buffering
+    × OnSome (InBuffer t.story.receiving) (deed act).buffering
 
 -- octets that pass the checks lie in the buffer that their number names
 in_buffer : (opening : Opening) (c : Connected) (t : Tale) (head : UntaggedHead) (payload : Octets) (msn mo len : ℕ) → buffer_fault c.stream.receiving head.msn head.mo (length payload) ≡ None → msn ≡ head.msn → mo ≡ head.mo → len ≡ length payload
-    → Own opening c t → Unit {0} × InBuffer t.buffers ((1 + length t.received) % 2 ^ 32) msn mo len
+    → Own opening c t → Unit {0} × InBuffer t.story.receiving (record { msn = msn; mo = mo; len = len })
 in_buffer opening c t head payload msn mo len checked msn_is mo_is len_is o =
-    let r : Receiving = c.stream.receiving in
-    let b = checked_buffer r head (length payload) checked in
-    let i : ℕ = ahead_of r.due head.msn in (
+    let b = checked_buffer c.stream.receiving head (length payload) checked in (
       tt,
-      (
-        length b.buffer,
-        (λ k. slice_get (sym o.lengths k) (ahead_of (sym o.due k) (msn_is k))) ∙ length_of r.buffers i b.buffer b.is,
-        omega (arith, b.room, mo_is, len_is),
-      ),
+      record {
+        buffer = b.buffer;
+        is = (λ k. slice_get (o.track.receiving k).buffers (ahead_of (o.track.receiving k).due (msn_is k))) ∙ b.is;
+        lie = omega (arith, b.room, mo_is, len_is);
+      },
     )
 
 pub within : (opening : Opening) (table : Table) (c : Connected) (t : Tale) (act : StreamAct Octets) → Told table c.stream act → Own opening c t → WithinTale table c.stream.domain t act

@@ -32,7 +32,7 @@ use Rattle.iw_events.specs.declared.act.Act.TheVariants.{Domain}
 use Rattle.iw_events.specs.declared.act.Seen.TheVariants as seen
 use Rattle.iw_events.specs.declared.act.StreamAct.TheVariants.{Emit, Deliver, Accept}
 use Rattle.iw_events.specs.declared.act.Shown.TheVariants.{Frame}
-use Rattle.iw_laws.specs.Words.{Octets, acts, stream_acts, openings, ended, sent, size_set, posted, handed_kinds, received, buffers, table_after}
+use Rattle.iw_laws.specs.Words.{Octets, acts, stream_acts, openings, ended, sent, size_set, posted, handed_kinds, table_after}
 use Rattle.iw_laws.specs.Turns.{Story, story, story_of}
 use Rattle.std.proofs.lemmas.List.{append-nil}
 use Rattle.iw_events.specs.declared.act.Shown.TheVariants as shows
@@ -270,8 +270,8 @@ refuses_placed_unwritable h = elim (h (take 4 places_readable) (b (works places)
 ]
 
 pub refuses_buffered_past : RefusesBufferedPast
-unfolding acts stream_acts buffers received
+unfolding acts stream_acts openings story
 refuses_buffered_past h =
     let r = (h (take 4 buffers_past) (b buffers_one) [] refl).1 in
-    let none : 0 ≡ r.0 = same_Some _ _ r.1 in
-    omega (arith, none, r.2)
+    let none : [] ≡ r.buffer = same_Some _ _ r.is in
+    omega (arith, ap length none, r.lie)

@@ -13,7 +13,7 @@ use Rattle.iw_events.specs.declared.act.StreamAct.{StreamAct}
 use Rattle.iw_events.specs.declared.act.Entry.{Entry}
 use Rattle.iw_laws.specs.Once.{Span, Placed, placed_after, spans_by, spans_placed}
 use Rattle.iw_laws.specs.Turns.{Story, story, story_after, untold}
-use Rattle.iw_laws.specs.Words.{Opening, Octets, other, acts, acts_if, stream_acts, stream_acts_by, openings, openings_by, posted, posted_by, finished_kinds, finished_by, handed_kinds, handed_by, size_set, size_after, Sent, received, received_by, has_raw, raw_after, ended, ended_after, sent, sent_by, Placing, placings, placed_by, table_after, table_by, buffers, buffers_after}
+use Rattle.iw_laws.specs.Words.{Opening, Octets, other, acts, acts_if, stream_acts, stream_acts_by, openings, openings_by, posted, posted_by, finished_kinds, finished_by, handed_kinds, handed_by, size_set, size_after, Sent, received, received_by, has_raw, raw_after, ended, ended_after, sent, sent_by, Placing, placings, placed_by, table_after, table_by}
 
 -- what the acts of one end say of one of its streams
 pub record Tale : Type 0 where
@@ -24,7 +24,6 @@ pub record Tale : Type 0 where
   pub size : ℕ
   pub received : List Sent
   pub sent : List ℕ
-  pub buffers : List ℕ
   pub placings : List Placing
   pub story : Story
   pub ended : Bool
@@ -32,7 +31,7 @@ pub record Tale : Type 0 where
   pub spans : List (Option Span)
 
 abbrev pub tale_of : Opening → List (StreamAct Octets) → Tale
-tale_of o done = record { acts = length done; posted = posted done; finished = finished_kinds done; handed = handed_kinds done; size = size_set done; received = received done; sent = sent done; buffers = buffers done; placings = placings done; story = story o done; ended = ended done; raw = has_raw done; spans = spans_placed o done }
+tale_of o done = record { acts = length done; posted = posted done; finished = finished_kinds done; handed = handed_kinds done; size = size_set done; received = received done; sent = sent done; placings = placings done; story = story o done; ended = ended done; raw = has_raw done; spans = spans_placed o done }
 
 abbrev pub tale_after : Tale → StreamAct Octets → Tale
 tale_after t act = record {
@@ -43,7 +42,6 @@ tale_after t act = record {
   size = size_after t.size act;
   received = t.received ++ received_by act;
   sent = t.sent ++ sent_by act;
-  buffers = buffers_after t.buffers act;
   placings = t.placings ++ placed_by act;
   story = story_after t.story act;
   ended = ended_after t.ended act;
@@ -69,7 +67,7 @@ spans-push o done act =
     ap (λ (p : Placed). p.spans) (fold-push placed_after first done act) ∙ ap (λ t. (fold placed_after first done).spans ++ spans_by t act) (same_story first done)
 
 pub tale-push : (o : Opening) (done : List (StreamAct Octets)) (act : StreamAct Octets) → tale_of o (done ++ act ∷ []) ≡ tale_after (tale_of o done) act
-unfolding posted finished_kinds handed_kinds size_set received sent buffers placings story ended has_raw
+unfolding posted finished_kinds handed_kinds size_set received sent placings story ended has_raw
 tale-push o done act = λ i. record {
   acts = length_push done act i;
   posted = flat_map-push posted_by done act i;
@@ -78,7 +76,6 @@ tale-push o done act = λ i. record {
   size = fold-push size_after 1400 done act i;
   received = flat_map-push received_by done act i;
   sent = flat_map-push sent_by done act i;
-  buffers = fold-push buffers_after [] done act i;
   placings = flat_map-push placed_by done act i;
   story = fold-push story_after (untold o) done act i;
   ended = fold-push ended_after false done act i;

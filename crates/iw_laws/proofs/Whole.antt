@@ -47,7 +47,7 @@ use Rattle.iw_events.specs.declared.act.Seen.TheVariants as seen
 use Rattle.iw_laws.specs.Turns.{story}
 use Rattle.iw_laws.specs.Sends.{terminate_segment}
 use Rattle.std.specs.Prelude.{nat_lt}
-use Rattle.iw_laws.specs.Words.{Octets, other, acts, stream_acts, stream_acts_by, Opening, no_opening, opening_in, opening_of, openings, openings_by, posted, finished_kinds, handed_kinds, size_set, received, ended, sent, sent_by, placings, table_after, buffers}
+use Rattle.iw_laws.specs.Words.{Octets, other, acts, stream_acts, stream_acts_by, Opening, no_opening, opening_in, opening_of, openings, openings_by, posted, finished_kinds, handed_kinds, size_set, received, ended, sent, sent_by, placings, table_after}
 use Rattle.iw_endpoint.specs.Endpoint.{stream_of, stream_at, unopened as no_stream, has_stream, no_streams}
 use Rattle.iw_laws.specs.Rules.{EndState, State, end_of, with_end, at_first, start, Rule, WireRule, StreamRule, end_after, after_entry, state_after, Follows, EndRule, wire_at, no_wires}
 use Rattle.iw_laws.proofs.States.{opening_by, Connected, connected, unconnected, connected_at, connected_after, streams_after, stream_after, wire_still, wire_more}
@@ -265,11 +265,10 @@ no_track o = record {
 }
 
 no_own : (o : Opening) → length o.config.private.items ≤ 512 → Own o (connected o) (tale_of o [])
-unfolding sent buffers received ended story finished_kinds handed_kinds spans_placed
+unfolding sent received ended story finished_kinds handed_kinds spans_placed
 no_own o small = record {
   wire = refl;
   sent = refl;
-  lengths = refl;
   due = refl;
   starts = starts_at_first o;
   small = small;

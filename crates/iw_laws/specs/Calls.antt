@@ -26,7 +26,7 @@ use Rattle.iw_events.specs.declared.act.Act.TheVariants.{Domain, Register, Dereg
 use Rattle.iw_events.specs.declared.act.StreamAct.{StreamAct}
 use Rattle.iw_events.specs.declared.act.StreamAct.TheVariants.{Recv, Post, Emit, Deliver, Raw, Mulpdu, Accept, Reject, Work, Break}
 use Rattle.iw_events.specs.declared.act.Entry.{Entry}
-use Rattle.iw_laws.specs.Words.{Octets, other, acts, deed, stream_acts, openings, was_opened, posted, handed_kinds, ended, sent, table_after, buffers}
+use Rattle.iw_laws.specs.Words.{Octets, other, acts, deed, stream_acts, openings, was_opened, posted, handed_kinds, ended, sent, table_after}
 use Rattle.iw_laws.specs.Turns.{Story, story_of, in_order_point}
 use Rattle.iw_laws.specs.Words.{OnSome, OnStream, AtEach}
 
@@ -68,9 +68,9 @@ ShowsMemory = AtEach EndAnswered
 
 -- ---- the calls of a stream
 
-abbrev pub recv_refusal_by : List (StreamAct Octets) → Option RecvRefusal
-recv_refusal_by before =
-    if ended before then Some receiving.Ended else if nat_le 256 (length (buffers before)) then Some receiving.Full else None
+abbrev pub recv_refusal_by : Story → List (StreamAct Octets) → Option RecvRefusal
+recv_refusal_by t before =
+    if ended before then Some receiving.Ended else if nat_le 256 (length t.receiving.buffers) then Some receiving.Full else None
 
 abbrev pub post_refusal_by : Story → List (StreamAct Octets) → Request Octets → Option PostRefusal
 post_refusal_by t before request =
@@ -94,7 +94,7 @@ Rejected t before (Some refusal) = may_answer_by t before ≡ false
 
 -- by what was done on the stream before
 abbrev pub StreamAnswered : Story → List (StreamAct Octets) → StreamAct Octets → Type 0
-StreamAnswered t before (Recv len refused) = refused ≡ recv_refusal_by before
+StreamAnswered t before (Recv len refused) = refused ≡ recv_refusal_by t before
 StreamAnswered t before (Post request refused) = refused ≡ post_refusal_by t before request
 StreamAnswered t before (Mulpdu size refused) = refused ≡ size_refusal size
 StreamAnswered t before (Accept private answer) = Accepted t before answer

@@ -1,7 +1,7 @@
 -- What holds of every trace of two ends, in words of the trace alone.
 use Rattle.std.specs.Prelude.{◌≡◌, ◌⊎◌, false, ℕ, ◌+◌, ◌<◌, ◌≤◌, List, [], ◌∷◌, ◌++◌, length, slice_get, Some}
 use Rattle.iw_memory.specs.Laws.{Allows}
-use Rattle.iw_untagged.specs.Receiving.{ahead_of}
+use Rattle.iw_untagged.specs.Receiving.{Receiving, ahead_of}
 use Rattle.iw_queues.specs.declared.request.Request.{Request}
 use Rattle.iw_queues.specs.Joined.{IsPrefixOf, Cell, count_writes, count_before}
 use Rattle.iw_events.specs.declared.call.End.{End}
@@ -9,8 +9,9 @@ use Rattle.iw_events.specs.declared.act.Act.{Act}
 use Rattle.iw_events.specs.declared.act.StreamAct.{StreamAct}
 use Rattle.iw_events.specs.declared.act.Entry.{Entry}
 use Rattle.iw_stream.specs.declared.answer.Role.TheVariants.{Preset, Initiator, Responder}
-use Rattle.iw_laws.specs.Words.{Octets, other, acts, deed, stream_acts, openings, Opening, domain_of, posted, sends, received, has_raw, placings, written, table_after, buffers, due}
+use Rattle.iw_laws.specs.Words.{Octets, other, acts, deed, stream_acts, openings, Opening, domain_of, posted, sends, received, has_raw, placings, written, Buffering, table_after}
 use Rattle.iw_laws.specs.Words.{OnSome, OnStream, AtEach}
+use Rattle.iw_laws.specs.Turns.{story_of}
 
 -- ---- receives
 
@@ -46,15 +47,17 @@ Covered trace = (past future : List (Entry Octets)) → trace ≡ past ++ future
 
 -- ---- octets that change
 
--- the message sequence number names a buffer that is there, and the octets lie within it
-abbrev pub InBuffer : List ℕ → ℕ → ℕ → ℕ → ℕ → Type 0
-InBuffer lens first msn mo n = (len : ℕ) × (slice_get lens (ahead_of first msn) ≡ Some len) × (mo + n ≤ len)
+-- the message sequence number names a buffer that is posted, and the octets lie within it
+pub record InBuffer (r : Receiving) (b : Buffering) : Type 0 where
+  pub buffer : Octets
+  pub is : slice_get r.buffers (ahead_of r.due b.msn) ≡ Some buffer
+  pub lie : b.mo + b.len ≤ length buffer
 
 -- what an act changed lay in a region that then allowed it, or in a receive buffer that was then posted
 abbrev pub WithinStream : List (Act Octets) → ℕ → StreamAct Octets → Type 0
 WithinStream before n act =
     OnSome (λ p. Allows (table_after before) (domain_of n before) p.stag p.to (length p.octets) p.right) (deed act).placing
-    × OnSome (λ b. InBuffer (buffers (stream_acts n before)) (due (stream_acts n before)) b.msn b.mo b.len) (deed act).buffering
+    × OnSome (InBuffer (story_of n before).receiving) (deed act).buffering
 
 abbrev pub Within : List (Entry Octets) → Type 0
 Within = AtEach (OnStream WithinStream)

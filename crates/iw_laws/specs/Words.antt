@@ -1,5 +1,5 @@
 -- What a trace says has happened, by its entries alone.
-use Rattle.std.specs.Prelude.{◌≡◌, ℕ, ◌+◌, ◌%◌, ◌^◌, ◌==◌, List, [], ◌∷◌, ◌++◌, length, take, drop, Bool, true, false, is_none, if◌then◌else◌, Option, Some, None, Result, Ok, Err, fold, unwrap_or, slice_set}
+use Rattle.std.specs.Prelude.{◌≡◌, ℕ, ◌==◌, List, [], ◌∷◌, ◌++◌, take, Bool, true, false, is_none, if◌then◌else◌, Option, Some, None, Result, Ok, Err, fold, unwrap_or, slice_set}
 use Rattle.std.specs.List.{flat_map}
 use Rattle.std.specs.Option.{option_map_or}
 use Rattle.iw_octets.specs.declared.stag.Stag.{Stag}
@@ -418,21 +418,6 @@ sunk_by rights.Sink placement = placement ∷ []
 
 abbrev pub sunk : List Placing → List (Request Octets)
 sunk ps = flat_map (λ p. sunk_by p.right (as_write p)) ps
-
--- ---- receive buffers
-
-abbrev pub buffers_after : List ℕ → StreamAct Octets → List ℕ
-buffers_after lens act =
-    option_map_or (λ len. lens ++ len ∷ []) (deed act).buffer
-    (option_map_or (λ message. drop 1 lens) (deed act).received (option_map_or (λ octets. drop 1 lens) (deed act).returned lens))
-
--- the lengths of the receive buffers posted and not handed back, oldest first
-unfoldable pub buffers : List (StreamAct Octets) → List ℕ
-buffers done = fold buffers_after [] done
-
--- the message sequence number of the oldest buffer
-abbrev pub due : List (StreamAct Octets) → ℕ
-due done = (1 + length (received done)) % 2 ^ 32
 
 -- ---- laws that speak of each entry, at the moment before it
 
