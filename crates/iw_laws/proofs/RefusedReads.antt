@@ -230,7 +230,7 @@ refuses_denied_readable h =
 response_fits : (last : Bool) (octets : Octets) → FitsSegment (response_segment read_one 0 last octets)
 response_fits last octets = record { ddp_version = omega arith; control = omega arith; stag = fits_one.sink; to = omega arith }
 
--- one goes out as a frame of which nothing is told
+-- one goes out in a frame that is not shown as fetched
 pub refuses_untold_response : RefusesUntoldResponse
 unfolding acts stream_acts openings story
 refuses_untold_response h =

@@ -143,12 +143,12 @@ CarriesOctets trace =
 
 -- ---- streams that are there
 
--- the stream was opened at its end and, where octets that are not raw come, at the other
+-- the stream was opened at its end and, if octets come that are not raw, at the other
 abbrev pub OpenedStream : List (Act Octets) → List (Act Octets) → ℕ → StreamAct Octets → Type 0
 OpenedStream peer before n act =
     (was_opened (openings n before) ≡ true) × OnSome (λ c. c.raw ≡ false → was_opened (openings n peer) ≡ true) (deed act).coming
 
--- each act of a stream comes past its opening, and a delivery past both
+-- each act of a stream comes after its opening, and a delivery after both openings
 abbrev pub OpensFirst : List (Entry Octets) → Type 0
 OpensFirst trace =
     (past : List (Entry Octets)) (e : Entry Octets) (future : List (Entry Octets)) → trace ≡ past ++ e ∷ future

@@ -36,7 +36,8 @@ HasPlace (landing.Terminate fault) = ⊥
 abbrev pub CanBePlaced : Standing → Frame → Type 0
 CanBePlaced s frame = (at : Landing) × (verdict s frame ≡ Ok at) × HasPlace at
 
--- the frame whose turn is next is not whole, and that at the lowest free place is judged: where it can be placed, it is placed in that step, and otherwise it is left
+-- the frame whose turn is next is not whole, and that at the lowest free place is judged: if it can be placed, it is placed in that step, and otherwise it is left:
+-- the story has a record of it, and nothing else changes (`story_seen`, `table_seen`)
 pub record IsJudgedEarly (t : Story) (s : Standing) (step : Seen Octets) : Type 0 where
   pub frame : Frame
   pub no_next : next_frame t ≡ None

@@ -52,18 +52,18 @@ pub record IsFetch (t : Story) (s : Standing) (from : ℕ) (frame : Octets) (fet
       (segment_octets
       (response_segment oldest.request (length t.begun) (length t.begun + length fetching.octets == oldest.request.size) fetching.octets))
 
--- how many octets of the response to a Read are due next, where a ULPDU may have this size: as many as fit past its header, or all that
--- were not fetched before
+-- how many octets of the response to a Read are due next, if a ULPDU may have this size: all that were not fetched before, or as many as
+-- fit after the header
 abbrev pub octets_due : Story → ℕ → ReadRequest → ℕ
 octets_due t size request = min (request.size - length t.begun) (size - TAGGED_HEADER)
 
--- the octets that are due next for the oldest request are denied so
+-- the octets that are due next for the oldest request may not be read, and this is the fault
 pub record IsDenial (t : Story) (s : Standing) (size : ℕ) (fault : Fault) : Type 0 where
   pub oldest : Asked
   pub waits : IsOldest t oldest
   pub denied : reading_fault s.table s.domain oldest.request.source (oldest.request.source_to + length t.begun) (octets_due t size oldest.request) ≡ Some fault
 
--- a frame that is not told as fetched has no octets of a response
+-- a frame that is not shown as fetched has no octets of a response
 abbrev pub FetchShown : Story → Standing → ℕ → Shown Octets → Type 0
 FetchShown t s size (Frame from octets) = OnSome (λ segment. carries_response segment ≡ false) (segment_out t from octets)
 FetchShown t s size (Fetched from frame stag to octets) = IsFetch t s from frame (record { stag = stag; to = to; octets = octets })
@@ -73,8 +73,8 @@ FetchShown t s size Nothing = Unit {0}
 abbrev pub FetchStream : List (Act Octets) → ℕ → StreamAct Octets → Type 0
 FetchStream before n act = OnSome (FetchShown (story_of n before) (standing n before) (size_set (stream_acts n before))) (deed act).shown
 
--- whatever came, no response goes out but with octets that are fetched for it, and these are what the peer asked for, where it may be read,
--- as it stands there
+-- whatever came: a response has only octets that are fetched for it, and these are the current contents of what the peer asked for, if the
+-- peer may read it
 abbrev pub Faithful : List (Entry Octets) → Type 0
 Faithful = AtEach (OnStream FetchStream)
 

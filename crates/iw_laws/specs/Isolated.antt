@@ -21,7 +21,7 @@ abbrev pub AreOwn : ℕ → Part → List (Act Octets) → Type 0
 AreOwn d part [] = Unit {0}
 AreOwn d part (act ∷ done) = EndRule (alone d part) act × AreOwn d (own_after d part (call_made act)) done
 
--- at every moment, at each end: as long as each stream number that was opened, or asked to be, was asked for in one domain alone, the acts
+-- at every moment, at each end: if so far each stream number that was opened, or asked to be, was asked for in one domain alone, the acts
 -- that concern a domain were answered so, one after the other, with none of the others
 abbrev pub Isolated : List (Entry Octets) → Type 0
 Isolated trace =

@@ -94,7 +94,7 @@ pub record IsFrameOf (t : Story) (size : ℕ) (before octets : Octets) : Type 0 
   pub fits : length (segment_octets segment) ≤ size
   pub full : is_last segment ≡ false → length (segment_octets segment) ≡ size
 
--- they are the start-up frame of an end that has one, and nothing went out before
+-- they are the start-up frame, which is not empty, and nothing went out before
 abbrev pub IsStartFrame : Story → Octets → Octets → Type 0
 IsStartFrame t before octets = (before ≡ []) × (octets ≡ own_frame t.start) × (octets ≢ [])
 

@@ -381,7 +381,7 @@ fetches_elsewhere =
 abbrev pub RefusesFetchElsewhere : Type 0
 RefusesFetchElsewhere = ¬ Faithful fetches_elsewhere
 
--- the response to it goes out as a frame of which nothing is told, though the region was invalidated
+-- the response to it goes out in a frame that is not shown as fetched, though the region was invalidated
 abbrev pub emits_response : Act Octets
 emits_response = emits (frame_octets plain 0 (segment_octets (response_segment read_one 0 true first_four)))
 

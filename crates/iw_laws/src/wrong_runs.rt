@@ -23,7 +23,7 @@ pub fn refuses_act_unopened()
     ensures { RefusesActUnopened }
 {}
 
-/// Nothing is delivered from an end at which the stream was never opened, not even no octets.
+/// Nothing is delivered from an end that never opened the stream, not even an empty delivery.
 pub fn refuses_delivery_unopened()
     ensures { RefusesDeliveryUnopened }
 {}
@@ -163,12 +163,12 @@ pub fn refuses_fetch_elsewhere()
     ensures { RefusesFetchElsewhere }
 {}
 
-/// No response goes out as a frame of which it isn't told what was fetched for it.
+/// No response goes out in a frame that is not shown as fetched.
 pub fn refuses_untold_response()
     ensures { RefusesUntoldResponse }
 {}
 
-/// A Read is not denied for octets past the part that is due.
+/// A Read is not denied while the part that is due may be read.
 pub fn refuses_denied_readable()
     ensures { RefusesDeniedReadable }
 {}

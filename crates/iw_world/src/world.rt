@@ -120,8 +120,8 @@ impl<A: Allocator + Copy> World<A> {
         ensures ended { IfOk result (λ trace. Ends trace.items) }
         // What changed lay where it was allowed.
         ensures within { IfOk result (λ trace. Within trace.items) }
-        // No response goes out but with octets that are fetched for it: what the peer asked for, where it may be read, as
-        // it stands there.
+        // A response has only octets that are fetched for it: the current contents of what the peer asked for, if the
+        // peer may read it.
         ensures faithful { IfOk result (λ trace. Faithful trace.items) }
         // When a Read is done, each octet of its response was placed, and none too often.
         ensures answering { IfOk result (λ trace. Answering trace.items) }
