@@ -1,7 +1,7 @@
 -- What the fields of a memory mean as a table, and how that changes with them.
-use Rattle.std.proofs.Common.{IsTrue, subst, IfSome, ◌≤◌, ◌≡◌, ◌≢◌, ℕ, zero, suc, ◌+◌, ◌%◌, ◌-◌, ◌<◌, ◌^◌, ◌==◌, nat_lt, nat_le, not, if◌then◌else◌, Bool, true, false, cond, List, [], ◌∷◌, ◌++◌, map, length, get_or, set, replicate, take, Option, Some, None, is_some, is_none, Vec, refl, sym, ap, ◌∙◌, arith, inl, inr, get_or-set_other, get_or-set_same}
+use Rattle.std.proofs.Common.{IsTrue, subst, IsSome, IsSomeAnd, IfSome, ◌≤◌, ◌≡◌, ◌≢◌, ℕ, zero, suc, ◌+◌, ◌%◌, ◌-◌, ◌<◌, ◌^◌, ◌==◌, nat_lt, nat_le, not, if◌then◌else◌, Bool, true, false, cond, List, [], ◌∷◌, ◌++◌, map, length, get_or, set, replicate, take, Option, Some, None, is_some, is_none, Vec, refl, sym, ap, ◌∙◌, arith, inl, inr, get_or-set_other, get_or-set_same}
 use Rattle.std.proofs.Math.ListN.{get_or-map}
-use Rattle.std.proofs.lemmas.List.{set-get_or, get_or_past, take-append-drop, length-set, map-set, length-map, map-append}
+use Rattle.std.proofs.lemmas.List.{get_or_default, set-get_or, get_or_past, take-append-drop, length-set, map-set, length-map, map-append}
 use Rattle.std.proofs.Math.Seq.{take-length}
 use Rattle.std.proofs.lemmas.Option.{none-some, same_Some}
 use Rattle.std.proofs.lemmas.Bool.{cases_lt, eqb-true}
@@ -9,16 +9,17 @@ use Rattle.std.proofs.lemmas.Bool.Decides.{eqb_tells}
 use Rattle.std.specs.List.{position_or_len}
 use Rattle.std.specs.Option.{option_copied, option_map, option_map_or, unwrap_or}
 use Rattle.std.specs.Borrow.{Bor}
-use Rattle.slab.specs.Slab.{Slab, get, with_value, Updates}
+use Rattle.slab.specs.Slab.{Slab, ContainsKey, get, with_value, Updates}
 use Rattle.iw_octets.specs.declared.stag.Stag.{Stag}
 use Rattle.iw_memory.specs.declared.slots.Slot.{Slot}
+use Rattle.iw_memory.specs.declared.refusal.DomainRefusal.TheVariants.{BadDomain, DomainTaken}
 use Rattle.iw_memory.specs.declared.refusal.RegisterRefusal.{RegisterRefusal}
 use Rattle.iw_memory.specs.declared.refusal.RegisterRefusal.TheVariants.{NoDomain, DomainFull, TooLong, BaseWrap}
-use Rattle.iw_memory.specs.Region.{Region, IsWithinLimits, overlay, region_with, octets_from, made_invalid}
+use Rattle.iw_memory.specs.Region.{Region, Spans, IsWithinLimits, overlay, region_with, octets_from, made_invalid}
 use Rattle.iw_memory.specs.Held.{Held}
 use Rattle.iw_memory.specs.Part.{SlotState, unused, under_key, own_slot, free_slot, with_room}
-use Rattle.iw_memory.specs.Table.{Table, empty, part_of, with_part, slots_of, region_at, with_slot, with_region, put, register_refusal, is_added, added, registered, deregistered, invalidated, octets_at}
-use Rattle.iw_memory.specs.Laws.{HoldsLimits}
+use Rattle.iw_memory.specs.Table.{Table, empty, part_of, with_part, slots_of, region_at, with_slot, with_region, put, domain_refusal, register_refusal, is_added, added, registered, deregistered, invalidated, octets_at}
+use Rattle.iw_memory.specs.Laws.{HoldsLimits, IsWithin}
 use Rattle.iw_memory.specs.Inside.{Slots, table_of, states_of, state_of, region_in, slots_in, link_at, link_of, free, IsHeldFor, IsSound, Keeps, SetsSlots, is_free, with_room_at}
 use Rattle.iw_memory.proofs.ListLemmas.{map-replicate, map-same, map-set_others, set-set}
 use Rattle.iw_memory.proofs.SlotLemmas.{items_of, domain_of_slot, domain_added, not_none, position_or_len-map}
@@ -332,6 +333,42 @@ slot_within {A} domains stag k link = elim (cases_lt stag.slot (length (slots_in
 pub found_at : {A : Type 0} {read domains : Slots A} {found : Option ℕ} {k : ℕ} (stag : Stag) → read ≡ domains → found ≡ link_of read stag → found ≡ Some k → link_of domains stag ≡ Some k
 found_at {A} {read} {domains} {found} {k} stag same link is = ap (λ ds. link_of ds stag) (sym same) ∙ sym link ∙ is
 
+-- where the code found no region, the table has none
+pub region_at-none : {A : Type 0} {read : Slots A} {table : Table} {found : Option ℕ} (domains : Slots A) (regions : Slab Held) (stag : Stag) → read ≡ domains → found ≡ link_of read stag → found ≡ None → table_of domains regions ≡ table → region_at table stag ≡ None
+region_at-none domains regions stag same link is view =
+    ap (λ t. region_at t stag) (sym view) ∙ region_at-table_of domains regions stag ∙ ap (region_in regions) (ap (λ ds. link_of ds stag) (sym same) ∙ sym link ∙ is)
+
+some_place : (regions : Slab Held) (at : Option ℕ) → IsSome (region_in regions at) → IsSome at
+some_place regions None some = some
+some_place regions (Some k) some = refl
+
+-- where the table has a region, the code finds it
+pub found_where : {A : Type 0} {read : Slots A} {table : Table} {found : Option ℕ} (domains : Slots A) (regions : Slab Held) (stag : Stag) → read ≡ domains → found ≡ link_of read stag → table_of domains regions ≡ table → IsSome (region_at table stag) → IsSome found
+found_where domains regions stag same link view some =
+    let there : IsSome (region_in regions (link_of domains stag)) = subst IsSome (ap (λ t. region_at t stag) (sym view) ∙ region_at-table_of domains regions stag) some in
+    subst IsSome (ap (λ ds. link_of ds stag) (sym same) ∙ sym link) (some_place regions (link_of domains stag) there)
+
+-- a part of a region lies in one
+pub some_within : (table : Table) (stag : Stag) (to n : ℕ) → IsWithin table stag to n → IsSome (region_at table stag)
+some_within table stag to n within = go (region_at table stag) within
+  where
+    go : (o : Option Region) → IsSomeAnd o (λ r. Spans r to n) → IsSome o
+    go None h = absurd h
+    go (Some r) h = refl
+
+region_copied : (o : Option (Bor Held)) → option_map (λ s. s.now.region) o ≡ option_map (λ h. h.region) (option_copied o)
+region_copied None = refl
+region_copied (Some s) = refl
+
+-- what the code looked up is the region that the STag names
+pub region_seen : {A : Type 0} {table : Table} (domains : Slots A) (regions : Slab Held) (stag : Stag) (k : ℕ) (o : Option (Bor Held)) → link_of domains stag ≡ Some k → option_copied o ≡ get regions k → table_of domains regions ≡ table → option_map (λ s. s.now.region) o ≡ region_at table stag
+region_seen domains regions stag k o link seen view =
+    region_copied o ∙ ap (option_map (λ h. h.region)) seen ∙ ap (region_in regions) (sym link) ∙ sym (region_at-table_of domains regions stag) ∙ ap (λ t. region_at t stag) view
+
+-- the slab has a region where the code found one
+pub stored_at : {A : Type 0} {domains : Slots A} {regions : Slab Held} → IsSound domains regions → (stag : Stag) (k : ℕ) → link_of domains stag ≡ Some k → ContainsKey regions k
+stored_at sound stag k link = ap is_some (held_at sound stag k link).held
+
 pub octets-held : {A : Type 0} {table : Table} (domains : Slots A) (regions : Slab Held) (stag : Stag) (k : ℕ) (h : Held) → link_of domains stag ≡ Some k → get regions k ≡ Some h → table_of domains regions ≡ table
     → Some h.region.octets ≡ option_map (λ r. r.octets) (region_at table stag)
 octets-held {A} {table} domains regions stag k h link held view =
@@ -396,6 +433,27 @@ is_added-table_of {A} domains regions d = ap is_some (get_or-map (states_of regi
 pub table_of-added : {A : Type 0} (domains : Slots A) (regions : Slab Held) (d : ℕ) (v : Vec Slot A) → v.items ≡ [] → table_of (set domains d (Some v)) regions ≡ added (table_of domains regions) d
 table_of-added {A} domains regions d v none =
     map-set (states_of regions) domains d (Some v) ∙ ap (λ ss. set (table_of domains regions) d (Some (map (state_of regions) ss))) none
+
+pub IsSound-added : {A : Type 0} {domains : Slots A} {regions : Slab Held} → IsSound domains regions → (d : ℕ) (v : Vec Slot A) → d ≢ 0 → d < length domains → v.items ≡ [] → IsSound (set domains d (Some v)) regions
+IsSound-added {A} {domains} {regions} sound d v ne within none =
+    let sets : SetsSlots domains (set domains d (Some v)) d [] = record { slots = v; are = none; after = refl } in
+    record {
+      all_numbers = length-sets sets ∙ sound.all_numbers;
+      no_zero = no_zero-sets sound.no_zero sets (λ e. ne (sym e));
+      linked = λ j m k link. elim (eqb_tells j d) [
+        | inr other ↦ sound.linked j m k (ap (λ (ss : List Slot). (get_or ss m free).at) (sym (slots_in-sets_other sets j other.1)) ∙ link)
+        | inl here ↦ absurd (none-some k (sym (ap (λ j. link_at (set domains d (Some v)) j m) here.1 ∙ ap (λ (ss : List Slot). (get_or ss m free).at) (slots_in-sets sets within)) ∙ link))
+      ];
+      few = few_sets sound.few within sets (omega arith);
+    }
+
+-- why a domain is not added, by what the code read of it
+pub domain_refusal-read : {A : Type 0} (domains : Slots A) (regions : Slab Held) (table : Table) (d : ℕ) (o : Option (Vec Slot A)) (b : Bool) → d ≢ 0 → d < length domains → o ≡ get_or domains d o → b ≡ is_some o → table_of domains regions ≡ table
+    → (if b then Some DomainTaken else None) ≡ domain_refusal table d
+domain_refusal-read {A} domains regions table d o b ne within read is view =
+    let added : b ≡ is_added table d = is ∙ ap is_some (read ∙ get_or_default domains d o None within) ∙ sym (is_added-table_of domains regions d) ∙ ap (λ t. is_added t d) view in
+    let some : (d == 0) ≡ false = elim (eqb_tells d 0) [ inl same ↦ absurd (ne same.1) | inr other ↦ other.0 ] in
+    (λ i. if (sym some i) then Some BadDomain else (if added i then Some DomainTaken else None))
 
 -- what the code finds of a domain's lowest free slot
 free_known : {A : Type 0} (o : Option (Vec Slot A)) (slot : ℕ) → option_map (λ v. position_or_len is_free v.items) o ≡ Some slot → (is_some o ≡ true) × (position_or_len is_free (items_of o) ≡ slot)

@@ -193,9 +193,7 @@ impl<A: Allocator> Memory<A> {
         let Some(at) = find(&self.domains, stag) else {
             return Err(NoRegion);
         };
-        let Some(stored) = self.regions.try_remove(at) else {
-            return Err(NoRegion);
-        };
+        let stored = self.regions.remove(at);
         let free = Slot {
             key: stag.key().wrapping_add(1),
             at: None,
