@@ -1,6 +1,6 @@
 //! Both ends, and runs of events.
 
-ghost use Rattle.std.specs.Prelude.{◌≡◌, ℕ, ◌+◌, ◌<◌, ◌≤◌, ◌^◌, map, length, IfOk, IfErr};
+ghost use Rattle.std.specs.Prelude.{◌≡◌, ℕ, ◌+◌, ◌<◌, ◌≤◌, ◌^◌, [], map, length, IfOk, IfErr, OnOk};
 ghost use Rattle.iw_events.specs.Events.{event_of};
 ghost use Rattle.iw_laws.specs.Words.{other};
 ghost use Rattle.iw_laws.specs.Rules.{start, after_entry, end_of, Rule, Follows};
@@ -136,10 +136,37 @@ impl<A: Allocator + Copy> World<A> {
         // Which event has no entry, and why.
         ensures refused { IfErr result (λ fault. StopsAt events.now fault) }
     {
+        World::trace_of(alloc, events)
+    }
+
+    // The trace of these events, or which of them has no entry, and why.
+    fn trace_of(alloc: A, events: &[Event<Bytes<A>>]) -> Result<Vec<Entry<Bytes<A>>, A>, WorldFault>
+        requires { length events.now ≤ 2 ^ 45 }
+        ensures events { IfOk result (λ trace. map event_of trace.items ≡ events.now) }
+        ensures follows { IfOk result (λ trace. Follows start trace.items) }
+        ensures refused { IfErr result (λ fault. StopsAt events.now fault) }
+    {
         let mut world = World::new(alloc)?;
         let mut trace = Vec::new(alloc);
+        world.happen_all(events, &mut trace)?;
+        Ok(trace)
+    }
+
+    // Makes the events happen at two ends that have just started, one after the other, and adds an entry for each.
+    fn happen_all(
+        &mut self,
+        events: &[Event<Bytes<A>>],
+        trace: &mut Vec<Entry<Bytes<A>>, A>,
+    ) -> Result<(), WorldFault>
+        requires few { length events.now ≤ 2 ^ 45 }
+        requires new { self.old ≡ start }
+        requires none { trace.old.items ≡ [] }
+        ensures events { OnOk result (map event_of trace.new.items ≡ events.now) }
+        ensures follows { OnOk result (Follows start trace.new.items) }
+        ensures refused { IfErr result (λ fault. StopsAt events.now fault) }
+    {
         for event in events {
-            let entry = match world.happen(event) {
+            let entry = match self.happen(event) {
                 Ok(entry) => entry,
                 Err(Failure::NotSent) => return Err(WorldFault::NotSent(trace.len() + 1)),
                 Err(Failure::NoSuchStream) => {
@@ -149,6 +176,6 @@ impl<A: Allocator + Copy> World<A> {
             };
             trace.push(entry)?;
         }
-        Ok(trace)
+        Ok(())
     }
 }

@@ -1,146 +1,74 @@
-use Rattle.std.proofs.Common.{rules, ◌≡◌, ◌+◌, ◌<◌, List, [], ◌∷◌, ◌++◌, ℕ, length, map, take, drop, ap, sym, subst, ◌∙◌, arith}
-use Rattle.std.proofs.lemmas.List.{map_push, take_all, take_more, drop_more, take-append-drop, length-take, length-map}
-use Rattle.iw_events.specs.declared.call.Event.{Event}
-use Rattle.iw_events.specs.declared.act.Entry.{Entry}
-use Rattle.iw_events.specs.Events.{event_of}
-use Rattle.iw_laws.specs.Words.{Octets, other, acts}
-use Rattle.iw_laws.specs.Rules.{State, start, state_after, after_entry, end_of, Rule, Follows}
-use Rattle.iw_laws.specs.Bounds.{IsShortState, LacksStream, AsksTooMuch}
-use Rattle.iw_laws.proofs.Whole.{follows_push, state_after-push, seen_after}
-use Rattle.iw_laws.proofs.Laws.{in_order, covered, emission, sized_all, speaks_all, nothing_at_rest, finished_all, turns_all, idle_at_rest, early_all, second_all, once_all, ends_all, within_all, shows_memory, answered_all, keeps_octets, carries_octets, opens_first, fetched_all, answering_all, few_reads, names_no_stream, asks_not_sent}
+-- Each law follows from the rules.
+use Rattle.std.proofs.lemmas.Result.{IfOk-weaker}
+use Rattle.iw_laws.proofs.Laws.{in_order, covered, emission, sized_all, speaks_all, finished_all, answered_all, keeps_octets, carries_octets, opens_first, fetched_all, answering_all, few_reads, turns_all, nothing_at_rest, idle_at_rest, early_all, second_all, once_all, ends_all, within_all, shows_memory}
 use Rattle.iw_laws.proofs.Apart.{isolated_all}
-use Rattle.iw_laws.proofs.Shorts.{short_state}
 use Rattle.iw_world.proofs.world.World.run.Goals as goal
 
-pub happen-requires : goal.happen-requires
-happen-requires g c =
-    let trace : List (Entry Octets) = c.loop-event.trace.items in
-    let few : length trace < length c.args.events.now = omega (arith, sym (length-map trace event_of) ∙ ap length c.loop-event.invariant.events, length-take c.loop-event.event-index c.args.events.now, c.loop-event-test.true) in
-    subst IsShortState (sym c.loop-event.invariant.state) (short_state trace c.loop-event.invariant.follows (omega (arith, few, c.requires)))
-
-pub loop-event-preserved : goal.loop-event-preserved
-loop-event-preserved g c =
-    let trace : List (Entry Octets) = c.loop-event.trace.items in
-    let e : Entry Octets = c.in-Ok.entry in
-    let pushed : c.push.new.self.items ≡ trace ++ e ∷ [] = c.in_ok-push.ensures.items in
-    let rule : Rule (end_of e.end c.loop-event.world) (end_of (other e.end) c.loop-event.world) e.act = c.in-Ok.ensures.rule in
-    let now : c.loop-event.world ≡ state_after start trace = c.loop-event.invariant.state in
-    let more = take_more c.args.events.now c.loop-event.event-index c.event-item.result c.loop-event-test.true in
-    record {
-      events = ap (map event_of) pushed ∙ map_push event_of trace e ∙ (λ i. c.loop-event.invariant.events i ++ c.in-Ok.ensures.event i ∷ []) ∙ ap (λ z. take c.loop-event.event-index c.args.events.now ++ z ∷ []) c.event-item.is ∙ sym more;
-      follows = subst (Follows start) (sym pushed) (follows_push trace e start c.loop-event.invariant.follows (subst (λ w. Rule (end_of e.end w) (end_of (other e.end) w) e.act) now rule));
-      state = c.in-Ok.ensures.state ∙ ap (λ w. after_entry w e) now ∙ sym (state_after-push trace e start) ∙ ap (state_after start) (sym pushed);
-    }
-
 pub returns-clause-in_order : goal.returns-clause-in_order
-returns-clause-in_order g c = in_order c.loop-event.trace.items c.loop-event.invariant.follows
+returns-clause-in_order g c = IfOk-weaker c.trace_of.result _ _ (λ trace follows. in_order trace.items follows) c.trace_of.ensures.follows
 
 pub returns-clause-covered : goal.returns-clause-covered
-returns-clause-covered g c = covered c.loop-event.trace.items c.loop-event.invariant.follows
+returns-clause-covered g c = IfOk-weaker c.trace_of.result _ _ (λ trace follows. covered trace.items follows) c.trace_of.ensures.follows
 
 pub returns-clause-emission : goal.returns-clause-emission
-returns-clause-emission g c = emission c.loop-event.trace.items c.loop-event.invariant.follows
+returns-clause-emission g c = IfOk-weaker c.trace_of.result _ _ (λ trace follows. emission trace.items follows) c.trace_of.ensures.follows
 
 pub returns-clause-sized : goal.returns-clause-sized
-returns-clause-sized g c = sized_all c.loop-event.trace.items c.loop-event.invariant.follows
+returns-clause-sized g c = IfOk-weaker c.trace_of.result _ _ (λ trace follows. sized_all trace.items follows) c.trace_of.ensures.follows
 
 pub returns-clause-speaks : goal.returns-clause-speaks
-returns-clause-speaks g c = speaks_all c.loop-event.trace.items c.loop-event.invariant.follows
+returns-clause-speaks g c = IfOk-weaker c.trace_of.result _ _ (λ trace follows. speaks_all trace.items follows) c.trace_of.ensures.follows
 
 pub returns-clause-finished : goal.returns-clause-finished
-returns-clause-finished g c = finished_all c.loop-event.trace.items c.loop-event.invariant.follows
+returns-clause-finished g c = IfOk-weaker c.trace_of.result _ _ (λ trace follows. finished_all trace.items follows) c.trace_of.ensures.follows
 
 pub returns-clause-answered : goal.returns-clause-answered
-returns-clause-answered g c = answered_all c.loop-event.trace.items c.loop-event.invariant.follows
+returns-clause-answered g c = IfOk-weaker c.trace_of.result _ _ (λ trace follows. answered_all trace.items follows) c.trace_of.ensures.follows
 
 pub returns-clause-kept : goal.returns-clause-kept
-returns-clause-kept g c = keeps_octets c.loop-event.trace.items c.loop-event.invariant.follows
+returns-clause-kept g c = IfOk-weaker c.trace_of.result _ _ (λ trace follows. keeps_octets trace.items follows) c.trace_of.ensures.follows
 
 pub returns-clause-carried : goal.returns-clause-carried
-returns-clause-carried g c = carries_octets c.loop-event.trace.items c.loop-event.invariant.follows
+returns-clause-carried g c = IfOk-weaker c.trace_of.result _ _ (λ trace follows. carries_octets trace.items follows) c.trace_of.ensures.follows
 
 pub returns-clause-opened : goal.returns-clause-opened
-returns-clause-opened g c = opens_first c.loop-event.trace.items c.loop-event.invariant.follows
+returns-clause-opened g c = IfOk-weaker c.trace_of.result _ _ (λ trace follows. opens_first trace.items follows) c.trace_of.ensures.follows
 
 pub returns-clause-faithful : goal.returns-clause-faithful
-returns-clause-faithful g c = fetched_all c.loop-event.trace.items c.loop-event.invariant.follows
+returns-clause-faithful g c = IfOk-weaker c.trace_of.result _ _ (λ trace follows. fetched_all trace.items follows) c.trace_of.ensures.follows
 
 pub returns-clause-answering : goal.returns-clause-answering
-returns-clause-answering g c = answering_all c.loop-event.trace.items c.loop-event.invariant.follows
+returns-clause-answering g c = IfOk-weaker c.trace_of.result _ _ (λ trace follows. answering_all trace.items follows) c.trace_of.ensures.follows
 
 pub returns-clause-few_reads : goal.returns-clause-few_reads
-returns-clause-few_reads g c = few_reads c.loop-event.trace.items c.loop-event.invariant.follows
+returns-clause-few_reads g c = IfOk-weaker c.trace_of.result _ _ (λ trace follows. few_reads trace.items follows) c.trace_of.ensures.follows
 
 pub returns-clause-turns : goal.returns-clause-turns
-returns-clause-turns g c = turns_all c.loop-event.trace.items c.loop-event.invariant.follows
+returns-clause-turns g c = IfOk-weaker c.trace_of.result _ _ (λ trace follows. turns_all trace.items follows) c.trace_of.ensures.follows
 
 pub returns-clause-nothing : goal.returns-clause-nothing
-returns-clause-nothing g c = nothing_at_rest c.loop-event.trace.items c.loop-event.invariant.follows
+returns-clause-nothing g c = IfOk-weaker c.trace_of.result _ _ (λ trace follows. nothing_at_rest trace.items follows) c.trace_of.ensures.follows
 
 pub returns-clause-idle : goal.returns-clause-idle
-returns-clause-idle g c = idle_at_rest c.loop-event.trace.items c.loop-event.invariant.follows
+returns-clause-idle g c = IfOk-weaker c.trace_of.result _ _ (λ trace follows. idle_at_rest trace.items follows) c.trace_of.ensures.follows
 
 pub returns-clause-early : goal.returns-clause-early
-returns-clause-early g c = early_all c.loop-event.trace.items c.loop-event.invariant.follows
+returns-clause-early g c = IfOk-weaker c.trace_of.result _ _ (λ trace follows. early_all trace.items follows) c.trace_of.ensures.follows
 
 pub returns-clause-no_second_check : goal.returns-clause-no_second_check
-returns-clause-no_second_check g c = second_all c.loop-event.trace.items c.loop-event.invariant.follows
+returns-clause-no_second_check g c = IfOk-weaker c.trace_of.result _ _ (λ trace follows. second_all trace.items follows) c.trace_of.ensures.follows
 
 pub returns-clause-once : goal.returns-clause-once
-returns-clause-once g c = once_all c.loop-event.trace.items c.loop-event.invariant.follows
+returns-clause-once g c = IfOk-weaker c.trace_of.result _ _ (λ trace follows. once_all trace.items follows) c.trace_of.ensures.follows
 
 pub returns-clause-ended : goal.returns-clause-ended
-returns-clause-ended g c = ends_all c.loop-event.trace.items c.loop-event.invariant.follows
+returns-clause-ended g c = IfOk-weaker c.trace_of.result _ _ (λ trace follows. ends_all trace.items follows) c.trace_of.ensures.follows
 
 pub returns-clause-isolated : goal.returns-clause-isolated
-returns-clause-isolated g c = isolated_all c.loop-event.trace.items c.loop-event.invariant.follows
+returns-clause-isolated g c = IfOk-weaker c.trace_of.result _ _ (λ trace follows. isolated_all trace.items follows) c.trace_of.ensures.follows
 
 pub returns-clause-within : goal.returns-clause-within
-returns-clause-within g c = within_all c.loop-event.trace.items c.loop-event.invariant.follows
+returns-clause-within g c = IfOk-weaker c.trace_of.result _ _ (λ trace follows. within_all trace.items follows) c.trace_of.ensures.follows
 
 pub returns-clause-memory : goal.returns-clause-memory
-returns-clause-memory g c = shows_memory c.loop-event.trace.items c.loop-event.invariant.follows
-
-pub returns-in-Err-NoSuchStream-clause-refused : goal.returns-in-Err-NoSuchStream-clause-refused
-returns-in-Err-NoSuchStream-clause-refused g c =
-    let i : ℕ = c.loop-event.event-index in
-    let trace : List (Entry Octets) = c.loop-event.trace.items in
-    let event : Event Octets = c.event-item.result in
-    let w : State = state_after start trace in
-    let seen = seen_after trace c.loop-event.invariant.follows in
-    let lacks : LacksStream (end_of event.end w) (end_of (other event.end) w) event.call =
-    subst (λ z. LacksStream (end_of event.end z) (end_of (other event.end) z) event.call) c.loop-event.invariant.state (c.in-Err-NoSuchStream.ensures.no_stream (search rules)) in
-    let more = drop_more c.args.events.now i event c.loop-event-test.true in
-    record {
-      trace = trace;
-      event = event;
-      others = drop (i + 1) c.args.events.now;
-      split = sym (take-append-drop i c.args.events.now) ∙ (λ j. sym c.loop-event.invariant.events j ++ (more ∙ ap (λ z. z ∷ drop (i + 1) c.args.events.now) (sym c.event-item.is)) j);
-      number = search rules;
-      follows = c.loop-event.invariant.follows;
-      is_so = names_no_stream (end_of event.end w) (end_of (other event.end) w) (acts event.end trace) (acts (other event.end) trace) event.call (seen.ends event.end) (seen.ends (other event.end)) lacks;
-    }
-
-pub returns-in-Err-NotSent-clause-refused : goal.returns-in-Err-NotSent-clause-refused
-returns-in-Err-NotSent-clause-refused g c =
-    let i : ℕ = c.loop-event.event-index in
-    let trace : List (Entry Octets) = c.loop-event.trace.items in
-    let event : Event Octets = c.event-item.result in
-    let w : State = state_after start trace in
-    let seen = seen_after trace c.loop-event.invariant.follows in
-    let asks : AsksTooMuch (end_of event.end w) (end_of (other event.end) w) event.call =
-    subst (λ z. AsksTooMuch (end_of event.end z) (end_of (other event.end) z) event.call) c.loop-event.invariant.state (c.in-Err-NotSent.ensures.not_sent (search rules)) in
-    let more = drop_more c.args.events.now i event c.loop-event-test.true in
-    record {
-      trace = trace;
-      event = event;
-      others = drop (i + 1) c.args.events.now;
-      split = sym (take-append-drop i c.args.events.now) ∙ (λ j. sym c.loop-event.invariant.events j ++ (more ∙ ap (λ z. z ∷ drop (i + 1) c.args.events.now) (sym c.event-item.is)) j);
-      number = search rules;
-      follows = c.loop-event.invariant.follows;
-      is_so = asks_not_sent (end_of event.end w) (end_of (other event.end) w) (acts event.end trace) (acts (other event.end) trace) event.call (seen.ends event.end) (seen.ends (other event.end)) (λ n. (seen.pairs event.end n).own_peer.own.wire) asks;
-    }
-
-pub returns-clause-events : goal.returns-clause-events
-returns-clause-events g c =
-    c.loop-event.invariant.events ∙ take_all c.loop-event.event-index c.args.events.now (omega (arith, c.loop-event-test.false, c.loop-event.auto.event-index-end))
+returns-clause-memory g c = IfOk-weaker c.trace_of.result _ _ (λ trace follows. shows_memory trace.items follows) c.trace_of.ensures.follows
