@@ -207,7 +207,10 @@ impl<A: Allocator> Endpoint<A> {
         ensures err { OnErr result (self.new ≡ self.old) }
     {
         match self.streams.get_mut(number) {
-            Some(stream) => stream.accept(private).map_err(CallRefusal::Refused),
+            Some(stream) => match stream.accept(private) {
+                Ok(agreed) => Ok(agreed),
+                Err(refusal) => Err(CallRefusal::Refused(refusal)),
+            },
             None => Err(CallRefusal::NoSuchStream),
         }
     }
@@ -220,7 +223,10 @@ impl<A: Allocator> Endpoint<A> {
         ensures err { OnErr result (self.new ≡ self.old) }
     {
         match self.streams.get_mut(number) {
-            Some(stream) => stream.reject(private).map_err(CallRefusal::Refused),
+            Some(stream) => match stream.reject(private) {
+                Ok(()) => Ok(()),
+                Err(refusal) => Err(CallRefusal::Refused(refusal)),
+            },
             None => Err(CallRefusal::NoSuchStream),
         }
     }
@@ -291,7 +297,10 @@ impl<A: Allocator> Endpoint<A> {
         ensures memory { has_stream self.old number ≡ true → OnErr result ((ended (stream_at self.old number) ≡ false) × BringsOctets (stream_at self.old number).arrived from (length octets.now)) }
     {
         match self.streams.get_mut(number) {
-            Some(stream) => stream.deliver(from, octets).map_err(CallRefusal::Refused),
+            Some(stream) => match stream.deliver(from, octets) {
+                Ok(delivery) => Ok(delivery),
+                Err(refusal) => Err(CallRefusal::Refused(refusal)),
+            },
             None => Err(CallRefusal::NoSuchStream),
         }
     }
@@ -317,7 +326,10 @@ impl<A: Allocator> Endpoint<A> {
         ensures within { IfOk result IsWithinBuffer }
     {
         match self.streams.get_mut(number) {
-            Some(stream) => stream.work(&mut self.memory).map_err(CallRefusal::Refused),
+            Some(stream) => match stream.work(&mut self.memory) {
+                Ok(step) => Ok(step),
+                Err(refusal) => Err(CallRefusal::Refused(refusal)),
+            },
             None => Err(CallRefusal::NoSuchStream),
         }
     }
@@ -344,7 +356,10 @@ impl<A: Allocator> Endpoint<A> {
         ensures denied { has_stream self.old number ≡ true → (fault : Fault) → emission_at self.old number ≡ Emission.Fault fault → is_ok result ≡ true }
     {
         match self.streams.get_mut(number) {
-            Some(stream) => stream.emit(&self.memory, out).map_err(CallRefusal::Refused),
+            Some(stream) => match stream.emit(&self.memory, out) {
+                Ok(emission) => Ok(emission),
+                Err(refusal) => Err(CallRefusal::Refused(refusal)),
+            },
             None => Err(CallRefusal::NoSuchStream),
         }
     }
@@ -386,7 +401,10 @@ impl<A: Allocator> Endpoint<A> {
         ensures err { OnErr result (self.new ≡ self.old) }
     {
         match self.streams.get_mut(number) {
-            Some(stream) => stream.set_mulpdu(size).map_err(CallRefusal::Refused),
+            Some(stream) => match stream.set_mulpdu(size) {
+                Ok(()) => Ok(()),
+                Err(refusal) => Err(CallRefusal::Refused(refusal)),
+            },
             None => Err(CallRefusal::NoSuchStream),
         }
     }
