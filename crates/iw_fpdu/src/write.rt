@@ -59,7 +59,7 @@ fn append_all<A: Allocator>(parts: &[&[u8]], out: &mut Vec<u8, A>)
 /// Begins with the length field and the header of a frame.
 #[inline(always)]
 fn front_of<const N: usize>(len: u16, header: [u8; N]) -> [u8; 2 + MAX_HEADER]
-    requires few { N ≤ 18 }
+    requires few { N ≤ UNTAGGED_HEADER }
     ensures { take (2 + N) result ≡ len / 256 ∷ len % 256 ∷ header.entry }
 {
     let mut front = [0; 2 + MAX_HEADER];
@@ -72,7 +72,7 @@ fn front_of<const N: usize>(len: u16, header: [u8; N]) -> [u8; 2 + MAX_HEADER]
 /// Appends the length field and the header of a frame, at once.
 #[inline(always)]
 fn append_front<const N: usize, A: Allocator>(len: u16, header: [u8; N], out: &mut Vec<u8, A>)
-    requires few { N ≤ 18 }
+    requires few { N ≤ UNTAGGED_HEADER }
     requires room { vec_len out.old + 2 + N ≤ vec_capacity out.old }
     ensures items { out.new.items ≡ out.old.items ++ (len / 256 ∷ len % 256 ∷ header.entry) }
     ensures len { vec_len out.new ≡ vec_len out.old + 2 + N }
@@ -151,7 +151,7 @@ fn put_plain_segment<const N: usize, A: Allocator>(
     payload: &[u8],
     out: &mut Vec<u8, A>,
 )
-    requires few { N ≤ 18 }
+    requires few { N ≤ UNTAGGED_HEADER }
     requires len { len ≡ length (header ++ payload.now) }
     requires room { vec_len out.old + frame_size len ≤ vec_capacity out.old }
     ensures items { out.new.items ≡ out.old.items ++ bare_data (header.entry ++ payload.now) }
@@ -170,7 +170,7 @@ fn put_head<const N: usize, A: Allocator>(
     header: [u8; N],
     out: &mut Vec<u8, A>,
 )
-    requires few { N ≤ 18 }
+    requires few { N ≤ UNTAGGED_HEADER }
     requires room { HasRoom true writer.old.start writer.old.at (2 + N) (vec_len out.old) (vec_capacity out.old) }
     ensures start { writer.new.start ≡ writer.old.start }
     ensures place { writer.new.at ≡ place_after true writer.old.at (2 + N) }
@@ -197,7 +197,7 @@ fn put_segment_among_markers<const N: usize, A: Allocator>(
 )
     requires place { at < 2 ^ 63 }
     requires aligned { at % 4 ≡ 0 }
-    requires few { N ≤ 18 }
+    requires few { N ≤ UNTAGGED_HEADER }
     requires len { len ≡ length (header ++ payload.now) }
     requires short { len ≤ max_sent }
     requires room { vec_len out.old + (frame_end true at len - at) ≤ vec_capacity out.old }
@@ -227,7 +227,7 @@ fn put_segment<const N: usize, A: Allocator>(
 )
     requires place { at < 2 ^ 63 }
     requires aligned { at % 4 ≡ 0 }
-    requires few { N ≤ 18 }
+    requires few { N ≤ UNTAGGED_HEADER }
     requires len { len ≡ length (header ++ payload.now) }
     requires short { len ≤ max_sent }
     requires room { vec_len out.old + (frame_end markers at len - at) ≤ vec_capacity out.old }
@@ -324,7 +324,7 @@ pub fn write_bare<const N: usize, A: Allocator>(
     payload: &[u8],
     out: &mut Vec<u8, A>,
 ) -> Result<(), AllocError>
-    requires few { N ≤ 18 }
+    requires few { N ≤ UNTAGGED_HEADER }
     requires short { N + length payload.now ≤ max_sent }
     ensures ok { OnOk result (out.new.items ≡ out.old.items ++ bare_frame (header.entry ++ payload.now)) }
     ensures err { OnErr result (out.new.items ≡ out.old.items) }
@@ -351,7 +351,7 @@ fn write_laid<const N: usize, A: Allocator>(
 ) -> Result<(), AllocError>
     requires place { at < 2 ^ 63 }
     requires aligned { at % 4 ≡ 0 }
-    requires few { N ≤ 18 }
+    requires few { N ≤ UNTAGGED_HEADER }
     requires short { N + length payload.now ≤ max_sent }
     ensures ok { OnOk result (out.new.items ≡ out.old.items ++ frame_octets layout at (header.entry ++ payload.now)) }
     ensures err { OnErr result (out.new.items ≡ out.old.items) }
@@ -383,7 +383,7 @@ pub fn write_segment<const N: usize, A: Allocator>(
 ) -> Result<(), AllocError>
     requires place { at < 2 ^ 63 }
     requires aligned { at % 4 ≡ 0 }
-    requires few { N ≤ 18 }
+    requires few { N ≤ UNTAGGED_HEADER }
     requires short { N + length payload.now ≤ max_sent }
     ensures ok { OnOk result (out.new.items ≡ out.old.items ++ frame_octets layout at (header.entry ++ payload.now)) }
     ensures err { OnErr result (out.new.items ≡ out.old.items) }

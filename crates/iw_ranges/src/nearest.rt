@@ -15,7 +15,8 @@ const HALF: u64 = 1 << 31;
 /// number the one nearest to `floor`, less than 2^31 octets past it or at most 2^31 before it. It is negative where it lies
 /// before the stream.
 ///
-/// With the in-order point as `floor` this is the place of each octet that a window of 2^31 octets or less may have.
+/// With the in-order point as `floor` it is the place of every octet that lies at most 2^31 octets before that point, or in a
+/// window of 2^31 octets from it on.
 pub fn nearest(number: u32, first: u32, floor: u64) -> i64
     requires { floor ≤ 2 ^ 62 }
     ensures is { IsNearest number first floor result }
