@@ -7,6 +7,7 @@ ghost use Rattle.iw_ranges.specs.Spans.{in_spans, add_span, IsFromStart, IsFirst
 ghost use Rattle.iw_ranges.specs.Spans.{HasSameOctets};
 
 use crate::spans::{Span, join, lengthen};
+use core::mem::replace_with;
 use std::alloc::{AllocError, Allocator};
 use std::collections::VecDeque;
 
@@ -78,9 +79,24 @@ fn room_for(capacity: usize, len: usize) -> usize
     capacity.saturating_add(capacity).min(most).max(len)
 }
 
-/// Makes the buffer `len` octets long, with zeros past those that stand in it. There is room for them.
+/// The buffer with zeros past what stands in it, so that it is `len` octets long. There is room for them.
 ///
-/// std's calls that append many octets don't say that they leave the capacity as it is.
+/// std's calls that append many octets don't say that they leave the capacity as it is. The buffer is passed by value, so
+/// that its fields are in registers and the loop is one clearing of memory.
+fn extended<A: Allocator>(mut buffer: Vec<u8, A>, len: usize) -> (Vec<u8, A>, ())
+    requires longer { vec_len buffer ≤ len }
+    requires room { len ≤ vec_capacity buffer }
+    ensures octets { (i : ℕ) → slice_index result.0.items i ≡ slice_index buffer.items i }
+    ensures len { vec_len result.0 ≡ len }
+    ensures memory { vec_capacity result.0 ≡ vec_capacity buffer }
+{
+    'zeros: while buffer.len() < len {
+        buffer.push_reserved(0);
+    }
+    (buffer, ())
+}
+
+/// Makes the buffer `len` octets long, with zeros past what stands in it. There is room for them.
 #[inline(never)]
 fn extend_to<A: Allocator>(buffer: &mut Vec<u8, A>, len: usize)
     requires longer { vec_len buffer.old ≤ len }
@@ -89,9 +105,7 @@ fn extend_to<A: Allocator>(buffer: &mut Vec<u8, A>, len: usize)
     ensures len { vec_len buffer.new ≡ len }
     ensures memory { vec_capacity buffer.new ≡ vec_capacity buffer.old }
 {
-    'zeros: while buffer.len() < len {
-        buffer.push_reserved(0);
-    }
+    replace_with(buffer, len, extended)
 }
 
 /// Puts the octets at index `at`, past all that stands in the buffer, with zeros between. There is room for them.

@@ -1,5 +1,5 @@
 use Rattle.std.proofs.Common.{◌≡◌, ◌≤◌, ◌-◌, ℕ, slice_index, vec_len, vec_capacity}
-use Rattle.iw_ranges.proofs.buffer.extend_to.Given as goal
+use Rattle.iw_ranges.proofs.buffer.extended.Given as goal
 
 abbrev pub invariant-zeros : goal.invariant-zeros
 invariant-zeros g l = record {
