@@ -1,5 +1,6 @@
 -- The frames of the peer among the octets that came, each by its place, and what is kept of one that was placed.
 use Rattle.std.specs.Prelude.{◌≡◌, ℕ, ◌+◌, ◌-◌, ◌<◌, ◌≤◌, ◌^◌, ◌==◌, true, List, [], ◌∷◌, length, take, slice_index_or, if◌then◌else◌, Option, Some, None}
+use Rattle.iw_octets.specs.declared.constants.TheConstants.{TAGGED_HEADER, UNTAGGED_HEADER}
 use Rattle.iw_octets.specs.declared.segment.Segment.{Segment}
 use Rattle.iw_octets.specs.declared.segment.Segment.TheVariants.{Tagged, Untagged}
 use Rattle.iw_octets.specs.Head.{is_tagged}
@@ -58,7 +59,7 @@ payload_of (Some (Untagged head payload)) = payload
 
 -- the octets of DDP's header at the front of a ULPDU: 14 of a tagged segment, 18 of an untagged one (RFC 5041 4.2, 4.3)
 abbrev pub header_in : List ℕ → List ℕ
-header_in ulpdu = take (if is_tagged (slice_index_or ulpdu 0 0) then 14 else 18) ulpdu
+header_in ulpdu = take (if is_tagged (slice_index_or ulpdu 0 0) then TAGGED_HEADER else UNTAGGED_HEADER) ulpdu
 
 abbrev pub placed : Frame → PlacedFrame
 placed frame = record { start = frame.start; len = length frame.ulpdu; header = record { items = header_in frame.ulpdu } }

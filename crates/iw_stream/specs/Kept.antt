@@ -29,7 +29,7 @@ use Rattle.iw_stream.specs.declared.judging.Turning.TheVariants as turnings
 use Rattle.iw_stream.specs.Ending.{last_word}
 use Rattle.iw_stream.specs.Frames.{EarlyRecord, head_in, payload_len}
 use Rattle.iw_stream.specs.Starting.{is_open, expecting, first_place_in, first_place_out}
-use Rattle.iw_stream.specs.Stream.{StreamState, ended}
+use Rattle.iw_stream.specs.Stream.{StreamState, ended, least_mulpdu, most_mulpdu}
 use Rattle.iw_stream.specs.Work.{scene, place_past}
 
 -- a segment of n octets that was placed: a Send's has its buffer, with room for it
@@ -124,8 +124,8 @@ pub record Keeps (s : StreamState) : Type 0 where
   pub started : IsStarted s
   pub between : IsBetween (expecting s.start).markers (s.arrived.floor - first_place_in s.start)
   pub aligned : (s.sent - first_place_out s.start) % 4 ≡ 0
-  pub enough : 128 ≤ s.mulpdu
-  pub few : s.mulpdu ≤ 64512
+  pub enough : least_mulpdu ≤ s.mulpdu
+  pub few : s.mulpdu ≤ most_mulpdu
   pub is_placed : ended s ≡ false → IfSome s.front (IsPlaced s)
   pub clear : ended s ≡ false → IfSome s.front (NoneReachesOver s)
   pub headed : (r : EarlyRecord) → Contains s.early r → KeepsHeader r r.state
@@ -143,8 +143,8 @@ pub record IsWithin (s : StreamState) : Type 0 where
   pub receiving : HoldsLimits s.receiving
   pub reads : outstanding.HoldsLimits s.reads
   pub asked : requests.HoldsLimits s.asked
-  pub enough : 128 ≤ s.mulpdu
-  pub few : s.mulpdu ≤ 64512
+  pub enough : least_mulpdu ≤ s.mulpdu
+  pub few : s.mulpdu ≤ most_mulpdu
 
 -- a message that is handed out lies in its buffer
 abbrev pub IsWithinBuffer : Step (List ℕ) → Type 0

@@ -1,6 +1,7 @@
 -- The state of a stream, and what each call but work leaves of it.
 use Rattle.std.specs.Prelude.{ℕ, ◌≡◌, ◌+◌, ◌-◌, ◌==◌, nat_lt, nat_le, Bool, true, false, not, ◌&&◌, ◌||◌, List, [], length, if◌then◌else◌, Option, Some, None, Result, Ok, Err}
 use Rattle.std.specs.Option.{option_map, option_map_or}
+use Rattle.iw_octets.specs.declared.constants.TheConstants.{MAX_ULPDU}
 use Rattle.iw_octets.specs.declared.fault.Fault.{Fault}
 use Rattle.iw_octets.specs.declared.segment.Segment.{Segment}
 use Rattle.iw_octets.specs.declared.segment.Segment.TheVariants.{Tagged, Untagged}
@@ -281,9 +282,16 @@ with_buffer s buffer = record s { receiving = receiving.with_buffer s.receiving 
 
 -- ---- sizes
 
--- why a ULPDU size is refused, if it is (this endpoint's limits)
+-- the maximum ULPDU that is sent lies between these (this endpoint's limits)
+abbrev pub least_mulpdu : ℕ
+least_mulpdu = 128
+
+abbrev pub most_mulpdu : ℕ
+most_mulpdu = MAX_ULPDU
+
+-- why a ULPDU size is refused, if it is
 abbrev pub size_refusal : ℕ → Option SizeRefusal
-size_refusal size = if nat_lt size 128 then Some BadSize else if nat_lt 64512 size then Some BadSize else None
+size_refusal size = if nat_lt size least_mulpdu then Some BadSize else if nat_lt most_mulpdu size then Some BadSize else None
 
 -- it holds for every part that is cut from then on
 abbrev pub with_mulpdu : StreamState → ℕ → StreamState

@@ -11,7 +11,9 @@ ghost use Rattle.iw_stream.specs.Emitting.{numbers_of, write_head, send_head, re
 
 use bytes::Bytes;
 use iw_fpdu::{Layout, write_segment};
-use iw_octets::{DDP_VERSION, Message, Stag, TaggedHead, UntaggedHead};
+use iw_octets::{
+    DDP_VERSION, Message, Stag, TAGGED_HEADER, TaggedHead, UNTAGGED_HEADER, UntaggedHead,
+};
 use iw_queues::{Part, Request};
 use iw_rdmap::{MAX_TERMINATE, TaggedOperation, UntaggedOperation};
 use std::alloc::{AllocError, Allocator};
@@ -122,7 +124,7 @@ pub(crate) fn write_tagged<A: Allocator>(
     requires place { at < 2 ^ 63 }
     requires aligned { at % 4 ≡ 0 }
     requires version { head.ddp_version < 4 }
-    requires short { 14 + length payload.now ≤ max_sent }
+    requires short { TAGGED_HEADER + length payload.now ≤ max_sent }
     ensures ok { OnOk result (out.new.items ≡ out.old.items ++ frame_octets layout at (segment_octets (Tagged head payload.now))) }
     ensures err { OnErr result (out.new.items ≡ out.old.items) }
     ensures memory { vec_len out.old + length (frame_octets layout at (segment_octets (Tagged head payload.now))) ≤ vec_capacity out.old
@@ -144,7 +146,7 @@ fn write_untagged<A: Allocator>(
     requires place { at < 2 ^ 63 }
     requires aligned { at % 4 ≡ 0 }
     requires version { head.ddp_version < 4 }
-    requires short { 18 + length payload.now ≤ max_sent }
+    requires short { UNTAGGED_HEADER + length payload.now ≤ max_sent }
     ensures ok { OnOk result (out.new.items ≡ out.old.items ++ frame_octets layout at (segment_octets (Untagged head payload.now))) }
     ensures err { OnErr result (out.new.items ≡ out.old.items) }
     ensures memory { vec_len out.old + length (frame_octets layout at (segment_octets (Untagged head payload.now))) ≤ vec_capacity out.old

@@ -152,7 +152,7 @@ fn front<'a, A: Allocator>(fpdu: &Fpdu<'a, A>) -> Option<&'a [u8]>
 #[inline(always)]
 pub(crate) fn tagged_parts<'a, A: Allocator>(fpdu: &Fpdu<'a, A>) -> Option<(&'a [u8], Pieces<'a>)>
     requires { HoldsSpan fpdu.now }
-    ensures { IfSome result (λ parts. (ulpdu fpdu.now ≡ parts.0.now ++ parts.1) × (length parts.0.now ≡ 14)) }
+    ensures { IfSome result (λ parts. (ulpdu fpdu.now ≡ parts.0.now ++ parts.1) × (length parts.0.now ≡ TAGGED_HEADER)) }
 {
     fpdu.pieces(0).split_front(TAGGED_HEADER)
 }
@@ -201,10 +201,10 @@ fn place_tagged<A: Allocator, B: Allocator>(
     memory: &mut Memory<B>,
 ) -> Result<Placed, Fault>
     requires holds { HoldsSpan fpdu.now }
-    requires long { 14 ≤ ulpdu_len fpdu.now }
-    requires payload { payload ≡ drop 14 (ulpdu fpdu.now) }
-    ensures placed { result ≡ fault_or (placing_fault memory.old domain head (ulpdu_len fpdu.now - 14) right) (place_in head (ulpdu_len fpdu.now - 14)) }
-    ensures ok { OnOk result (memory.new ≡ put memory.old head.stag head.to (drop 14 (ulpdu fpdu.now))) }
+    requires long { TAGGED_HEADER ≤ ulpdu_len fpdu.now }
+    requires payload { payload ≡ drop TAGGED_HEADER (ulpdu fpdu.now) }
+    ensures placed { result ≡ fault_or (placing_fault memory.old domain head (ulpdu_len fpdu.now - TAGGED_HEADER) right) (place_in head (ulpdu_len fpdu.now - TAGGED_HEADER)) }
+    ensures ok { OnOk result (memory.new ≡ put memory.old head.stag head.to (drop TAGGED_HEADER (ulpdu fpdu.now))) }
     ensures err { OnErr result (memory.new ≡ memory.old) }
 {
     let n = fpdu.len() - TAGGED_HEADER;
@@ -255,7 +255,7 @@ pub(crate) fn land_tagged<A: Allocator, B: Allocator>(
     requires holds { HoldsSpan fpdu.now }
     requires tagged { Some head ≡ tagged_in (read_segment (ulpdu fpdu.now)) }
     requires response { response ≡ is_response head }
-    requires payload { payload ≡ drop 14 (ulpdu fpdu.now) }
+    requires payload { payload ≡ drop TAGGED_HEADER (ulpdu fpdu.now) }
     ensures landed { (at : Standing) → at.table ≡ memory.old → at.domain ≡ domain → at.reads ≡ reads.now → as_tagged response result ≡ verdict at (frame_by fpdu.now) }
     ensures memory { IfOk result (λ at. memory.new ≡ put memory.old at.stag at.to (payload_of (read_segment (ulpdu fpdu.now)))) }
     ensures err { OnErr result (memory.new ≡ memory.old) }
@@ -278,10 +278,10 @@ fn place_write<A: Allocator, B: Allocator>(
     memory: &mut Memory<B>,
 ) -> Result<Landing, Fault>
     requires holds { HoldsSpan fpdu.now }
-    requires long { 14 ≤ ulpdu_len fpdu.now }
-    ensures landed { result ≡ write_verdict memory.old domain head (ulpdu_len fpdu.now - 14) }
-    ensures memory { IfOk result (λ at. memory.new ≡ table_landed memory.old (drop 14 (ulpdu fpdu.now)) at) }
-    ensures receiving { (r : Receiving) → IfOk result (λ at. r ≡ receiving_landed r (drop 14 (ulpdu fpdu.now)) at) }
+    requires long { TAGGED_HEADER ≤ ulpdu_len fpdu.now }
+    ensures landed { result ≡ write_verdict memory.old domain head (ulpdu_len fpdu.now - TAGGED_HEADER) }
+    ensures memory { IfOk result (λ at. memory.new ≡ table_landed memory.old (drop TAGGED_HEADER (ulpdu fpdu.now)) at) }
+    ensures receiving { (r : Receiving) → IfOk result (λ at. r ≡ receiving_landed r (drop TAGGED_HEADER (ulpdu fpdu.now)) at) }
     ensures err { OnErr result (memory.new ≡ memory.old) }
 {
     let payload = fpdu.pieces(TAGGED_HEADER);
@@ -300,10 +300,10 @@ fn place_response<A: Allocator, B: Allocator>(
     memory: &mut Memory<B>,
 ) -> Result<Landing, Fault>
     requires holds { HoldsSpan fpdu.now }
-    requires long { 14 ≤ ulpdu_len fpdu.now }
-    ensures landed { result ≡ response_verdict memory.old domain reads.now head (ulpdu_len fpdu.now - 14) }
-    ensures memory { IfOk result (λ at. memory.new ≡ table_landed memory.old (drop 14 (ulpdu fpdu.now)) at) }
-    ensures receiving { (r : Receiving) → IfOk result (λ at. r ≡ receiving_landed r (drop 14 (ulpdu fpdu.now)) at) }
+    requires long { TAGGED_HEADER ≤ ulpdu_len fpdu.now }
+    ensures landed { result ≡ response_verdict memory.old domain reads.now head (ulpdu_len fpdu.now - TAGGED_HEADER) }
+    ensures memory { IfOk result (λ at. memory.new ≡ table_landed memory.old (drop TAGGED_HEADER (ulpdu fpdu.now)) at) }
+    ensures receiving { (r : Receiving) → IfOk result (λ at. r ≡ receiving_landed r (drop TAGGED_HEADER (ulpdu fpdu.now)) at) }
     ensures err { OnErr result (memory.new ≡ memory.old) }
 {
     if let Err(fault) = reads.check(&head, fpdu.len() - TAGGED_HEADER) {
@@ -323,10 +323,10 @@ fn place_send<A: Allocator, B: Allocator>(
     receiving: &mut RecvQueue<B>,
 ) -> Result<Landing, Fault>
     requires holds { HoldsSpan fpdu.now }
-    requires long { 18 ≤ ulpdu_len fpdu.now }
-    ensures landed { result ≡ fault_or (buffer_fault receiving.old head.msn head.mo (ulpdu_len fpdu.now - 18)) (Landing.Send head.msn head.mo (ulpdu_len fpdu.now - 18)) }
-    ensures receiving { IfOk result (λ at. receiving.new ≡ receiving_landed receiving.old (drop 18 (ulpdu fpdu.now)) at) }
-    ensures memory { (table : Table) → IfOk result (λ at. table ≡ table_landed table (drop 18 (ulpdu fpdu.now)) at) }
+    requires long { UNTAGGED_HEADER ≤ ulpdu_len fpdu.now }
+    ensures landed { result ≡ fault_or (buffer_fault receiving.old head.msn head.mo (ulpdu_len fpdu.now - UNTAGGED_HEADER)) (Landing.Send head.msn head.mo (ulpdu_len fpdu.now - UNTAGGED_HEADER)) }
+    ensures receiving { IfOk result (λ at. receiving.new ≡ receiving_landed receiving.old (drop UNTAGGED_HEADER (ulpdu fpdu.now)) at) }
+    ensures memory { (table : Table) → IfOk result (λ at. table ≡ table_landed table (drop UNTAGGED_HEADER (ulpdu fpdu.now)) at) }
     ensures err { OnErr result (receiving.new ≡ receiving.old) }
 {
     let len = fpdu.len() - UNTAGGED_HEADER;
@@ -461,7 +461,7 @@ fn land_tagged_early<A: Allocator, B: Allocator>(
 ) -> Option<Landing>
     requires holds { HoldsSpan fpdu.now }
     requires tagged { Some head ≡ tagged_in (read_segment (ulpdu fpdu.now)) }
-    requires payload { payload ≡ drop 14 (ulpdu fpdu.now) }
+    requires payload { payload ≡ drop TAGGED_HEADER (ulpdu fpdu.now) }
     ensures landed { (at : Standing) → at.table ≡ memory.old → at.domain ≡ domain → at.reads ≡ reads.now → result ≡ early_verdict at (frame_by fpdu.now) }
     ensures memory { memory.new ≡ table_tried memory.old (frame_by fpdu.now) result }
     ensures receiving { (r : Receiving) → r ≡ receiving_tried r (frame_by fpdu.now) result }
@@ -545,7 +545,7 @@ fn append_header(header: &mut ArrayVec<u8, 18>, octets: &[u8])
 #[inline(always)]
 fn append_front<const N: usize>(header: &mut ArrayVec<u8, 18>, octets: &[u8])
     requires empty { header.old.items ≡ [] }
-    requires few { N ≤ 18 }
+    requires few { N ≤ UNTAGGED_HEADER }
     ensures { header.new.items ≡ take N octets.now }
 {
     let _ = match octets.first_chunk::<N>() {
@@ -614,7 +614,7 @@ pub(crate) fn keep_tagged<A: Allocator>(
     requires start { start ≡ fpdu.now.start }
     requires front { (beyond : List ℕ) × (ulpdu fpdu.now ≡ front.now ++ beyond) }
     requires tagged { is_tagged (slice_index front.now 0) ≡ true }
-    requires long { 14 ≤ length front.now }
+    requires long { TAGGED_HEADER ≤ length front.now }
     ensures { kept.new ≡ Some (placed (frame_by fpdu.now)) }
 {
     let frame = kept.insert(PlacedFrame {

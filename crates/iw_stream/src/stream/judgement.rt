@@ -11,6 +11,7 @@ ghost use Rattle.iw_stream.specs.Kept.{IsWithinBuffer};
 ghost use Rattle.iw_stream.specs.Work.{judged_step};
 ghost use Rattle.std.specs.Option.{option_map_or};
 ghost use Rattle.iw_stream.specs.Starting.{is_open};
+ghost use Rattle.iw_reads.specs.Requests.{most_unanswered};
 ghost use Rattle.iw_reads.specs.Source.{IsInRange};
 
 use super::Stream;
@@ -266,7 +267,7 @@ impl<A: Allocator> Stream<A> {
         requires stands { Stands self.old frame }
         requires over { NoneReachesOver self.old frame }
         requires header { length frame.header.items ≡ UNTAGGED_HEADER }
-        requires room { length self.old.asked.unanswered < 16 }
+        requires room { length self.old.asked.unanswered < most_unanswered }
         requires range { IsInRange request }
         ensures step { result ≡ judged_step (Ok (Landing.Request request)) }
         ensures after { self.new ≡ takes_up self.old frame request }
