@@ -1,17 +1,20 @@
 -- Calls at an endpoint one after another, and what they come to.
-use Rattle.std.proofs.Common.{◌≡◌, ℕ, ◌+◌, List, [], ◌∷◌, ◌++◌, length, take, drop, refl, sym, append_assoc, append-nil, take-append-drop}
-use Rattle.std.specs.Prelude.{Option, None, Ok}
+use Rattle.std.proofs.Common.{◌≡◌, ℕ, ◌+◌, List, [], ◌∷◌, ◌++◌, length, take, drop, refl, sym, inl, inr, arith, append_assoc, append-nil, take-append-drop}
+use Rattle.std.specs.Prelude.{Option, None, Some, Ok, true, is_some}
 use Rattle.std.specs.Io.KnownBytes.{Appends, Consumes, Keeps}
 use Rattle.std.proofs.KnownBytes.{Appends-kept, Appends-nil, Appends-trans, Consumes-nil, Consumes-trans}
 use Rattle.arrayvec.specs.ArrayVec.{ArrayVec}
 use Rattle.iw_memory.specs.declared.rights.Rights.{Rights}
+use Rattle.iw_octets.specs.declared.stag.Stag.{Stag}
 use Rattle.iw_queues.specs.declared.request.Request.{Request}
-use Rattle.iw_startup.specs.declared.config.Config.{Config}
 use Rattle.iw_stream.specs.declared.answer.Emission.{Emission}
-use Rattle.iw_stream.specs.declared.answer.Role.{Role}
+use Rattle.iw_stream.specs.declared.answer.Emission.TheVariants as emissions
 use Rattle.iw_stream.specs.declared.answer.Step.{Step}
+use Rattle.iw_stream.specs.declared.answer.Step.TheVariants as steps
 use Rattle.iw_endpoint.specs.Endpoint.{EndpointState, registered, opened, with_buffer, accepted, after_deliver, step_at, after_work, with_request, emission_at, emitted_at, after_emit}
-use Rattle.iw_links.specs.Exchange.{Event, Opened, Lent, Accepted, Delivered, Worked, Posted, Emitted, Standing, Told, told_by, told_of, Goes, Runs, came_in, went_out, inputs, outputs, starting, Did, Emits, Exchanged, Failed}
+use Rattle.iw_links.specs.Exchange.{Part, Serves, Asks, Plan, private_of, receive_buffer, Phase, Lending, Listening, Working, Accepting, Speaking, after_lending, after_step, after_emission}
+use Rattle.iw_links.specs.Exchange.{Event, Lent, Accepted, Delivered, Worked, Posted, Emitted, Standing, Told, told_by, told_of, MayHear, IsDue, Goes, Runs, came_in, went_out, inputs, outputs, Did, Emits, Exchanged, IsUndelivered, Failed, role_of, started, IsAnswer, IsSaid, IsSettled, Finished}
+use Rattle.iw_links.specs.Standing.{count_said}
 use Rattle.iw_links.specs.declared.report.Ended.{Ended}
 
 inputs_join : (es fs : List Event) → inputs (es ++ fs) ≡ inputs es ++ inputs fs
@@ -22,122 +25,115 @@ outputs_join : (es fs : List Event) → outputs (es ++ fs) ≡ outputs es ++ out
 outputs_join [] fs = refl
 outputs_join (e ∷ es) fs = rw (outputs_join es fs, append_assoc) refl
 
-runs_join : (n : ℕ) (s m s' : Standing) (es fs : List Event) → Runs n s es m → Runs n m fs s' → Runs n s (es ++ fs) s'
-runs_join n s m s' [] fs first second = rw (← first) second
-runs_join n s m s' (e ∷ es) fs first second = (first.0, first.1, runs_join n first.0 m s' es fs first.2 second)
+runs_join : (p : Plan) (s m s' : Standing) (es fs : List Event) → Runs p s es m → Runs p m fs s' → Runs p s (es ++ fs) s'
+runs_join p s m s' [] fs first second = rw (← first) second
+runs_join p s m s' (e ∷ es) fs first second = (first.0, first.1, runs_join p first.0 m s' es fs first.2 second)
 
-pub stays : (n : ℕ) (s : Standing) → Did n s s [] []
-stays n s = record { events = []; runs = refl; came = refl; went = refl }
+pub stays : (p : Plan) (s : Standing) → Did p s s [] []
+stays p s = record { events = []; runs = refl; came = refl; went = refl }
 
-pub joins : (n : ℕ) (s m s' : Standing) (a b x y : List ℕ) → Did n s m a x → Did n m s' b y → Did n s s' (a ++ b) (x ++ y)
-joins n s m s' a b x y first second = record {
+pub joins : (p : Plan) (s m s' : Standing) (a b x y : List ℕ) → Did p s m a x → Did p m s' b y → Did p s s' (a ++ b) (x ++ y)
+joins p s m s' a b x y first second = record {
   events = first.events ++ second.events;
-  runs = runs_join n s m s' first.events second.events first.runs second.runs;
+  runs = runs_join p s m s' first.events second.events first.runs second.runs;
   came = rw (inputs_join first.events second.events, first.came, second.came) refl;
   went = rw (outputs_join first.events second.events, first.went, second.went) refl;
 }
 
+-- of which neither takes or gives octets of the stream
+pub both : (p : Plan) (s m s' : Standing) → Did p s m [] [] → Did p m s' [] [] → Did p s s' [] []
+both p s m s' first second = joins p s m s' [] [] [] [] first second
+
 -- ---- one call alone
 
 -- one that takes and gives no octets of the stream
-quietly : (n : ℕ) (s s' : Standing) (event : Event) → came_in event ≡ [] → went_out event ≡ [] → Goes n s event s' → Did n s s' [] []
-quietly n s s' event came went goes = record {
+quietly : (p : Plan) (s s' : Standing) (event : Event) → came_in event ≡ [] → went_out event ≡ [] → Goes p s event s' → Did p s s' [] []
+quietly p s s' event came went goes = record {
   events = event ∷ [];
   runs = (s', goes, refl);
   came = rw came refl;
   went = rw went refl;
 }
 
--- the endpoint alone changes
-at : ℕ → Told → EndpointState → Standing
-at c t e = record { endpoint = e; came = c; told = t }
+abbrev pub at : EndpointState → ℕ → Told → Phase → ℕ → Standing
+at e c t phase k = record { endpoint = e; came = c; told = t; phase = phase; posted = k }
 
-pub opens : (n : ℕ) (e e' : EndpointState) (c : ℕ) (t : Told) (role : Role) (config : Config) → e' ≡ opened e n 1 role config →
-    Did n (record { endpoint = e; came = c; told = t }) (record { endpoint = e'; came = c; told = t }) [] []
-opens n e e' c t role config is = quietly n _ _ (Opened role config) refl refl (rw is refl)
+pub lends : (p : Plan) (e e' : EndpointState) (c : ℕ) (t : Told) (k : ℕ) (buffer : List ℕ) → buffer ≡ receive_buffer →
+    e' ≡ with_buffer e p.number buffer → Did p (at e c t Lending k) (at e' c t (after_lending p.part) k) [] []
+lends p e e' c t k buffer zero_filled is = quietly p _ _ (Lent buffer) refl refl (refl, zero_filled, rw is refl)
 
-pub lends : (n : ℕ) (e e' : EndpointState) (c : ℕ) (t : Told) (buffer : List ℕ) → e' ≡ with_buffer e n buffer →
-    Did n (record { endpoint = e; came = c; told = t }) (record { endpoint = e'; came = c; told = t }) [] []
-lends n e e' c t buffer is = quietly n _ _ (Lent buffer) refl refl (rw is refl)
+pub accepts : (p : Plan) (e e' : EndpointState) (c : ℕ) (t : Told) (k : ℕ) (private : ArrayVec ℕ) → private.items ≡ private_of p.part →
+    e' ≡ accepted e p.number private → Did p (at e c t Accepting k) (at e' c t Working k) [] []
+accepts p e e' c t k private named is = quietly p _ _ (Accepted private) refl refl (refl, named, rw is refl)
 
-pub accepts : (n : ℕ) (e e' : EndpointState) (c : ℕ) (t : Told) (private : ArrayVec ℕ) → e' ≡ accepted e n private →
-    Did n (record { endpoint = e; came = c; told = t }) (record { endpoint = e'; came = c; told = t }) [] []
-accepts n e e' c t private is = quietly n _ _ (Accepted private) refl refl (rw is refl)
+pub posts : (p : Plan) (e e' : EndpointState) (c : ℕ) (t : Told) (phase : Phase) (k : ℕ) (request : Request (List ℕ)) →
+    IsDue p.part p.number (at e c t phase k) request → e' ≡ with_request e p.number request →
+    Did p (at e c t phase k) (at e' c t Speaking (k + 1)) [] []
+posts p e e' c t phase k request due is = quietly p _ _ (Posted request) refl refl (due, rw is refl)
 
-pub posts : (n : ℕ) (e e' : EndpointState) (c : ℕ) (t : Told) (request : Request (List ℕ)) → e' ≡ with_request e n request →
-    Did n (record { endpoint = e; came = c; told = t }) (record { endpoint = e'; came = c; told = t }) [] []
-posts n e e' c t request is = quietly n _ _ (Posted request) refl refl (rw is refl)
+pub works : (p : Plan) (e e' : EndpointState) (c c' : ℕ) (t t' : Told) (k : ℕ) (phase : Phase) (step : Step (List ℕ)) →
+    Ok step ≡ step_at e p.number → e' ≡ after_work e p.number → c' ≡ c → t' ≡ told_by t step → phase ≡ after_step step →
+    Did p (at e c t Working k) (at e' c' t' phase k) [] []
+works p e e' c c' t t' k phase step is after same tells asks =
+    quietly p _ _ (Worked step) refl refl (refl, sym is, rw (after, same, tells, asks) refl)
 
-pub refuses : (n : ℕ) (e e' : EndpointState) (c : ℕ) (t : Told) → e' ≡ e →
-    Did n (record { endpoint = e; came = c; told = t }) (record { endpoint = e'; came = c; told = t }) [] []
-refuses n e e' c t is = rw is (stays n _)
-
-pub works : (n : ℕ) (e e' : EndpointState) (c c' : ℕ) (t t' : Told) (step : Step (List ℕ)) →
-    Ok step ≡ step_at e n → e' ≡ after_work e n → c' ≡ c → t' ≡ told_by t step →
-    Did n (record { endpoint = e; came = c; told = t }) (record { endpoint = e'; came = c'; told = t' }) [] []
-works n e e' c c' t t' step is after same tells = quietly n _ _ (Worked step) refl refl (sym is, rw (after, same, tells) refl)
-
-pub delivers : (n : ℕ) (e e' : EndpointState) (c c' : ℕ) (t : Told) (octets : List ℕ) →
-    e' ≡ after_deliver e n c octets → c' ≡ c + length octets →
-    Did n (record { endpoint = e; came = c; told = t }) (record { endpoint = e'; came = c'; told = t }) octets []
-delivers n e e' c c' t octets after count = record {
+pub delivers : (p : Plan) (e e' : EndpointState) (c c' : ℕ) (t : Told) (k : ℕ) (octets : List ℕ) → MayHear p.part k →
+    e' ≡ after_deliver e p.number c octets → c' ≡ c + length octets →
+    Did p (at e c t Listening k) (at e' c' t Working k) octets []
+delivers p e e' c c' t k octets may after count = record {
   events = Delivered octets ∷ [];
-  runs = (record { endpoint = e'; came = c'; told = t }, rw (after, count) refl, refl);
+  runs = (at e' c' t Working k, (refl, may, rw (after, count) refl), refl);
   came = append-nil octets;
   went = refl;
 }
 
-pub emits : (n : ℕ) (e e' : EndpointState) (c : ℕ) (t t' : Told) (emission : Emission) (out out' : List ℕ) →
-    emission ≡ emission_at e n → out' ≡ out ++ emitted_at e n → e' ≡ after_emit e n → t' ≡ told_of t emission →
-    Emits n (record { endpoint = e; came = c; told = t }) (record { endpoint = e'; came = c; told = t' }) out out'
-emits n e e' c t t' emission out out' is grows after tells = record {
-  outs = emitted_at e n;
+pub emits : (p : Plan) (e e' : EndpointState) (c : ℕ) (t t' : Told) (k : ℕ) (phase : Phase) (emission : Emission) (out out' : List ℕ) →
+    emission ≡ emission_at e p.number → out' ≡ out ++ emitted_at e p.number → e' ≡ after_emit e p.number →
+    t' ≡ told_of t emission → phase ≡ after_emission emission →
+    Emits p (at e c t Speaking k) (at e' c t' phase k) out out'
+emits p e e' c t t' k phase emission out out' is grows after tells goes_on = record {
+  outs = emitted_at e p.number;
   did = record {
-    events = Emitted emission (emitted_at e n) ∷ [];
-    runs = (record { endpoint = e'; came = c; told = t' }, (is, refl, rw (after, tells) refl), refl);
+    events = Emitted emission (emitted_at e p.number) ∷ [];
+    runs = (at e' c t' phase k, (refl, is, refl, rw (after, tells, goes_on) refl), refl);
     came = refl;
-    went = append-nil (emitted_at e n);
+    went = append-nil (emitted_at e p.number);
   };
   appends = grows;
 }
 
-pub emits_nothing : (n : ℕ) (e e' : EndpointState) (c : ℕ) (t : Told) (out out' : List ℕ) → e' ≡ e → out' ≡ out →
-    Emits n (record { endpoint = e; came = c; told = t }) (record { endpoint = e'; came = c; told = t }) out out'
-emits_nothing n e e' c t out out' same kept = record {
-  outs = [];
-  did = rw same (stays n _);
-  appends = rw (kept, append-nil out) refl;
-}
+pub emits_nothing : (p : Plan) (s : Standing) (out : List ℕ) → Emits p s s out out
+emits_nothing p s out = record { outs = []; did = stays p s; appends = rw (append-nil out) refl }
 
-pub emits_on : (n : ℕ) (s m s' : Standing) (out mid out' : List ℕ) → Emits n s m out mid → Emits n m s' mid out' → Emits n s s' out out'
-emits_on n s m s' out mid out' first second = record {
+pub emits_on : (p : Plan) (s m s' : Standing) (out mid out' : List ℕ) → Emits p s m out mid → Emits p m s' mid out' → Emits p s s' out out'
+emits_on p s m s' out mid out' first second = record {
   outs = first.outs ++ second.outs;
-  did = joins n s m s' [] [] first.outs second.outs first.did second.did;
+  did = joins p s m s' [] [] first.outs second.outs first.did second.did;
   appends = rw (second.appends, first.appends, append_assoc) refl;
 }
 
 -- ---- with what the reader gave and the writer took
 
-pub exchanges : (n : ℕ) (s m s' : Standing) (i j i' o p o' : Option (List ℕ)) →
-    Exchanged n s i o m j p → Exchanged n m j p s' i' o' → Exchanged n s i o s' i' o'
-exchanges n s m s' i j i' o p o' first second = record {
+pub exchanges : (p : Plan) (s m s' : Standing) (i j i' o q o' : Option (List ℕ)) →
+    Exchanged p s i o m j q → Exchanged p m j q s' i' o' → Exchanged p s i o s' i' o'
+exchanges p s m s' i j i' o q o' first second = record {
   ins = first.ins ++ second.ins;
   outs = first.outs ++ second.outs;
-  did = joins n s m s' first.ins second.ins first.outs second.outs first.did second.did;
+  did = joins p s m s' first.ins second.ins first.outs second.outs first.did second.did;
   reads = Consumes-trans i j i' first.ins second.ins first.reads second.reads;
-  writes = Appends-trans o p o' first.outs second.outs first.writes second.writes;
+  writes = Appends-trans o q o' first.outs second.outs first.writes second.writes;
 }
 
-pub in_quiet : (n : ℕ) (s s' : Standing) (i o : Option (List ℕ)) → Did n s s' [] [] → Exchanged n s i o s' i o
-in_quiet n s s' i o did = record { ins = []; outs = []; did = did; reads = Consumes-nil i; writes = Appends-nil o }
+pub in_quiet : (p : Plan) (s s' : Standing) (i o : Option (List ℕ)) → Did p s s' [] [] → Exchanged p s i o s' i o
+in_quiet p s s' i o did = record { ins = []; outs = []; did = did; reads = Consumes-nil i; writes = Appends-nil o }
 
-pub after_read : (n : ℕ) (s s' : Standing) (i i' o : Option (List ℕ)) (octets : List ℕ) →
-    Did n s s' octets [] → Consumes i i' octets → Exchanged n s i o s' i' o
-after_read n s s' i i' o octets did reads = record { ins = octets; outs = []; did = did; reads = reads; writes = Appends-nil o }
+pub after_read : (p : Plan) (s s' : Standing) (i i' o : Option (List ℕ)) (octets : List ℕ) →
+    Did p s s' octets [] → Consumes i i' octets → Exchanged p s i o s' i' o
+after_read p s s' i i' o octets did reads = record { ins = octets; outs = []; did = did; reads = reads; writes = Appends-nil o }
 
-pub after_write : (n : ℕ) (s s' : Standing) (i o o' : Option (List ℕ)) (out : List ℕ) →
-    Emits n s s' [] out → Appends o o' out → Exchanged n s i o s' i o'
-after_write n s s' i o o' out e writes = record {
+pub after_write : (p : Plan) (s s' : Standing) (i o o' : Option (List ℕ)) (out : List ℕ) →
+    Emits p s s' [] out → Appends o o' out → Exchanged p s i o s' i o'
+after_write p s s' i o o' out e writes = record {
   ins = [];
   outs = e.outs;
   did = e.did;
@@ -146,51 +142,78 @@ after_write n s s' i o o' out e writes = record {
 }
 
 -- an output that kept its octets meanwhile
-pub output_kept : (n : ℕ) (s s' : Standing) (i i' o p o' : Option (List ℕ)) → Exchanged n s i o s' i' p → Keeps p o' → Exchanged n s i o s' i' o'
-output_kept n s s' i i' o p o' e kept = record {
+pub output_kept : (p : Plan) (s s' : Standing) (i i' o q o' : Option (List ℕ)) → Exchanged p s i o s' i' q → Keeps q o' → Exchanged p s i o s' i' o'
+output_kept p s s' i i' o q o' e kept = record {
   ins = e.ins;
   outs = e.outs;
   did = e.did;
   reads = e.reads;
-  writes = Appends-kept o p o' e.outs e.writes kept;
+  writes = Appends-kept o q o' e.outs e.writes kept;
 }
 
 -- ---- up to where the link broke
 
-pub fails_later : (n : ℕ) (s m s' : Standing) (i j i' o p o' : Option (List ℕ)) →
-    Exchanged n s i o m j p → Failed n m j p s' i' o' → Failed n s i o s' i' o'
-fails_later n s m s' i j i' o p o' first f = record {
+pub fails_later : (p : Plan) (s m : Standing) (at' : Phase → ℕ → Standing) (i j i' o q o' : Option (List ℕ)) →
+    Exchanged p s i o m j q → Failed p m j q at' i' o' → Failed p s i o at' i' o'
+fails_later p s m at' i j i' o q o' first f = record {
+  phase = f.phase;
+  posted = f.posted;
   ins = first.ins ++ f.ins;
   lost = f.lost;
   written = first.outs ++ f.written;
   unwritten = f.unwritten;
-  did = rw append_assoc (joins n s m s' first.ins f.ins first.outs (f.written ++ f.unwritten) first.did f.did);
+  did = rw append_assoc (joins p s m (at' f.phase f.posted) first.ins f.ins first.outs (f.written ++ f.unwritten) first.did f.did);
   reads = rw append_assoc (Consumes-trans i j i' first.ins (f.ins ++ f.lost) first.reads f.reads);
-  writes = Appends-trans o p o' first.outs f.written first.writes f.writes;
+  writes = Appends-trans o q o' first.outs f.written first.writes f.writes;
+  undelivered = f.undelivered;
 }
 
--- octets that were read are not delivered
-pub fails : (n : ℕ) (s s' : Standing) (i i' o : Option (List ℕ)) (lost : List ℕ) → Did n s s' [] [] → Consumes i i' lost → Failed n s i o s' i' o
-fails n s s' i i' o lost did reads = record {
+-- octets that were read could not be delivered
+pub fails_undelivered : (p : Plan) (at' : Phase → ℕ → Standing) (k : ℕ) (i i' o : Option (List ℕ)) (lost : List ℕ) →
+    IsUndelivered p (at' Listening k) lost → Consumes i i' lost → Failed p (at' Listening k) i o at' i' o
+fails_undelivered p at' k i i' o lost undelivered reads = record {
+  phase = Listening;
+  posted = k;
   ins = [];
   lost = lost;
   written = [];
   unwritten = [];
-  did = did;
+  did = stays p (at' Listening k);
   reads = reads;
   writes = Appends-nil o;
+  undelivered = inr undelivered;
 }
 
 -- nothing is lost
-pub fails_quietly : (n : ℕ) (s s' : Standing) (i o : Option (List ℕ)) → Did n s s' [] [] → Failed n s i o s' i o
-fails_quietly n s s' i o did = fails n s s' i i o [] did (Consumes-nil i)
+pub fails_now : (p : Plan) (s : Standing) (at' : Phase → ℕ → Standing) (phase : Phase) (k : ℕ) (i i' o o' : Option (List ℕ)) →
+    Exchanged p s i o (at' phase k) i' o' → Failed p s i o at' i' o'
+fails_now p s at' phase k i i' o o' e = record {
+  phase = phase;
+  posted = k;
+  ins = e.ins;
+  lost = [];
+  written = e.outs;
+  unwritten = [];
+  did = rw (append-nil e.outs) e.did;
+  reads = rw (append-nil e.ins) e.reads;
+  writes = e.writes;
+  undelivered = inl refl;
+}
 
-pub fails_now : (n : ℕ) (s s' : Standing) (i i' o o' : Option (List ℕ)) → Exchanged n s i o s' i' o' → Failed n s i o s' i' o'
-fails_now n s s' i i' o o' e = fails_later n s s' s' i i' i' o o' o' e (fails_quietly n s' s' i' o' (stays n s'))
+pub fails_quietly : (p : Plan) (s : Standing) (at' : Phase → ℕ → Standing) (phase : Phase) (k : ℕ) (i o : Option (List ℕ)) →
+    Did p s (at' phase k) [] [] → Failed p s i o at' i o
+fails_quietly p s at' phase k i o did = fails_now p s at' phase k i i o o (in_quiet p s (at' phase k) i o did)
+
+-- nothing was done at all
+pub fails_still : (p : Plan) (at' : Phase → ℕ → Standing) (phase : Phase) (k : ℕ) (i o : Option (List ℕ)) → Failed p (at' phase k) i o at' i o
+fails_still p at' phase k i o = fails_quietly p (at' phase k) at' phase k i o (stays p (at' phase k))
 
 -- nothing of what was emitted is written
-pub fails_unwritten : (n : ℕ) (s s' : Standing) (i o : Option (List ℕ)) (out : List ℕ) → Emits n s s' [] out → Failed n s i o s' i o
-fails_unwritten n s s' i o out e = record {
+pub fails_unwritten : (p : Plan) (s : Standing) (at' : Phase → ℕ → Standing) (phase : Phase) (k : ℕ) (i o : Option (List ℕ)) (out : List ℕ) →
+    Emits p s (at' phase k) [] out → Failed p s i o at' i o
+fails_unwritten p s at' phase k i o out e = record {
+  phase = phase;
+  posted = k;
   ins = [];
   lost = [];
   written = [];
@@ -198,12 +221,15 @@ fails_unwritten n s s' i o out e = record {
   did = e.did;
   reads = Consumes-nil i;
   writes = Appends-nil o;
+  undelivered = inl refl;
 }
 
 -- its front alone is written
-pub fails_short : (n : ℕ) (s s' : Standing) (i o o' : Option (List ℕ)) (out : List ℕ) (count : ℕ) →
-    Emits n s s' [] out → Appends o o' (take count out) → Failed n s i o s' i o'
-fails_short n s s' i o o' out count e writes = record {
+pub fails_short : (p : Plan) (s : Standing) (at' : Phase → ℕ → Standing) (phase : Phase) (k : ℕ) (i o o' : Option (List ℕ)) (out : List ℕ) (count : ℕ) →
+    Emits p s (at' phase k) [] out → Appends o o' (take count out) → Failed p s i o at' i o'
+fails_short p s at' phase k i o o' out count e writes = record {
+  phase = phase;
+  posted = k;
   ins = [];
   lost = [];
   written = take count e.outs;
@@ -211,6 +237,7 @@ fails_short n s s' i o o' out count e writes = record {
   did = rw (take-append-drop count e.outs) e.did;
   reads = Consumes-nil i;
   writes = rw (← e.appends) writes;
+  undelivered = inl refl;
 }
 
 -- the same is registered
@@ -218,20 +245,120 @@ pub registers_same : (e m m' : EndpointState) (xs ys : List ℕ) (rights : Right
     e ≡ registered m' 1 0 ys rights
 registers_same e m m' xs ys rights is same alike = rw (← same, ← alike) is
 
+-- ---- a stream that has ended stays so
+
+ends_by_step : (t : Told) (step : Step (List ℕ)) → is_some t.ended ≡ true → is_some (told_by t step).ended ≡ true
+ends_by_step t (steps.Done kind) h = h
+ends_by_step t (steps.Flushed kind) h = h
+ends_by_step t (steps.FlushedRecv buffer) h = h
+ends_by_step t steps.Asked h = h
+ends_by_step t (steps.Opened agreed) h = h
+ends_by_step t (steps.Closed fault) h = refl
+ends_by_step t (steps.Placed right stag to len) h = h
+ends_by_step t (steps.Buffered msn mo len) h = h
+ends_by_step t (steps.Requested size stag to) h = h
+ends_by_step t (steps.Tried place) h = h
+ends_by_step t steps.Passed h = h
+ends_by_step t (steps.Received buffer len solicited invalidate) h = h
+ends_by_step t (steps.Terminated fault) h = refl
+ends_by_step t (steps.Fault fault) h = refl
+ends_by_step t steps.Idle h = h
+
+ends_by_emission : (t : Told) (emission : Emission) → is_some t.ended ≡ true → is_some (told_of t emission).ended ≡ true
+ends_by_emission t (emissions.Frame from len) h = h
+ends_by_emission t (emissions.Fetched from len stag to n) h = h
+ends_by_emission t (emissions.Fault fault) h = refl
+ends_by_emission t emissions.Nothing h = h
+
+ends_by : (p : Plan) (s s' : Standing) (event : Event) → Goes p s event s' → is_some s.told.ended ≡ true → is_some s'.told.ended ≡ true
+ends_by p s s' (Lent buffer) goes h = rw goes.2 h
+ends_by p s s' (Accepted private) goes h = rw goes.2 h
+ends_by p s s' (Delivered octets) goes h = rw goes.2 h
+ends_by p s s' (Worked step) goes h = rw goes.2 (ends_by_step s.told step h)
+ends_by p s s' (Posted request) goes h = rw goes.1 h
+ends_by p s s' (Emitted emission octets) goes h = rw goes.3 (ends_by_emission s.told emission h)
+
+pub stays_ended : (p : Plan) (s s' : Standing) (events : List Event) → Runs p s events s' → is_some s.told.ended ≡ true → is_some s'.told.ended ≡ true
+stays_ended p s s' [] runs h = rw runs h
+stays_ended p s s' (event ∷ events) runs h =
+    stays_ended p runs.0 s' events runs.2 (ends_by p s runs.0 event runs.1 h)
+
+-- ---- and what was received stays so
+
+gets_by_step : (t : Told) (step : Step (List ℕ)) → is_some t.received ≡ true → is_some (told_by t step).received ≡ true
+gets_by_step t (steps.Done kind) h = h
+gets_by_step t (steps.Flushed kind) h = h
+gets_by_step t (steps.FlushedRecv buffer) h = h
+gets_by_step t steps.Asked h = h
+gets_by_step t (steps.Opened agreed) h = h
+gets_by_step t (steps.Closed fault) h = h
+gets_by_step t (steps.Placed right stag to len) h = h
+gets_by_step t (steps.Buffered msn mo len) h = h
+gets_by_step t (steps.Requested size stag to) h = h
+gets_by_step t (steps.Tried place) h = h
+gets_by_step t steps.Passed h = h
+gets_by_step t (steps.Received buffer len solicited invalidate) h = refl
+gets_by_step t (steps.Terminated fault) h = h
+gets_by_step t (steps.Fault fault) h = h
+gets_by_step t steps.Idle h = h
+
+gets_by_emission : (t : Told) (emission : Emission) → is_some t.received ≡ true → is_some (told_of t emission).received ≡ true
+gets_by_emission t (emissions.Frame from len) h = h
+gets_by_emission t (emissions.Fetched from len stag to n) h = h
+gets_by_emission t (emissions.Fault fault) h = h
+gets_by_emission t emissions.Nothing h = h
+
+gets_by : (p : Plan) (s s' : Standing) (event : Event) → Goes p s event s' → is_some s.told.received ≡ true → is_some s'.told.received ≡ true
+gets_by p s s' (Lent buffer) goes h = rw goes.2 h
+gets_by p s s' (Accepted private) goes h = rw goes.2 h
+gets_by p s s' (Delivered octets) goes h = rw goes.2 h
+gets_by p s s' (Worked step) goes h = rw goes.2 (gets_by_step s.told step h)
+gets_by p s s' (Posted request) goes h = rw goes.1 h
+gets_by p s s' (Emitted emission octets) goes h = rw goes.3 (gets_by_emission s.told emission h)
+
+pub stays_received : (p : Plan) (s s' : Standing) (events : List Event) → Runs p s events s' → is_some s.told.received ≡ true → is_some s'.told.received ≡ true
+stays_received p s s' [] runs h = rw runs h
+stays_received p s s' (event ∷ events) runs h =
+    stays_received p runs.0 s' events runs.2 (gets_by p s runs.0 event runs.1 h)
+
+pub stays_settled : (p : Plan) (s s' : Standing) (i i' o o' : Option (List ℕ)) → Exchanged p s i o s' i' o' → IsSettled s.told → IsSettled s'.told
+stays_settled p s s' i i' o o' e (inl received) = inl (stays_received p s s' e.did.events e.did.runs received)
+stays_settled p s s' i i' o o' e (inr ended) = inr (stays_ended p s s' e.did.events e.did.runs ended)
+
+-- ---- by what an end does
+
+pub hears_first : (part : Part) → MayHear part 0
+hears_first (Serves region) = refl
+hears_first (Asks text) = omega arith
+
+hears : (text : List ℕ) (ended : Option Ended) → MayHear (Asks text) (count_said ended)
+hears text None = omega arith
+hears text (Some end) = omega arith
+
+pub hears_on : (part : Part) (text : List ℕ) (ended : Option Ended) → part ≡ Asks text → MayHear part (count_said ended)
+hears_on part text ended is = rw is (hears text ended)
+
+pub answers : (part : Part) (region : Stag) (n : ℕ) (s : Standing) (request : Request (List ℕ)) → part ≡ Serves region →
+    IsAnswer region s request → IsDue part n s request
+answers part region n s request is answer = rw is answer
+
+pub says : (p : Plan) (text : List ℕ) (s s' : Standing) (i i' o o' : Option (List ℕ)) → p.part ≡ Asks text →
+    Exchanged p s i o s' i' o' → IsSaid p.part s'.told (count_said s.told.ended)
+says p text s s' i i' o o' asks e = go s.told.ended refl where
+  go : (ended : Option Ended) → s.told.ended ≡ ended → IsSaid p.part s'.told (count_said ended)
+  go None is = inl (rw asks refl)
+  go (Some end) is = inr (stays_ended p s s' e.did.events e.did.runs (rw is refl))
+
 -- ---- from the opening on
 
-pub begins : (n m : ℕ) (e e' : EndpointState) (c : ℕ) (r : Option (List ℕ)) (d : Option Ended) (role : Role) (config : Config)
-    (i o i' o' : Option (List ℕ)) (s' : Standing) → e' ≡ opened e n 1 role config → m ≡ n → c ≡ 0 → r ≡ None → d ≡ None →
-    Exchanged m (record { endpoint = e'; came = c; told = record { received = r; ended = d } }) i o s' i' o' →
-    Exchanged n (starting e) i o s' i' o'
-begins n m e e' c r d role config i o i' o' s' opens_it same_number none nothing no_end x =
-    exchanges n _ _ _ i i i' o o o' (in_quiet n _ _ i o (opens n e e' 0 (record { received = None; ended = None }) role config opens_it))
-    (rw (same_number, none, nothing, no_end) at x)
+pub begins : (p : Plan) (e e' : EndpointState) (c : ℕ) (r : Option (List ℕ)) (d : Option Ended) (i o i' o' : Option (List ℕ))
+    (at' : Phase → ℕ → Standing) (told : Told) → e' ≡ opened e p.number 1 (role_of p.part) p.config → c ≡ 0 → r ≡ None → d ≡ None →
+    Finished p (at e' c (record { received = r; ended = d }) Lending 0) i o at' i' o' told →
+    Finished p (started p e) i o at' i' o' told
+begins p e e' c r d i o i' o' at' told opens none nothing no_end f = rw (opens, none, nothing, no_end) at f
 
-pub begins_to_fail : (n m : ℕ) (e e' : EndpointState) (c : ℕ) (r : Option (List ℕ)) (d : Option Ended) (role : Role) (config : Config)
-    (i o i' o' : Option (List ℕ)) (s' : Standing) → e' ≡ opened e n 1 role config → m ≡ n → c ≡ 0 → r ≡ None → d ≡ None →
-    Failed m (record { endpoint = e'; came = c; told = record { received = r; ended = d } }) i o s' i' o' →
-    Failed n (starting e) i o s' i' o'
-begins_to_fail n m e e' c r d role config i o i' o' s' opens_it same_number none nothing no_end x =
-    fails_later n _ _ _ i i i' o o o' (in_quiet n _ _ i o (opens n e e' 0 (record { received = None; ended = None }) role config opens_it))
-    (rw (same_number, none, nothing, no_end) at x)
+pub begins_to_fail : (p : Plan) (e e' : EndpointState) (c : ℕ) (r : Option (List ℕ)) (d : Option Ended) (i o i' o' : Option (List ℕ))
+    (at' : Phase → ℕ → Standing) → e' ≡ opened e p.number 1 (role_of p.part) p.config → c ≡ 0 → r ≡ None → d ≡ None →
+    Failed p (at e' c (record { received = r; ended = d }) Lending 0) i o at' i' o' →
+    Failed p (started p e) i o at' i' o'
+begins_to_fail p e e' c r d i o i' o' at' opens none nothing no_end f = rw (opens, none, nothing, no_end) at f

@@ -1,16 +1,26 @@
--- What a connection does at an endpoint between its first read and its last write.
-use Rattle.std.specs.Prelude.{◌≡◌, ℕ, ◌+◌, List, [], ◌∷◌, ◌++◌, length, replicate, take, ◌⊎◌, Option, None, Some, Bool, true, false, not, is_some, if◌then◌else◌, Ok}
+-- What a connection does at an endpoint from its opening on.
+use Rattle.std.specs.Prelude.{◌≡◌, ℕ, ◌+◌, ◌≤◌, ◌^◌, List, [], ◌∷◌, ◌++◌, length, replicate, take, ◌⊎◌, Option, None, Some, Bool, true, false, not, is_some, if◌then◌else◌, Ok}
+use Rattle.std.specs.Option.{option_map}
 use Rattle.std.specs.Io.KnownBytes.{Appends, Consumes, IsAtEnd}
 use Rattle.arrayvec.specs.ArrayVec.{ArrayVec}
 use Rattle.iw_memory.specs.declared.rights.Rights.{Rights}
+use Rattle.iw_memory.specs.Table.{next_stag}
+use Rattle.iw_octets.specs.declared.message.Message.TheVariants as messages
+use Rattle.iw_octets.specs.declared.stag.Stag.{Stag}
+use Rattle.iw_octets.specs.Stag.{spelled, stag_at}
 use Rattle.iw_queues.specs.declared.request.Request.{Request}
+use Rattle.iw_queues.specs.declared.request.Request.TheVariants as requests
+use Rattle.iw_ranges.specs.Arrived.{BringsOctets}
 use Rattle.iw_startup.specs.declared.config.Config.{Config}
 use Rattle.iw_stream.specs.declared.answer.Emission.{Emission}
 use Rattle.iw_stream.specs.declared.answer.Emission.TheVariants as emissions
 use Rattle.iw_stream.specs.declared.answer.Role.{Role}
+use Rattle.iw_stream.specs.declared.answer.Role.TheVariants as roles
 use Rattle.iw_stream.specs.declared.answer.Step.{Step}
 use Rattle.iw_stream.specs.declared.answer.Step.TheVariants as steps
-use Rattle.iw_endpoint.specs.Endpoint.{EndpointState, fresh, added, opened, with_buffer, accepted, after_deliver, step_at, after_work, with_request, emission_at, emitted_at, after_emit, broken, has_stream}
+use Rattle.iw_stream.specs.Stream.{ended}
+use Rattle.iw_endpoint.specs.Endpoint.{EndpointState, fresh, added, registered, opened, octets_of, with_buffer, accepted, after_deliver, step_at, after_work, with_request, emission_at, emitted_at, after_emit, private_at, broken, has_stream, stream_at}
+use Rattle.iw_links.specs.declared.exchange.Terms.{Terms}
 use Rattle.iw_links.specs.declared.report.Ended.{Ended}
 use Rattle.iw_links.specs.declared.report.Ended.TheVariants as ends
 use Rattle.iw_links.specs.declared.report.Report.{Report}
@@ -26,6 +36,13 @@ writable = record { write = true; read = false; sink = false; invalidate = false
 -- so many zero octets
 unfoldable pub zero_octets : ℕ → List ℕ
 zero_octets count = replicate count 0
+
+-- the endpoint that listens, and its region, which all its connections share
+abbrev pub listening : EndpointState
+listening = registered with_domain 1 0 (zero_octets 65536) writable
+
+abbrev pub shared_region : Stag
+shared_region = next_stag with_domain.table 1
 
 -- ---- what is told of a connection
 
@@ -75,11 +92,89 @@ told_of told (emissions.Fetched from len stag to n) = told
 told_of told (emissions.Fault fault) = with_end told (ends.Fault fault)
 told_of told emissions.Nothing = told
 
+-- ---- what is to be done
+
+-- what an end does on a connection
+pub data Part : Type 0 where
+  Serves : Stag → Part  -- peers may write into this region; the front of it is sent back
+  Asks : List ℕ → Part  -- this text is written into the region that the peer names, and sent
+
+pub record Plan : Type 0 where
+  pub number : ℕ  -- of its stream
+  pub config : Config  -- what its start-up frame asks for
+  pub part : Part
+
+abbrev pub role_of : Part → Role
+role_of (Serves region) = roles.Responder
+role_of (Asks text) = roles.Initiator
+
+-- what a start-up frame asks for by these terms; it has no private data
+abbrev pub config_of : Terms → Config
+config_of terms = record { markers = terms.markers; crc = terms.crc; private = record { items = [] } }
+
+abbrev pub plan_for : Terms → Part → Plan
+plan_for terms part = record { number = terms.number; config = config_of terms; part = part }
+
+-- the private data with which a Request is accepted: the region's STag
+abbrev pub private_of : Part → List ℕ
+private_of (Serves region) = spelled region
+private_of (Asks text) = []
+
+-- how many messages are posted, if the stream does not end before
+abbrev pub most_posted : Part → ℕ
+most_posted (Serves region) = 1
+most_posted (Asks text) = 2
+
+-- the one receive buffer
+abbrev pub receive_buffer : List ℕ
+receive_buffer = zero_octets 4096
+
+abbrev pub send_of : List ℕ → Request (List ℕ)
+send_of octets = requests.Message (messages.Send octets false None)
+
+abbrev pub write_of : Stag → List ℕ → Request (List ℕ)
+write_of stag octets = requests.Message (messages.Write stag 0 octets)
+
+-- What is done next. Octets are read in `Listening` alone: then there is no work to do, and nothing to emit.
+pub data Phase : Type 0 where
+  Lending : Phase  -- the receive buffer is to be lent
+  Listening : Phase  -- octets may come, or a message be posted
+  Working : Phase  -- there may be work to do
+  Accepting : Phase  -- the peer's Request is to be accepted
+  Speaking : Phase  -- there may be something to emit
+
+-- the Request of an asking end goes out before the first read
+abbrev pub after_lending : Part → Phase
+after_lending (Serves region) = Listening
+after_lending (Asks text) = Speaking
+
+abbrev pub after_step : Step (List ℕ) → Phase
+after_step (steps.Done kind) = Working
+after_step (steps.Flushed kind) = Working
+after_step (steps.FlushedRecv buffer) = Working
+after_step steps.Asked = Accepting
+after_step (steps.Opened agreed) = Working
+after_step (steps.Closed fault) = Working
+after_step (steps.Placed right stag to len) = Working
+after_step (steps.Buffered msn mo len) = Working
+after_step (steps.Requested size stag to) = Working
+after_step (steps.Tried place) = Working
+after_step steps.Passed = Working
+after_step (steps.Received buffer len solicited invalidate) = Working
+after_step (steps.Terminated fault) = Working
+after_step (steps.Fault fault) = Working
+after_step steps.Idle = Speaking
+
+abbrev pub after_emission : Emission → Phase
+after_emission (emissions.Frame from len) = Speaking
+after_emission (emissions.Fetched from len stag to n) = Speaking
+after_emission (emissions.Fault fault) = Speaking
+after_emission emissions.Nothing = Listening
+
 -- ---- what was done
 
 -- one call at the endpoint
 pub data Event : Type 0 where
-  Opened : Role → Config → Event
   Lent : List ℕ → Event
   Accepted : ArrayVec ℕ → Event
   Delivered : List ℕ → Event
@@ -87,37 +182,93 @@ pub data Event : Type 0 where
   Posted : Request (List ℕ) → Event
   Emitted : Emission → List ℕ → Event
 
--- how a connection stands: the endpoint, how many octets came, and what is to be told
+-- How a connection stands: the endpoint, how many octets came, what is to be told, what is done next, and how many
+-- messages were posted.
 pub record Standing : Type 0 where
   pub endpoint : EndpointState
   pub came : ℕ
   pub told : Told
+  pub phase : Phase
+  pub posted : ℕ
 
-abbrev pub at_endpoint : Standing → EndpointState → Standing
-at_endpoint s endpoint = record s { endpoint = endpoint }
+-- once its stream was opened
+abbrev pub started : Plan → EndpointState → Standing
+started p e = record {
+  endpoint = opened e p.number 1 (role_of p.part) p.config;
+  came = 0;
+  told = record { received = None; ended = None };
+  phase = Lending;
+  posted = 0;
+}
 
--- The call, at the stream of this number, takes one standing to the other. Octets are delivered at the place that
--- follows all that came before.
-abbrev pub Goes : ℕ → Standing → Event → Standing → Type 0
-Goes n s (Opened role config) s' = s' ≡ at_endpoint s (opened s.endpoint n 1 role config)
-Goes n s (Lent buffer) s' = s' ≡ at_endpoint s (with_buffer s.endpoint n buffer)
-Goes n s (Accepted private) s' = s' ≡ at_endpoint s (accepted s.endpoint n private)
-Goes n s (Delivered octets) s' =
-    s' ≡ record { endpoint = after_deliver s.endpoint n s.came octets; came = s.came + length octets; told = s.told }
-Goes n s (Worked step) s' =
-    (step_at s.endpoint n ≡ Ok step) ×
-    (s' ≡ record { endpoint = after_work s.endpoint n; came = s.came; told = told_by s.told step })
-Goes n s (Posted request) s' = s' ≡ at_endpoint s (with_request s.endpoint n request)
-Goes n s (Emitted emission octets) s' =
-    (emission ≡ emission_at s.endpoint n) × (octets ≡ emitted_at s.endpoint n) ×
-    (s' ≡ record { endpoint = after_emit s.endpoint n; came = s.came; told = told_of s.told emission })
+-- a serving end reads nothing once it has answered
+abbrev pub MayHear : Part → ℕ → Type 0
+MayHear (Serves region) posted = posted ≡ 0
+MayHear (Asks text) posted = posted ≤ 2
 
-abbrev pub Runs : ℕ → Standing → List Event → Standing → Type 0
-Runs n s [] s' = s' ≡ s
-Runs n s (event ∷ events) s' = (m : Standing) × Goes n s event m × Runs n m events s'
+-- The answer to the Send that was received: as many octets as that had, the first of the region as it then stands.
+pub record IsAnswer (region : Stag) (s : Standing) (request : Request (List ℕ)) : Type 0 where
+  pub phase : s.phase ≡ Listening
+  pub first : s.posted ≡ 0
+  pub goes_on : s.told.ended ≡ None
+  pub received : List ℕ
+  pub got : s.told.received ≡ Some received
+  pub octets : List ℕ
+  pub front : option_map (take (length received)) (octets_of s.endpoint region) ≡ Some octets
+  pub is : request ≡ send_of octets
+
+-- the text is written from the first octet on of the region that the peer's private data name
+pub record IsWrite (n : ℕ) (text : List ℕ) (s : Standing) (request : Request (List ℕ)) : Type 0 where
+  pub phase : s.phase ≡ Listening
+  pub first : s.posted ≡ 0
+  pub named : length (private_at s.endpoint n) ≡ 4
+  pub is : request ≡ write_of (stag_at (private_at s.endpoint n) 0) text
+
+-- and then sent
+pub record IsSend (text : List ℕ) (s : Standing) (request : Request (List ℕ)) : Type 0 where
+  pub phase : s.phase ≡ Speaking
+  pub second : s.posted ≡ 1
+  pub is : request ≡ send_of text
+
+abbrev pub IsDue : Part → ℕ → Standing → Request (List ℕ) → Type 0
+IsDue (Serves region) n s request = IsAnswer region s request
+IsDue (Asks text) n s request = IsWrite n text s request ⊎ IsSend text s request
+
+-- The call, at the stream of the plan, takes one standing to the other. Octets are delivered at the place that follows
+-- all that came before.
+abbrev pub Goes : Plan → Standing → Event → Standing → Type 0
+Goes p s (Lent buffer) s' =
+    (s.phase ≡ Lending) × (buffer ≡ receive_buffer) ×
+    (s' ≡ record s { endpoint = with_buffer s.endpoint p.number buffer; phase = after_lending p.part })
+Goes p s (Accepted private) s' =
+    (s.phase ≡ Accepting) × (private.items ≡ private_of p.part) ×
+    (s' ≡ record s { endpoint = accepted s.endpoint p.number private; phase = Working })
+Goes p s (Delivered octets) s' =
+    (s.phase ≡ Listening) × MayHear p.part s.posted ×
+    (s' ≡ record s {
+      endpoint = after_deliver s.endpoint p.number s.came octets;
+      came = s.came + length octets;
+      phase = Working;
+    })
+Goes p s (Worked step) s' =
+    (s.phase ≡ Working) × (step_at s.endpoint p.number ≡ Ok step) ×
+    (s' ≡ record s { endpoint = after_work s.endpoint p.number; told = told_by s.told step; phase = after_step step })
+Goes p s (Posted request) s' =
+    IsDue p.part p.number s request ×
+    (s' ≡ record s { endpoint = with_request s.endpoint p.number request; phase = Speaking; posted = s.posted + 1 })
+Goes p s (Emitted emission octets) s' =
+    (s.phase ≡ Speaking) × (emission ≡ emission_at s.endpoint p.number) × (octets ≡ emitted_at s.endpoint p.number) ×
+    (s' ≡ record s {
+      endpoint = after_emit s.endpoint p.number;
+      told = told_of s.told emission;
+      phase = after_emission emission;
+    })
+
+abbrev pub Runs : Plan → Standing → List Event → Standing → Type 0
+Runs p s [] s' = s' ≡ s
+Runs p s (event ∷ events) s' = (m : Standing) × Goes p s event m × Runs p m events s'
 
 abbrev pub came_in : Event → List ℕ
-came_in (Opened role config) = []
 came_in (Lent buffer) = []
 came_in (Accepted private) = []
 came_in (Delivered octets) = octets
@@ -126,7 +277,6 @@ came_in (Posted request) = []
 came_in (Emitted emission octets) = []
 
 abbrev pub went_out : Event → List ℕ
-went_out (Opened role config) = []
 went_out (Lent buffer) = []
 went_out (Accepted private) = []
 went_out (Delivered octets) = []
@@ -144,40 +294,51 @@ abbrev pub outputs : List Event → List ℕ
 outputs [] = []
 outputs (event ∷ events) = went_out event ++ outputs events
 
--- From one standing to another by calls at the stream of this number, which delivered and emitted these octets.
-pub record Did (n : ℕ) (s s' : Standing) (ins outs : List ℕ) : Type 0 where
+-- From one standing to another by calls at the plan's stream, which delivered and emitted these octets.
+pub record Did (p : Plan) (s s' : Standing) (ins outs : List ℕ) : Type 0 where
   pub events : List Event
-  pub runs : Runs n s events s'
+  pub runs : Runs p s events s'
   pub came : inputs events ≡ ins
   pub went : outputs events ≡ outs
 
 -- The same with what they appended to octets that were gathered before.
-pub record Emits (n : ℕ) (s s' : Standing) (out out' : List ℕ) : Type 0 where
+pub record Emits (p : Plan) (s s' : Standing) (out out' : List ℕ) : Type 0 where
   pub outs : List ℕ
-  pub did : Did n s s' [] outs
+  pub did : Did p s s' [] outs
   pub appends : out' ≡ out ++ outs
 
 -- The same with what is known of the input and the output before and after: what the reader gave is what was delivered,
 -- and what the writer took is what was emitted, in order and whole.
-pub record Exchanged (n : ℕ) (s : Standing) (i o : Option (List ℕ)) (s' : Standing) (i' o' : Option (List ℕ)) :
+pub record Exchanged (p : Plan) (s : Standing) (i o : Option (List ℕ)) (s' : Standing) (i' o' : Option (List ℕ)) :
     Type 0 where
   pub ins : List ℕ
   pub outs : List ℕ
-  pub did : Did n s s' ins outs
+  pub did : Did p s s' ins outs
   pub reads : Consumes i i' ins
   pub writes : Appends o o' outs
 
--- The same up to where the link broke: the reader may have given octets that were not delivered, and the writer may
--- have taken the front alone of what was emitted.
-pub record Failed (n : ℕ) (s : Standing) (i o : Option (List ℕ)) (s' : Standing) (i' o' : Option (List ℕ)) :
+-- Octets that were read could not be delivered: the stream has not ended and some of them are new, so that memory was
+-- wanted; or there were too many to be counted.
+abbrev pub IsUndelivered : Plan → Standing → List ℕ → Type 0
+IsUndelivered p s octets =
+    (s.phase ≡ Listening) × (has_stream s.endpoint p.number ≡ true →
+    ((ended (stream_at s.endpoint p.number) ≡ false) × BringsOctets (stream_at s.endpoint p.number).arrived s.came (length octets))
+    ⊎ (2 ^ 64 ≤ s.came + length octets))
+
+-- The same up to where the link broke, in whatever phase: what the reader gave was delivered, but for octets that could
+-- not be; and the writer took what was emitted, or the front of it alone.
+pub record Failed (p : Plan) (s : Standing) (i o : Option (List ℕ)) (at : Phase → ℕ → Standing) (i' o' : Option (List ℕ)) :
     Type 0 where
+  pub phase : Phase
+  pub posted : ℕ
   pub ins : List ℕ
   pub lost : List ℕ
   pub written : List ℕ
   pub unwritten : List ℕ
-  pub did : Did n s s' ins (written ++ unwritten)
+  pub did : Did p s (at phase posted) ins (written ++ unwritten)
   pub reads : Consumes i i' (ins ++ lost)
   pub writes : Appends o o' written
+  pub undelivered : (lost ≡ []) ⊎ IsUndelivered p (at phase posted) lost
 
 -- ---- a whole connection
 
@@ -185,28 +346,42 @@ pub record Failed (n : ℕ) (s : Standing) (i o : Option (List ℕ)) (s' : Stand
 abbrev pub after_break : EndpointState → ℕ → EndpointState
 after_break e n = if has_stream e n then broken e n else e
 
--- before its stream is opened
-abbrev pub starting : EndpointState → Standing
-starting endpoint = record { endpoint = endpoint; came = 0; told = record { received = None; ended = None } }
+-- a Send was received, or the stream ended by the peer's doing
+abbrev pub IsSettled : Told → Type 0
+IsSettled told = (is_some told.received ≡ true) ⊎ (is_some told.ended ≡ true)
 
--- all was read to the end, and written, and the link did not break
-pub record Completed (n : ℕ) (e : EndpointState) (i o : Option (List ℕ)) (e' : EndpointState) (i' o' : Option (List ℕ))
+-- what an end has to post was posted, unless the stream ended
+abbrev pub IsSaid : Part → Told → ℕ → Type 0
+IsSaid part told posted = (posted ≡ most_posted part) ⊎ (is_some told.ended ≡ true)
+
+-- What was read was worked on, and what is due is written; what is to be told came, and what is to be posted was.
+pub record Finished (p : Plan) (s : Standing) (i o : Option (List ℕ)) (at : Phase → ℕ → Standing) (i' o' : Option (List ℕ))
+    (told : Told) : Type 0 where
+  pub posted : ℕ
+  pub exchanged : Exchanged p s i o (at Listening posted) i' o'
+  pub said : IsSaid p.part told posted
+  pub settled : IsSettled told
+
+-- to the end of what the reader gives; the link did not break
+pub record Completed (p : Plan) (e : EndpointState) (i o : Option (List ℕ)) (e' : EndpointState) (i' o' : Option (List ℕ))
     (report : Report) : Type 0 where
-  pub last : Standing
-  pub exchanged : Exchanged n (starting e) i o last i' o'
-  pub endpoint : e' ≡ last.endpoint
-  pub is : report ≡ report_of last.told false
+  pub came : ℕ
+  pub told : Told
+  pub finished : Finished p (started p e) i o (λ phase posted. record { endpoint = e'; came = came; told = told; phase = phase; posted = posted }) i' o' told
+  pub is : report ≡ report_of told false
   pub end : IsAtEnd i'
 
 -- the link broke: once, after all else
-pub record BrokeOff (n : ℕ) (e : EndpointState) (i o : Option (List ℕ)) (e' : EndpointState) (i' o' : Option (List ℕ))
+pub record BrokeOff (p : Plan) (e : EndpointState) (i o : Option (List ℕ)) (e' : EndpointState) (i' o' : Option (List ℕ))
     (report : Report) : Type 0 where
-  pub last : Standing
-  pub failed : Failed n (starting e) i o last i' o'
-  pub endpoint : e' ≡ after_break last.endpoint n
-  pub is : report ≡ report_of last.told true
+  pub last : EndpointState
+  pub came : ℕ
+  pub told : Told
+  pub failed : Failed p (started p e) i o (λ phase posted. record { endpoint = last; came = came; told = told; phase = phase; posted = posted }) i' o'
+  pub endpoint : e' ≡ after_break last p.number
+  pub is : report ≡ report_of told true
 
 -- a connection: its link stood to the end, or broke, and the report says which
-abbrev pub Served : ℕ → EndpointState → Option (List ℕ) → Option (List ℕ) →
+abbrev pub Served : Plan → EndpointState → Option (List ℕ) → Option (List ℕ) →
     EndpointState → Option (List ℕ) → Option (List ℕ) → Report → Type 0
-Served n e i o e' i' o' report = Completed n e i o e' i' o' report ⊎ BrokeOff n e i o e' i' o' report
+Served p e i o e' i' o' report = Completed p e i o e' i' o' report ⊎ BrokeOff p e i o e' i' o' report

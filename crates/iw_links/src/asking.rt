@@ -1,12 +1,16 @@
-ghost use Rattle.std.specs.Prelude.{◌≡◌, ◌<◌, ◌≤◌, [], length, List, ℕ, Option, IfOk, OnOk, OnErr};
+ghost use Rattle.std.specs.Prelude.{◌≡◌, ◌<◌, ◌≤◌, [], length, List, ℕ, Option, None, IfOk, OnOk, OnErr};
 ghost use Rattle.std.specs.Io.KnownBytes.{IsAtEnd};
-ghost use Rattle.iw_links.specs.Exchange.{Did, Exchanged, Failed, Served};
-ghost use Rattle.iw_links.specs.Standing.{standing};
+ghost use Rattle.iw_octets.specs.Stag.{stag_at};
+ghost use Rattle.iw_endpoint.specs.Endpoint.{private_at};
+ghost use Rattle.iw_links.specs.Exchange.{Did, Exchanged, Failed, Finished, Served, Asks, plan_for};
+ghost use Rattle.iw_links.specs.Exchange.{Lending, Listening, Speaking};
+ghost use Rattle.iw_links.specs.Standing.{standing, told_in, plan_of, count_said};
 
 use crate::counted::Counted;
 use crate::exchange::{Terms, Until, break_off, hear, send, settle, speak};
 use crate::link::{Broken, DOMAIN, Link, lend, post};
 use crate::output::Output;
+use crate::plan::{Part, Plan};
 use crate::report::Report;
 use bytes::Bytes;
 use iw_endpoint::{Endpoint, Message, OpenRefusal, Request, Role, Stag};
@@ -14,7 +18,10 @@ use std::alloc::Global;
 use std::io::{Read, Write};
 
 // The region that the Reply named.
-fn named_region(endpoint: &Endpoint, number: u8) -> Result<Stag, Broken> {
+fn named_region(endpoint: &Endpoint, number: u8) -> Result<Stag, Broken>
+    ensures length { OnOk result (length (private_at endpoint.now number) ≡ 4) }
+    ensures stag { IfOk result (λ stag. stag ≡ stag_at (private_at endpoint.now number) 0) }
+{
     let Ok(private) = endpoint.private(number) else {
         return Err(Broken);
     };
@@ -25,16 +32,20 @@ fn named_region(endpoint: &Endpoint, number: u8) -> Result<Stag, Broken> {
     }
 }
 
-// Posts a Write of the text to the region that the Reply named.
+// Posts a Write of the text to the region that the Reply named. An `Err` changes nothing.
 fn post_write(
     alloc: Global,
+    plan: &Plan<'_>,
     endpoint: &mut Endpoint,
     link: &Link,
     text: &[u8],
 ) -> Result<(), Broken>
-    ensures did { Did link.now.number (standing endpoint.old link.now) (standing endpoint.new link.now) [] [] }
+    requires plan { plan.now.part ≡ Part.Asks text }
+    ensures ok { OnOk result (Did (plan_of plan.now) (standing endpoint.old link.now Listening 0)
+        (standing endpoint.new link.now Speaking 1) [] []) }
+    ensures err { OnErr result (endpoint.new ≡ endpoint.old) }
 {
-    let stag = match named_region(endpoint, link.number) {
+    let stag = match named_region(endpoint, plan.terms.number) {
         Ok(stag) => stag,
         Err(fault) => return Err(fault),
     };
@@ -46,97 +57,109 @@ fn post_write(
         to: 0,
         octets,
     };
-    post(endpoint, link, Request::Message(message))
+    post(plan, endpoint, link, Request::Message(message))
 }
 
-// Posts a Send of the text.
-fn post_send(alloc: Global, endpoint: &mut Endpoint, link: &Link, text: &[u8]) -> Result<(), Broken>
-    ensures did { Did link.now.number (standing endpoint.old link.now) (standing endpoint.new link.now) [] [] }
+// Posts a Send of the text. An `Err` changes nothing.
+fn post_send(
+    alloc: Global,
+    plan: &Plan<'_>,
+    endpoint: &mut Endpoint,
+    link: &Link,
+    text: &[u8],
+) -> Result<(), Broken>
+    requires plan { plan.now.part ≡ Part.Asks text }
+    ensures ok { OnOk result (Did (plan_of plan.now) (standing endpoint.old link.now Speaking 1)
+        (standing endpoint.new link.now Speaking 2) [] []) }
+    ensures err { OnErr result (endpoint.new ≡ endpoint.old) }
 {
     let Ok(octets) = Bytes::copy_from_slice(alloc, text) else {
         return Err(Broken);
     };
-    post(endpoint, link, send(octets))
+    post(plan, endpoint, link, send(octets))
 }
 
 // Writes the text into the region that the Reply named, and sends it.
 fn request<W: Write>(
     alloc: Global,
+    plan: &Plan<'_>,
     endpoint: &mut Endpoint,
     link: &mut Link,
     text: &[u8],
     out: &mut Vec<u8>,
     output: &mut W,
 ) -> Result<(), Broken>
-    ensures number { link.new.number ≡ link.old.number }
+    requires plan { plan.now.part ≡ Part.Asks text }
     ensures ok { OnOk result ((i : Option (List ℕ)) →
-        Exchanged link.old.number (standing endpoint.old link.old) i (W.contents output.old)
-        (standing endpoint.new link.new) i (W.contents output.new)) }
+        Exchanged (plan_of plan.now) (standing endpoint.old link.old Listening 0) i (W.contents output.old)
+        (standing endpoint.new link.new Listening 2) i (W.contents output.new)) }
     ensures err { OnErr result ((i : Option (List ℕ)) →
-        Failed link.old.number (standing endpoint.old link.old) i (W.contents output.old)
+        Failed (plan_of plan.now) (standing endpoint.old link.old Listening 0) i (W.contents output.old)
         (standing endpoint.new link.new) i (W.contents output.new)) }
 {
-    match post_write(alloc, endpoint, link, text) {
+    match post_write(alloc, plan, endpoint, link, text) {
         Ok(()) => {}
         Err(fault) => return Err(fault),
     }
-    match post_send(alloc, endpoint, link, text) {
+    match post_send(alloc, plan, endpoint, link, text) {
         Ok(()) => {}
         Err(fault) => return Err(fault),
     }
-    match speak(endpoint, link, out, output) {
+    match speak(plan, endpoint, link, out, output) {
         Ok(()) => Ok(()),
         Err(fault) => Err(fault),
     }
 }
 
-// Sends the text, if the stream was opened and has not ended.
+// Sends the text, if the stream has not ended. A Reply that has not come by then will not come.
 fn request_where_open<W: Write>(
     alloc: Global,
+    plan: &Plan<'_>,
     endpoint: &mut Endpoint,
     link: &mut Link,
     text: &[u8],
     out: &mut Vec<u8>,
     output: &mut W,
 ) -> Result<(), Broken>
-    ensures number { link.new.number ≡ link.old.number }
+    requires plan { plan.now.part ≡ Part.Asks text }
     ensures ok { OnOk result ((i : Option (List ℕ)) →
-        Exchanged link.old.number (standing endpoint.old link.old) i (W.contents output.old)
-        (standing endpoint.new link.new) i (W.contents output.new)) }
+        Exchanged (plan_of plan.now) (standing endpoint.old link.old Listening 0) i (W.contents output.old)
+        (standing endpoint.new link.new Listening (count_said link.old.ended)) i (W.contents output.new)) }
     ensures err { OnErr result ((i : Option (List ℕ)) →
-        Failed link.old.number (standing endpoint.old link.old) i (W.contents output.old)
+        Failed (plan_of plan.now) (standing endpoint.old link.old Listening 0) i (W.contents output.old)
         (standing endpoint.new link.new) i (W.contents output.new)) }
 {
-    if !link.is_open {
-        return Ok(());
-    }
     if link.ended.is_some() {
         return Ok(());
     }
-    match request(alloc, endpoint, link, text, out, output) {
+    if !link.is_open {
+        return Err(Broken);
+    }
+    match request(alloc, plan, endpoint, link, text, out, output) {
         Ok(()) => Ok(()),
         Err(fault) => Err(fault),
     }
 }
 
-// Sends the text, if the stream was opened and has not ended, and ends the output.
+// Sends the text, if the stream has not ended, and ends the output.
 fn say<W: Output>(
     alloc: Global,
+    plan: &Plan<'_>,
     endpoint: &mut Endpoint,
     link: &mut Link,
     text: &[u8],
     out: &mut Vec<u8>,
     output: &mut W,
 ) -> Result<(), Broken>
-    ensures number { link.new.number ≡ link.old.number }
+    requires plan { plan.now.part ≡ Part.Asks text }
     ensures ok { OnOk result ((i : Option (List ℕ)) →
-        Exchanged link.old.number (standing endpoint.old link.old) i (W.contents output.old)
-        (standing endpoint.new link.new) i (W.contents output.new)) }
+        Exchanged (plan_of plan.now) (standing endpoint.old link.old Listening 0) i (W.contents output.old)
+        (standing endpoint.new link.new Listening (count_said link.old.ended)) i (W.contents output.new)) }
     ensures err { OnErr result ((i : Option (List ℕ)) →
-        Failed link.old.number (standing endpoint.old link.old) i (W.contents output.old)
+        Failed (plan_of plan.now) (standing endpoint.old link.old Listening 0) i (W.contents output.old)
         (standing endpoint.new link.new) i (W.contents output.new)) }
 {
-    match request_where_open(alloc, endpoint, link, text, out, output) {
+    match request_where_open(alloc, plan, endpoint, link, text, out, output) {
         Ok(()) => {}
         Err(fault) => return Err(fault),
     }
@@ -148,6 +171,7 @@ fn say<W: Output>(
 
 // The start-up of a connecting end: writes its Request, and reads until the peer's Reply has come, or the stream has ended.
 fn start_up<R: Read, W: Write>(
+    plan: &Plan<'_>,
     endpoint: &mut Endpoint,
     link: &mut Link,
     out: &mut Vec<u8>,
@@ -157,25 +181,24 @@ fn start_up<R: Read, W: Write>(
 ) -> Result<(), Broken>
     requires reads { input.old.reads ≤ 1000000 }
     requires room { 0 < length buffer.old }
-    ensures number { link.new.number ≡ link.old.number }
-    ensures ok { OnOk result (Exchanged link.old.number (standing endpoint.old link.old)
+    ensures ok { OnOk result (Exchanged (plan_of plan.now) (standing endpoint.old link.old Speaking 0)
         (R.remaining input.old.reader) (W.contents output.old)
-        (standing endpoint.new link.new) (R.remaining input.new.reader) (W.contents output.new)) }
-    ensures err { OnErr result (Failed link.old.number (standing endpoint.old link.old)
+        (standing endpoint.new link.new Listening 0) (R.remaining input.new.reader) (W.contents output.new)) }
+    ensures err { OnErr result (Failed (plan_of plan.now) (standing endpoint.old link.old Speaking 0)
         (R.remaining input.old.reader) (W.contents output.old)
         (standing endpoint.new link.new) (R.remaining input.new.reader) (W.contents output.new)) }
     ensures bounded { input.new.reads ≤ 1000000 }
     ensures room { length buffer.new ≡ length buffer.old }
 {
-    match speak(endpoint, link, out, output) {
+    match speak(plan, endpoint, link, out, output) {
         Ok(()) => {}
         Err(fault) => return Err(fault),
     }
     match hear(
         Until::Reply,
+        plan,
         endpoint,
         link,
-        &[],
         out,
         input,
         output,
@@ -189,6 +212,7 @@ fn start_up<R: Read, W: Write>(
 // A connecting end's part, once its stream was opened.
 fn speak_to<R: Read, W: Output>(
     alloc: Global,
+    plan: &Plan<'_>,
     endpoint: &mut Endpoint,
     link: &mut Link,
     text: &[u8],
@@ -196,37 +220,37 @@ fn speak_to<R: Read, W: Output>(
     output: &mut W,
     buffer: &mut [u8],
 ) -> Result<(), Broken>
+    requires plan { plan.now.part ≡ Part.Asks text }
     requires reads { input.old.reads ≤ 1000000 }
     requires room { 0 < length buffer.old }
-    ensures number { link.new.number ≡ link.old.number }
-    ensures ok { OnOk result (Exchanged link.old.number (standing endpoint.old link.old)
+    ensures ok { OnOk result (Finished (plan_of plan.now) (standing endpoint.old link.old Lending 0)
         (R.remaining input.old.reader) (W.contents output.old)
-        (standing endpoint.new link.new) (R.remaining input.new.reader) (W.contents output.new)) }
-    ensures err { OnErr result (Failed link.old.number (standing endpoint.old link.old)
+        (standing endpoint.new link.new) (R.remaining input.new.reader) (W.contents output.new) (told_in link.new)) }
+    ensures err { OnErr result (Failed (plan_of plan.now) (standing endpoint.old link.old Lending 0)
         (R.remaining input.old.reader) (W.contents output.old)
         (standing endpoint.new link.new) (R.remaining input.new.reader) (W.contents output.new)) }
     ensures end { OnOk result (IsAtEnd (R.remaining input.new.reader)) }
     ensures bounded { input.new.reads ≤ 1000000 }
     ensures room { length buffer.new ≡ length buffer.old }
 {
-    match lend(alloc, endpoint, link) {
+    match lend(alloc, plan, endpoint, link) {
         Ok(()) => {}
         Err(fault) => return Err(fault),
     }
     let mut out = Vec::new(alloc);
-    match start_up(endpoint, link, &mut out, input, output, buffer) {
+    match start_up(plan, endpoint, link, &mut out, input, output, buffer) {
         Ok(()) => {}
         Err(fault) => return Err(fault),
     }
-    match say(alloc, endpoint, link, text, &mut out, output) {
+    match say(alloc, plan, endpoint, link, text, &mut out, output) {
         Ok(()) => {}
         Err(fault) => return Err(fault),
     }
     match hear(
         Until::End,
+        plan,
         endpoint,
         link,
-        &[],
         &mut out,
         input,
         output,
@@ -261,7 +285,7 @@ pub fn ask<R: Read, W: Output>(
 ) -> Result<Report, OpenRefusal>
     requires reads { input.old.reads ≤ 1000000 }
     requires room { 0 < length buffer.old }
-    ensures served { IfOk result (λ report. Served terms.number
+    ensures served { IfOk result (λ report. Served (plan_for terms (Asks text.now))
         endpoint.old (R.remaining input.old.reader) (W.contents output.old)
         endpoint.new (R.remaining input.new.reader) (W.contents output.new) report) }
     ensures err { OnErr result (endpoint.new ≡ endpoint.old) }
@@ -274,9 +298,15 @@ pub fn ask<R: Read, W: Output>(
         Ok(()) => {}
         Err(refusal) => return Err(refusal),
     }
-    let mut link = Link::new(terms.number);
-    match speak_to(alloc, endpoint, &mut link, text, input, output, buffer) {
+    let plan = Plan {
+        terms,
+        part: Part::Asks(text),
+    };
+    let mut link = Link::new();
+    match speak_to(
+        alloc, &plan, endpoint, &mut link, text, input, output, buffer,
+    ) {
         Ok(()) => Ok(link.into_report(false)),
-        Err(_) => Ok(break_off(endpoint, link)),
+        Err(_) => Ok(break_off(&plan, endpoint, link)),
     }
 }

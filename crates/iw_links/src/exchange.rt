@@ -1,10 +1,12 @@
 ghost use Rattle.std.specs.Prelude.{◌≡◌, ◌<◌, ◌≤◌, length, List, ℕ, Option, None, Ok, IfOk, OnOk, OnErr, true, false};
 ghost use Rattle.std.specs.Io.KnownBytes.{Consumes, IsAtEnd};
-ghost use Rattle.iw_links.specs.Exchange.{Exchanged, Failed, after_break, report_of};
-ghost use Rattle.iw_links.specs.Standing.{standing, told_in};
+ghost use Rattle.iw_links.specs.Exchange.{Exchanged, Failed, IsSettled, MayHear, after_break, config_of, report_of, send_of};
+ghost use Rattle.iw_links.specs.Exchange.{Listening, Speaking};
+ghost use Rattle.iw_links.specs.Standing.{standing, told_in, plan_of};
 
 use crate::counted::{Counted, MOST_READS};
 use crate::link::{Broken, Link, deliver, emit_all, work_all};
+use crate::plan::Plan;
 use crate::report::Report;
 use bytes::Bytes;
 use iw_endpoint::{Config, Endpoint, Message, PrivateData, Request};
@@ -23,7 +25,9 @@ pub struct Terms {
 }
 
 impl Terms {
-    pub(crate) fn config(self) -> Config {
+    pub(crate) fn config(self) -> Config
+        ensures { result ≡ config_of self }
+    {
         Config {
             markers: self.markers,
             crc: self.crc,
@@ -34,7 +38,7 @@ impl Terms {
 
 /// A Send of these octets.
 pub(crate) fn send(octets: Bytes) -> Request<Bytes>
-    ensures { result ≡ Request.Message (Message.Send octets false None) }
+    ensures { result ≡ send_of octets }
 {
     Request::Message(Message::Send {
         octets,
@@ -45,21 +49,21 @@ pub(crate) fn send(octets: Bytes) -> Request<Bytes>
 
 /// Emits all that is due, and writes it.
 pub(crate) fn speak<W: Write>(
+    plan: &Plan<'_>,
     endpoint: &mut Endpoint,
     link: &mut Link,
     out: &mut Vec<u8>,
     output: &mut W,
 ) -> Result<(), Broken>
-    ensures number { link.new.number ≡ link.old.number }
-    ensures ok { OnOk result ((i : Option (List ℕ)) →
-        Exchanged link.old.number (standing endpoint.old link.old) i (W.contents output.old)
-        (standing endpoint.new link.new) i (W.contents output.new)) }
-    ensures err { OnErr result ((i : Option (List ℕ)) →
-        Failed link.old.number (standing endpoint.old link.old) i (W.contents output.old)
+    ensures ok { OnOk result ((i : Option (List ℕ)) (k : ℕ) →
+        Exchanged (plan_of plan.now) (standing endpoint.old link.old Speaking k) i (W.contents output.old)
+        (standing endpoint.new link.new Listening k) i (W.contents output.new)) }
+    ensures err { OnErr result ((i : Option (List ℕ)) (k : ℕ) →
+        Failed (plan_of plan.now) (standing endpoint.old link.old Speaking k) i (W.contents output.old)
         (standing endpoint.new link.new) i (W.contents output.new)) }
 {
     out.clear();
-    match emit_all(endpoint, link, out) {
+    match emit_all(plan, endpoint, link, out) {
         Ok(()) => {}
         Err(fault) => return Err(fault),
     }
@@ -71,30 +75,31 @@ pub(crate) fn speak<W: Write>(
 
 // Delivers what was read, works, and writes what is due.
 fn take_turn<W: Write>(
+    plan: &Plan<'_>,
     endpoint: &mut Endpoint,
     link: &mut Link,
     octets: &[u8],
-    private: &[u8],
     out: &mut Vec<u8>,
     output: &mut W,
 ) -> Result<(), Broken>
-    ensures number { link.new.number ≡ link.old.number }
-    ensures ok { OnOk result ((i i' : Option (List ℕ)) → Consumes i i' octets.now →
-        Exchanged link.old.number (standing endpoint.old link.old) i (W.contents output.old)
-        (standing endpoint.new link.new) i' (W.contents output.new)) }
-    ensures err { OnErr result ((i i' : Option (List ℕ)) → Consumes i i' octets.now →
-        Failed link.old.number (standing endpoint.old link.old) i (W.contents output.old)
+    ensures ok { OnOk result ((k : ℕ) → MayHear (plan_of plan.now).part k →
+        (i i' : Option (List ℕ)) → Consumes i i' octets.now →
+        Exchanged (plan_of plan.now) (standing endpoint.old link.old Listening k) i (W.contents output.old)
+        (standing endpoint.new link.new Listening k) i' (W.contents output.new)) }
+    ensures err { OnErr result ((k : ℕ) → MayHear (plan_of plan.now).part k →
+        (i i' : Option (List ℕ)) → Consumes i i' octets.now →
+        Failed (plan_of plan.now) (standing endpoint.old link.old Listening k) i (W.contents output.old)
         (standing endpoint.new link.new) i' (W.contents output.new)) }
 {
-    match deliver(endpoint, link, octets) {
+    match deliver(plan, endpoint, link, octets) {
         Ok(()) => {}
         Err(fault) => return Err(fault),
     }
-    match work_all(endpoint, link, private) {
+    match work_all(plan, endpoint, link) {
         Ok(()) => {}
         Err(fault) => return Err(fault),
     }
-    match speak(endpoint, link, out, output) {
+    match speak(plan, endpoint, link, out, output) {
         Ok(()) => Ok(()),
         Err(fault) => Err(fault),
     }
@@ -120,9 +125,9 @@ impl Until {
 /// Reads, each read one delivery, and takes its turn after each. Returns whether the input is at its end.
 pub(crate) fn hear<R: Read, W: Write>(
     until: Until,
+    plan: &Plan<'_>,
     endpoint: &mut Endpoint,
     link: &mut Link,
-    private: &[u8],
     out: &mut Vec<u8>,
     input: &mut Counted<R>,
     output: &mut W,
@@ -130,11 +135,12 @@ pub(crate) fn hear<R: Read, W: Write>(
 ) -> Result<bool, Broken>
     requires reads { input.old.reads ≤ 1000000 }
     requires room { 0 < length buffer.old }
-    ensures number { link.new.number ≡ link.old.number }
-    ensures ok { OnOk result (Exchanged link.old.number (standing endpoint.old link.old)
+    ensures ok { OnOk result ((k : ℕ) → MayHear (plan_of plan.now).part k →
+        Exchanged (plan_of plan.now) (standing endpoint.old link.old Listening k)
         (R.remaining input.old.reader) (W.contents output.old)
-        (standing endpoint.new link.new) (R.remaining input.new.reader) (W.contents output.new)) }
-    ensures err { OnErr result (Failed link.old.number (standing endpoint.old link.old)
+        (standing endpoint.new link.new Listening k) (R.remaining input.new.reader) (W.contents output.new)) }
+    ensures err { OnErr result ((k : ℕ) → MayHear (plan_of plan.now).part k →
+        Failed (plan_of plan.now) (standing endpoint.old link.old Listening k)
         (R.remaining input.old.reader) (W.contents output.old)
         (standing endpoint.new link.new) (R.remaining input.new.reader) (W.contents output.new)) }
     ensures end { result ≡ Ok true → IsAtEnd (R.remaining input.new.reader) }
@@ -147,7 +153,7 @@ pub(crate) fn hear<R: Read, W: Write>(
             Ok(0) => return Ok(true),
             Ok(n) => {
                 let octets = &buffer[..n];
-                match take_turn(endpoint, link, octets, private, out, output) {
+                match take_turn(plan, endpoint, link, octets, out, output) {
                     Ok(()) => {}
                     Err(fault) => return Err(fault),
                 }
@@ -162,7 +168,9 @@ pub(crate) fn hear<R: Read, W: Write>(
 }
 
 /// Whether a Send was received, or the stream ended by the peer's doing: else the peer has broken off.
-pub(crate) fn settle(link: &Link) -> Result<(), Broken> {
+pub(crate) fn settle(link: &Link) -> Result<(), Broken>
+    ensures { OnOk result (IsSettled (told_in link.now)) }
+{
     if link.received.is_some() || link.ended.is_some() {
         Ok(())
     } else {
@@ -171,10 +179,10 @@ pub(crate) fn settle(link: &Link) -> Result<(), Broken> {
 }
 
 /// Breaks the link, and tells what came of the connection.
-pub(crate) fn break_off(endpoint: &mut Endpoint, link: Link) -> Report
+pub(crate) fn break_off(plan: &Plan<'_>, endpoint: &mut Endpoint, link: Link) -> Report
     ensures report { result ≡ report_of (told_in link) true }
-    ensures endpoint { endpoint.new ≡ after_break endpoint.old link.number }
+    ensures endpoint { endpoint.new ≡ after_break endpoint.old (plan_of plan.now).number }
 {
-    let _ = endpoint.break_link(link.number);
+    let _ = endpoint.break_link(plan.terms.number);
     link.into_report(true)
 }

@@ -11,6 +11,7 @@ mod counted;
 mod exchange;
 mod link;
 mod output;
+mod plan;
 mod report;
 mod serving;
 

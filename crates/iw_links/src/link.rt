@@ -1,11 +1,14 @@
-ghost use Rattle.std.specs.Prelude.{◌≡◌, ◌+◌, ◌≤◌, ◌^◌, ◌++◌, [], length, take, List, ℕ};
+ghost use Rattle.std.specs.Prelude.{◌≡◌, ◌+◌, ◌≤◌, ◌^◌, ◌++◌, [], length, take, List, ℕ, if◌then◌else◌};
 ghost use Rattle.std.specs.Prelude.{Some, None, Ok, IfOk, IfErr, OnOk, OnErr};
 ghost use Rattle.iw_memory.specs.Table.{next_stag};
 ghost use Rattle.iw_stream.specs.Kept.{IsWithinBuffer};
 ghost use Rattle.iw_endpoint.specs.Endpoint.{fresh, added, registered};
 ghost use Rattle.iw_links.specs.Exchange.{Did, Emits, report_of, told_by, with_domain, writable, zero_octets};
-ghost use Rattle.iw_links.specs.Standing.{standing, told_in};
+ghost use Rattle.iw_links.specs.Exchange.{Phase, Lending, Listening, Working, Accepting, Speaking, after_lending, after_step};
+ghost use Rattle.iw_links.specs.Exchange.{IsDue, IsUndelivered, MayHear};
+ghost use Rattle.iw_links.specs.Standing.{standing, told_in, plan_of, phase_of};
 
+use crate::plan::Plan;
 use crate::report::{Ended, Report};
 use bytes::Bytes;
 use iw_endpoint::{
@@ -71,8 +74,6 @@ pub fn listener(alloc: Global) -> Result<(Endpoint, Stag), AllocError>
 /// How a connection stands.
 #[derive(Drop)]
 pub(crate) struct Link {
-    /// The number of its stream.
-    pub(crate) number: u8,
     /// How many octets came.
     pub(crate) came: u64,
     /// The octets of the Send that was received.
@@ -85,14 +86,12 @@ pub(crate) struct Link {
 
 impl Link {
     /// One on which nothing came.
-    pub(crate) fn new(number: u8) -> Link
-        ensures number { result.number ≡ number }
+    pub(crate) fn new() -> Link
         ensures came { result.came ≡ 0 }
         ensures received { result.received ≡ None }
         ensures ended { result.ended ≡ None }
     {
         Link {
-            number,
             came: 0,
             received: None,
             ended: None,
@@ -115,7 +114,6 @@ impl Link {
     fn tell(&mut self, step: Step<Octets>)
         requires { IsWithinBuffer step }
         ensures told { told_in self.new ≡ told_by (told_in self.old) step }
-        ensures number { self.new.number ≡ self.old.number }
         ensures came { self.new.came ≡ self.old.came }
     {
         match step {
@@ -142,44 +140,65 @@ impl Link {
     }
 }
 
-/// Lends the stream a receive buffer.
-pub(crate) fn lend(alloc: Global, endpoint: &mut Endpoint, link: &Link) -> Result<(), Broken>
-    ensures did { Did link.now.number (standing endpoint.old link.now) (standing endpoint.new link.now) [] [] }
+/// Lends the stream the receive buffer. An `Err` changes nothing.
+pub(crate) fn lend(
+    alloc: Global,
+    plan: &Plan<'_>,
+    endpoint: &mut Endpoint,
+    link: &Link,
+) -> Result<(), Broken>
+    ensures ok { OnOk result ((k : ℕ) → Did (plan_of plan.now) (standing endpoint.old link.now Lending k)
+        (standing endpoint.new link.now (after_lending (plan_of plan.now).part) k) [] []) }
+    ensures err { OnErr result (endpoint.new ≡ endpoint.old) }
 {
     let Ok(buffer) = zeroes(alloc, MOST_TEXT) else {
         return Err(Broken);
     };
-    match endpoint.post_recv(link.number, buffer) {
-        Ok(()) => Ok(()),
-        Err(_) => Err(Broken),
+    match endpoint.post_recv(plan.terms.number, buffer) {
+        Ok(()) => return Ok(()),
+        Err(_) => {}
     }
+    Err(Broken)
 }
 
-/// Posts a message.
+/// Posts a message. An `Err` changes nothing.
 pub(crate) fn post(
+    plan: &Plan<'_>,
     endpoint: &mut Endpoint,
     link: &Link,
     request: Request<Bytes>,
 ) -> Result<(), Broken>
-    ensures did { Did link.now.number (standing endpoint.old link.now) (standing endpoint.new link.now) [] [] }
+    ensures ok { OnOk result ((phase : Phase) (k : ℕ) →
+        IsDue (plan_of plan.now).part (plan_of plan.now).number (standing endpoint.old link.now phase k) request →
+        Did (plan_of plan.now) (standing endpoint.old link.now phase k) (standing endpoint.new link.now Speaking (k + 1)) [] []) }
+    ensures err { OnErr result (endpoint.new ≡ endpoint.old) }
 {
-    match endpoint.post(link.number, request) {
-        Ok(()) => Ok(()),
-        Err(_) => Err(Broken),
+    match endpoint.post(plan.terms.number, request) {
+        Ok(()) => return Ok(()),
+        Err(_) => {}
     }
+    Err(Broken)
 }
 
-/// Delivers the octets of a read, at the place that follows all that came before.
-pub(crate) fn deliver(endpoint: &mut Endpoint, link: &mut Link, octets: &[u8]) -> Result<(), Broken>
-    ensures number { link.new.number ≡ link.old.number }
-    ensures ok { OnOk result (Did link.old.number
-        (standing endpoint.old link.old) (standing endpoint.new link.new) octets.now []) }
-    ensures err { OnErr result (standing endpoint.new link.new ≡ standing endpoint.old link.old) }
+/// Delivers the octets of a read, at the place that follows all that came before. An `Err` changes nothing: memory was
+/// wanted, or there were too many octets to be counted.
+pub(crate) fn deliver(
+    plan: &Plan<'_>,
+    endpoint: &mut Endpoint,
+    link: &mut Link,
+    octets: &[u8],
+) -> Result<(), Broken>
+    ensures ok { OnOk result ((k : ℕ) → MayHear (plan_of plan.now).part k → Did (plan_of plan.now)
+        (standing endpoint.old link.old Listening k) (standing endpoint.new link.new Working k) octets.now []) }
+    ensures err { OnErr result (endpoint.new ≡ endpoint.old) }
+    ensures link { OnErr result (link.new ≡ link.old) }
+    ensures lost { OnErr result ((k : ℕ) →
+        IsUndelivered (plan_of plan.now) (standing endpoint.old link.old Listening k) octets.now) }
 {
     let Some(came) = link.came.checked_add(octets.len() as u64) else {
         return Err(Broken);
     };
-    match endpoint.deliver(link.number, link.came, octets) {
+    match endpoint.deliver(plan.terms.number, link.came, octets) {
         Ok(_) => {
             link.came = came;
             Ok(())
@@ -188,28 +207,30 @@ pub(crate) fn deliver(endpoint: &mut Endpoint, link: &mut Link, octets: &[u8]) -
     }
 }
 
-// Answers the peer's Request.
-fn accept(endpoint: &mut Endpoint, link: &Link, private: &[u8]) -> Result<(), Broken>
-    ensures did { Did link.now.number (standing endpoint.old link.now) (standing endpoint.new link.now) [] [] }
+// Accepts the peer's Request. An `Err` changes nothing.
+fn accept(plan: &Plan<'_>, endpoint: &mut Endpoint, link: &Link) -> Result<(), Broken>
+    ensures ok { OnOk result ((k : ℕ) → Did (plan_of plan.now)
+        (standing endpoint.old link.now Accepting k) (standing endpoint.new link.now Working k) [] []) }
+    ensures err { OnErr result (endpoint.new ≡ endpoint.old) }
 {
-    let mut data = PrivateData::new();
-    let _ = data.try_extend_from_slice(private);
-    match endpoint.accept(link.number, data) {
+    match endpoint.accept(plan.terms.number, plan.private()) {
         Ok(_) => Ok(()),
         Err(_) => Err(Broken),
     }
 }
 
-// Does one step of work. Returns it as it asks for more.
-fn step(endpoint: &mut Endpoint, link: &mut Link) -> Result<Next, Broken>
-    ensures number { link.new.number ≡ link.old.number }
-    ensures did { Did link.old.number (standing endpoint.old link.old) (standing endpoint.new link.new) [] [] }
+// Does one step of work. Returns it as it asks for more. An `Err` changes nothing.
+fn step(plan: &Plan<'_>, endpoint: &mut Endpoint, link: &mut Link) -> Result<Next, Broken>
+    ensures ok { IfOk result (λ next. (k : ℕ) → Did (plan_of plan.now)
+        (standing endpoint.old link.old Working k) (standing endpoint.new link.new (phase_of next) k) [] []) }
+    ensures err { OnErr result (endpoint.new ≡ endpoint.old) }
+    ensures link { OnErr result (link.new ≡ link.old) }
 {
-    match endpoint.in_order_point(link.number) {
+    match endpoint.in_order_point(plan.terms.number) {
         Ok(point) if point <= MAX_PLACE => {}
         _ => return Err(Broken),
     }
-    match endpoint.work(link.number) {
+    match endpoint.work(plan.terms.number) {
         Ok(step) => {
             let next = Next::of(&step);
             link.tell(step);
@@ -230,7 +251,9 @@ enum Next {
 }
 
 impl Next {
-    fn of(step: &Step<Octets>) -> Next {
+    fn of(step: &Step<Octets>) -> Next
+        ensures { phase_of result ≡ after_step step.now }
+    {
         match step {
             Step::Asked => Next::Accept,
             Step::Idle => Next::Rest,
@@ -239,40 +262,63 @@ impl Next {
     }
 }
 
-/// Works until there is nothing to do; the peer's Request is accepted, with this private data.
+// Does one step of work, and accepts the peer's Request if that is to be done then. Returns whether there is nothing to do.
+fn work_on(plan: &Plan<'_>, endpoint: &mut Endpoint, link: &mut Link) -> Result<bool, Broken>
+    ensures ok { IfOk result (λ rests. (k : ℕ) → Did (plan_of plan.now) (standing endpoint.old link.old Working k)
+        (standing endpoint.new link.new (if rests then Speaking else Working) k) [] []) }
+    ensures err { OnErr result ((k : ℕ) → (phase : Phase) × Did (plan_of plan.now)
+        (standing endpoint.old link.old Working k) (standing endpoint.new link.new phase k) [] []) }
+{
+    match step(plan, endpoint, link) {
+        Ok(Next::Rest) => Ok(true),
+        Ok(Next::Work) => Ok(false),
+        Ok(Next::Accept) => match accept(plan, endpoint, link) {
+            Ok(()) => Ok(false),
+            Err(fault) => Err(fault),
+        },
+        Err(fault) => Err(fault),
+    }
+}
+
+/// Works until there is nothing to do; the peer's Request is accepted.
 pub(crate) fn work_all(
+    plan: &Plan<'_>,
     endpoint: &mut Endpoint,
     link: &mut Link,
-    private: &[u8],
 ) -> Result<(), Broken>
-    ensures number { link.new.number ≡ link.old.number }
-    ensures did { Did link.old.number (standing endpoint.old link.old) (standing endpoint.new link.new) [] [] }
+    ensures ok { OnOk result ((k : ℕ) → Did (plan_of plan.now)
+        (standing endpoint.old link.old Working k) (standing endpoint.new link.new Speaking k) [] []) }
+    ensures err { OnErr result ((k : ℕ) → (phase : Phase) × Did (plan_of plan.now)
+        (standing endpoint.old link.old Working k) (standing endpoint.new link.new phase k) [] []) }
 {
     'steps: for _ in 0..u64::MAX {
-        match step(endpoint, link) {
-            Ok(Next::Rest) => return Ok(()),
-            Ok(Next::Work) => {}
-            Ok(Next::Accept) => match accept(endpoint, link, private) {
-                Ok(()) => {}
-                Err(fault) => return Err(fault),
-            },
+        match work_on(plan, endpoint, link) {
+            Ok(true) => return Ok(()),
+            Ok(false) => {}
             Err(fault) => return Err(fault),
         }
     }
     Err(Broken)
 }
 
-// Emits what is due next. Returns whether something was, or the stream ended.
-fn emit(endpoint: &mut Endpoint, link: &mut Link, out: &mut Vec<u8>) -> Result<bool, Broken>
-    ensures number { link.new.number ≡ link.old.number }
-    ensures did { Emits link.old.number
-        (standing endpoint.old link.old) (standing endpoint.new link.new) out.old.items out.new.items }
+// Emits what is due next. Returns whether something was, or the stream ended. An `Err` changes nothing.
+fn emit(
+    plan: &Plan<'_>,
+    endpoint: &mut Endpoint,
+    link: &mut Link,
+    out: &mut Vec<u8>,
+) -> Result<bool, Broken>
+    ensures ok { IfOk result (λ more. (k : ℕ) → Emits (plan_of plan.now) (standing endpoint.old link.old Speaking k)
+        (standing endpoint.new link.new (if more then Speaking else Listening) k) out.old.items out.new.items) }
+    ensures err { OnErr result (endpoint.new ≡ endpoint.old) }
+    ensures link { OnErr result (link.new ≡ link.old) }
+    ensures out { OnErr result (out.new.items ≡ out.old.items) }
 {
-    match endpoint.sent(link.number) {
+    match endpoint.sent(plan.terms.number) {
         Ok(sent) if sent <= MAX_PLACE => {}
         _ => return Err(Broken),
     }
-    match endpoint.emit(link.number, out) {
+    match endpoint.emit(plan.terms.number, out) {
         Ok(Emission::Nothing) => Ok(false),
         Ok(Emission::Frame { .. }) => Ok(true),
         Ok(Emission::Fetched { .. }) => Ok(true),
@@ -286,16 +332,18 @@ fn emit(endpoint: &mut Endpoint, link: &mut Link, out: &mut Vec<u8>) -> Result<b
 
 /// Emits all that is due into one buffer.
 pub(crate) fn emit_all(
+    plan: &Plan<'_>,
     endpoint: &mut Endpoint,
     link: &mut Link,
     out: &mut Vec<u8>,
 ) -> Result<(), Broken>
-    ensures number { link.new.number ≡ link.old.number }
-    ensures did { Emits link.old.number
-        (standing endpoint.old link.old) (standing endpoint.new link.new) out.old.items out.new.items }
+    ensures ok { OnOk result ((k : ℕ) → Emits (plan_of plan.now) (standing endpoint.old link.old Speaking k)
+        (standing endpoint.new link.new Listening k) out.old.items out.new.items) }
+    ensures err { OnErr result ((k : ℕ) → Emits (plan_of plan.now) (standing endpoint.old link.old Speaking k)
+        (standing endpoint.new link.new Speaking k) out.old.items out.new.items) }
 {
     'frames: for _ in 0..u64::MAX {
-        match emit(endpoint, link, out) {
+        match emit(plan, endpoint, link, out) {
             Ok(true) => {}
             Ok(false) => return Ok(()),
             Err(fault) => return Err(fault),

@@ -1,14 +1,15 @@
-ghost use Rattle.std.specs.Prelude.{◌≡◌, ◌<◌, ◌≤◌, length, take, List, ℕ, Option, Some, IfOk, OnOk, OnErr};
+ghost use Rattle.std.specs.Prelude.{◌≡◌, ◌<◌, ◌≤◌, [], length, take, List, ℕ, Option, None, Some, IfOk, OnOk, OnErr};
 ghost use Rattle.std.specs.Option.{option_map};
-ghost use Rattle.iw_endpoint.specs.Endpoint.{octets_of};
 ghost use Rattle.std.specs.Io.KnownBytes.{IsAtEnd};
-ghost use Rattle.iw_links.specs.Exchange.{Exchanged, Failed, Served};
-ghost use Rattle.iw_links.specs.Standing.{standing};
+ghost use Rattle.iw_endpoint.specs.Endpoint.{octets_of};
+ghost use Rattle.iw_links.specs.Exchange.{Did, Exchanged, Failed, Finished, Served, Lending, Listening, Speaking, Serves, plan_for};
+ghost use Rattle.iw_links.specs.Standing.{standing, told_in, plan_of};
 
 use crate::counted::Counted;
 use crate::exchange::{Terms, Until, break_off, hear, send, settle, speak};
 use crate::link::{Broken, DOMAIN, Link, lend, post};
 use crate::output::Output;
+use crate::plan::{Part, Plan};
 use crate::report::Report;
 use bytes::Bytes;
 use iw_endpoint::{Endpoint, OpenRefusal, Role, Stag};
@@ -31,36 +32,61 @@ fn copy_front(alloc: Global, endpoint: &Endpoint, region: Stag, len: usize) -> R
     }
 }
 
+// The first octets of the region, as many as were received.
+fn front(alloc: Global, endpoint: &Endpoint, link: &Link, region: Stag) -> Result<Bytes, Broken>
+    ensures { IfOk result (λ octets. (received : List ℕ) × (link.now.received ≡ Some received) ×
+        (option_map (take (length received)) (octets_of endpoint.now region) ≡ Some octets)) }
+{
+    match &link.received {
+        Some(octets) => copy_front(alloc, endpoint, region, octets.len()),
+        None => Err(Broken),
+    }
+}
+
+// Posts the answer: the first octets of the region, as many as were received. An `Err` changes nothing.
+fn post_answer(
+    alloc: Global,
+    plan: &Plan<'_>,
+    endpoint: &mut Endpoint,
+    link: &Link,
+    region: Stag,
+) -> Result<(), Broken>
+    requires plan { plan.now.part ≡ Part.Serves region }
+    requires open { link.now.ended ≡ None }
+    ensures ok { OnOk result (Did (plan_of plan.now) (standing endpoint.old link.now Listening 0)
+        (standing endpoint.new link.now Speaking 1) [] []) }
+    ensures err { OnErr result (endpoint.new ≡ endpoint.old) }
+{
+    match front(alloc, endpoint, link, region) {
+        Ok(octets) => post(plan, endpoint, link, send(octets)),
+        Err(fault) => Err(fault),
+    }
+}
+
 // Sends back the first octets of the region, as many as were received.
 fn answer<W: Write>(
     alloc: Global,
+    plan: &Plan<'_>,
     endpoint: &mut Endpoint,
     link: &mut Link,
     region: Stag,
     out: &mut Vec<u8>,
     output: &mut W,
 ) -> Result<(), Broken>
-    ensures number { link.new.number ≡ link.old.number }
+    requires plan { plan.now.part ≡ Part.Serves region }
+    requires open { link.old.ended ≡ None }
     ensures ok { OnOk result ((i : Option (List ℕ)) →
-        Exchanged link.old.number (standing endpoint.old link.old) i (W.contents output.old)
-        (standing endpoint.new link.new) i (W.contents output.new)) }
+        Exchanged (plan_of plan.now) (standing endpoint.old link.old Listening 0) i (W.contents output.old)
+        (standing endpoint.new link.new Listening 1) i (W.contents output.new)) }
     ensures err { OnErr result ((i : Option (List ℕ)) →
-        Failed link.old.number (standing endpoint.old link.old) i (W.contents output.old)
+        Failed (plan_of plan.now) (standing endpoint.old link.old Listening 0) i (W.contents output.old)
         (standing endpoint.new link.new) i (W.contents output.new)) }
 {
-    let len = match &link.received {
-        Some(octets) => octets.len(),
-        None => return Err(Broken),
-    };
-    let octets = match copy_front(alloc, endpoint, region, len) {
-        Ok(octets) => octets,
-        Err(fault) => return Err(fault),
-    };
-    match post(endpoint, link, send(octets)) {
+    match post_answer(alloc, plan, endpoint, link, region) {
         Ok(()) => {}
         Err(fault) => return Err(fault),
     }
-    match speak(endpoint, link, out, output) {
+    match speak(plan, endpoint, link, out, output) {
         Ok(()) => Ok(()),
         Err(fault) => Err(fault),
     }
@@ -69,6 +95,7 @@ fn answer<W: Write>(
 // A listening end's part, once its stream was opened.
 fn listen_to<R: Read, W: Output>(
     alloc: Global,
+    plan: &Plan<'_>,
     endpoint: &mut Endpoint,
     link: &mut Link,
     region: Stag,
@@ -76,30 +103,29 @@ fn listen_to<R: Read, W: Output>(
     output: &mut W,
     buffer: &mut [u8],
 ) -> Result<(), Broken>
+    requires plan { plan.now.part ≡ Part.Serves region }
     requires reads { input.old.reads ≤ 1000000 }
     requires room { 0 < length buffer.old }
-    ensures number { link.new.number ≡ link.old.number }
-    ensures ok { OnOk result (Exchanged link.old.number (standing endpoint.old link.old)
+    ensures ok { OnOk result (Finished (plan_of plan.now) (standing endpoint.old link.old Lending 0)
         (R.remaining input.old.reader) (W.contents output.old)
-        (standing endpoint.new link.new) (R.remaining input.new.reader) (W.contents output.new)) }
-    ensures err { OnErr result (Failed link.old.number (standing endpoint.old link.old)
+        (standing endpoint.new link.new) (R.remaining input.new.reader) (W.contents output.new) (told_in link.new)) }
+    ensures err { OnErr result (Failed (plan_of plan.now) (standing endpoint.old link.old Lending 0)
         (R.remaining input.old.reader) (W.contents output.old)
         (standing endpoint.new link.new) (R.remaining input.new.reader) (W.contents output.new)) }
     ensures end { OnOk result (IsAtEnd (R.remaining input.new.reader)) }
     ensures bounded { input.new.reads ≤ 1000000 }
     ensures room { length buffer.new ≡ length buffer.old }
 {
-    match lend(alloc, endpoint, link) {
+    match lend(alloc, plan, endpoint, link) {
         Ok(()) => {}
         Err(fault) => return Err(fault),
     }
     let mut out = Vec::new(alloc);
-    let private = region.to_octets();
     match hear(
         Until::End,
+        plan,
         endpoint,
         link,
-        &private,
         &mut out,
         input,
         output,
@@ -115,7 +141,7 @@ fn listen_to<R: Read, W: Output>(
     if link.ended.is_some() {
         return Ok(());
     }
-    match answer(alloc, endpoint, link, region, &mut out, output) {
+    match answer(alloc, plan, endpoint, link, region, &mut out, output) {
         Ok(()) => Ok(()),
         Err(fault) => Err(fault),
     }
@@ -141,7 +167,7 @@ pub fn serve<R: Read, W: Output>(
 ) -> Result<Report, OpenRefusal>
     requires reads { input.old.reads ≤ 1000000 }
     requires room { 0 < length buffer.old }
-    ensures served { IfOk result (λ report. Served terms.number
+    ensures served { IfOk result (λ report. Served (plan_for terms (Serves region))
         endpoint.old (R.remaining input.old.reader) (W.contents output.old)
         endpoint.new (R.remaining input.new.reader) (W.contents output.new) report) }
     ensures err { OnErr result (endpoint.new ≡ endpoint.old) }
@@ -154,9 +180,15 @@ pub fn serve<R: Read, W: Output>(
         Ok(()) => {}
         Err(refusal) => return Err(refusal),
     }
-    let mut link = Link::new(terms.number);
-    match listen_to(alloc, endpoint, &mut link, region, input, output, buffer) {
+    let plan = Plan {
+        terms,
+        part: Part::Serves(region),
+    };
+    let mut link = Link::new();
+    match listen_to(
+        alloc, &plan, endpoint, &mut link, region, input, output, buffer,
+    ) {
         Ok(()) => Ok(link.into_report(false)),
-        Err(_) => Ok(break_off(endpoint, link)),
+        Err(_) => Ok(break_off(&plan, endpoint, link)),
     }
 }

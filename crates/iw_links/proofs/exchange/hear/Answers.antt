@@ -1,32 +1,42 @@
-use Rattle.std.proofs.Common.{rules, ◌∙◌, []}
+use Rattle.std.proofs.Common.{rules, [], refl}
 use Rattle.std.proofs.KnownBytes.{Consumes-kept, Consumes-nil}
-use Rattle.iw_links.proofs.Exchanges.{exchanges, fails, fails_later, fails_now, stays}
+use Rattle.iw_links.specs.Exchange.{Listening}
+use Rattle.iw_links.specs.Standing.{standing}
+use Rattle.iw_links.proofs.Exchanges.{exchanges, after_read, fails_later, fails_now, in_quiet, stays}
 use Rattle.iw_links.proofs.exchange.hear.Goals as goal
 
+pub reads-init : goal.reads-init
+reads-init g c = record {
+  exchanged = λ k may. in_quiet _ _ _ _ _ (stays _ _);
+  bounded = c.requires.reads;
+  room = refl;
+}
+
 pub returns-in-Err-take_turn-clause-err : goal.returns-in-Err-take_turn-clause-err
-returns-in-Err-take_turn-clause-err g c =
-    fails_later _ _ _ _ _ _ _ _ _ _ c.reads.invariant.exchanged
-    (rw c.reads.invariant.number at c.in-Err-take_turn.ensures.err _ _ c.in-Ok.ensures.octets)
+returns-in-Err-take_turn-clause-err g c = λ k may.
+    fails_later _ _ _ _ _ _ _ _ _ _ (c.reads.invariant.exchanged k may)
+    (c.in-Err-take_turn.ensures.err k may _ _ c.in-Ok.ensures.octets)
 
 pub returns-in-Err-clause-err : goal.returns-in-Err-clause-err
-returns-in-Err-clause-err g c =
+returns-in-Err-clause-err g c = λ k may.
     let i = g.R.Read.remaining c.reads.input.reader in
-    fails_later _ _ _ _ _ _ _ _ _ _ c.reads.invariant.exchanged
-    (fails _ _ _ i _ _ [] (stays _ _) (Consumes-kept i i _ [] (Consumes-nil i) c.in-Err.ensures.err))
+    fails_now _ _ (standing c.reads.endpoint c.reads.link) Listening k _ _ _ _
+    (exchanges _ _ _ _ _ i _ _ _ _ (c.reads.invariant.exchanged k may)
+    (after_read _ _ _ i _ _ [] (stays _ _) (Consumes-kept i i _ [] (Consumes-nil i) c.in-Err.ensures.err)))
 
 pub returns-then-is_over-clause-ok : goal.returns-then-is_over-clause-ok
-returns-then-is_over-clause-ok g c =
-    exchanges _ _ _ _ _ _ _ _ _ _ c.reads.invariant.exchanged
-    (rw c.reads.invariant.number at c.in-Ok-take_turn.ensures.ok _ _ c.in-Ok.ensures.octets)
+returns-then-is_over-clause-ok g c = λ k may.
+    exchanges _ _ _ _ _ _ _ _ _ _ (c.reads.invariant.exchanged k may)
+    (c.in-Ok-take_turn.ensures.ok k may _ _ c.in-Ok.ensures.octets)
 
 pub reads-preserved : goal.reads-preserved
 reads-preserved g c = record {
-  number = c.take_turn.ensures.number ∙ c.reads.invariant.number;
-  exchanged = exchanges _ _ _ _ _ _ _ _ _ _ c.reads.invariant.exchanged
-      (rw c.reads.invariant.number at c.in-Ok-take_turn.ensures.ok _ _ c.in-Ok.ensures.octets);
+  exchanged = λ k may. exchanges _ _ _ _ _ _ _ _ _ _ (c.reads.invariant.exchanged k may)
+      (c.in-Ok-take_turn.ensures.ok k may _ _ c.in-Ok.ensures.octets);
   bounded = c.next.ensures.bounded;
   room = search rules;
 }
 
 pub returns-clause-err : goal.returns-clause-err
-returns-clause-err g c = fails_now _ _ _ _ _ _ _ c.reads.invariant.exchanged
+returns-clause-err g c = λ k may.
+    fails_now _ _ (standing c.reads.endpoint c.reads.link) Listening k _ _ _ _ (c.reads.invariant.exchanged k may)

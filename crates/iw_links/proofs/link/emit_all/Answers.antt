@@ -1,20 +1,17 @@
-use Rattle.std.proofs.Common.{◌∙◌}
-use Rattle.iw_links.proofs.Exchanges.{emits_on}
+use Rattle.iw_links.proofs.Exchanges.{emits_nothing, emits_on}
 use Rattle.iw_links.proofs.link.emit_all.Goals as goal
 
-pub returns-in-Ok-false-clause-number : goal.returns-in-Ok-false-clause-number
-returns-in-Ok-false-clause-number c = c.emit.ensures.number ∙ c.frames.invariant.number
+pub frames-init : goal.frames-init
+frames-init c = λ k. emits_nothing _ _ _
 
-pub returns-in-Ok-false-clause-did : goal.returns-in-Ok-false-clause-did
-returns-in-Ok-false-clause-did c =
-    emits_on _ _ _ _ _ _ _ c.frames.invariant.did (rw c.frames.invariant.number at c.emit.ensures.did)
-
-pub returns-in-Err-clause-did : goal.returns-in-Err-clause-did
-returns-in-Err-clause-did c =
-    emits_on _ _ _ _ _ _ _ c.frames.invariant.did (rw c.frames.invariant.number at c.emit.ensures.did)
+pub returns-in-Ok-false-clause-ok : goal.returns-in-Ok-false-clause-ok
+returns-in-Ok-false-clause-ok c = λ k. emits_on _ _ _ _ _ _ _ (c.frames.invariant k) (rw c.in-Ok-false.field-0-test at c.in-Ok-false.ensures.ok k)
 
 pub frames-preserved : goal.frames-preserved
-frames-preserved c = record {
-  number = c.emit.ensures.number ∙ c.frames.invariant.number;
-  did = emits_on _ _ _ _ _ _ _ c.frames.invariant.did (rw c.frames.invariant.number at c.emit.ensures.did);
-}
+frames-preserved c = λ k. emits_on _ _ _ _ _ _ _ (c.frames.invariant k) (rw c.in-Ok-true.field-0-test at c.in-Ok-true.ensures.ok k)
+
+pub returns-in-Err-clause-err : goal.returns-in-Err-clause-err
+returns-in-Err-clause-err c = λ k. rw (c.in-Err.ensures.err, c.in-Err.ensures.link, c.in-Err.ensures.out) (c.frames.invariant k)
+
+pub returns-clause-err : goal.returns-clause-err
+returns-clause-err c = λ k. c.frames.invariant k

@@ -1,10 +1,8 @@
-use Rattle.iw_links.specs.Exchange.{Emits}
-use Rattle.iw_links.specs.Standing.{standing}
-use Rattle.std.proofs.Common.{◌≡◌}
+use Rattle.std.proofs.Common.{ℕ}
+use Rattle.iw_links.specs.Exchange.{Emits, Speaking}
+use Rattle.iw_links.specs.Standing.{standing, plan_of}
 use Rattle.iw_links.proofs.link.emit_all.Given as goal
 
 abbrev pub invariant-frames : goal.invariant-frames
-invariant-frames l = record {
-  number : l.link.number ≡ l.fn.link.number;
-  did : Emits l.fn.link.number (standing l.fn.endpoint l.fn.link) (standing l.endpoint l.link) l.fn.out.items l.out.items;
-}
+invariant-frames l = (k : ℕ) →
+    Emits (plan_of l.fn.plan) (standing l.fn.endpoint l.fn.link Speaking k) (standing l.endpoint l.link Speaking k) l.fn.out.items l.out.items

@@ -1,12 +1,7 @@
-use Rattle.iw_links.specs.Standing.{told_in}
-use Rattle.iw_links.proofs.Exchanges.{posts, refuses}
+use Rattle.iw_links.specs.Standing.{told_in, plan_of}
+use Rattle.iw_links.proofs.Exchanges.{posts}
 use Rattle.iw_links.proofs.link.post.Goals as goal
-use Rattle.iw_links.proofs.link.post.Goals.{in-Ok, in-Err}
 
-pub returns : goal.returns
-returns c = record {
-  did = elim c.match-post.branch [
-    | in-Ok w ↦ posts _ _ _ _ (told_in c.args.link.now) _ w.in-Ok.ensures.ok
-    | in-Err w ↦ refuses _ _ _ _ (told_in c.args.link.now) w.in-Err.ensures.err
-  ];
-}
+pub returns-in-Ok-clause-ok : goal.returns-in-Ok-clause-ok
+returns-in-Ok-clause-ok c = λ phase k due.
+    posts (plan_of c.args.plan.now) _ _ _ (told_in c.args.link.now) phase k _ due c.in-Ok.ensures.ok

@@ -1,32 +1,20 @@
-use Rattle.std.proofs.Common.{◌∙◌, []}
-use Rattle.iw_links.proofs.Exchanges.{joins}
+use Rattle.iw_links.specs.Exchange.{Working}
+use Rattle.iw_links.proofs.Exchanges.{both, stays}
 use Rattle.iw_links.proofs.link.work_all.Goals as goal
-use Rattle.iw_links.proofs.link.work_all.Goals.{in-Ok-Work, in-Ok-Accept+in-Ok}
 
-pub returns-in-Ok-Rest-clause-number : goal.returns-in-Ok-Rest-clause-number
-returns-in-Ok-Rest-clause-number c = c.step.ensures.number ∙ c.steps.invariant.number
+pub steps-init : goal.steps-init
+steps-init c = λ k. stays _ _
 
-pub returns-in-Ok-Rest-clause-did : goal.returns-in-Ok-Rest-clause-did
-returns-in-Ok-Rest-clause-did c =
-    joins _ _ _ _ [] [] [] [] c.steps.invariant.did (rw c.steps.invariant.number at c.step.ensures.did)
+pub returns-in-Ok-true-clause-ok : goal.returns-in-Ok-true-clause-ok
+returns-in-Ok-true-clause-ok c = λ k. both _ _ _ _ (c.steps.invariant k) (rw c.in-Ok-true.field-0-test at c.in-Ok-true.ensures.ok k)
 
-pub returns-in-Err-clause-did : goal.returns-in-Err-clause-did
-returns-in-Err-clause-did c =
-    joins _ _ _ _ [] [] [] [] c.steps.invariant.did (rw c.steps.invariant.number at c.step.ensures.did)
-
-pub returns-in-Err-accept-clause-did : goal.returns-in-Err-accept-clause-did
-returns-in-Err-accept-clause-did c =
-    let first = joins _ _ _ _ [] [] [] [] c.steps.invariant.did (rw c.steps.invariant.number at c.step.ensures.did) in
-    joins _ _ _ _ [] [] [] [] first (rw (c.step.ensures.number, c.steps.invariant.number) at c.accept.ensures.did)
+pub returns-in-Err-clause-err : goal.returns-in-Err-clause-err
+returns-in-Err-clause-err c = λ k.
+    let stopped = c.in-Err.ensures.err k in
+    (stopped.0, both _ _ _ _ (c.steps.invariant k) stopped.1)
 
 pub steps-preserved : goal.steps-preserved
-steps-preserved c = record {
-  number = c.step.ensures.number ∙ c.steps.invariant.number;
-  did =
-      let first = joins _ _ _ _ [] [] [] [] c.steps.invariant.did (rw c.steps.invariant.number at c.step.ensures.did) in
-      elim c.match-step-2.branch [
-        | in-Ok-Work w ↦ rw w.endpoint-is first
-        | in-Ok-Accept+in-Ok w ↦
-            rw w.endpoint-is (joins _ _ _ _ [] [] [] [] first (rw (c.step.ensures.number, c.steps.invariant.number) at w.accept.ensures.did))
-      ];
-}
+steps-preserved c = λ k. both _ _ _ _ (c.steps.invariant k) (rw c.in-Ok-false.field-0-test at c.in-Ok-false.ensures.ok k)
+
+pub returns-clause-err : goal.returns-clause-err
+returns-clause-err c = λ k. (Working, c.steps.invariant k)
