@@ -1,5 +1,5 @@
 use crate::halts::{Halts, Outcome, add_count, add_line, asking, serving};
-use crate::rows::{CRC, EMPTY, MARKERS, PLAIN, Row};
+use crate::rows::{CRC, EMPTY, MARKERS, PLAIN, Row, WRITTEN};
 use iw_links::{Counted, MOST_READS, Terms, listener, serve};
 use iw_testing::{Endless, Halting};
 use std::alloc::Global;
@@ -45,6 +45,13 @@ fn worked_rows_are_exchanged(rt: HostRuntime) -> Result<(), Fail> {
         assert!(rt; is_exchanged(rt.alloc(), row, 128)?);
         assert!(rt; is_exchanged(rt.alloc(), row, 1)?);
     }
+    Ok(())
+}
+
+#[test]
+fn what_was_written_comes_back(rt: HostRuntime) -> Result<(), Fail> {
+    let served = serving(rt.alloc(), WRITTEN, WRITTEN.asked, WHOLE)?;
+    assert!(rt; has_received(&served, WRITTEN.text, WRITTEN.served));
     Ok(())
 }
 
