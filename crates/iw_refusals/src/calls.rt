@@ -2,7 +2,7 @@
 //! memory is refused in turn, and the same call made again, with what was handed back.
 
 use bytes::Bytes;
-use iw_events::Event;
+use iw_events::{Entry, Event};
 use iw_fpdu::{Layout, write_fpdu};
 use iw_locate::Judged;
 use iw_memory::{Memory, Rights};
@@ -85,33 +85,12 @@ enum Outcome {
     Wrong,
 }
 
-// What came of a call that was refused memory, or was not; `None` where it is to be made again.
-fn first(heap: Heap<'_>, is_made: bool) -> Option<Outcome> {
-    match (is_made, heap.has_refused()) {
-        (true, false) => Some(Outcome::Made),
-        (false, true) => None,
-        _ => Some(Outcome::Wrong),
-    }
-}
-
-// What came of it when it was made again.
-fn second(is_made: bool) -> Outcome {
-    if is_made {
-        Outcome::MadeAgain
-    } else {
-        Outcome::Wrong
-    }
-}
-
-// Makes a call, whose request for memory behind the next `n` is refused, and then makes it again.
-fn tried<F: FnMut() -> bool>(heap: Heap<'_>, n: u64, mut call: F) -> Outcome
-    requires { F.IsAlwaysCallable call }
-{
-    heap.refuse_after(n);
-    let is_made = call();
-    match first(heap, is_made) {
-        Some(outcome) => outcome,
-        None => second(call()),
+// What came of a call: whether it was made, whether it was refused memory, and whether it was made when it was made again.
+fn judge(is_made: bool, is_refused: bool, is_made_again: bool) -> Outcome {
+    match (is_made, is_refused) {
+        (true, false) => Outcome::Made,
+        (false, true) if is_made_again => Outcome::MadeAgain,
+        _ => Outcome::Wrong,
     }
 }
 
@@ -127,6 +106,13 @@ const LAYOUT: Layout = Layout {
     crc: true,
 };
 
+fn memory_new(heap: Heap<'_>, n: u64) -> Outcome {
+    heap.refuse_after(n);
+    let is_made = Memory::new(heap).is_ok();
+    let is_refused = heap.has_refused();
+    judge(is_made, is_refused, Memory::new(heap).is_ok())
+}
+
 // Registers octets that were handed over, and has them handed back where they are not taken.
 fn registers<'h>(memory: &mut Memory<Heap<'h>>, handed: &mut Option<Vec<u8, Heap<'h>>>) -> bool {
     let Some(octets) = handed.take() else {
@@ -141,33 +127,68 @@ fn registers<'h>(memory: &mut Memory<Heap<'h>>, handed: &mut Option<Vec<u8, Heap
     }
 }
 
-fn register(heap: Heap<'_>, n: u64) -> Result<Outcome, AllocError> {
+fn try_register<'h>(
+    heap: Heap<'h>,
+    n: u64,
+    memory: &mut Memory<Heap<'h>>,
+    handed: &mut Option<Vec<u8, Heap<'h>>>,
+) -> Outcome {
+    heap.refuse_after(n);
+    let is_made = registers(memory, handed);
+    let is_refused = heap.has_refused();
+    judge(is_made, is_refused, registers(memory, handed))
+}
+
+fn memory_register(heap: Heap<'_>, n: u64) -> Result<Outcome, AllocError> {
+    let mut handed = octets(heap)?;
     let mut memory = Memory::new(heap)?;
     let _ = memory.add_domain(1);
-    let mut handed = Some(Vec::from_slice(heap, b"octets")?);
-    Ok(tried(heap, n, || registers(&mut memory, &mut handed)))
+    Ok(try_register(heap, n, &mut memory, &mut handed))
 }
 
-fn add(heap: Heap<'_>, n: u64) -> Result<Outcome, AllocError> {
+fn islands_new(heap: Heap<'_>, n: u64) -> Outcome {
+    heap.refuse_after(n);
+    let is_made = Islands::new(heap).is_ok();
+    let is_refused = heap.has_refused();
+    judge(is_made, is_refused, Islands::new(heap).is_ok())
+}
+
+fn islands_add(heap: Heap<'_>, n: u64) -> Result<Outcome, AllocError> {
     let mut islands = Islands::new(heap)?;
-    Ok(tried(heap, n, || islands.add(8, b"octets").is_ok()))
+    heap.refuse_after(n);
+    let is_made = islands.add(8, b"octets").is_ok();
+    let is_refused = heap.has_refused();
+    let is_made_again = islands.add(8, b"octets").is_ok();
+    Ok(judge(is_made, is_refused, is_made_again))
 }
 
-fn make_ready(heap: Heap<'_>, n: u64) -> Result<Outcome, AllocError> {
+fn islands_ready(heap: Heap<'_>, n: u64) -> Result<Outcome, AllocError> {
     let mut islands = Islands::new(heap)?;
-    Ok(tried(heap, n, || islands.ready().is_ok()))
+    heap.refuse_after(n);
+    let is_made = islands.ready().is_ok();
+    let is_refused = heap.has_refused();
+    let is_made_again = islands.ready().is_ok();
+    Ok(judge(is_made, is_refused, is_made_again))
 }
 
-fn frame(heap: Heap<'_>, n: u64) -> Outcome {
+fn writes<'h>(out: &mut Vec<u8, Heap<'h>>) -> bool {
+    write_fpdu(LAYOUT, 0, &[b"ULPDU".as_slice()], out).is_ok()
+}
+
+fn fpdu(heap: Heap<'_>, n: u64) -> Outcome {
     let mut out = Vec::new(heap);
-    tried(heap, n, || {
-        write_fpdu(LAYOUT, 0, &[b"ULPDU".as_slice()], &mut out).is_ok()
-    })
+    heap.refuse_after(n);
+    let is_made = writes(&mut out);
+    let is_refused = heap.has_refused();
+    judge(is_made, is_refused, writes(&mut out))
 }
 
-fn record(heap: Heap<'_>, n: u64) -> Outcome {
+fn judged_ready(heap: Heap<'_>, n: u64) -> Outcome {
     let mut judged: Judged<(), Heap<'_>> = Judged::new(heap);
-    tried(heap, n, || judged.ready().is_ok())
+    heap.refuse_after(n);
+    let is_made = judged.ready().is_ok();
+    let is_refused = heap.has_refused();
+    judge(is_made, is_refused, judged.ready().is_ok())
 }
 
 fn posts_buffer<'h>(
@@ -186,15 +207,34 @@ fn posts_buffer<'h>(
     }
 }
 
-fn post_buffer(heap: Heap<'_>, n: u64) -> Result<Outcome, AllocError> {
-    let mut queue = RecvQueue::new(heap)?;
-    let mut handed = Some(Vec::from_slice(heap, b"octets")?);
-    Ok(tried(heap, n, || posts_buffer(&mut queue, &mut handed)))
+fn try_post_buffer<'h>(
+    heap: Heap<'h>,
+    n: u64,
+    queue: &mut RecvQueue<Heap<'h>>,
+    handed: &mut Option<Vec<u8, Heap<'h>>>,
+) -> Outcome {
+    heap.refuse_after(n);
+    let is_made = posts_buffer(queue, handed);
+    let is_refused = heap.has_refused();
+    judge(is_made, is_refused, posts_buffer(queue, handed))
 }
 
-fn expect(heap: Heap<'_>, n: u64) -> Outcome {
+fn recv_queue_post(heap: Heap<'_>, n: u64) -> Result<Outcome, AllocError> {
+    let mut handed = octets(heap)?;
+    let mut queue = RecvQueue::new(heap)?;
+    Ok(try_post_buffer(heap, n, &mut queue, &mut handed))
+}
+
+fn completions_ready(heap: Heap<'_>, n: u64) -> Outcome {
     let mut completions = Completions::new(heap);
-    tried(heap, n, || completions.ready(1).is_ok())
+    heap.refuse_after(n);
+    let is_made = completions.ready(1).is_ok();
+    let is_refused = heap.has_refused();
+    judge(is_made, is_refused, completions.ready(1).is_ok())
+}
+
+fn octets<'h>(heap: Heap<'h>) -> Result<Option<Vec<u8, Heap<'h>>>, AllocError> {
+    Ok(Some(Vec::from_slice(heap, b"octets")?))
 }
 
 fn send(heap: Heap<'_>) -> Result<Request<Bytes<Heap<'_>>>, AllocError> {
@@ -240,10 +280,22 @@ fn posts_message<'h>(
     }
 }
 
-fn post_message(heap: Heap<'_>, n: u64) -> Result<Outcome, AllocError> {
-    let mut queue = SendQueue::new(heap);
+fn try_post_message<'h>(
+    heap: Heap<'h>,
+    n: u64,
+    queue: &mut SendQueue<Heap<'h>>,
+    handed: &mut Option<Request<Bytes<Heap<'h>>>>,
+) -> Outcome {
+    heap.refuse_after(n);
+    let is_made = posts_message(queue, handed);
+    let is_refused = heap.has_refused();
+    judge(is_made, is_refused, posts_message(queue, handed))
+}
+
+fn send_queue_post(heap: Heap<'_>, n: u64) -> Result<Outcome, AllocError> {
     let mut handed = Some(send(heap)?);
-    Ok(tried(heap, n, || posts_message(&mut queue, &mut handed)))
+    let mut queue = SendQueue::new(heap);
+    Ok(try_post_message(heap, n, &mut queue, &mut handed))
 }
 
 fn opened<'h>(heap: Heap<'h>, markers: bool) -> Result<Stream<Heap<'h>>, AllocError> {
@@ -253,6 +305,17 @@ fn opened<'h>(heap: Heap<'h>, markers: bool) -> Result<Stream<Heap<'h>>, AllocEr
         private: PrivateData::new(),
     };
     Stream::new(heap, 1, Role::Preset, config)
+}
+
+fn opens(heap: Heap<'_>) -> bool {
+    opened(heap, false).is_ok()
+}
+
+fn stream_new(heap: Heap<'_>, n: u64) -> Outcome {
+    heap.refuse_after(n);
+    let is_made = opens(heap);
+    let is_refused = heap.has_refused();
+    judge(is_made, is_refused, opens(heap))
 }
 
 fn stream_posts<'h>(
@@ -274,11 +337,14 @@ fn stream_posts<'h>(
 fn stream_post<'h>(
     heap: Heap<'h>,
     n: u64,
+    stream: &mut Stream<Heap<'h>>,
     request: Request<Bytes<Heap<'h>>>,
-) -> Result<Outcome, AllocError> {
-    let mut stream = opened(heap, false)?;
+) -> Outcome {
     let mut handed = Some(request);
-    Ok(tried(heap, n, || stream_posts(&mut stream, &mut handed)))
+    heap.refuse_after(n);
+    let is_made = stream_posts(stream, &mut handed);
+    let is_refused = heap.has_refused();
+    judge(is_made, is_refused, stream_posts(stream, &mut handed))
 }
 
 fn stream_posts_recv<'h>(
@@ -297,15 +363,23 @@ fn stream_posts_recv<'h>(
     }
 }
 
-fn stream_post_recv(heap: Heap<'_>, n: u64) -> Result<Outcome, AllocError> {
-    let mut stream = opened(heap, false)?;
-    let mut handed = Some(Vec::from_slice(heap, b"octets")?);
-    Ok(tried(heap, n, || stream_posts_recv(&mut stream, &mut handed)))
+fn stream_post_recv<'h>(
+    heap: Heap<'h>,
+    n: u64,
+    stream: &mut Stream<Heap<'h>>,
+    handed: &mut Option<Vec<u8, Heap<'h>>>,
+) -> Outcome {
+    heap.refuse_after(n);
+    let is_made = stream_posts_recv(stream, handed);
+    let is_refused = heap.has_refused();
+    judge(is_made, is_refused, stream_posts_recv(stream, handed))
 }
 
-fn stream_deliver(heap: Heap<'_>, n: u64) -> Result<Outcome, AllocError> {
-    let mut stream = opened(heap, false)?;
-    Ok(tried(heap, n, || stream.deliver(8, b"octets").is_ok()))
+fn stream_deliver<'h>(heap: Heap<'h>, n: u64, stream: &mut Stream<Heap<'h>>) -> Outcome {
+    heap.refuse_after(n);
+    let is_made = stream.deliver(8, b"octets").is_ok();
+    let is_refused = heap.has_refused();
+    judge(is_made, is_refused, stream.deliver(8, b"octets").is_ok())
 }
 
 fn emits<'h>(
@@ -317,7 +391,7 @@ fn emits<'h>(
 }
 
 // Tries the emission of what was posted.
-fn tried_emit<'h>(
+fn try_emit<'h>(
     heap: Heap<'h>,
     n: u64,
     stream: &mut Stream<Heap<'h>>,
@@ -326,21 +400,47 @@ fn tried_emit<'h>(
     let mut out = Vec::new(heap);
     heap.refuse_after(n);
     let is_made = emits(stream, memory, &mut out);
-    match first(heap, is_made) {
-        Some(outcome) => outcome,
-        None => second(emits(stream, memory, &mut out)),
-    }
+    let is_refused = heap.has_refused();
+    judge(is_made, is_refused, emits(stream, memory, &mut out))
 }
 
+// The request that was posted is emitted.
 fn stream_emit<'h>(
     heap: Heap<'h>,
     n: u64,
-    request: Request<Bytes<Heap<'h>>>,
+    stream: &mut Stream<Heap<'h>>,
 ) -> Result<Outcome, AllocError> {
-    let mut stream = opened(heap, false)?;
-    let _ = stream.post(request);
     let memory = Memory::new(heap)?;
-    Ok(tried_emit(heap, n, &mut stream, &memory))
+    Ok(try_emit(heap, n, stream, &memory))
+}
+
+fn on_stream<'h>(
+    heap: Heap<'h>,
+    n: u64,
+    call: Call,
+    stream: &mut Stream<Heap<'h>>,
+) -> Result<Outcome, AllocError> {
+    match call {
+        Call::StreamPostSend => Ok(stream_post(heap, n, stream, send(heap)?)),
+        Call::StreamPostWrite => Ok(stream_post(heap, n, stream, write(heap)?)),
+        Call::StreamPostRead => Ok(stream_post(heap, n, stream, read())),
+        Call::StreamPostRecv => Ok(stream_post_recv(heap, n, stream, &mut octets(heap)?)),
+        Call::StreamDeliver => Ok(stream_deliver(heap, n, stream)),
+        Call::StreamEmit => {
+            stream_posts(stream, &mut Some(send(heap)?));
+            stream_emit(heap, n, stream)
+        }
+        Call::StreamEmitRead => {
+            stream_posts(stream, &mut Some(read()));
+            stream_emit(heap, n, stream)
+        }
+        _ => Ok(Outcome::Wrong),
+    }
+}
+
+fn with_stream(heap: Heap<'_>, n: u64, call: Call) -> Result<Outcome, AllocError> {
+    let mut stream = opened(heap, false)?;
+    on_stream(heap, n, call, &mut stream)
 }
 
 // A Write of four octets after a marker, at the stream place 512 (RFC 5044 4.1 to 4.3), to offset 0 of region 01000000.
@@ -357,7 +457,7 @@ fn places<'h>(stream: &mut Stream<Heap<'h>>, memory: &mut Memory<Heap<'h>>) -> b
 }
 
 // Tries a step that places a frame.
-fn tried_work<'h>(
+fn try_work<'h>(
     heap: Heap<'h>,
     n: u64,
     stream: &mut Stream<Heap<'h>>,
@@ -365,30 +465,53 @@ fn tried_work<'h>(
 ) -> Outcome {
     heap.refuse_after(n);
     let is_made = places(stream, memory);
-    match first(heap, is_made) {
-        Some(outcome) => outcome,
-        None => second(places(stream, memory)),
-    }
+    let is_refused = heap.has_refused();
+    judge(is_made, is_refused, places(stream, memory))
 }
 
 // Domain 1 with a region of six octets.
 fn shared<'h>(heap: Heap<'h>) -> Result<Memory<Heap<'h>>, AllocError> {
-    let octets = Vec::from_slice(heap, b"octets")?;
+    let mut handed = octets(heap)?;
     let mut memory = Memory::new(heap)?;
     let _ = memory.add_domain(1);
-    let _ = memory.register(1, 0, octets, RIGHTS);
+    registers(&mut memory, &mut handed);
     Ok(memory)
 }
 
 // A frame that is judged before its turn leaves a record.
-fn stream_work<'h>(heap: Heap<'h>, n: u64) -> Result<Outcome, AllocError> {
-    let mut stream = opened(heap, true)?;
+fn early<'h>(
+    heap: Heap<'h>,
+    n: u64,
+    stream: &mut Stream<Heap<'h>>,
+    memory: &mut Memory<Heap<'h>>,
+) -> Result<Outcome, AllocError> {
     let _ = stream.deliver(512, MARKED_WRITE)?;
+    Ok(try_work(heap, n, stream, memory))
+}
+
+fn stream_work<'h>(heap: Heap<'h>, n: u64) -> Result<Outcome, AllocError> {
     let mut memory = shared(heap)?;
-    Ok(tried_work(heap, n, &mut stream, &mut memory))
+    let mut stream = opened(heap, true)?;
+    early(heap, n, &mut stream, &mut memory)
 }
 
 const SCHEDULE: &str = "a domain 1\na register 1 0 w 00*8\na open 0 1 preset m beef\na recv 0 2\n";
+
+type Events<'h> = Vec<Event<Bytes<Heap<'h>>>, Heap<'h>>;
+
+fn events<'h>(heap: Heap<'h>) -> Result<Events<'h>, AllocError> {
+    match read_schedule(heap, SCHEDULE.as_bytes()) {
+        Ok(events) => Ok(events),
+        Err(_) => Err(AllocError),
+    }
+}
+
+fn schedule(heap: Heap<'_>, n: u64) -> Outcome {
+    heap.refuse_after(n);
+    let is_made = events(heap).is_ok();
+    let is_refused = heap.has_refused();
+    judge(is_made, is_refused, events(heap).is_ok())
+}
 
 // Whether a few events have a trace.
 fn runs<'h>(heap: Heap<'h>, events: &[Event<Bytes<Heap<'h>>>]) -> bool {
@@ -396,57 +519,78 @@ fn runs<'h>(heap: Heap<'h>, events: &[Event<Bytes<Heap<'h>>>]) -> bool {
 }
 
 fn run<'h>(heap: Heap<'h>, n: u64) -> Result<Outcome, AllocError> {
-    let Ok(events) = read_schedule(heap, SCHEDULE.as_bytes()) else {
+    let events = events(heap)?;
+    heap.refuse_after(n);
+    let is_made = runs(heap, events.as_slice());
+    let is_refused = heap.has_refused();
+    let is_made_again = runs(heap, events.as_slice());
+    Ok(judge(is_made, is_refused, is_made_again))
+}
+
+type Trace<'h> = Vec<Entry<Bytes<Heap<'h>>>, Heap<'h>>;
+
+fn trace<'h>(heap: Heap<'h>, events: &[Event<Bytes<Heap<'h>>>]) -> Result<Trace<'h>, AllocError> {
+    if events.len() > 100 {
         return Err(AllocError);
-    };
-    Ok(tried(heap, n, || runs(heap, events.as_slice())))
+    }
+    match World::run(heap, events) {
+        Ok(trace) => Ok(trace),
+        Err(_) => Err(AllocError),
+    }
+}
+
+fn prints<'h>(heap: Heap<'h>, trace: &[Entry<Bytes<Heap<'h>>>]) -> bool {
+    print_trace(heap, trace).is_ok()
+}
+
+fn try_print<'h>(heap: Heap<'h>, n: u64, trace: &[Entry<Bytes<Heap<'h>>>]) -> Outcome {
+    heap.refuse_after(n);
+    let is_made = prints(heap, trace);
+    let is_refused = heap.has_refused();
+    judge(is_made, is_refused, prints(heap, trace))
 }
 
 fn print<'h>(heap: Heap<'h>, n: u64) -> Result<Outcome, AllocError> {
-    let Ok(events) = read_schedule(heap, SCHEDULE.as_bytes()) else {
-        return Err(AllocError);
-    };
-    if events.len() > 100 {
-        return Ok(Outcome::Wrong);
-    }
-    let Ok(trace) = World::run(heap, events.as_slice()) else {
-        return Err(AllocError);
-    };
-    Ok(tried(heap, n, || { print_trace(heap, trace.as_slice()).is_ok() }))
+    let events = events(heap)?;
+    let trace = trace(heap, events.as_slice())?;
+    Ok(try_print(heap, n, trace.as_slice()))
+}
+
+fn replays(heap: Heap<'_>) -> bool {
+    let mut input = SCHEDULE.as_bytes();
+    let mut output = Vec::new(heap);
+    replay(heap, &mut input, &mut output).is_ok()
 }
 
 fn replay_all(heap: Heap<'_>, n: u64) -> Outcome {
-    tried(heap, n, || {
-        let mut input = SCHEDULE.as_bytes();
-        let mut output = Vec::new(heap);
-        replay(heap, &mut input, &mut output).is_ok()
-    })
+    heap.refuse_after(n);
+    let is_made = replays(heap);
+    let is_refused = heap.has_refused();
+    judge(is_made, is_refused, replays(heap))
 }
 
 fn attempt(heap: Heap<'_>, call: Call, n: u64) -> Result<Outcome, AllocError> {
     match call {
-        Call::MemoryNew => Ok(tried(heap, n, || Memory::new(heap).is_ok())),
-        Call::MemoryRegister => register(heap, n),
-        Call::IslandsNew => Ok(tried(heap, n, || Islands::new(heap).is_ok())),
-        Call::IslandsAdd => add(heap, n),
-        Call::IslandsReady => make_ready(heap, n),
-        Call::WriteFpdu => Ok(frame(heap, n)),
-        Call::JudgedReady => Ok(record(heap, n)),
-        Call::RecvQueuePost => post_buffer(heap, n),
-        Call::CompletionsReady => Ok(expect(heap, n)),
-        Call::SendQueuePost => post_message(heap, n),
-        Call::StreamNew => Ok(tried(heap, n, || opened(heap, false).is_ok())),
-        Call::StreamPostSend => stream_post(heap, n, send(heap)?),
-        Call::StreamPostWrite => stream_post(heap, n, write(heap)?),
-        Call::StreamPostRead => stream_post(heap, n, read()),
-        Call::StreamPostRecv => stream_post_recv(heap, n),
-        Call::StreamDeliver => stream_deliver(heap, n),
-        Call::StreamEmit => stream_emit(heap, n, send(heap)?),
-        Call::StreamEmitRead => stream_emit(heap, n, read()),
+        Call::MemoryNew => Ok(memory_new(heap, n)),
+        Call::MemoryRegister => memory_register(heap, n),
+        Call::IslandsNew => Ok(islands_new(heap, n)),
+        Call::IslandsAdd => islands_add(heap, n),
+        Call::IslandsReady => islands_ready(heap, n),
+        Call::WriteFpdu => Ok(fpdu(heap, n)),
+        Call::JudgedReady => Ok(judged_ready(heap, n)),
+        Call::RecvQueuePost => recv_queue_post(heap, n),
+        Call::CompletionsReady => Ok(completions_ready(heap, n)),
+        Call::SendQueuePost => send_queue_post(heap, n),
+        Call::StreamNew => Ok(stream_new(heap, n)),
+        Call::StreamPostSend
+        | Call::StreamPostWrite
+        | Call::StreamPostRead
+        | Call::StreamPostRecv
+        | Call::StreamDeliver
+        | Call::StreamEmit
+        | Call::StreamEmitRead => with_stream(heap, n, call),
         Call::StreamWork => stream_work(heap, n),
-        Call::ReadSchedule => Ok(tried(heap, n, || {
-            read_schedule(heap, SCHEDULE.as_bytes()).is_ok()
-        })),
+        Call::ReadSchedule => Ok(schedule(heap, n)),
         Call::WorldRun => run(heap, n),
         Call::PrintTrace => print(heap, n),
         Call::Replay => Ok(replay_all(heap, n)),

@@ -32,43 +32,72 @@ fn opened<'h>(heap: Heap<'h>) -> Result<Stream<Heap<'h>>, AllocError> {
     Stream::new(heap, 1, Role::Preset, config)
 }
 
-// Emits a Write of octets `k` to tagged offset 0.
-fn write<'h>(
-    heap: Heap<'h>,
-    k: u8,
-    stream: &mut Stream<Heap<'h>>,
-    wire: &mut Vec<u8, Heap<'h>>,
-) -> Result<(), Fail> {
-    let payload = vec![in heap; k; PAYLOAD]?;
+// Octets `k`.
+fn payload<'h>(heap: Heap<'h>, k: u8) -> Result<Bytes<Heap<'h>>, Fail> {
+    let octets = vec![in heap; k; PAYLOAD]?;
+    Ok(Bytes::from_vec(octets)?)
+}
+
+// Posts a Write to tagged offset 0.
+fn post<'h>(stream: &mut Stream<Heap<'h>>, octets: Bytes<Heap<'h>>) {
     let _ = stream.post(Request::Message(Message::Write {
         stag: Stag::new(1, 0, 0),
         to: 0,
-        octets: Bytes::from_vec(payload)?,
+        octets,
     }));
-    let memory = Memory::new(heap)?;
+}
+
+fn emit<'h>(
+    stream: &mut Stream<Heap<'h>>,
+    memory: &Memory<Heap<'h>>,
+    wire: &mut Vec<u8, Heap<'h>>,
+) -> Result<(), Fail> {
     if stream.sent() <= MAX_PLACE {
-        stream.emit(&memory, wire)?;
+        stream.emit(memory, wire)?;
     }
     Ok(())
 }
 
-// Four Writes to tagged offset 0, the k-th of octets k. Their frames have 512 octets each, the marker before them among these.
-fn frames<'h>(heap: Heap<'h>) -> Result<Vec<u8, Heap<'h>>, Fail> {
-    let mut stream = opened(heap)?;
-    let mut wire = Vec::new(heap);
+// Emits four Writes to tagged offset 0, the k-th of octets k.
+fn emit_all<'h>(
+    heap: Heap<'h>,
+    stream: &mut Stream<Heap<'h>>,
+    memory: &Memory<Heap<'h>>,
+    wire: &mut Vec<u8, Heap<'h>>,
+) -> Result<(), Fail> {
     for k in 0..4u8 {
-        write(heap, k, &mut stream, &mut wire)?;
+        post(stream, payload(heap, k)?);
+        emit(stream, memory, wire)?;
     }
-    Ok(wire)
+    Ok(())
+}
+
+// Their frames have 512 octets each, the marker before them among these.
+fn frames<'h>(heap: Heap<'h>, wire: &mut Vec<u8, Heap<'h>>) -> Result<(), Fail> {
+    let memory = Memory::new(heap)?;
+    let mut stream = opened(heap)?;
+    emit_all(heap, &mut stream, &memory, wire)
+}
+
+fn register<'h>(memory: &mut Memory<Heap<'h>>, octets: Vec<u8, Heap<'h>>) {
+    let _ = memory.add_domain(1);
+    let _ = memory.register(1, 0, octets, RIGHTS);
 }
 
 // Domain 1 with a region.
 fn shared<'h>(heap: Heap<'h>) -> Result<Memory<Heap<'h>>, Fail> {
-    let octets = vec![in heap; 0u8; PAYLOAD + 4]?;
     let mut memory = Memory::new(heap)?;
-    let _ = memory.add_domain(1);
-    let _ = memory.register(1, 0, octets, RIGHTS);
+    register(&mut memory, vec![in heap; 0u8; PAYLOAD + 4]?);
     Ok(memory)
+}
+
+// What came of a step.
+#[derive(Clone, Copy, Debug, PartialEq, Eq)]
+enum Came {
+    Idle,
+    Placed,
+    Refused,
+    Other,
 }
 
 // The receiving end, and how many of its steps were refused memory.
@@ -90,35 +119,44 @@ impl<'h> Receiver<'h> {
         })
     }
 
-    // One step; one that is refused memory is made again.
-    fn step(&mut self) -> Result<Step<iw_octets::Octets<Heap<'h>>>, Fail> {
-        for _ in 0..2u8 {
-            if self.stream.in_order_point() > MAX_PLACE {
-                break;
-            }
-            match self.stream.work(&mut self.memory) {
-                Ok(step) => return Ok(step),
-                Err(AllocError) => self.refused = self.refused.saturating_add(1),
-            }
+    fn step(&mut self) -> Came {
+        if self.stream.in_order_point() > MAX_PLACE {
+            return Came::Other;
         }
-        Err("a step was refused twice".into())
+        match self.stream.work(&mut self.memory) {
+            Ok(Step::Idle) => Came::Idle,
+            Ok(Step::Placed { .. }) => Came::Placed,
+            Ok(_) => Came::Other,
+            Err(AllocError) => Came::Refused,
+        }
     }
 
-    // Takes the frame from stream place `from` up to `to` in, and works until nothing is left to do. A delivery that is
-    // refused is made again.
-    fn take(&mut self, wire: &[u8], from: usize, to: usize) -> Result<(), Fail> {
-        let frame = wire.get(from..to).ok_or("a frame")?;
-        if self.stream.deliver(from as u64, frame).is_err() {
-            self.stream.deliver(from as u64, frame)?;
-        }
+    // Works until nothing is left to do. A step that is refused memory is made again.
+    fn work(&mut self) -> Result<(), Fail> {
         for _ in 0..10u8 {
-            match self.step()? {
-                Step::Idle => return Ok(()),
-                Step::Placed { .. } => self.placed = self.placed.saturating_add(1),
-                _ => {}
+            match self.step() {
+                Came::Idle => return Ok(()),
+                Came::Placed => self.placed = self.placed.saturating_add(1),
+                Came::Refused => self.refused = self.refused.saturating_add(1),
+                Came::Other => {}
             }
         }
         Err("work without end".into())
+    }
+
+    // Takes octets in. A delivery that is refused is made again.
+    fn deliver(&mut self, from: u64, octets: &[u8]) -> Result<(), Fail> {
+        if self.stream.deliver(from, octets).is_err() {
+            self.stream.deliver(from, octets)?;
+        }
+        Ok(())
+    }
+
+    // Takes the frame from stream place `from` up to `to` in, and works it off.
+    fn take(&mut self, wire: &[u8], from: usize, to: usize) -> Result<(), Fail> {
+        let frame = wire.get(from..to).ok_or("a frame")?;
+        self.deliver(from as u64, frame)?;
+        self.work()
     }
 }
 
@@ -143,13 +181,18 @@ fn take_pairs(end: &mut Receiver<'_>, wire: &[u8]) -> Result<u32, Fail> {
     Ok(first)
 }
 
+fn refused_of(heap: Heap<'_>, n: u64, wire: &[u8]) -> Result<u32, Fail> {
+    let mut end = Receiver::new(heap)?;
+    heap.refuse_after(n);
+    take_pairs(&mut end, wire)
+}
+
 // The same with one request for memory refused; `None` where there was none left to refuse.
 fn refused_at(alloc: Global, n: u64) -> Result<Option<u32>, Fail> {
     let heap = FailsAt::new(alloc, u64::MAX);
-    let wire = frames(&heap)?;
-    let mut end = Receiver::new(&heap)?;
-    heap.refuse_after(n);
-    let refused = take_pairs(&mut end, wire.as_slice())?;
+    let mut wire = Vec::new(&heap);
+    frames(&heap, &mut wire)?;
+    let refused = refused_of(&heap, n, &wire)?;
     Ok(heap.has_refused().then_some(refused))
 }
 
