@@ -1,46 +1,92 @@
 -- What a command prints, and how it ends by that. What is known of the output's octets before and after is an option.
-use Rattle.std.specs.Prelude.{◌≡◌, ℕ, List, ◌++◌, ◌≤◌, Option, length, take}
+use Rattle.std.specs.Prelude.{◌≡◌, ℕ, List, [], ◌∷◌, ◌++◌, ◌+◌, ◌≤◌, ◌⊎◌, Option, length, take}
 use Rattle.std.specs.Io.KnownBytes.{Appends}
 use Rattle.iw_status.specs.declared.Status.{Status}
 use Rattle.iw_status.specs.Status.{with}
+use Rattle.iw_endpoint.specs.Endpoint.{EndpointState}
+use Rattle.iw_links.specs.declared.exchange.Terms.{Terms}
 use Rattle.iw_links.specs.declared.report.Report.{Report}
+use Rattle.iw_links.specs.Exchange.{Part, Serves, Plan, plan_for, Served, listening, shared_region}
+use Rattle.iw_commands.specs.declared.options.Options.{Options}
 use Rattle.iw_commands.specs.Lines.{lines_from}
 use Rattle.iw_commands.specs.Port.{port_line}
-use Rattle.iw_commands.specs.Status.{status_of}
+use Rattle.iw_commands.specs.Status.{status_of, unmade}
 
--- So many connections were made or tried, and the lines of each printed, in order; the command ends so by what became
--- of them.
-pub record Prints (count : ℕ) (output output' : Option (List ℕ)) (status : Status) : Type 0 where
+-- ---- connections
+
+-- a connection was made at this endpoint, as its plan says; what was known of its input and output before and after is
+-- an option
+pub record IsMade (p : Plan) (e e' : EndpointState) (report : Report) : Type 0 where
+  pub input : Option (List ℕ)
+  pub output : Option (List ℕ)
+  pub input' : Option (List ℕ)
+  pub output' : Option (List ℕ)
+  pub served : Served p e input output e' input' output' report
+
+-- or it could not be made, and nothing was done there
+abbrev pub IsTold : Plan → EndpointState → EndpointState → Report → Type 0
+IsTold p e e' report = IsMade p e e' report ⊎ ((report ≡ unmade) × (e' ≡ e))
+
+-- what the connection of this stream is opened with
+abbrev pub terms_at : Options → ℕ → Terms
+terms_at options stream = record { number = stream; markers = options.markers; crc = options.crc }
+
+-- connections one after the other, the first of which is this stream
+abbrev pub AreTold : Options → Part → ℕ → EndpointState → List Report → EndpointState → Type 0
+AreTold options part stream e [] e' = e' ≡ e
+AreTold options part stream e (report ∷ reports) e' =
+    (m : EndpointState) × IsTold (plan_for (terms_at options stream) part) e m report × AreTold options part (1 + stream) m reports e'
+
+-- ---- what is printed
+
+-- So many connections were made or tried, the first as stream 0, and the lines of each printed, in order; the command
+-- ends so by what became of them.
+pub record Prints (options : Options) (part : Part) (e e' : EndpointState) (count : ℕ) (output output' : Option (List ℕ)) (status : Status) :
+    Type 0 where
   pub reports : List Report
   pub all : length reports ≡ count
+  pub told : AreTold options part 0 e reports e'
   pub prints : Appends output output' (lines_from 0 reports)
   pub ends : status ≡ status_of reports
 
 -- At most so many were made or tried, and the front of their lines printed.
-pub record PrintsFront (count : ℕ) (output output' : Option (List ℕ)) : Type 0 where
+pub record PrintsFront (options : Options) (part : Part) (e e' : EndpointState) (count : ℕ) (output output' : Option (List ℕ)) :
+    Type 0 where
   pub reports : List Report
   pub few : length reports ≤ count
+  pub told : AreTold options part 0 e reports e'
   pub octets : ℕ
   pub prints : Appends output output' (take octets (lines_from 0 reports))
 
--- The same of a command that prints its port before.
-pub record PrintsPort (count : ℕ) (output output' : Option (List ℕ)) (status : Status) : Type 0 where
+-- The same of a command that listens and prints its port before: the one that was asked for, if one was.
+abbrev pub IsPort : ℕ → ℕ → Type 0
+IsPort asked port = (asked ≡ 0) ⊎ (port ≡ asked)
+
+pub record PrintsPort (options : Options) (asked count : ℕ) (output output' : Option (List ℕ)) (status : Status) : Type 0 where
   pub port : ℕ
+  pub is_port : IsPort asked port
+  pub last : EndpointState
   pub reports : List Report
   pub all : length reports ≡ count
+  pub told : AreTold options (Serves shared_region) 0 listening reports last
   pub prints : Appends output output' (port_line port ++ lines_from 0 reports)
   pub ends : status ≡ status_of reports
 
-pub record PrintsPortFront (count : ℕ) (output output' : Option (List ℕ)) : Type 0 where
+pub record PrintsPortFront (options : Options) (asked count : ℕ) (output output' : Option (List ℕ)) : Type 0 where
   pub port : ℕ
+  pub is_port : IsPort asked port
+  pub last : EndpointState
   pub reports : List Report
   pub few : length reports ≤ count
+  pub told : AreTold options (Serves shared_region) 0 listening reports last
   pub octets : ℕ
   pub prints : Appends output output' (take octets (port_line port ++ lines_from 0 reports))
 
 -- The same of a command that ends also by how another process ended.
-pub record PrintsBeside (count : ℕ) (output output' : Option (List ℕ)) (status : Status) : Type 0 where
+pub record PrintsBeside (options : Options) (part : Part) (e : EndpointState) (count : ℕ) (output output' : Option (List ℕ)) (status : Status) :
+    Type 0 where
+  pub last : EndpointState
   pub own : Status
   pub other : Status
-  pub prints : Prints count output output' own
+  pub prints : Prints options part e last count output output' own
   pub ends : status ≡ with own other

@@ -1,5 +1,7 @@
 ghost use Rattle.std.specs.Prelude.{◌≡◌, ◌<◌, length, IfOk, OnErr};
-ghost use Rattle.iw_commands.specs.Printed.{Prints, PrintsFront};
+ghost use Rattle.iw_endpoint.specs.Endpoint.{EndpointState};
+ghost use Rattle.iw_links.specs.Exchange.{Asks, plan_for, with_domain};
+ghost use Rattle.iw_commands.specs.Printed.{IsTold, Prints, PrintsFront};
 
 use crate::fault::CommandFault;
 use crate::options::Options;
@@ -33,7 +35,8 @@ pub(crate) fn ask_peer<R: Read + Drop, O: Output + Drop>(
     buffer: &mut [u8],
 ) -> Report
     requires { 0 < length buffer.old }
-    ensures { length buffer.new ≡ length buffer.old }
+    ensures told { IsTold (plan_for terms (Asks text.now)) endpoint.old endpoint.new result }
+    ensures room { length buffer.new ≡ length buffer.old }
 {
     let (input, mut output) = peer;
     let mut input = Counted::new(input);
@@ -61,7 +64,8 @@ fn ask_next<P: Peers>(
     buffer: &mut [u8],
 ) -> Report
     requires { 0 < length buffer.old }
-    ensures { length buffer.new ≡ length buffer.old }
+    ensures told { IsTold (plan_for terms (Asks text.now)) endpoint.old endpoint.new result }
+    ensures room { length buffer.new ≡ length buffer.old }
 {
     match peers.next_peer() {
         Ok(peer) => ask_peer(alloc, endpoint, terms, text, peer, buffer),
@@ -79,8 +83,10 @@ fn ask_each<P: Peers, W: Write>(
     print: &mut W,
 ) -> Result<Status, CommandFault>
     requires { 0 < length buffer.old }
-    ensures printed { IfOk result (Prints request.now.count (W.contents print.old) (W.contents print.new)) }
-    ensures stopped { OnErr result (PrintsFront request.now.count (W.contents print.old) (W.contents print.new)) }
+    ensures printed { IfOk result (Prints request.now.options (Asks request.now.text.now) endpoint.old endpoint.new
+        request.now.count (W.contents print.old) (W.contents print.new)) }
+    ensures stopped { OnErr result (PrintsFront request.now.options (Asks request.now.text.now) endpoint.old endpoint.new
+        request.now.count (W.contents print.old) (W.contents print.new)) }
 {
     let mut status = Status::Completed;
     for stream in 0..request.count {
@@ -104,8 +110,10 @@ pub fn connect_all<P: Peers, W: Write>(
     request: &Request<'_>,
     print: &mut W,
 ) -> Result<Status, CommandFault>
-    ensures printed { IfOk result (Prints request.now.count (W.contents print.old) (W.contents print.new)) }
-    ensures stopped { OnErr result (PrintsFront request.now.count (W.contents print.old) (W.contents print.new)) }
+    ensures printed { IfOk result (λ status. (last : EndpointState) × Prints request.now.options (Asks request.now.text.now)
+        with_domain last request.now.count (W.contents print.old) (W.contents print.new) status) }
+    ensures stopped { OnErr result ((last : EndpointState) × PrintsFront request.now.options (Asks request.now.text.now)
+        with_domain last request.now.count (W.contents print.old) (W.contents print.new)) }
 {
     let Ok(mut buffer) = vec![in alloc; 0u8; MOST_READ] else {
         return Err(CommandFault::NoMemory);
@@ -113,14 +121,17 @@ pub fn connect_all<P: Peers, W: Write>(
     let Ok(mut endpoint) = caller(alloc) else {
         return Err(CommandFault::NoMemory);
     };
-    ask_each(
+    match ask_each(
         alloc,
         peers,
         &mut endpoint,
         request,
         buffer.as_mut_slice(),
         print,
-    )
+    ) {
+        Ok(status) => Ok(status),
+        Err(fault) => Err(fault),
+    }
 }
 
 /// Makes requests at a port of 127.0.0.1, as [`connect_all`] says.
@@ -131,8 +142,10 @@ pub fn connect<N: Net, W: Write>(
     request: &Request<'_>,
     print: &mut W,
 ) -> Result<Status, CommandFault>
-    ensures printed { IfOk result (Prints request.now.count (W.contents print.old) (W.contents print.new)) }
-    ensures stopped { OnErr result (PrintsFront request.now.count (W.contents print.old) (W.contents print.new)) }
+    ensures printed { IfOk result (λ status. (last : EndpointState) × Prints request.now.options (Asks request.now.text.now)
+        with_domain last request.now.count (W.contents print.old) (W.contents print.new) status) }
+    ensures stopped { OnErr result ((last : EndpointState) × PrintsFront request.now.options (Asks request.now.text.now)
+        with_domain last request.now.count (W.contents print.old) (W.contents print.new)) }
 {
     connect_all(alloc, &mut Calls::new(net, port), request, print)
 }

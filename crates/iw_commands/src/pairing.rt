@@ -1,6 +1,8 @@
 ghost use Rattle.std.specs.Prelude.{◌≡◌, ◌<◌, ◌≤◌, length, true, IfOk, OnErr};
 ghost use Rattle.std.specs.Io.KnownBytes.{IsAtEnd};
-ghost use Rattle.iw_commands.specs.Printed.{Prints, PrintsFront, PrintsBeside};
+ghost use Rattle.iw_endpoint.specs.Endpoint.{EndpointState};
+ghost use Rattle.iw_links.specs.Exchange.{Asks, plan_for, with_domain};
+ghost use Rattle.iw_commands.specs.Printed.{IsTold, Prints, PrintsFront, PrintsBeside};
 
 use crate::asking::{Request, ask_peer};
 use crate::fault::CommandFault;
@@ -38,6 +40,7 @@ fn ask_next<P: Peers, I: Read>(
 ) -> (Report, bool)
     requires reads { pipe.old.reads ≤ 1000000 }
     requires room { 0 < length buffer.old }
+    ensures told { IsTold (plan_for terms (Asks text.now)) endpoint.old endpoint.new result.0 }
     ensures bounded { pipe.new.reads ≤ 1000000 }
     ensures room { length buffer.new ≡ length buffer.old }
 {
@@ -63,9 +66,10 @@ fn ask_each<P: Peers, I: Read, W: Write>(
 ) -> Result<Talked, CommandFault>
     requires reads { pipe.old.reads ≤ 1000000 }
     requires room { 0 < length buffer.old }
-    ensures printed { IfOk result
-        (λ talked. Prints request.now.count (W.contents print.old) (W.contents print.new) talked.status) }
-    ensures stopped { OnErr result (PrintsFront request.now.count (W.contents print.old) (W.contents print.new)) }
+    ensures printed { IfOk result (λ talked. Prints request.now.options (Asks request.now.text.now)
+        endpoint.old endpoint.new request.now.count (W.contents print.old) (W.contents print.new) talked.status) }
+    ensures stopped { OnErr result (PrintsFront request.now.options (Asks request.now.text.now)
+        endpoint.old endpoint.new request.now.count (W.contents print.old) (W.contents print.new)) }
     ensures bounded { pipe.new.reads ≤ 1000000 }
 {
     let mut status = Status::Completed;
@@ -103,15 +107,19 @@ pub fn talk<P: Peers, I: Read, W: Write>(
 ) -> Result<Talked, CommandFault>
     requires reads { pipe.old.reads ≤ 1000000 }
     requires room { 0 < length buffer.old }
-    ensures printed { IfOk result
-        (λ talked. Prints request.now.count (W.contents print.old) (W.contents print.new) talked.status) }
-    ensures stopped { OnErr result (PrintsFront request.now.count (W.contents print.old) (W.contents print.new)) }
+    ensures printed { IfOk result (λ talked. (last : EndpointState) × Prints request.now.options (Asks request.now.text.now)
+        with_domain last request.now.count (W.contents print.old) (W.contents print.new) talked.status) }
+    ensures stopped { OnErr result ((last : EndpointState) × PrintsFront request.now.options (Asks request.now.text.now)
+        with_domain last request.now.count (W.contents print.old) (W.contents print.new)) }
     ensures bounded { pipe.new.reads ≤ 1000000 }
 {
     let Ok(mut endpoint) = caller(alloc) else {
         return Err(CommandFault::NoMemory);
     };
-    ask_each(alloc, peers, pipe, &mut endpoint, request, buffer, print)
+    match ask_each(alloc, peers, pipe, &mut endpoint, request, buffer, print) {
+        Ok(talked) => Ok(talked),
+        Err(fault) => Err(fault),
+    }
 }
 
 /// Reads what another process prints to its end, and tells whether it came: not where a read failed, or where the
@@ -168,9 +176,10 @@ fn meet<N: Net, I: Read, W: Write>(
 ) -> Result<Talked, CommandFault>
     requires reads { pipe.old.reads ≤ 1000000 }
     requires room { 0 < length buffer.old }
-    ensures printed { IfOk result
-        (λ talked. Prints request.now.count (W.contents print.old) (W.contents print.new) talked.status) }
-    ensures stopped { OnErr result (PrintsFront request.now.count (W.contents print.old) (W.contents print.new)) }
+    ensures printed { IfOk result (λ talked. (last : EndpointState) × Prints request.now.options (Asks request.now.text.now)
+        with_domain last request.now.count (W.contents print.old) (W.contents print.new) talked.status) }
+    ensures stopped { OnErr result ((last : EndpointState) × PrintsFront request.now.options (Asks request.now.text.now)
+        with_domain last request.now.count (W.contents print.old) (W.contents print.new)) }
     ensures bounded { pipe.new.reads ≤ 1000000 }
 {
     match read_port(alloc, pipe) {
@@ -216,8 +225,10 @@ pub fn pair<R: Net + Processes, W: Write>(
     request: &Request<'_>,
     print: &mut W,
 ) -> Result<Status, CommandFault>
-    ensures printed { IfOk result (PrintsBeside request.now.count (W.contents print.old) (W.contents print.new)) }
-    ensures stopped { OnErr result (PrintsFront request.now.count (W.contents print.old) (W.contents print.new)) }
+    ensures printed { IfOk result (PrintsBeside request.now.options (Asks request.now.text.now)
+        with_domain request.now.count (W.contents print.old) (W.contents print.new)) }
+    ensures stopped { OnErr result ((last : EndpointState) × PrintsFront request.now.options (Asks request.now.text.now)
+        with_domain last request.now.count (W.contents print.old) (W.contents print.new)) }
 {
     let Ok(mut buffer) = vec![in alloc; 0u8; MOST_READ] else {
         return Err(CommandFault::NoMemory);

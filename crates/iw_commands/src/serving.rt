@@ -1,5 +1,7 @@
 ghost use Rattle.std.specs.Prelude.{◌≡◌, ◌<◌, length, IfOk, OnErr};
-ghost use Rattle.iw_commands.specs.Printed.{Prints, PrintsFront, PrintsPort, PrintsPortFront};
+ghost use Rattle.iw_endpoint.specs.Endpoint.{EndpointState};
+ghost use Rattle.iw_links.specs.Exchange.{Serves, plan_for, listening, shared_region};
+ghost use Rattle.iw_commands.specs.Printed.{IsPort, IsTold, Prints, PrintsFront, PrintsPort, PrintsPortFront};
 
 use crate::fault::CommandFault;
 use crate::options::Options;
@@ -23,7 +25,8 @@ fn serve_next<P: Peers>(
     buffer: &mut [u8],
 ) -> Report
     requires { 0 < length buffer.old }
-    ensures { length buffer.new ≡ length buffer.old }
+    ensures told { IsTold (plan_for terms (Serves region)) endpoint.old endpoint.new result }
+    ensures room { length buffer.new ≡ length buffer.old }
 {
     let Ok((input, mut output)) = peers.next_peer() else {
         return unmade();
@@ -55,8 +58,10 @@ fn serve_each<P: Peers, W: Write>(
     print: &mut W,
 ) -> Result<Status, CommandFault>
     requires { 0 < length buffer.old }
-    ensures printed { IfOk result (Prints count (W.contents print.old) (W.contents print.new)) }
-    ensures stopped { OnErr result (PrintsFront count (W.contents print.old) (W.contents print.new)) }
+    ensures printed { IfOk result (Prints options (Serves region) endpoint.old endpoint.new
+        count (W.contents print.old) (W.contents print.new)) }
+    ensures stopped { OnErr result (PrintsFront options (Serves region) endpoint.old endpoint.new
+        count (W.contents print.old) (W.contents print.new)) }
 {
     let mut status = Status::Completed;
     for stream in 0..count {
@@ -81,8 +86,10 @@ pub fn listen_all<P: Peers, W: Write>(
     count: u8,
     print: &mut W,
 ) -> Result<Status, CommandFault>
-    ensures printed { IfOk result (Prints count (W.contents print.old) (W.contents print.new)) }
-    ensures stopped { OnErr result (PrintsFront count (W.contents print.old) (W.contents print.new)) }
+    ensures printed { IfOk result (λ status. (last : EndpointState) × Prints options (Serves shared_region) listening last
+        count (W.contents print.old) (W.contents print.new) status) }
+    ensures stopped { OnErr result ((last : EndpointState) × PrintsFront options (Serves shared_region) listening last
+        count (W.contents print.old) (W.contents print.new)) }
 {
     let Ok(mut buffer) = vec![in alloc; 0u8; MOST_READ] else {
         return Err(CommandFault::NoMemory);
@@ -90,7 +97,7 @@ pub fn listen_all<P: Peers, W: Write>(
     let Ok((mut endpoint, region)) = listener(alloc) else {
         return Err(CommandFault::NoMemory);
     };
-    serve_each(
+    match serve_each(
         alloc,
         peers,
         &mut endpoint,
@@ -99,7 +106,20 @@ pub fn listen_all<P: Peers, W: Write>(
         count,
         buffer.as_mut_slice(),
         print,
-    )
+    ) {
+        Ok(status) => Ok(status),
+        Err(fault) => Err(fault),
+    }
+}
+
+// The port that is bound: the one that was asked for, if that was not 0.
+fn named_port<N: Net>(arrivals: &Arrivals<N>, asked: u16) -> Result<u16, CommandFault>
+    ensures { IfOk result (IsPort asked) }
+{
+    match arrivals.port() {
+        Ok(port) if asked == 0 || port == asked => Ok(port),
+        _ => Err(CommandFault::Port),
+    }
 }
 
 /// Binds 127.0.0.1 at `port`, or at any free one where that is 0, prints `port Q` with the bound port, and serves
@@ -114,16 +134,16 @@ pub fn listen<N: Net, W: Write>(
     count: u8,
     print: &mut W,
 ) -> Result<Status, CommandFault>
-    ensures printed { IfOk result (PrintsPort count (W.contents print.old) (W.contents print.new)) }
-    ensures stopped { OnErr result (PrintsPortFront count (W.contents print.old) (W.contents print.new)) }
+    ensures printed { IfOk result (PrintsPort options port count (W.contents print.old) (W.contents print.new)) }
+    ensures stopped { OnErr result (PrintsPortFront options port count (W.contents print.old) (W.contents print.new)) }
 {
     let Ok(mut arrivals) = Arrivals::bind(net, port) else {
         return Err(CommandFault::Port);
     };
-    let Ok(port) = arrivals.port() else {
+    let Ok(bound) = named_port(&arrivals, port) else {
         return Err(CommandFault::Port);
     };
-    let Ok(line) = port_text(alloc, port) else {
+    let Ok(line) = port_text(alloc, bound) else {
         return Err(CommandFault::NoMemory);
     };
     match print_text(print, line.as_bytes()) {

@@ -1,5 +1,6 @@
+use Rattle.iw_links.specs.Exchange.{with_domain}
 use Rattle.iw_commands.proofs.MoreLines.{nothing_printed}
 use Rattle.iw_commands.proofs.pairing.meet.Goals as goal
 
 pub returns-in-Err-clause-stopped : goal.returns-in-Err-clause-stopped
-returns-in-Err-clause-stopped g c = nothing_printed _ _
+returns-in-Err-clause-stopped g c = (with_domain, nothing_printed _ _ _ _ _)

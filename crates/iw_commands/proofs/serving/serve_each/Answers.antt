@@ -1,18 +1,23 @@
 use Rattle.std.proofs.Common.{◌≡◌, rules}
 use Rattle.iw_status.specs.Status.{with}
 use Rattle.iw_commands.specs.Status.{report_status}
-use Rattle.iw_commands.proofs.MoreLines.{prints_on, stops_at}
+use Rattle.iw_commands.proofs.MoreLines.{nothing_yet, prints_on, stops_at}
 use Rattle.iw_commands.proofs.serving.serve_each.Goals as goal
 
 pub loop-stream-preserved : goal.loop-stream-preserved
 loop-stream-preserved g c =
     let ends : c.with-status.result ≡ with c.loop-stream.status (report_status c.serve_next-report.result) =
     rw (← c.in-Ok.ensures.status) c.with-status.ensures in
+    let told = rw c.at-terms.ensures at c.serve_next-report.ensures.told in
     record {
-      printed = rw ends (prints_on _ _ _ _ _ _ c.loop-stream.invariant.printed c.in-Ok.ensures.ok);
+      printed = rw ends (prints_on _ _ _ _ _ _ _ _ _ _ _ c.loop-stream.invariant.printed told c.in-Ok.ensures.ok);
       room = search rules;
     }
 
 pub returns-in-Err-clause-stopped : goal.returns-in-Err-clause-stopped
 returns-in-Err-clause-stopped g c =
-    stops_at _ _ _ _ _ _ _ _ c.loop-stream.invariant.printed c.loop-stream-test.true c.in-Err.ensures.err.1
+    let told = rw c.at-terms.ensures at c.serve_next-report.ensures.told in
+    stops_at _ _ _ _ _ _ _ _ _ _ _ _ _ c.loop-stream.invariant.printed c.loop-stream-test.true told c.in-Err.ensures.err.1
+
+pub loop-stream-init : goal.loop-stream-init
+loop-stream-init g c = record { printed = nothing_yet _ _ _ _; room = search rules }
