@@ -6,10 +6,49 @@
 use clap::{Arg, ArgAction, Command, value_parser};
 use std::alloc::Global;
 
+const REPLAY_HELP: &str = "\
+Exit status:
+  0  The schedule was run, and its trace written
+  1  In the trace, which was written, a stream ends by a fault or a Terminate; or standard input or output failed:
+     without a word on standard error
+  2  The schedule or the command line was refused, or there was no memory: standard error says why
+
+Example: iwarp replay < examples/first.schedule";
+
+const LISTEN_HELP: &str = "\
+All connections share one region of 65536 octets, zero at the start: what one peer wrote, a later one may have back.
+Connections are served one after the other. A silent peer holds its connection, and so the command, without end.
+
+Exit status:
+  0  A Send was received on each connection, and none failed
+  1  A connection failed (standard output says how); the port was taken or could not be bound, or standard output
+     failed: without a word on standard error
+  2  The command line was refused, or there was no memory: standard error says why
+
+Example: iwarp listen --port 4420 --count 2";
+
+const CONNECT_HELP: &str = "\
+Exit status:
+  0  An answer was received on each connection, and none failed
+  1  A connection failed or could not be made (standard output says how); or standard output failed: without a word
+     on standard error
+  2  The command line was refused, or there was no memory: standard error says why
+
+Example: iwarp connect --port 4420 --count 2 --text hello --markers --crc";
+
+const PAIR_HELP: &str = "\
+Exit status:
+  0  An answer was received on each connection, none failed, and the other process ended with 0
+  1  A connection failed or could not be made (standard output says how); the other process ended with another
+     status, could not be started or named no port, or standard output failed: without a word on standard error
+  2  The command line was refused, or there was no memory: standard error says why
+
+Example: iwarp pair --program ./iwarp --count 2 --markers";
+
 fn replay<'a>(alloc: Global) -> Command<'a> {
     Command::new(alloc, "replay")
         .about("Runs the schedule on standard input and writes its trace to standard output")
-        .after_help("Example: iwarp replay < examples/first.schedule")
+        .after_help(REPLAY_HELP)
 }
 
 fn count_option<'a>(alloc: Global) -> Arg<'a> {
@@ -64,7 +103,7 @@ fn listen<'a>(alloc: Global) -> Result<Command<'a>, clap::Error> {
             .about(
                 "Serves connections on 127.0.0.1: prints its port, and sends back what is written into its region",
             )
-            .after_help("Example: iwarp listen --port 4420 --count 2")
+            .after_help(LISTEN_HELP)
             .arg(port)?,
     )
 }
@@ -82,7 +121,7 @@ fn connect<'a>(alloc: Global) -> Result<Command<'a>, clap::Error> {
             .about(
                 "Connects to `iwarp listen` on 127.0.0.1: writes a text into its region, and prints what comes back",
             )
-            .after_help("Example: iwarp connect --port 4420 --count 2 --text hello --markers --crc")
+            .after_help(CONNECT_HELP)
             .arg(port)?
             .arg(text_option(alloc))?,
     )
@@ -98,7 +137,7 @@ fn pair<'a>(alloc: Global) -> Result<Command<'a>, clap::Error> {
         alloc,
         Command::new(alloc, "pair")
             .about("Starts `PATH listen` as a second process, and does as `connect` at its port")
-            .after_help("Example: iwarp pair --program ./iwarp --count 2 --markers")
+            .after_help(PAIR_HELP)
             .arg(program)?
             .arg(text_option(alloc))?,
     )
