@@ -1,6 +1,6 @@
 ghost use Rattle.std.specs.Prelude.{◌≡◌, ◌↔◌, ◌+◌, ◌≤◌, ◌^◌, ◌++◌, true, false, length};
 ghost use Rattle.std.specs.Prelude.{Some, None, option_copied, is_some, IsSome, IfSome, IfNone};
-ghost use Rattle.std.specs.Prelude.{Ok, is_ok, IsErr, IfOk, IfErr, OnOk, OnErr};
+ghost use Rattle.std.specs.Prelude.{Ok, is_ok, IsErr, IfOk, IfErr, OnOk, OnErr, vec_len, vec_capacity};
 ghost use Rattle.std.specs.Result.{result_err, result_ok};
 ghost use Rattle.std.specs.Option.{option_map};
 ghost use Rattle.std.specs.Borrow.{sem};
@@ -9,7 +9,7 @@ ghost use Rattle.iw_memory.specs.Table.{region_at, register_refusal, next_stag};
 ghost use Rattle.iw_ranges.specs.Arrived.{BringsOctets};
 ghost use Rattle.iw_octets.specs.declared.fault.Fault.{Fault};
 ghost use Rattle.iw_stream.specs.Kept.{IsWithin, IsWithinBuffer};
-ghost use Rattle.iw_stream.specs.Stream.{ended};
+ghost use Rattle.iw_stream.specs.Stream.{BeginsReads, due, ended};
 ghost use Rattle.iw_stream.specs.Work.{IsTry, task};
 
 use crate::refusal::{CallRefusal, NoSuchStream};
@@ -340,7 +340,8 @@ impl<A: Allocator> Endpoint<A> {
     /// nothing more; a responder at which none of the peer's frames had its turn emits none (RFC 5044 7.1.2).
     ///
     /// It asks that at most 2^62 octets were emitted ([`Endpoint::sent`]). `Refused` is want of memory, and comes only where
-    /// something is appended; an `Err` changes nothing.
+    /// something is appended: where `out` has no room for it, or where a Read is begun while none is outstanding, and memory is
+    /// taken for 16 of them. An `Err` changes nothing.
     pub fn emit(
         &mut self,
         number: u8,
@@ -354,6 +355,8 @@ impl<A: Allocator> Endpoint<A> {
         ensures err { OnErr result ((self.new ≡ self.old) × (out.new.items ≡ out.old.items)) }
         ensures memory { has_stream self.old number ≡ true → emission_at self.old number ≡ Emission.Nothing → is_ok result ≡ true }
         ensures denied { has_stream self.old number ≡ true → (fault : Fault) → emission_at self.old number ≡ Emission.Fault fault → is_ok result ≡ true }
+        ensures room { has_stream self.old number ≡ true → vec_len out.old + length (emitted_at self.old number) ≤ vec_capacity out.old
+            → OnErr result (BeginsReads (stream_at self.old number) (due (stream_at self.old number))) }
     {
         match self.streams.get_mut(number) {
             Some(stream) => match stream.emit(&self.memory, out) {
