@@ -50,10 +50,26 @@ const SCRIPTS: [&str; 10] = [
 const LISTENING: &str =
     "lines=$(mktemp); $0 listen > $lines & until [ -s $lines ]; do sleep 0.1; done; read word port < $lines; ";
 
-/// The listener goes away after its connection; and it is killed before it has one.
-const LISTENED: [&str; 2] = [
+/// The listener goes away after its connection; it is killed before it has one; it is bound to 127.0.0.1; its port is
+/// taken; and another is told to take that port after it.
+const LISTENED: [&str; 5] = [
     "timeout 20 $0 connect --port $port --count 3; echo $?; wait $!; echo $?; sed 1d $lines; rm $lines",
     "kill -9 $!; wait $!; echo $?; rm $lines; timeout 20 $0 connect --port $port",
+    "grep -c \" 0100007F:$(printf %04X $port) 00000000:0000 0A \" /proc/net/tcp; kill $!; rm $lines",
+    "timeout 20 $0 listen --port $port 2>&1; echo $?; kill $!; rm $lines",
+    "kill $!; wait $!; : > $lines; timeout 20 $0 listen --port $port > $lines & until [ -s $lines ]; do sleep 0.1; done; \
+    timeout 20 $0 connect --port $port; wait $!; echo $?; sed \"s/^port $port$/the same port/\" $lines; rm $lines",
+];
+
+/// The same with a program `$program`, that listens as it is asked to, and then does what is appended to it.
+const SERVING: &str =
+    "program=$(mktemp); chmod +x $program; echo '#!/bin/sh' > $program; echo \"$0 \\$@\" >> $program; ";
+
+/// It ends with 3; by a signal; and completed.
+const SERVED: [&str; 3] = [
+    "echo exit 3 >> $program; timeout 20 $0 pair --program $program; echo $?; rm $program",
+    "echo 'kill -9 $$' >> $program; timeout 20 $0 pair --program $program; echo $?; rm $program",
+    "echo exit 0 >> $program; timeout 20 $0 pair --program $program; echo $?; rm $program",
 ];
 
 // The words of a row.
@@ -112,6 +128,9 @@ fn run_scripts<R: Runtime + AllocGlobal + Processes>(rt: &R, program: &str) -> a
     }
     for script in LISTENED {
         run_script(rt, program, LISTENING, script)?;
+    }
+    for script in SERVED {
+        run_script(rt, program, SERVING, script)?;
     }
     Ok(())
 }
