@@ -3,7 +3,7 @@ use bytes::Bytes;
 use iw_memory::{Memory, Stag};
 use iw_octets::{MAX_PLACE, Message, Octets, ReadRequest};
 use iw_stream::{Config, Delivery, Emission, PrivateData, Request, Role, Step, Stream};
-use std::alloc::{AllocError, AllocFailed, Global};
+use std::alloc::{AllocError, Global};
 
 /// The domain of all streams and regions.
 pub(crate) const DOMAIN: u8 = 1;
@@ -12,17 +12,11 @@ pub(crate) const DOMAIN: u8 = 1;
 const MAX_STEPS: u32 = 10_000;
 
 /// Something went otherwise than it is to.
-#[derive(Clone, Copy, Debug, PartialEq, Eq)]
+#[derive(Clone, Copy)]
 pub(crate) struct Stop;
 
 impl From<AllocError> for Stop {
     fn from(_error: AllocError) -> Self {
-        Stop
-    }
-}
-
-impl From<AllocFailed<Vec<u8>>> for Stop {
-    fn from(_error: AllocFailed<Vec<u8>>) -> Self {
         Stop
     }
 }
@@ -34,18 +28,24 @@ pub(crate) struct End {
 }
 
 impl End {
-    /// An end with the load's markers, CRCs and ULPDU size.
+    /// An end with the load's markers and CRCs.
     pub(crate) fn new(alloc: Global, load: Load, role: Role) -> Result<End, Stop> {
         let config = Config {
             markers: load.markers,
             crc: load.crc,
             private: PrivateData::new(),
         };
-        let mut stream = Stream::new(alloc, DOMAIN, role, config)?;
-        if stream.set_mulpdu(load.mulpdu).is_err() {
-            return Err(Stop);
+        Ok(End {
+            stream: Stream::new(alloc, DOMAIN, role, config)?,
+        })
+    }
+
+    /// Sets the maximum ULPDU.
+    pub(crate) fn set_mulpdu(&mut self, size: u32) -> Result<(), Stop> {
+        match self.stream.set_mulpdu(size) {
+            Ok(()) => Ok(()),
+            Err(_) => Err(Stop),
         }
-        Ok(End { stream })
     }
 
     fn post(&mut self, request: Request<Bytes>) -> Result<(), Stop> {
@@ -171,6 +171,7 @@ impl End {
 }
 
 fn keep(spare: &mut Vec<Vec<u8>>, buffer: Octets) -> Result<Option<u64>, Stop> {
-    spare.push(buffer.into_vec())?;
+    spare.reserve(1)?;
+    spare.push_reserved(buffer.into_vec());
     Ok(Some(0))
 }

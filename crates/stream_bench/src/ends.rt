@@ -64,6 +64,17 @@ struct Receiving {
 }
 
 impl Receiving {
+    // Where no buffer is, and no region.
+    fn new(alloc: Global, load: Load) -> Result<Receiving, Stop> {
+        Ok(Receiving {
+            memory: memory(alloc)?,
+            spare: Vec::new(alloc),
+            delivery: load.delivery,
+            gap: load.gap,
+            too: false,
+        })
+    }
+
     fn settle(&mut self, end: &mut End) -> Result<u64, Stop> {
         if self.too {
             end.settle_too(&mut self.memory, &mut self.spare)
@@ -128,13 +139,22 @@ impl Receiving {
     // Whether what is free and what is registered has these octets.
     fn holds(&self, stag: Stag, sends: bool, octets: &[u8]) -> bool {
         if sends {
-            return self.spare.iter().all(|buffer| buffer.as_slice() == octets);
+            return all_have(self.spare.as_slice(), octets);
         }
         match self.memory.local(stag) {
             Some(region) => region == octets,
             None => false,
         }
     }
+}
+
+fn all_have(buffers: &[Vec<u8>], octets: &[u8]) -> bool {
+    for buffer in buffers {
+        if buffer.as_slice() != octets {
+            return false;
+        }
+    }
+    true
 }
 
 /// Two ends of a connection.
@@ -171,6 +191,35 @@ impl Pair {
             self.sender.post_write(stag, octets.clone()?)
         }
     }
+}
+
+// Hands the next frame of the receiving end over.
+fn hand_over(pair: &mut Pair, memory: &Memory, wire: &mut Wire) -> Result<(), Stop> {
+    match wire.next(&mut pair.receiver, memory)? {
+        Some(from) => pair.sender.deliver(from, wire.octets()),
+        None => Err(Stop),
+    }
+}
+
+// The two ends exchange start-up frames.
+fn start_up(
+    pair: &mut Pair,
+    source: &Memory,
+    wire: &mut Wire,
+    receiving: &mut Receiving,
+) -> Result<(), Stop> {
+    wire.fill(&mut pair.sender, source, 1)?;
+    receiving.take_all(&mut pair.receiver, wire, 0)?;
+    pair.receiver.accept()?;
+    wire.fill(&mut pair.receiver, &receiving.memory, 1)?;
+    receiving.take_all(&mut pair.sender, wire, 0)?;
+    Ok(())
+}
+
+fn add_pair(pairs: &mut Vec<Pair>, pair: Pair) -> Result<(), Stop> {
+    pairs.reserve(1)?;
+    pairs.push_reserved(pair);
+    Ok(())
 }
 
 // Carries the next frame of a pair, and tells how many octets were placed.
@@ -216,41 +265,38 @@ pub(crate) struct Ends {
 impl Ends {
     /// New streams, open, with the buffers for a round.
     pub(crate) fn new(alloc: Global, load: Load, octets: &[u8]) -> Result<Ends, Stop> {
-        let mut memory = self::memory(alloc)?;
-        let stag = register(&mut memory, vec![in alloc; 0; load.message]?, TO_PLACE)?;
-        let mut source = self::memory(alloc)?;
-        let source_stag = register(&mut source, to_read(alloc, load, octets)?, TO_READ)?;
-        let receiving = Receiving {
-            memory,
-            spare: Vec::new(alloc),
-            delivery: load.delivery,
-            gap: load.gap,
-            too: false,
-        };
-        let mut ends = Ends {
+        let mut ends = Ends::empty(alloc, load)?;
+        ends.fill(alloc, octets)?;
+        Ok(ends)
+    }
+
+    // No stream, no region and no buffer.
+    fn empty(alloc: Global, load: Load) -> Result<Ends, Stop> {
+        Ok(Ends {
             load,
             pairs: Vec::with_capacity(alloc, load.pairs)?,
-            source,
-            source_stag,
+            source: memory(alloc)?,
+            source_stag: Stag::new(DOMAIN, 0, 0),
             none: Vec::new(alloc),
-            receiving,
-            stag,
+            receiving: Receiving::new(alloc, load)?,
+            stag: Stag::new(DOMAIN, 0, 0),
             wire: Wire::new(alloc),
-        };
-        ends.add_pairs(alloc)?;
-        ends.add_buffers(alloc)?;
-        Ok(ends)
+        })
+    }
+
+    fn fill(&mut self, alloc: Global, octets: &[u8]) -> Result<(), Stop> {
+        let zeros = vec![in alloc; 0; self.load.message]?;
+        self.stag = register(&mut self.receiving.memory, zeros, TO_PLACE)?;
+        let octets = to_read(alloc, self.load, octets)?;
+        self.source_stag = register(&mut self.source, octets, TO_READ)?;
+        self.add_pairs(alloc)?;
+        self.set_up()?;
+        self.add_buffers(alloc)
     }
 
     fn add_pairs(&mut self, alloc: Global) -> Result<(), Stop> {
         for _ in 0..self.load.pairs {
-            let mut pair = Pair::new(alloc, self.load)?;
-            if self.load.start_up {
-                self.start_up(&mut pair)?;
-            }
-            if self.pairs.push(pair).is_err() {
-                return Err(Stop);
-            }
+            add_pair(&mut self.pairs, Pair::new(alloc, self.load)?)?;
         }
         Ok(())
     }
@@ -261,19 +307,21 @@ impl Ends {
         }
         for _ in 0..self.load.posted.saturating_mul(self.load.pairs) {
             let buffer = vec![in alloc; 0; self.load.message]?;
-            self.receiving.spare.push(buffer)?;
+            self.receiving.spare.reserve(1)?;
+            self.receiving.spare.push_reserved(buffer);
         }
         Ok(())
     }
 
-    // The two ends exchange start-up frames.
-    fn start_up(&mut self, pair: &mut Pair) -> Result<(), Stop> {
-        self.wire.fill(&mut pair.sender, &self.source, 1)?;
-        self.receiving.take_all(&mut pair.receiver, &self.wire, 0)?;
-        pair.receiver.accept()?;
-        self.wire
-            .fill(&mut pair.receiver, &self.receiving.memory, 1)?;
-        self.receiving.take_all(&mut pair.sender, &self.wire, 0)?;
+    // Sets the ULPDU size of each pair, whose ends exchange start-up frames where the load has them.
+    fn set_up(&mut self) -> Result<(), Stop> {
+        for pair in self.pairs.iter_mut() {
+            pair.sender.set_mulpdu(self.load.mulpdu)?;
+            pair.receiver.set_mulpdu(self.load.mulpdu)?;
+            if self.load.start_up {
+                start_up(pair, &self.source, &mut self.wire, &mut self.receiving)?;
+            }
+        }
         Ok(())
     }
 
@@ -288,10 +336,7 @@ impl Ends {
                 source: self.source_stag,
                 source_to: offset,
             })?;
-            let Some(from) = self.wire.next(&mut pair.receiver, &self.receiving.memory)? else {
-                return Err(Stop);
-            };
-            pair.sender.deliver(from, self.wire.octets())?;
+            hand_over(pair, &self.receiving.memory, &mut self.wire)?;
             pair.sender.settle(&mut self.source, &mut self.none)?;
         }
         Ok(())
@@ -394,6 +439,7 @@ impl Ends {
     /// many deliveries they were.
     pub(crate) fn take_window(&mut self, alloc: Global) -> Result<u64, Stop> {
         let mut end = End::new(alloc, self.load, Role::Preset)?;
+        end.set_mulpdu(self.load.mulpdu)?;
         self.receiving.take_past_gaps(&mut end, self.wire.octets())
     }
 

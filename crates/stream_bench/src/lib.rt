@@ -8,27 +8,27 @@ mod run;
 mod wire;
 
 pub use load::Load;
-use run::{carry, receive, window};
+use run::{Work, perform};
 use std::alloc::Global;
 
 /// Carries messages from new streams to others, and tells how many octets were placed: none where something went otherwise.
 #[unsafe(no_mangle)]
 pub extern "C" fn stream_carry(alloc: Global, load: &Load, octets: &[u8]) -> u64 {
-    carry(alloc, *load, octets).unwrap_or(0)
+    perform(alloc, load, octets, Work::Carry).unwrap_or(0)
 }
 
 /// Delivers the frames of one round of messages again and again to a new stream, and tells how many octets were placed: none
 /// where something went otherwise.
 #[unsafe(no_mangle)]
 pub extern "C" fn stream_receive(alloc: Global, load: &Load, octets: &[u8]) -> u64 {
-    receive(alloc, *load, octets).unwrap_or(0)
+    perform(alloc, load, octets, Work::Receive).unwrap_or(0)
 }
 
 /// Delivers the frames of one round of messages, but for the first of each `gap` deliveries, to new streams again and again, and
 /// tells how many deliveries they were: none where something went otherwise.
 #[unsafe(no_mangle)]
 pub extern "C" fn stream_window(alloc: Global, load: &Load, octets: &[u8]) -> u64 {
-    window(alloc, *load, octets).unwrap_or(0)
+    perform(alloc, load, octets, Work::Window).unwrap_or(0)
 }
 
 /// The CRC-32C of the octets.

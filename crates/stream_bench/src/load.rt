@@ -1,6 +1,6 @@
 /// What is carried, and how.
 #[repr(C)]
-#[derive(Clone, Copy, Debug, PartialEq, Eq)]
+#[derive(Clone, Copy)]
 pub struct Load {
     /// The frames have markers.
     pub markers: bool,

@@ -16,37 +16,50 @@ fn payloads(alloc: Global, load: Load, octets: &[u8]) -> Result<(Bytes, Bytes), 
     Ok((all.slice(..load.message)?, all.slice(SHIFT..)?))
 }
 
-/// Carries rounds of messages from new streams to others, and tells how many octets were placed.
-pub(crate) fn carry(alloc: Global, load: Load, octets: &[u8]) -> Result<u64, Stop> {
+/// What is done again and again.
+#[derive(Clone, Copy)]
+pub(crate) enum Work {
+    /// Rounds of messages are carried from the streams to the others.
+    Carry,
+    /// The frames of one round are delivered.
+    Receive,
+    /// The frames of one round are delivered to new streams, but for the first of each `gap` deliveries.
+    Window,
+}
+
+/// Does the work with new streams. It tells how many octets were placed, and of windows how many deliveries they were.
+pub(crate) fn perform(alloc: Global, load: &Load, octets: &[u8], work: Work) -> Result<u64, Stop> {
+    let load = *load;
     let (even, odd) = payloads(alloc, load, octets)?;
     let mut ends = Ends::new(alloc, load, octets)?;
+    match work {
+        Work::Carry => carry(&mut ends, load, &even, &odd),
+        Work::Receive => receive(&mut ends, load, &even),
+        Work::Window => window(alloc, &mut ends, load, &even),
+    }
+}
+
+fn carry(ends: &mut Ends, load: Load, even: &Bytes, odd: &Bytes) -> Result<u64, Stop> {
     let mut placed = 0u64;
     for _ in 0..load.rounds / 2 {
-        placed = placed.wrapping_add(ends.carry(&even, 0)?);
-        placed = placed.wrapping_add(ends.carry(&odd, SHIFT as u64)?);
+        placed = placed.wrapping_add(ends.carry(even, 0)?);
+        placed = placed.wrapping_add(ends.carry(odd, SHIFT as u64)?);
     }
     Ok(placed)
 }
 
-/// Delivers the frames of one round of messages again and again, and tells how many octets were placed.
-pub(crate) fn receive(alloc: Global, load: Load, octets: &[u8]) -> Result<u64, Stop> {
-    let (even, _) = payloads(alloc, load, octets)?;
-    let mut ends = Ends::new(alloc, load, octets)?;
-    ends.emit(&even)?;
+fn receive(ends: &mut Ends, load: Load, octets: &Bytes) -> Result<u64, Stop> {
+    ends.emit(octets)?;
     let mut placed = 0u64;
     for round in 0..load.rounds {
         placed = placed.wrapping_add(ends.repeat(round as u64)?);
     }
-    ends.compare(&even)?;
+    ends.compare(octets)?;
     Ok(placed)
 }
 
-/// Delivers the frames of one round of messages, but for the first of each `gap` deliveries, to new streams, and tells how many
-/// deliveries they were.
-pub(crate) fn window(alloc: Global, load: Load, octets: &[u8]) -> Result<u64, Stop> {
-    let (even, _) = payloads(alloc, load, octets)?;
-    let mut ends = Ends::new(alloc, load, octets)?;
-    ends.emit(&even)?;
+fn window(alloc: Global, ends: &mut Ends, load: Load, octets: &Bytes) -> Result<u64, Stop> {
+    ends.emit(octets)?;
     ends.lie();
     let mut deliveries = 0u64;
     for _ in 0..load.rounds {

@@ -10,7 +10,7 @@ const MARKER_SPACING: usize = 512;
 const MARKER_LEN: usize = 4;
 
 /// A frame under way: its place in the stream, and where its octets lie.
-#[derive(Clone, Copy, Debug, PartialEq, Eq)]
+#[derive(Clone, Copy)]
 pub(crate) struct Frame {
     pub(crate) from: u64,
     at: usize,
