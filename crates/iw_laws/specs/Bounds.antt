@@ -47,12 +47,10 @@ IsOfStream P (Invalidate stag) = ⊥
 IsOfStream P (Store stag to octets) = ⊥
 IsOfStream P (Open n pd role options private) = ⊥
 
--- the call names a stream that its end lacks or, if it needs it there too, the other end
-abbrev pub LacksBy : (ℕ → Type 0) → (ℕ → Type 0) → Call Octets → Type 0
-LacksBy Lacks PeerLacks = IsOfStream (λ n call. Lacks n ⊎ ((needs_peer call ≡ true) × PeerLacks n))
-
+-- the call needs a stream that was not opened
 abbrev pub LacksStream : EndState → EndState → Call Octets → Type 0
-LacksStream s peer = LacksBy (λ n. has_stream s.endpoint n ≡ false) (λ n. has_stream peer.endpoint n ≡ false)
+LacksStream s peer = IsOfStream (λ n call.
+    (has_stream s.endpoint n ≡ false) ⊎ ((needs_peer call ≡ true) × (has_stream peer.endpoint n ≡ false)))
 
 -- the call has its streams, and delivers octets that were not emitted
 abbrev pub AsksTooMuch : EndState → EndState → Call Octets → Type 0

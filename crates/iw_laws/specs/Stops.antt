@@ -1,5 +1,5 @@
 -- Why a run of events has no trace.
-use Rattle.std.specs.Prelude.{◌≡◌, ℕ, ◌+◌, List, [], ◌∷◌, ◌++◌, map, length}
+use Rattle.std.specs.Prelude.{◌≡◌, ℕ, ◌+◌, ◌⊎◌, true, List, [], ◌∷◌, ◌++◌, map, length}
 use Rattle.iw_events.specs.declared.call.Call.{Call}
 use Rattle.iw_events.specs.declared.call.Event.{Event}
 use Rattle.iw_events.specs.declared.act.Act.{Act}
@@ -8,8 +8,8 @@ use Rattle.iw_events.specs.Events.{event_of}
 use Rattle.iw_laws.specs.declared.fault.WorldFault.{WorldFault}
 use Rattle.iw_laws.specs.declared.fault.WorldFault.TheVariants.{NotSent, NoSuchStream, NoMemory}
 use Rattle.iw_laws.specs.Words.{Octets, other, acts, stream_acts, openings, sent}
-use Rattle.iw_laws.specs.Rules.{start, Follows}
-use Rattle.iw_laws.specs.Bounds.{IsOfStream, LacksBy, AsksOver}
+use Rattle.iw_laws.specs.Rules.{start, Follows, needs_peer}
+use Rattle.iw_laws.specs.Bounds.{IsOfStream, AsksOver}
 
 -- the stream was never opened at this end
 abbrev pub IsUnopened : List (Act Octets) → ℕ → Type 0
@@ -17,7 +17,7 @@ IsUnopened done n = openings n done ≡ []
 
 -- the call names a stream that was never opened, where own and peer are what was done at its end and at the other
 abbrev pub NamesNoStream : List (Act Octets) → List (Act Octets) → Call Octets → Type 0
-NamesNoStream own peer = LacksBy (IsUnopened own) (IsUnopened peer)
+NamesNoStream own peer = IsOfStream (λ n call. IsUnopened own n ⊎ ((needs_peer call ≡ true) × IsUnopened peer n))
 
 -- the call names streams that were opened, and delivers octets that the other end has not emitted
 abbrev pub AsksNotSent : List (Act Octets) → List (Act Octets) → Call Octets → Type 0
