@@ -73,7 +73,7 @@ fn hear<R: Read>(endpoint: &mut Endpoint, buffer: &mut [u8], input: &mut R) -> R
     for _ in 0..u64::MAX {
         let n = input.read(buffer)?;
         ensure!(n > 0, "the other end is gone");
-        if end::take(endpoint, came, &buffer[..n])? == Came::Message {
+        if let Came::Message = end::take(endpoint, came, &buffer[..n])? {
             return Ok(());
         }
         came = came.saturating_add(n as u64);
@@ -111,18 +111,46 @@ pub(crate) fn send<R: Read, W: Write>(
 ) -> Result<()> {
     let mut buffer = vec![in alloc; 0u8; BLOCK]?;
     match load.way {
-        Way::Copied => {
-            copy_out(octets.as_slice(), load.blocks, output)?;
-            ensure!(input.read(buffer.as_mut_slice())? == 1, "no answer");
-            Ok(())
-        }
+        Way::Copied => send_copied(load.blocks, octets.as_slice(), &mut buffer, input, output),
         Way::Written { mulpdu, is_framed } => {
             let mut endpoint = end::end(alloc, mulpdu, is_framed)?;
-            let mut out = Vec::new(alloc);
-            send_blocks(&mut endpoint, octets, load.blocks, &mut out, output)?;
-            hear(&mut endpoint, buffer.as_mut_slice(), input)
+            send_written(
+                alloc,
+                load,
+                octets,
+                &mut endpoint,
+                &mut buffer,
+                input,
+                output,
+            )
         }
     }
+}
+
+fn send_copied<R: Read, W: Write>(
+    blocks: u32,
+    octets: &[u8],
+    buffer: &mut [u8],
+    input: &mut R,
+    output: &mut W,
+) -> Result<()> {
+    copy_out(octets, blocks, output)?;
+    ensure!(input.read(buffer)? == 1, "no answer");
+    Ok(())
+}
+
+fn send_written<R: Read, W: Write>(
+    alloc: Global,
+    load: &Load,
+    octets: &Bytes,
+    endpoint: &mut Endpoint,
+    buffer: &mut [u8],
+    input: &mut R,
+    output: &mut W,
+) -> Result<()> {
+    let mut out = Vec::new(alloc);
+    send_blocks(endpoint, octets, load.blocks, &mut out, output)?;
+    hear(endpoint, buffer, input)
 }
 
 // Whether each block of the region that was written to is as it was sent.
@@ -164,15 +192,22 @@ pub(crate) fn receive<R: Read, W: Write>(
     output: &mut W,
 ) -> Result<()> {
     match load.way {
-        Way::Copied => {
-            let mut buffer = vec![in alloc; 0u8; BLOCK]?;
-            copy_in(load.blocks, buffer.as_mut_slice(), input)?;
-            output.write_all(&[1])?;
-            Ok(())
-        }
+        Way::Copied => receive_copied(alloc, load.blocks, input, output),
         Way::Written { mulpdu, is_framed } => {
             let mut endpoint = end::end(alloc, mulpdu, is_framed)?;
             serve(alloc, load, &mut endpoint, octets.as_slice(), input, output)
         }
     }
+}
+
+fn receive_copied<R: Read, W: Write>(
+    alloc: Global,
+    blocks: u32,
+    input: &mut R,
+    output: &mut W,
+) -> Result<()> {
+    let mut buffer = vec![in alloc; 0u8; BLOCK]?;
+    copy_in(blocks, buffer.as_mut_slice(), input)?;
+    output.write_all(&[1])?;
+    Ok(())
 }

@@ -1,6 +1,9 @@
 use anyhow::{Result, bail};
-use iw_endpoint::{Config, Emission, Endpoint, MAX_PLACE, PrivateData, Rights, Role, Stag, Step};
+use iw_endpoint::{
+    Config, Emission, Endpoint, MAX_PLACE, Octets, PrivateData, Rights, Role, Stag, Step,
+};
 use std::alloc::Global;
+use std::fmt::Debug;
 
 pub(crate) const DOMAIN: u8 = 1;
 
@@ -10,29 +13,38 @@ pub(crate) const STREAM: u8 = 0;
 /// as the buffer of a plain copy does.
 pub(crate) const REGION_BLOCKS: u32 = 2;
 
+// What a call answers that is not refused; of one that is, its name and the refusal are told.
+fn made<T: Drop, E: Debug + Drop>(call: &str, answer: Result<T, E>) -> Result<T> {
+    match answer {
+        Ok(made) => Ok(made),
+        Err(refusal) => bail!("{call}: {refusal:?}"),
+    }
+}
+
 /// An end, open at once, with a buffer for a message.
 pub(crate) fn end(alloc: Global, mulpdu: u32, is_framed: bool) -> Result<Endpoint> {
     let mut endpoint = Endpoint::new(alloc)?;
-    if let Err(refusal) = endpoint.add_domain(DOMAIN) {
-        bail!("add_domain: {refusal:?}");
-    }
+    set_up(alloc, &mut endpoint, mulpdu, is_framed)?;
+    Ok(endpoint)
+}
+
+fn set_up(alloc: Global, endpoint: &mut Endpoint, mulpdu: u32, is_framed: bool) -> Result<()> {
+    made("add_domain", endpoint.add_domain(DOMAIN))?;
+    open(endpoint, is_framed)?;
+    made("set_mulpdu", endpoint.set_mulpdu(STREAM, mulpdu))?;
+    lend_buffer(endpoint, vec![in alloc; 0u8; 16]?)
+}
+
+fn open(endpoint: &mut Endpoint, is_framed: bool) -> Result<()> {
     let config = Config {
         markers: is_framed,
         crc: is_framed,
         private: PrivateData::new(),
     };
-    if let Err(refusal) = endpoint.open(STREAM, DOMAIN, Role::Preset, config) {
-        bail!("open: {refusal:?}");
-    }
-    if let Err(refusal) = endpoint.set_mulpdu(STREAM, mulpdu) {
-        bail!("set_mulpdu: {refusal:?}");
-    }
-    lend_buffer(alloc, &mut endpoint)?;
-    Ok(endpoint)
+    made("open", endpoint.open(STREAM, DOMAIN, Role::Preset, config))
 }
 
-fn lend_buffer(alloc: Global, endpoint: &mut Endpoint) -> Result<()> {
-    let buffer = vec![in alloc; 0u8; 16]?;
+fn lend_buffer(endpoint: &mut Endpoint, buffer: Vec<u8>) -> Result<()> {
     match endpoint.post_recv(STREAM, buffer) {
         Ok(()) => Ok(()),
         Err((refusal, _)) => bail!("post_recv: {refusal:?}"),
@@ -59,11 +71,10 @@ fn emit(endpoint: &mut Endpoint, out: &mut Vec<u8>) -> Result<bool> {
         Ok(sent) if sent <= MAX_PLACE => {}
         _ => bail!("too many octets were emitted"),
     }
-    match endpoint.emit(STREAM, out) {
-        Ok(Emission::Frame { .. }) => Ok(true),
-        Ok(Emission::Nothing) => Ok(false),
-        Ok(emission) => bail!("emit: {emission:?}"),
-        Err(refusal) => bail!("emit: {refusal:?}"),
+    match made("emit", endpoint.emit(STREAM, out))? {
+        Emission::Frame { .. } => Ok(true),
+        Emission::Nothing => Ok(false),
+        emission => bail!("emit: {emission:?}"),
     }
 }
 
@@ -79,7 +90,7 @@ pub(crate) fn gather(endpoint: &mut Endpoint, out: &mut Vec<u8>) -> Result<()> {
 }
 
 /// What steps of `work` came to.
-#[derive(Clone, Copy, Debug, PartialEq, Eq)]
+#[derive(Clone, Copy)]
 pub(crate) enum Came {
     /// A message.
     Message,
@@ -87,17 +98,25 @@ pub(crate) enum Came {
     Nothing,
 }
 
-// Does a step, and tells what came, or `None` where there is nothing to do.
+// What came by a step, or `None` where there was nothing to do.
+#[inline(always)]
+fn told(step: &Step<Octets>) -> Result<Option<Came>> {
+    match step {
+        Step::Idle => Ok(None),
+        Step::Received { .. } => Ok(Some(Came::Message)),
+        Step::Fault(fault) => bail!("work: {fault:?}"),
+        _ => Ok(Some(Came::Nothing)),
+    }
+}
+
+// Does a step.
 fn step(endpoint: &mut Endpoint) -> Result<Option<Came>> {
     match endpoint.in_order_point(STREAM) {
         Ok(point) if point <= MAX_PLACE => {}
         _ => bail!("too many octets came"),
     }
     match endpoint.work(STREAM) {
-        Ok(Step::Idle) => Ok(None),
-        Ok(Step::Received { .. }) => Ok(Some(Came::Message)),
-        Ok(Step::Fault(fault)) => bail!("work: {fault:?}"),
-        Ok(_) => Ok(Some(Came::Nothing)),
+        Ok(step) => told(&step),
         Err(missing) => bail!("work: {missing:?}"),
     }
 }

@@ -4,7 +4,7 @@ use std::alloc::Global;
 pub(crate) const BLOCK: usize = 65_536;
 
 /// How a load goes over the connection.
-#[derive(Clone, Copy, Debug, PartialEq, Eq)]
+#[derive(Clone, Copy)]
 pub(crate) enum Way {
     /// The octets alone, with no endpoint.
     Copied,
@@ -13,7 +13,7 @@ pub(crate) enum Way {
 }
 
 /// Octets to carry: so many blocks.
-#[derive(Clone, Copy, Debug, PartialEq, Eq)]
+#[derive(Clone, Copy)]
 pub(crate) struct Load {
     pub(crate) way: Way,
     pub(crate) blocks: u32,

@@ -9,9 +9,10 @@ mod carry;
 mod end;
 mod load;
 
-use anyhow::{Context, Result, bail, ensure};
+use anyhow::{Context, Result, bail};
 use bytes::Bytes;
 use load::{Load, WAYS, Way};
+use std::alloc::Global;
 use std::net::{Ipv4Addr, Net, OpenListener, OpenStream, TcpListener, TcpStream};
 use std::process::{Child, Command, Processes, Stdio};
 use std::rt::Runtime;
@@ -21,9 +22,10 @@ use std::time::Instant;
 const SELF: &str = "/proc/self/exe";
 
 // How many blocks are carried where no time is measured.
-const FEW: u32 = 20;
+const FEW: &str = "20";
 
-fn load_of(name: &str, blocks: u32) -> Result<Load> {
+fn load_of(name: &str, blocks: &str) -> Result<Load> {
+    let blocks = number(blocks)?;
     match Way::named(name) {
         Some(way) => Ok(Load { way, blocks }),
         None => bail!("no load is named {name}"),
@@ -39,21 +41,28 @@ fn payload<R: AllocGlobal>(rt: &R) -> Result<Bytes> {
     Ok(Bytes::copy_from_slice(rt.alloc(), octets.as_slice())?)
 }
 
-// Starts the receiving process.
+fn add_words(command: &mut Command, port: &str, name: &str) -> Result<()> {
+    for word in ["receive", port, name, FEW] {
+        command.arg(word)?;
+    }
+    command.stdin(Stdio::null());
+    Ok(())
+}
+
+// What starts the receiving process.
+fn command(alloc: Global, port: &str, name: &str) -> Result<Command> {
+    let mut command = Command::new(alloc, SELF)?;
+    add_words(&mut command, port, name)?;
+    Ok(command)
+}
+
 fn start<R: Runtime + AllocGlobal + Processes>(
     rt: &R,
     port: u16,
     name: &str,
-    blocks: u32,
 ) -> Result<Child<R::Started>> {
     let port = format!(in rt.alloc(); "{port}")?;
-    let blocks = format!(in rt.alloc(); "{blocks}")?;
-    let mut command = Command::new(rt.alloc(), SELF)?;
-    command.arg("receive")?;
-    command.arg(port.as_str())?;
-    command.arg(name)?;
-    command.arg(blocks.as_str())?;
-    command.stdin(Stdio::null());
+    let mut command = command(rt.alloc(), port.as_str(), name)?;
     Ok(command.spawn(rt)?)
 }
 
@@ -63,54 +72,95 @@ fn carry_over<R: Runtime + AllocGlobal + Net>(
     listener: &R::Listener,
     load: &Load,
 ) -> Result<u128> {
-    let octets = payload(rt)?;
     let (mut stream, _) = listener.accept()?;
+    send_over(rt, &mut stream, load)
+}
+
+fn send_over<R: Runtime + AllocGlobal + Net>(
+    rt: &R,
+    stream: &mut R::Stream,
+    load: &Load,
+) -> Result<u128> {
+    let octets = payload(rt)?;
     stream.set_nodelay(true)?;
     let mut output = stream.try_clone()?;
+    timed(rt, load, &octets, stream, &mut output)
+}
+
+fn timed<R: Runtime + AllocGlobal + Net>(
+    rt: &R,
+    load: &Load,
+    octets: &Bytes,
+    input: &mut R::Stream,
+    output: &mut R::Stream,
+) -> Result<u128> {
     let start = Instant::now(rt)?;
-    carry::send(rt.alloc(), load, &octets, &mut stream, &mut output)?;
+    carry::send(rt.alloc(), load, octets, input, output)?;
     Ok(start.elapsed(rt)?.as_nanos())
 }
 
+fn bind<R: Runtime + Net>(rt: &R) -> Result<R::Listener> {
+    Ok(TcpListener::bind(rt, (Ipv4Addr::LOCALHOST, 0u16))?)
+}
+
 // Carries a load to the process that connects to the port which is printed, and prints the time.
-fn send<R: Runtime + AllocGlobal + Net>(rt: &R, name: &str, blocks: &str) -> Result<()> {
-    let load = load_of(name, number(blocks)?)?;
-    let listener = TcpListener::bind(rt, (Ipv4Addr::LOCALHOST, 0u16))?;
+fn send<R: Runtime + AllocGlobal + Net>(rt: &R, load: &Load) -> Result<()> {
+    let listener = bind(rt)?;
     let port = listener.local_addr()?.port();
     println!(rt; "{port}")?;
-    let time = carry_over(rt, &listener, &load)?;
+    let time = carry_over(rt, &listener, load)?;
     println!(rt; "{time}")?;
     Ok(())
+}
+
+fn carry_to<R: Runtime + AllocGlobal + Net + Processes>(
+    rt: &R,
+    listener: &R::Listener,
+    child: &mut Child<R::Started>,
+    load: &Load,
+) -> Result<bool> {
+    carry_over(rt, listener, load)?;
+    Ok(child.wait()?.success())
+}
+
+// Carries a load to a second process, and tells whether that ended well.
+fn carry_beside<R: Runtime + AllocGlobal + Net + Processes>(
+    rt: &R,
+    listener: &R::Listener,
+    name: &str,
+    load: &Load,
+) -> Result<bool> {
+    let port = listener.local_addr()?.port();
+    let mut child = start(rt, port, name)?;
+    carry_to(rt, listener, &mut child, load)
 }
 
 // Carries a few blocks to a second process.
 fn try_out<R: Runtime + AllocGlobal + Net + Processes>(rt: &R, name: &str) -> Result<()> {
     let load = load_of(name, FEW)?;
-    let listener = TcpListener::bind(rt, (Ipv4Addr::LOCALHOST, 0u16))?;
-    let port = listener.local_addr()?.port();
-    let mut child = start(rt, port, name, FEW)?;
-    carry_over(rt, &listener, &load)?;
-    ensure!(
-        child.wait()?.success(),
-        "{name}: the receiving process failed"
-    );
-    println!(rt; "{name}: {FEW} blocks came")?;
-    Ok(())
+    let listener = bind(rt)?;
+    if carry_beside(rt, &listener, name, &load)? {
+        println!(rt; "{name}: {FEW} blocks came")?;
+        return Ok(());
+    }
+    bail!("{name}: the receiving process failed")
 }
 
-fn receive<R: Runtime + AllocGlobal + Net>(
+fn take_over<R: Runtime + AllocGlobal + Net>(
     rt: &R,
-    port: &str,
-    name: &str,
-    blocks: &str,
+    stream: &mut R::Stream,
+    load: &Load,
 ) -> Result<()> {
-    let load = load_of(name, number(blocks)?)?;
-    let port = port.parse::<u16>().context(format_args!("{port:?}"))?;
     let octets = payload(rt)?;
-    let mut stream = TcpStream::connect(rt, (Ipv4Addr::LOCALHOST, port))?;
     stream.set_nodelay(true)?;
     let mut output = stream.try_clone()?;
-    carry::receive(rt.alloc(), &load, &octets, &mut stream, &mut output)
+    carry::receive(rt.alloc(), load, &octets, stream, &mut output)
+}
+
+fn receive<R: Runtime + AllocGlobal + Net>(rt: &R, port: &str, load: &Load) -> Result<()> {
+    let port = port.parse::<u16>().context(format_args!("{port:?}"))?;
+    let mut stream = TcpStream::connect(rt, (Ipv4Addr::LOCALHOST, port))?;
+    take_over(rt, &mut stream, load)
 }
 
 fn try_all<R: Runtime + AllocGlobal + Net + Processes>(rt: &R) -> Result<()> {
@@ -122,10 +172,16 @@ fn try_all<R: Runtime + AllocGlobal + Net + Processes>(rt: &R) -> Result<()> {
 
 fn run<R: Runtime + AllocGlobal + Net + Processes>(rt: &R) -> Result<()> {
     let words: Vec<String> = std::env::args(rt)?.collect(rt.alloc())?;
-    match words.as_slice() {
+    follow(rt, words.as_slice())
+}
+
+fn follow<R: Runtime + AllocGlobal + Net + Processes>(rt: &R, words: &[String]) -> Result<()> {
+    match words {
         [_] => try_all(rt),
-        [_, _, name, blocks] => send(rt, name.as_str(), blocks.as_str()),
-        [_, _, port, name, blocks] => receive(rt, port.as_str(), name.as_str(), blocks.as_str()),
+        [_, _, name, blocks] => send(rt, &load_of(name.as_str(), blocks.as_str())?),
+        [_, _, port, name, blocks] => {
+            receive(rt, port.as_str(), &load_of(name.as_str(), blocks.as_str())?)
+        }
         _ => bail!("send NAME BLOCKS, or receive PORT NAME BLOCKS"),
     }
 }
