@@ -9,8 +9,8 @@ use std::alloc::Global;
 const REPLAY_HELP: &str = "\
 Exit status:
   0  The schedule was run, and its trace written
-  1  In the trace, which was written, a stream ends by a fault or a Terminate; or standard input or output failed:
-     without a word on standard error
+  1  In the trace, which was written, a stream ends by a fault or a Terminate, or is closed by a start-up frame; or
+     standard input or output failed: without a word on standard error
   2  The schedule or the command line was refused, or there was no memory: standard error says why
 
 Example: iwarp replay < examples/first.schedule";
