@@ -5,9 +5,9 @@
  *
  * 1. opens a handle (iwarp_new), adds a domain (iwarp_add_domain), and registers what peers may use (iwarp_register);
  * 2. opens a stream for each connection (iwarp_open), and posts receive buffers (iwarp_post_recv);
- * 3. when octets came: hands them in with the number of octets that came before them (iwarp_deliver), and calls
- *    iwarp_work_on, or iwarp_work, until it tells IWARP_IDLE. At IWARP_ASKED it calls iwarp_accept or iwarp_reject and
- *    goes on;
+ * 3. when octets came: hands them in with the sequence number of the first of them, which is the number of octets that
+ *    came before it, modulo 2^32 (iwarp_deliver), and calls iwarp_work_on, or iwarp_work, until it tells IWARP_IDLE. At
+ *    IWARP_ASKED it calls iwarp_accept or iwarp_reject and goes on;
  * 4. when it may write: calls iwarp_emit until it tells IWARP_NOTHING, and writes out what each call gave;
  * 5. once IWARP_OPENED was told, or iwarp_accept was called: posts Writes, Sends and Reads (iwarp_post_write and so on),
  *    then does 4;
@@ -85,7 +85,8 @@ enum {
     IWARP_BUFFERS_FULL = 22, /* 256 receive buffers are posted */
     IWARP_ENDED = 23, /* the stream has ended */
     IWARP_BAD_SIZE = 24, /* outside 128 to 64,512 */
-    IWARP_TOO_FAR = 25 /* the stream has gone through, or emitted, more than 2^62 octets */
+    IWARP_TOO_FAR = 25, /* the stream has gone through, or emitted, more than 2^62 octets */
+    IWARP_LATE = 26 /* octets were delivered on the stream before */
 };
 
 /* ---- handles and domains */
@@ -202,10 +203,18 @@ int32_t iwarp_post_recv(struct iwarp *handle, uint8_t stream, size_t n);
 
 /* ---- octets that come and go */
 
-/* Takes octets that came, the first of them at the stream place `from`: the number of octets that came before it. `*kept` is
- * 1, or 0 if all of them are dropped: because one lies 262,144 or more past the in-order point, because there would be more
- * than 1,024 islands (runs of octets with a gap before them), or because the stream has ended. */
-int32_t iwarp_deliver(struct iwarp *handle, uint8_t stream, uint64_t from, const uint8_t *octets, size_t n, uint32_t *kept);
+/* Sets the sequence number of the peer's first octet: 0 if it is never set. Of several calls before the first octets are
+ * delivered the last counts; after that: IWARP_LATE. A program that sees TCP's own numbers sets the one that follows the
+ * number of the peer's SYN. A program that reads a socket has no need of it. */
+int32_t iwarp_first_number(struct iwarp *handle, uint8_t stream, uint32_t number);
+
+/* Takes octets that came, in any order; `number` is the sequence number of the first of them. Numbers wrap, as TCP's do:
+ * behind 4294967295 comes 0. Of the places with that number it has the one nearest to the in-order point, less than 2^31
+ * octets past it or at most 2^31 before it. Octets before the in-order point are ignored. A program that reads a socket adds
+ * up what each read gave, in a uint32_t: that is the number of what the next read gives. `*kept` is 1, or 0 if all of the
+ * octets are dropped: because one lies 262,144 or more past the in-order point, because there would be more than 1,024
+ * islands (runs of octets with a gap before them), or because the stream has ended. */
+int32_t iwarp_deliver(struct iwarp *handle, uint8_t stream, uint32_t number, const uint8_t *octets, size_t n, uint32_t *kept);
 
 /* What a step of work did. */
 enum {

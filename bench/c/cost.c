@@ -62,7 +62,7 @@ static double writes_in_c(size_t n, working *work) {
     double from = now();
     opened(&end, &stag);
     for (uint64_t i = 0; i < WRITES; i++) {
-        iwarp_deliver(&end, 0, i * n, frames, n, &kept);
+        iwarp_deliver(&end, 0, (uint32_t)(i * n), frames, n, &kept);
         work_off(&end, work);
     }
     double took = now() - from;

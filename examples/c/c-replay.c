@@ -11,10 +11,12 @@ struct octets {
     size_t n, room;
 };
 
-/* An end: what it emitted at each of its streams, and which of them were opened. */
+/* An end: what it emitted at each of its streams, the sequence number of the peer's first octet, and which of them were
+ * opened. */
 struct end {
     struct iwarp handle;
     struct octets emitted[STREAMS];
+    uint32_t first[STREAMS];
     int opened[STREAMS];
 };
 
@@ -52,6 +54,12 @@ static uint64_t number(const char *word) {
         n = 10 * n + (uint64_t)(*word - '0');
     }
     return n;
+}
+
+static uint32_t sequence_number(const char *word) {
+    uint64_t n = number(word);
+    if (n > UINT32_MAX) fail();
+    return (uint32_t)n;
 }
 
 static int digit(char letter) {
@@ -140,6 +148,7 @@ static const struct refusal refusals[] = {
     {IWARP_MESSAGES_FULL, "send write read", "1 Full"},
     {IWARP_MESSAGE_TOO_LONG, "send write read", "2 TooLong"},
     {IWARP_NOT_OPEN, "send write read", "3 NotOpen"},
+    {IWARP_LATE, "first", "1 Late"},
     {IWARP_BAD_SIZE, "mulpdu", "1 BadSize"},
 };
 
@@ -278,9 +287,15 @@ static void emit(struct end *end, uint8_t stream) {
     printf("\n");
 }
 
-static void deliver(struct end *end, uint8_t stream, uint64_t from, const uint8_t *at, size_t n) {
+static void set_first(struct end *end, uint8_t stream, uint32_t first) {
+    int32_t code = iwarp_first_number(&end->handle, stream, first);
+    if (code == IWARP_OK) end->first[stream] = first;
+    ok(code);
+}
+
+static void deliver(struct end *end, uint8_t stream, uint32_t number, const uint8_t *at, size_t n) {
     uint32_t kept;
-    if (iwarp_deliver(&end->handle, stream, from, at, n, &kept) != IWARP_OK) fail();
+    if (iwarp_deliver(&end->handle, stream, number, at, n, &kept) != IWARP_OK) fail();
     printf(kept ? "kept\n" : "dropped\n");
 }
 
@@ -289,7 +304,7 @@ static void deliver_sent(struct end *end, struct end *other, uint8_t stream, uin
     struct octets *sent = &other->emitted[stream];
     if (from > sent->n || n > sent->n - from) fail();
     make_room(sent, 1);
-    deliver(end, stream, from, sent->at + from, (size_t)n);
+    deliver(end, stream, end->first[stream] + (uint32_t)from, sent->at + from, (size_t)n);
 }
 
 /* ---- events */
@@ -388,13 +403,15 @@ static void at_stream(struct end *end, struct end *other, uint8_t stream) {
         ok(iwarp_reject(&end->handle, stream, private_data->at, private_data->n));
     } else if (strcmp(word, "recv") == 0) {
         ok(iwarp_post_recv(&end->handle, stream, (size_t)number(words[3])));
+    } else if (strcmp(word, "first") == 0) {
+        set_first(end, stream, sequence_number(words[3]));
     } else if (strcmp(word, "mulpdu") == 0) {
         ok(iwarp_set_mulpdu(&end->handle, stream, (uint32_t)number(words[3])));
     } else if (strcmp(word, "deliver") == 0) {
         deliver_sent(end, other, stream, number(words[3]), number(words[4]));
     } else if (strcmp(word, "raw") == 0) {
         struct octets *from = octets(words[4]);
-        deliver(end, stream, number(words[3]), from->at, from->n);
+        deliver(end, stream, sequence_number(words[3]), from->at, from->n);
     } else if (strcmp(word, "break") == 0) {
         ok(iwarp_break(&end->handle, stream));
     } else if (strcmp(word, "emit") == 0) {

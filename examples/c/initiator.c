@@ -89,12 +89,12 @@ int main(int n, char **words) {
     must(iwarp_open(&end, STREAM, DOMAIN, IWARP_INITIATOR, options, octets, 0), "open");
     must(iwarp_post_recv(&end, STREAM, BUFFER), "post_recv");
     write_out();
-    uint64_t came = 0;
+    uint32_t next = 0; /* the sequence number of the octet that comes next */
     for (;;) {
         ssize_t got = read(connection, octets, sizeof octets);
         if (got <= 0) break;
-        must(iwarp_deliver(&end, STREAM, came, octets, (size_t)got, &kept), "deliver");
-        came += (uint64_t)got;
+        must(iwarp_deliver(&end, STREAM, next, octets, (size_t)got, &kept), "deliver");
+        next += (uint32_t)got;
         work(words[2]);
     }
     must(iwarp_break(&end, STREAM), "break");

@@ -13,7 +13,7 @@ enum { DOMAIN = 1, MOST = 64, REGION = 65536, BUFFER = 4096, READ = 65536, FRAME
 struct connection {
     int fd; /* -1 before it is made, and once it is closed */
     uint32_t stag; /* its region */
-    uint64_t came; /* how many octets came */
+    uint32_t next; /* the sequence number of the octet that comes next */
     int received; /* its peer has sent a Send */
     int failed;
 };
@@ -137,8 +137,8 @@ static void take(uint8_t number) {
         finish(number);
         return;
     }
-    must(iwarp_deliver(&end, number, connection->came, octets, (size_t)n, &kept), "deliver");
-    connection->came += (uint64_t)n;
+    must(iwarp_deliver(&end, number, connection->next, octets, (size_t)n, &kept), "deliver");
+    connection->next += (uint32_t)n;
     do work(number);
     while (write_out(number));
 }

@@ -13,14 +13,19 @@ const DOMAIN: u8 = 1;
 
 const STREAM: u8 = 0;
 
-/// One end of a connection: an endpoint with one stream, and how many octets came for it.
+/// One end of a connection: an endpoint with one stream, and the sequence number of the octet that comes next.
 #[derive(Drop)]
 pub(crate) struct End {
     name: &'static str,
     endpoint: Endpoint,
-    came: u64,
+    next: u32,
     // What a responder answers the Request with.
     private: PrivateData,
+}
+
+/// The sequence number that follows these octets, the first of which has this one. It wraps.
+fn number_after(number: u32, octets: &[u8]) -> u32 {
+    ((u64::from(number) + octets.len() as u64) % (1 << 32)) as u32
 }
 
 impl End {
@@ -41,7 +46,7 @@ impl End {
         Ok(End {
             name,
             endpoint,
-            came: 0,
+            next: 0,
             private: PrivateData::new(),
         })
     }
@@ -87,10 +92,10 @@ impl End {
         rt: &R,
         octets: &[u8],
     ) -> Result<()> {
-        if let Err(refusal) = self.endpoint.deliver(STREAM, self.came, octets) {
+        if let Err(refusal) = self.endpoint.deliver(STREAM, self.next, octets) {
             bail!("deliver: {refusal:?}");
         }
-        self.came = self.came.saturating_add(octets.len() as u64);
+        self.next = number_after(self.next, octets);
         self.work(rt)
     }
 

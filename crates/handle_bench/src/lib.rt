@@ -65,6 +65,11 @@ pub extern "C" fn handle_bench_idle(alloc: Global, calls: u64) -> u64 {
     steps
 }
 
+// The sequence number that follows these octets, the first of which has this one. It wraps.
+fn number_after(number: u32, octets: &[u8]) -> u32 {
+    ((u64::from(number) + octets.len() as u64) % (1 << 32)) as u32
+}
+
 /// Delivers the frames of a Write so often, one after another, and works each off. It counts the steps.
 #[unsafe(no_mangle)]
 pub extern "C" fn handle_bench_write(alloc: Global, frames: &[u8], writes: u64) -> u64 {
@@ -72,10 +77,10 @@ pub extern "C" fn handle_bench_write(alloc: Global, frames: &[u8], writes: u64) 
         return 0;
     };
     let mut steps = 0u64;
-    let mut came = 0u64;
+    let mut next = 0u32;
     for _ in 0..writes {
-        let _ = endpoint.deliver(STREAM, came, frames);
-        came = came.wrapping_add(frames.len() as u64);
+        let _ = endpoint.deliver(STREAM, next, frames);
+        next = number_after(next, frames);
         steps = steps.wrapping_add(work(&mut endpoint));
     }
     steps

@@ -17,7 +17,9 @@ ghost use Rattle.iw_handle.specs.Refusals.{code_of, domain_reason};
 ghost use Rattle.iw_handle.specs.State.{open_with, refusal_in, changed};
 
 use iw_handle::{Handle, code};
-pub use octets::{iwarp_deliver, iwarp_emit, iwarp_fetch, iwarp_work, iwarp_work_on};
+pub use octets::{
+    iwarp_deliver, iwarp_emit, iwarp_fetch, iwarp_first_number, iwarp_work, iwarp_work_on,
+};
 pub use posting::{iwarp_post_read, iwarp_post_recv, iwarp_post_send, iwarp_post_write};
 pub use regions::{
     iwarp_deregister, iwarp_facts, iwarp_invalidate, iwarp_load, iwarp_register, iwarp_store,

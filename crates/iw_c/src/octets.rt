@@ -1,6 +1,6 @@
 // Octets that come and go.
 ghost use Rattle.std.specs.Prelude.{◌≡◌, ◌≢◌, ◌⊎◌, pos, None, Some, length, IfSome, IfNone, IsSomeAnd};
-ghost use Rattle.iw_endpoint.specs.Endpoint.{delivery_at, after_deliver, step_at, emission_at, after_emit};
+ghost use Rattle.iw_endpoint.specs.Endpoint.{with_first, delivery_at, after_deliver, step_at, emission_at, after_emit};
 ghost use Rattle.iw_handle.specs.Events.{kept_number, event_at, emitted_of, IsFrame};
 ghost use Rattle.iw_handle.specs.Refusals.{code_of, refusal_code};
 ghost use Rattle.iw_handle.specs.State.{refusal_in, changed, told_in, shown_in, stream_refusal};
@@ -8,20 +8,35 @@ ghost use Rattle.iw_handle.specs.State.{copy_refusal, filled, length_told};
 ghost use Rattle.iw_handle.specs.Streams.{refusal_to_work, refusal_to_emit, due_shown};
 ghost use Rattle.iw_handle.specs.Steps.{TellsOn};
 ghost use Rattle.iw_handle.specs.declared.working.TheConstants.{QUIET_STEPS};
-ghost use Rattle.iw_handle.specs.Streams.{BringsAt, TriesAt, worked, handed_in, fetched};
+ghost use Rattle.iw_handle.specs.Streams.{first_refusal, BringsAt, TriesAt, worked, handed_in, fetched};
 ghost use Rattle.iw_handle.specs.declared.refusal.Refusal.TheVariants.{Closed};
 
 use iw_handle::{Emitted, Event, Handle, code, kept_number};
 use std::alloc::Global;
 
-/// Takes octets that came on a stream's connection, the first of them at the stream place `from`, and tells whether
-/// they are kept (1) or dropped (0).
+/// Sets the sequence number of the peer's first octet.
+#[unsafe(no_mangle)]
+pub extern "C" fn iwarp_first_number(
+    alloc: Global,
+    handle: &mut Handle,
+    number: u8,
+    first: u32,
+) -> i32
+    ensures code { result ≡ pos (code_of (refusal_in handle.old.state (λ e. first_refusal e number))) }
+    ensures ok { result ≡ pos 0 → handle.new.state ≡ changed handle.old.state (λ e. with_first e number first) }
+    ensures err { result ≢ pos 0 → handle.new.state ≡ handle.old.state }
+{
+    code(handle.first_number(alloc, number, first).err())
+}
+
+/// Takes octets that came on a stream's connection, the first of which has this sequence number, and tells whether they
+/// are kept (1) or dropped (0).
 #[unsafe(no_mangle)]
 pub extern "C" fn iwarp_deliver(
     alloc: Global,
     handle: &mut Handle,
     number: u8,
-    from: u64,
+    sequence: u32,
     octets: &[u8],
     kept: &mut u32,
 ) -> i32
@@ -30,15 +45,15 @@ pub extern "C" fn iwarp_deliver(
     ensures memory { IfNone (refusal_in handle.old.state (λ e. stream_refusal e number))
         ((result ≡ pos 0) ⊎ (result ≡ pos 3)) }
     ensures want { IfSome handle.old.state
-        (λ held. result ≡ pos 3 → BringsAt held.endpoint number from (length octets.now)) }
+        (λ held. result ≡ pos 3 → BringsAt held.endpoint number sequence (length octets.now)) }
     ensures delivery { result ≡ pos 0 → Some kept.new ≡ told_in handle.old.state
-        (λ e. kept_number (delivery_at e number from (length octets.now))) }
+        (λ e. kept_number (delivery_at e number sequence (length octets.now))) }
     ensures kept { result ≢ pos 0 → kept.new ≡ kept.old }
     ensures ok { result ≡ pos 0 → handle.new.state ≡ changed handle.old.state
-        (λ e. after_deliver e number from octets.now) }
+        (λ e. after_deliver e number sequence octets.now) }
     ensures err { result ≢ pos 0 → handle.new.state ≡ handle.old.state }
 {
-    let done = handle.deliver(alloc, number, from, octets);
+    let done = handle.deliver(alloc, number, sequence, octets);
     if let Ok(delivery) = done {
         *kept = kept_number(delivery);
     }

@@ -16,8 +16,8 @@ use Rattle.iw_stream.specs.Stream as stream
 use Rattle.iw_stream.specs.Stream.{StreamState, emission_of, emitted, delivery_of}
 use Rattle.iw_stream.specs.Work.{work_step, worked, table_worked}
 use Rattle.iw_endpoint.specs.Endpoint.{EndpointState, stream_of, unopened, with_stream, with_table, answer_at, refusal_at, unasked, open_refusal, stream_numbers}
-use Rattle.iw_endpoint.specs.Isolation.{StreamCall, Accept, Reject, Post, PostRecv, Deliver, Work, Emit, BreakLink, SetMulpdu, Private, Sent, DueLen, InOrderPoint, Limits, AddDomain, Register, Deregister, Invalidate, Store, Facts, Local, LocalMut, Open, AtStream}
-use Rattle.iw_endpoint.specs.Isolation.{Accepted, Rejected, Posted, Buffered, Delivered, Worked, Emitted, Broke, Sized, Shown, Counted, Limited, Added, Registered, Octets, Invalidated, Found, Stored, Opened, OfStream}
+use Rattle.iw_endpoint.specs.Isolation.{StreamCall, Accept, Reject, Post, PostRecv, FirstNumber, Deliver, Work, Emit, BreakLink, SetMulpdu, Private, PeerFirst, Sent, DueLen, InOrderPoint, Limits, AddDomain, Register, Deregister, Invalidate, Store, Facts, Local, LocalMut, Open, AtStream}
+use Rattle.iw_endpoint.specs.Isolation.{Accepted, Rejected, Posted, Buffered, Numbered, Delivered, Worked, Emitted, Broke, Sized, Shown, Counted, Limited, Added, Registered, Octets, Invalidated, Found, Stored, Opened, OfStream}
 use Rattle.iw_endpoint.specs.Isolation.{IsOwn, OwnStep, CallsConcernOneDomain, part_of, alone, stream_answer, after_stream, answer_or, unless}
 use Rattle.iw_endpoint.proofs.Tables.{AreAlike, KeepsOthers, step-alike, worked-alike, table_worked-alike, keeps-worked, emission-alike, emitted-alike, after_emit-alike, worked_domain, emit_domain}
 use Rattle.iw_endpoint.proofs.Parts.{AreSeenAlike, seen_alone, stream_alike, alone_own, with_alike, with_tables_alike, unless_alike, refusing_alike, changing_alike, region_alike, Leaves, leaves-all, leaves-with, leaves-changed, refusing_leaves, changing_leaves, region_leaves, one_step}
@@ -38,6 +38,7 @@ stream_answers d e f n (Accept private) own same h = ap (λ o. Accepted (answer_
 stream_answers d e f n (Reject private) own same h = ap (λ o. Rejected (refusal_at o unasked)) same
 stream_answers d e f n (Post request) own same h = ap (λ o. Posted (refusal_at o (λ s. stream.post_refusal s request))) same
 stream_answers d e f n (PostRecv buffer) own same h = ap (λ o. Buffered (refusal_at o stream.recv_refusal)) same
+stream_answers d e f n (FirstNumber first) own same h = ap (λ o. Numbered (refusal_at o stream.first_refusal)) same
 stream_answers d e f n (Deliver from octets) own same h = ap (λ o. Delivered (answer_at o (λ s. delivery_of (unwrap_or o unopened) from (length octets)))) same
 stream_answers d e f n Work own same h = go (stream_of e n) own ∙ ap (λ o. Worked (answer_at o (λ s. work_step f.table s))) same
   where
@@ -50,6 +51,7 @@ stream_answers d e f n Emit own same h =
 stream_answers d e f n BreakLink own same h = ap (λ o. Broke (answer_at o (λ s. tt))) same
 stream_answers d e f n (SetMulpdu size) own same h = ap (λ o. Sized (refusal_at o (λ s. stream.size_refusal size))) same
 stream_answers d e f n Private own same h = ap (λ o. Shown (answer_at o (λ s. private_in (unwrap_or o unopened).start))) same
+stream_answers d e f n PeerFirst own same h = ap (λ o. Counted (answer_at o (λ s. (unwrap_or o unopened).first))) same
 stream_answers d e f n Sent own same h = ap (λ o. Counted (answer_at o (λ s. (unwrap_or o unopened).sent))) same
 stream_answers d e f n DueLen own same h =
     (λ i. Counted (told_at d e f (stream_of e n) (λ s. length (emitted e.table s)) (λ s. length (emitted f.table s)) own (λ s own. ap length (emitted-alike s e.table f.table (at_own d e f s own h))) i))
@@ -69,6 +71,7 @@ stream_alikes d e f n (Accept private) own same h = refusing_alike unasked (λ s
 stream_alikes d e f n (Reject private) own same h = refusing_alike unasked (λ s. stream.rejected s private) d e f n same h
 stream_alikes d e f n (Post request) own same h = refusing_alike (λ s. stream.post_refusal s request) (λ s. stream.with_request s request) d e f n same h
 stream_alikes d e f n (PostRecv buffer) own same h = refusing_alike stream.recv_refusal (λ s. stream.with_buffer s buffer) d e f n same h
+stream_alikes d e f n (FirstNumber first) own same h = refusing_alike stream.first_refusal (λ s. stream.with_first s first) d e f n same h
 stream_alikes d e f n (Deliver from octets) own same h =
     changing_alike (λ s e. with_stream e n (delivered from octets s)) d e f n same h (λ s is. with_alike d e f n (delivered from octets s) (delivered from octets s) refl h)
 stream_alikes d e f n Work own same h = changing_alike (with_worked n) d e f n same h (λ s is.
@@ -82,6 +85,7 @@ stream_alikes d e f n Emit own same h = changing_alike (λ s e. with_stream e n 
 stream_alikes d e f n BreakLink own same h = changing_alike (λ s e. with_stream e n (stream.breaks s)) d e f n same h (λ s is. with_alike d e f n (stream.breaks s) (stream.breaks s) refl h)
 stream_alikes d e f n (SetMulpdu size) own same h = refusing_alike (λ s. stream.size_refusal size) (λ s. stream.with_mulpdu s size) d e f n same h
 stream_alikes d e f n Private own same h = h
+stream_alikes d e f n PeerFirst own same h = h
 stream_alikes d e f n Sent own same h = h
 stream_alikes d e f n DueLen own same h = h
 stream_alikes d e f n InOrderPoint own same h = h
@@ -104,6 +108,7 @@ stream_leaves d e n (Accept private) IsNew own = refusing_leaves unasked (λ s. 
 stream_leaves d e n (Reject private) IsNew own = refusing_leaves unasked (λ s. stream.rejected s private) d e n IsNew own (λ s. refl)
 stream_leaves d e n (Post request) IsNew own = refusing_leaves (λ s. stream.post_refusal s request) (λ s. stream.with_request s request) d e n IsNew own (λ s. refl)
 stream_leaves d e n (PostRecv buffer) IsNew own = refusing_leaves stream.recv_refusal (λ s. stream.with_buffer s buffer) d e n IsNew own (λ s. refl)
+stream_leaves d e n (FirstNumber first) IsNew own = refusing_leaves stream.first_refusal (λ s. stream.with_first s first) d e n IsNew own (λ s. refl)
 stream_leaves d e n (Deliver from octets) IsNew own =
     changing_leaves (λ s. with_stream e n (delivered from octets s)) d e n IsNew own (λ s is own. leaves-changed d e n s (delivered from octets s) IsNew is own (delivered_domain s from octets (delivery_of s from (length octets))))
 stream_leaves d e n Work IsNew own = changing_leaves (λ s. with_worked n s e) d e n IsNew own (worked_leaves d e n IsNew)
@@ -113,6 +118,7 @@ stream_leaves d e n BreakLink IsNew own =
     changing_leaves (λ s. with_stream e n (stream.breaks s)) d e n IsNew own (λ s is own. leaves-changed d e n s (stream.breaks s) IsNew is own refl)
 stream_leaves d e n (SetMulpdu size) IsNew own = refusing_leaves (λ s. stream.size_refusal size) (λ s. stream.with_mulpdu s size) d e n IsNew own (λ s. refl)
 stream_leaves d e n Private IsNew own = leaves-all d e IsNew
+stream_leaves d e n PeerFirst IsNew own = leaves-all d e IsNew
 stream_leaves d e n Sent IsNew own = leaves-all d e IsNew
 stream_leaves d e n DueLen IsNew own = leaves-all d e IsNew
 stream_leaves d e n InOrderPoint IsNew own = leaves-all d e IsNew

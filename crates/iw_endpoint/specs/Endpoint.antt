@@ -16,6 +16,7 @@ use Rattle.iw_ranges.specs.declared.Delivery.{Delivery}
 use Rattle.iw_startup.specs.declared.config.Agreed.{Agreed}
 use Rattle.iw_startup.specs.declared.config.Config.{Config}
 use Rattle.iw_startup.specs.declared.startup.NotAsked.{NotAsked}
+use Rattle.iw_stream.specs.declared.answer.FirstRefusal.{FirstRefusal}
 use Rattle.iw_stream.specs.declared.answer.Emission.{Emission}
 use Rattle.iw_stream.specs.declared.answer.OpenRefusal.{OpenRefusal}
 use Rattle.iw_stream.specs.declared.answer.OpenRefusal.TheVariants.{NumberTaken, BadNumber, NoDomain}
@@ -163,6 +164,14 @@ with_buffer e number buffer = with_stream e number (stream.with_buffer (stream_a
 
 -- ---- octets that come and go
 
+-- why the sequence number of the peer's first octet is not set
+abbrev pub first_refusal : EndpointState → ℕ → Option (CallRefusal FirstRefusal)
+first_refusal e number = refusal_at (stream_of e number) stream.first_refusal
+
+abbrev pub with_first : EndpointState → ℕ → ℕ → EndpointState
+with_first e number first = with_stream e number (stream.with_first (stream_at e number) first)
+
+-- n octets, the first of which has this sequence number
 abbrev pub delivery_at : EndpointState → ℕ → ℕ → ℕ → Delivery
 delivery_at e number from n = delivery_of (stream_at e number) from n
 
@@ -212,6 +221,10 @@ private_at e number = private_in (stream_at e number).start
 -- how many octets it emitted, and how far it has come; 0 where there is none
 abbrev pub sent_at : EndpointState → ℕ → ℕ
 sent_at e number = (stream_at e number).sent
+
+-- the sequence number of the peer's first octet
+abbrev pub first_at : EndpointState → ℕ → ℕ
+first_at e number = (stream_at e number).first
 
 abbrev pub point_at : EndpointState → ℕ → ℕ
 point_at e number = (stream_at e number).arrived.floor

@@ -16,6 +16,7 @@ use Rattle.iw_ranges.specs.declared.Delivery.{Delivery}
 use Rattle.iw_startup.specs.declared.config.Agreed.{Agreed}
 use Rattle.iw_startup.specs.declared.config.Config.{Config}
 use Rattle.iw_startup.specs.declared.startup.NotAsked.{NotAsked}
+use Rattle.iw_stream.specs.declared.answer.FirstRefusal.{FirstRefusal}
 use Rattle.iw_stream.specs.declared.answer.Emission.{Emission}
 use Rattle.iw_stream.specs.declared.answer.OpenRefusal.{OpenRefusal}
 use Rattle.iw_stream.specs.declared.answer.PostRefusal.{PostRefusal}
@@ -26,7 +27,7 @@ use Rattle.iw_stream.specs.declared.answer.Step.{Step}
 use Rattle.iw_stream.specs.Stream.{StreamState}
 use Rattle.iw_endpoint.specs.declared.refusal.CallRefusal.{CallRefusal}
 use Rattle.iw_endpoint.specs.declared.refusal.NoSuchStream.{NoSuchStream}
-use Rattle.iw_endpoint.specs.Endpoint.{EndpointState, fresh, stream_of, answer_at, domain_refusal, added, registered, octets_of, deregistered, invalidated, facts_at, store_refusal, stored, rewritten, open_refusal, opened, answer_refusal, agreement, accepted, rejected, post_refusal, with_request, recv_refusal, with_buffer, delivery_at, after_deliver, emission_at, emitted_at, after_emit, step_at, after_work, broken, size_refusal, with_mulpdu, private_at, sent_at, point_at}
+use Rattle.iw_endpoint.specs.Endpoint.{EndpointState, fresh, stream_of, answer_at, domain_refusal, added, registered, octets_of, deregistered, invalidated, facts_at, store_refusal, stored, rewritten, open_refusal, opened, answer_refusal, agreement, accepted, rejected, post_refusal, with_request, recv_refusal, with_buffer, first_refusal, with_first, delivery_at, after_deliver, emission_at, emitted_at, after_emit, step_at, after_work, broken, size_refusal, with_mulpdu, private_at, sent_at, first_at, point_at}
 
 -- ---- calls, as values
 
@@ -36,12 +37,14 @@ pub data StreamCall : Type 0 where
   Reject : ArrayVec ℕ → StreamCall
   Post : Request (List ℕ) → StreamCall
   PostRecv : List ℕ → StreamCall
+  FirstNumber : ℕ → StreamCall
   Deliver : ℕ → List ℕ → StreamCall
   Work : StreamCall
   Emit : StreamCall
   BreakLink : StreamCall
   SetMulpdu : ℕ → StreamCall
   Private : StreamCall
+  PeerFirst : StreamCall
   Sent : StreamCall
   DueLen : StreamCall
   InOrderPoint : StreamCall
@@ -66,6 +69,7 @@ pub data StreamAnswer : Type 0 where
   Rejected : Option (CallRefusal NotAsked) → StreamAnswer
   Posted : Option (CallRefusal PostRefusal) → StreamAnswer
   Buffered : Option (CallRefusal RecvRefusal) → StreamAnswer
+  Numbered : Option (CallRefusal FirstRefusal) → StreamAnswer
   Delivered : Result Delivery NoSuchStream → StreamAnswer
   Worked : Result (Step (List ℕ)) NoSuchStream → StreamAnswer
   Emitted : Result Emission NoSuchStream → Result (List ℕ) NoSuchStream → StreamAnswer  -- with the octets that were appended
@@ -104,12 +108,14 @@ stream_answer e n (Accept private) = Accepted (answer_or (answer_refusal e n) (a
 stream_answer e n (Reject private) = Rejected (answer_refusal e n)
 stream_answer e n (Post request) = Posted (post_refusal e n request)
 stream_answer e n (PostRecv buffer) = Buffered (recv_refusal e n)
+stream_answer e n (FirstNumber first) = Numbered (first_refusal e n)
 stream_answer e n (Deliver from octets) = Delivered (answer_at (stream_of e n) (λ s. delivery_at e n from (length octets)))
 stream_answer e n Work = Worked (step_at e n)
 stream_answer e n Emit = Emitted (answer_at (stream_of e n) (λ s. emission_at e n)) (answer_at (stream_of e n) (λ s. emitted_at e n))
 stream_answer e n BreakLink = Broke (answer_at (stream_of e n) (λ s. tt))
 stream_answer e n (SetMulpdu size) = Sized (size_refusal e n size)
 stream_answer e n Private = Shown (answer_at (stream_of e n) (λ s. private_at e n))
+stream_answer e n PeerFirst = Counted (answer_at (stream_of e n) (λ s. first_at e n))
 stream_answer e n Sent = Counted (answer_at (stream_of e n) (λ s. sent_at e n))
 stream_answer e n DueLen = Counted (answer_at (stream_of e n) (λ s. length (emitted_at e n)))
 stream_answer e n InOrderPoint = Counted (answer_at (stream_of e n) (λ s. point_at e n))
@@ -134,12 +140,14 @@ after_stream e n (Accept private) = unless (answer_refusal e n) e (accepted e n 
 after_stream e n (Reject private) = unless (answer_refusal e n) e (rejected e n private)
 after_stream e n (Post request) = unless (post_refusal e n request) e (with_request e n request)
 after_stream e n (PostRecv buffer) = unless (recv_refusal e n) e (with_buffer e n buffer)
+after_stream e n (FirstNumber first) = unless (first_refusal e n) e (with_first e n first)
 after_stream e n (Deliver from octets) = if_there (stream_of e n) e (after_deliver e n from octets)
 after_stream e n Work = if_there (stream_of e n) e (after_work e n)
 after_stream e n Emit = if_there (stream_of e n) e (after_emit e n)
 after_stream e n BreakLink = if_there (stream_of e n) e (broken e n)
 after_stream e n (SetMulpdu size) = unless (size_refusal e n size) e (with_mulpdu e n size)
 after_stream e n Private = e
+after_stream e n PeerFirst = e
 after_stream e n Sent = e
 after_stream e n DueLen = e
 after_stream e n InOrderPoint = e

@@ -1,4 +1,4 @@
-ghost use Rattle.std.specs.Prelude.{◌≡◌, ◌↔◌, ◌+◌, ◌≤◌, ◌^◌, ◌++◌, true, false, length};
+ghost use Rattle.std.specs.Prelude.{◌≡◌, ◌↔◌, ◌+◌, ◌-◌, ◌≤◌, ◌^◌, ◌++◌, true, false, length};
 ghost use Rattle.std.specs.Prelude.{Some, None, option_copied, is_some, IsSome, IfSome, IfNone};
 ghost use Rattle.std.specs.Prelude.{Ok, is_ok, IsErr, IfOk, IfErr, OnOk, OnErr, vec_len, vec_capacity};
 ghost use Rattle.std.specs.Result.{result_err, result_ok};
@@ -9,7 +9,7 @@ ghost use Rattle.iw_memory.specs.Table.{region_at, register_refusal, next_stag};
 ghost use Rattle.iw_ranges.specs.Arrived.{BringsOctets};
 ghost use Rattle.iw_octets.specs.declared.fault.Fault.{Fault};
 ghost use Rattle.iw_stream.specs.Kept.{IsWithin, IsWithinBuffer};
-ghost use Rattle.iw_stream.specs.Stream.{BeginsReads, due, ended};
+ghost use Rattle.iw_stream.specs.Stream.{BeginsReads, due, ended, place_of, left_out};
 ghost use Rattle.iw_stream.specs.Work.{IsTry, task};
 
 use crate::refusal::{CallRefusal, NoSuchStream};
@@ -20,8 +20,8 @@ use iw_memory::{
 };
 use iw_octets::Octets;
 use iw_stream::{
-    Agreed, Config, Delivery, Emission, NotAsked, OpenRefusal, PostRefusal, PrivateData,
-    RecvRefusal, Request, Role, SizeRefusal, Step, Stream,
+    Agreed, Config, Delivery, Emission, FirstRefusal, NotAsked, OpenRefusal, PostRefusal,
+    PrivateData, RecvRefusal, Request, Role, SizeRefusal, Step, Stream,
 };
 use std::alloc::{AllocError, Allocator, Global};
 use std::marker::Model;
@@ -48,6 +48,7 @@ impl<A: Allocator> Endpoint<A> {
     ghost use Rattle.iw_endpoint.specs.Endpoint.{open_refusal, opened, answer_refusal, agreement, accepted};
     ghost use Rattle.iw_endpoint.specs.Endpoint.{rejected, private_at, broken, size_refusal, with_mulpdu};
     ghost use Rattle.iw_endpoint.specs.Endpoint.{post_refusal, with_request, recv_refusal, with_buffer};
+    ghost use Rattle.iw_endpoint.specs.Endpoint.{first_refusal, with_first, first_at};
     ghost use Rattle.iw_endpoint.specs.Endpoint.{delivery_at, after_deliver, step_at, after_work, point_at};
     ghost use Rattle.iw_endpoint.specs.Endpoint.{emission_at, emitted_at, after_emit, sent_at};
     ghost use Rattle.iw_endpoint.specs.Lending.{LendsLocal};
@@ -277,9 +278,38 @@ impl<A: Allocator> Endpoint<A> {
         }
     }
 
-    /// Takes octets that came on a stream's connection, the first of them at the stream place `from`: the number of octets
-    /// that came before it, start-up frames included. A caller that reads a socket counts them. Octets may come in any
-    /// order, and again. To be followed by [`Endpoint::work`].
+    /// Sets the sequence number of the peer's first octet at a stream, 0 where none was set: for a caller to which octets come
+    /// with numbers of their own, as TCP's (RFC 9293 3.4). Of several calls the last counts.
+    ///
+    /// `Late`: octets were delivered there before, and kept or dropped. An `Err` changes nothing.
+    pub fn first_number(&mut self, number: u8, first: u32) -> Result<(), CallRefusal<FirstRefusal>>
+        ensures refused { result_err result ≡ first_refusal self.old number }
+        ensures ok { OnOk result (self.new ≡ with_first self.old number first) }
+        ensures err { OnErr result (self.new ≡ self.old) }
+    {
+        match self.streams.get_mut(number) {
+            Some(stream) => stream.first_number(first).map_err(CallRefusal::Refused),
+            None => Err(CallRefusal::NoSuchStream),
+        }
+    }
+
+    /// The sequence number of the peer's first octet at a stream: the last that was set, 0 where none was.
+    pub fn peer_first(&self, number: u8) -> Result<u32, NoSuchStream>
+        ensures stream { is_ok result ≡ has_stream self.now number }
+        ensures first { IfOk result (λ first. first ≡ first_at self.now number) }
+    {
+        match self.streams.get(number) {
+            Some(stream) => Ok(stream.peer_first()),
+            None => Err(NoSuchStream),
+        }
+    }
+
+    /// Takes octets that came on a stream's connection, the first of which has the sequence number `from`: where none was set
+    /// ([`Endpoint::first_number`]), the number of octets that came before it, start-up frames included, modulo 2^32. A caller
+    /// that reads a socket counts them. Octets may come in any order, and again. To be followed by [`Endpoint::work`].
+    ///
+    /// The first octet has that of the places with its number which is nearest to the in-order point, less than 2^31 octets
+    /// past it or at most 2^31 before it. Octets before the in-order point are ignored, and so are those before the peer's first.
     ///
     /// They are dropped whole where one of them lies 262,144 octets or more past the in-order point, where they would make
     /// more than 1,024 islands, and where the stream has ended. `Refused` is want of memory, comes only where they would be
@@ -287,14 +317,15 @@ impl<A: Allocator> Endpoint<A> {
     pub fn deliver(
         &mut self,
         number: u8,
-        from: u64,
+        from: u32,
         octets: &[u8],
     ) -> Result<Delivery, CallRefusal<AllocError>>
         ensures stream { (result ≡ Err CallRefusal.NoSuchStream) ↔ (has_stream self.old number ≡ false) }
         ensures delivery { IfOk result (λ delivery. delivery ≡ delivery_at self.old number from (length octets.now)) }
         ensures after { OnOk result (self.new ≡ after_deliver self.old number from octets.now) }
         ensures err { OnErr result (self.new ≡ self.old) }
-        ensures memory { has_stream self.old number ≡ true → OnErr result ((ended (stream_at self.old number) ≡ false) × BringsOctets (stream_at self.old number).arrived from (length octets.now)) }
+        ensures memory { has_stream self.old number ≡ true → let s = stream_at self.old number in
+            OnErr result ((ended s ≡ false) × BringsOctets s.arrived (place_of s from) (length octets.now - left_out s from)) }
     {
         match self.streams.get_mut(number) {
             Some(stream) => match stream.deliver(from, octets) {

@@ -7,7 +7,7 @@
 //!    stream in the domain under a number from 0 to 63 (`open`);
 //! 2. posts receive buffers (`post_recv`) and, once the stream is open, messages and Reads (`post`);
 //! 3. when the socket is writable: calls `emit` until it answers [`Emission::Nothing`], and writes out what was appended;
-//! 4. when octets came: hands them in with their place in the stream (`deliver`), and then calls `work` until it answers
+//! 4. when octets came: hands them in with their number (`deliver`), and then calls `work` until it answers
 //!    [`Step::Idle`], where each call does one step and tells what it did. Where it is [`Step::Asked`] it calls `accept` or
 //!    `reject` and goes on. Then there may be more to emit.
 //!
@@ -34,8 +34,8 @@ pub use iw_memory::{
 };
 pub use iw_octets::{Fault, MAX_PLACE, MAX_PRIVATE, Message, Octets, ReadRequest};
 pub use iw_stream::{
-    Agreed, Config, Delivery, Emission, Kind, NotAsked, OpenRefusal, PostRefusal, PrivateData,
-    RecvRefusal, Request, Role, SizeRefusal, StartupFault, Step,
+    Agreed, Config, Delivery, Emission, FirstRefusal, Kind, NotAsked, OpenRefusal, PostRefusal,
+    PrivateData, RecvRefusal, Request, Role, SizeRefusal, StartupFault, Step,
 };
 pub use laws::{calls_concern_one_domain, domains_are_alone};
 pub use refusal::{CallRefusal, NoSuchStream};

@@ -25,6 +25,7 @@ pub enum Call {
     Store,
     Accept,
     Reject,
+    FirstNumber,
     SetMulpdu,
     BreakLink,
     Private,
@@ -32,7 +33,7 @@ pub enum Call {
 }
 
 /// Each call, and whether it takes memory.
-pub const CALLS: [(Call, bool); 20] = [
+pub const CALLS: [(Call, bool); 21] = [
     (Call::New, true),
     (Call::Register, true),
     (Call::Open, true),
@@ -49,6 +50,7 @@ pub const CALLS: [(Call, bool); 20] = [
     (Call::Store, false),
     (Call::Accept, false),
     (Call::Reject, false),
+    (Call::FirstNumber, false),
     (Call::SetMulpdu, false),
     (Call::BreakLink, false),
     (Call::Private, false),
@@ -107,7 +109,7 @@ pub struct Meter<'h> {
     heap: Heap<'h>,
     is_refusing: bool,
     /// By call: how often it was made, and how many of its requests for memory were refused.
-    counts: [(u64, u64); 20],
+    counts: [(u64, u64); 21],
 }
 
 impl<'h> Meter<'h> {
@@ -117,7 +119,7 @@ impl<'h> Meter<'h> {
         Meter {
             heap,
             is_refusing,
-            counts: [(0, 0); 20],
+            counts: [(0, 0); 21],
         }
     }
 

@@ -225,13 +225,13 @@ impl<'h> Side<'h> {
             StreamCall::Recv { len } => self.recv(meter, number, *len),
             StreamCall::Post { message } => self.post(meter, number, message),
             StreamCall::Emit => Ok(StreamAct::Emit(self.emit(meter, number)?)),
-            StreamCall::Deliver { from, .. } => Ok(StreamAct::Deliver {
-                from: *from,
-                octets: Bytes::copy_from_slice(meter.heap(), came)?,
-                delivery: self.deliver(meter, number, *from, came)?,
-            }),
-            StreamCall::Raw { from, octets } => Ok(StreamAct::Raw {
-                from: *from,
+            StreamCall::First { number: first } => self.first(meter, number, *first),
+            StreamCall::Deliver { from, .. } => self.deliver_emitted(meter, number, *from, came),
+            StreamCall::Raw {
+                number: from,
+                octets,
+            } => Ok(StreamAct::Raw {
+                number: *from,
                 octets: octets.clone()?,
                 delivery: self.deliver(meter, number, *from, octets.as_slice())?,
             }),
@@ -290,11 +290,48 @@ impl<'h> Side<'h> {
         Err(Stopped::Endless(call))
     }
 
-    fn deliver(
+    fn first(&mut self, meter: &mut Meter<'h>, number: u8, first: u32) -> StreamAnswer<'h> {
+        meter.begin(0);
+        let answer = self.endpoint.first_number(number, first);
+        meter.end(Call::FirstNumber, 0)?;
+        match answer {
+            Ok(()) => Ok(StreamAct::First {
+                number: first,
+                refused: None,
+            }),
+            Err(CallRefusal::Refused(refusal)) => Ok(StreamAct::First {
+                number: first,
+                refused: Some(refusal),
+            }),
+            Err(CallRefusal::NoSuchStream) => Err(Stopped::NoSuchStream),
+        }
+    }
+
+    // Octets that the other end emitted from a place on: the first of them has that place's number.
+    fn deliver_emitted(
         &mut self,
         meter: &mut Meter<'h>,
         number: u8,
         from: u64,
+        came: &[u8],
+    ) -> StreamAnswer<'h> {
+        let Ok(first) = self.endpoint.peer_first(number) else {
+            return Err(Stopped::NoSuchStream);
+        };
+        let handed_in = first.wrapping_add(from as u32);
+        Ok(StreamAct::Deliver {
+            from,
+            number: handed_in,
+            octets: Bytes::copy_from_slice(meter.heap(), came)?,
+            delivery: self.deliver(meter, number, handed_in, came)?,
+        })
+    }
+
+    fn deliver(
+        &mut self,
+        meter: &mut Meter<'h>,
+        number: u8,
+        from: u32,
         octets: &[u8],
     ) -> Result<Delivery, Stopped> {
         for n in 0..MOST_TRIES {

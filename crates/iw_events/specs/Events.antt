@@ -8,7 +8,7 @@ use Rattle.iw_events.specs.declared.call.Event.{Event}
 use Rattle.iw_events.specs.declared.act.Act.{Act}
 use Rattle.iw_events.specs.declared.act.Act.TheVariants.{Domain, Register, Deregister, Invalidate, Store, Open, Stream}
 use Rattle.iw_events.specs.declared.act.StreamAct.{StreamAct}
-use Rattle.iw_events.specs.declared.act.StreamAct.TheVariants.{Recv, Post, Emit, Deliver, Raw, Mulpdu, Accept, Reject, Work, Break}
+use Rattle.iw_events.specs.declared.act.StreamAct.TheVariants.{Recv, Post, Emit, First, Deliver, Raw, Mulpdu, Accept, Reject, Work, Break}
 use Rattle.iw_events.specs.declared.act.Entry.{Entry}
 use Rattle.std.specs.Prelude.{ℕ}
 
@@ -16,8 +16,9 @@ abbrev pub stream_call_of : StreamAct (List ℕ) → StreamCall (List ℕ)
 stream_call_of (Recv len refused) = stream_calls.Recv len
 stream_call_of (Post message refused) = stream_calls.Post message
 stream_call_of (Emit shown) = stream_calls.Emit
-stream_call_of (Deliver from octets delivery) = stream_calls.Deliver from (length octets)
-stream_call_of (Raw from octets delivery) = stream_calls.Raw from octets
+stream_call_of (First number refused) = stream_calls.First number
+stream_call_of (Deliver from number octets delivery) = stream_calls.Deliver from (length octets)
+stream_call_of (Raw number octets delivery) = stream_calls.Raw number octets
 stream_call_of (Mulpdu size refused) = stream_calls.Mulpdu size
 stream_call_of (Accept private answer) = stream_calls.Accept private
 stream_call_of (Reject private refused) = stream_calls.Reject private

@@ -3,7 +3,9 @@ use iw_memory::{DomainRefusal, NoRegion, RegisterRefusal, Right, Rights, StoreRe
 use iw_octets::{Fault, Stag};
 use iw_queues::Request;
 use iw_startup::{Agreed, NotAsked, StartupFault};
-use iw_stream::{Delivery, Kind, OpenRefusal, PostRefusal, RecvRefusal, Role, SizeRefusal};
+use iw_stream::{
+    Delivery, FirstRefusal, Kind, OpenRefusal, PostRefusal, RecvRefusal, Role, SizeRefusal,
+};
 
 /// What a call to emit gave, with its octets.
 #[derive(Drop)]
@@ -97,15 +99,21 @@ pub enum StreamAct<O> {
         refused: Option<PostRefusal>,
     },
     Emit(Shown<O>),
-    /// The octets are those that were delivered, also where they were dropped.
+    First {
+        number: u32,
+        refused: Option<FirstRefusal>,
+    },
+    /// The octets are those that were delivered, also if they were dropped. The first of them has the stream place `from`
+    /// at the other end, and was handed in with this sequence number.
     Deliver {
         from: u64,
+        number: u32,
         octets: O,
         delivery: Delivery,
     },
     /// Octets that nobody need have emitted.
     Raw {
-        from: u64,
+        number: u32,
         octets: O,
         delivery: Delivery,
     },

@@ -28,10 +28,12 @@ pub enum StreamCall<O> {
     Post { message: Request<O> },
     /// Emits one frame.
     Emit,
-    /// Delivers `len` octets that the other end emitted, the first of them at the stream place `from`.
+    /// Tells the sequence number of the peer's first octet (RFC 9293 3.4), before any delivery.
+    First { number: u32 },
+    /// Delivers `len` octets that the other end emitted, the first of them at the stream place `from` there.
     Deliver { from: u64, len: u64 },
-    /// Delivers any octets, the first of them at the stream place `from`.
-    Raw { from: u64, octets: O },
+    /// Delivers any octets, the first of them with this sequence number.
+    Raw { number: u32, octets: O },
     /// Sets the maximum ULPDU, in octets: the most that a ULPDU has which is sent from then on.
     Mulpdu { size: u32 },
     /// Accepts the Request that came, with the private data of the Reply.

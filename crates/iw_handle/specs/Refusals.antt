@@ -13,6 +13,8 @@ use Rattle.iw_stream.specs.declared.answer.PostRefusal.{PostRefusal}
 use Rattle.iw_stream.specs.declared.answer.PostRefusal.TheVariants as post
 use Rattle.iw_stream.specs.declared.answer.RecvRefusal.{RecvRefusal}
 use Rattle.iw_stream.specs.declared.answer.RecvRefusal.TheVariants as recv
+use Rattle.iw_stream.specs.declared.answer.FirstRefusal.{FirstRefusal}
+use Rattle.iw_stream.specs.declared.answer.FirstRefusal.TheVariants as first
 use Rattle.iw_stream.specs.declared.answer.SizeRefusal.{SizeRefusal}
 use Rattle.iw_stream.specs.declared.answer.SizeRefusal.TheVariants as size
 use Rattle.iw_endpoint.specs.declared.refusal.CallRefusal.{CallRefusal}
@@ -23,7 +25,7 @@ use Rattle.iw_handle.specs.declared.refusal.Refusal.TheVariants.{NoRegion, Outsi
 use Rattle.iw_handle.specs.declared.refusal.Refusal.TheVariants.{DomainFull, RegionTooLong, BaseWrap, NumberTaken}
 use Rattle.iw_handle.specs.declared.refusal.Refusal.TheVariants.{BadNumber, BadRole, PrivateTooLong, NotAsked, NotOpen}
 use Rattle.iw_handle.specs.declared.refusal.Refusal.TheVariants.{MessagesFull, MessageTooLong, BuffersFull, Ended}
-use Rattle.iw_handle.specs.declared.refusal.Refusal.TheVariants.{BadSize, TooFar}
+use Rattle.iw_handle.specs.declared.refusal.Refusal.TheVariants.{BadSize, TooFar, Late}
 
 -- ---- the endpoint's refusals
 
@@ -66,6 +68,10 @@ recv_reason (call.Refused recv.Full) = BuffersFull
 recv_reason (call.Refused recv.Ended) = Ended
 recv_reason (call.Refused recv.NoMemory) = NoMemory
 
+abbrev pub first_reason : CallRefusal FirstRefusal → Refusal
+first_reason call.NoSuchStream = NoSuchStream
+first_reason (call.Refused first.Late) = Late
+
 abbrev pub size_reason : CallRefusal SizeRefusal → Refusal
 size_reason call.NoSuchStream = NoSuchStream
 size_reason (call.Refused size.BadSize) = BadSize
@@ -98,6 +104,7 @@ refusal_code BuffersFull = 22
 refusal_code Ended = 23
 refusal_code BadSize = 24
 refusal_code TooFar = 25
+refusal_code Late = 26
 
 -- 0 where nothing was refused
 abbrev pub code_of : Option Refusal → ℕ

@@ -1,5 +1,5 @@
 -- What calls at a stream say.
-use Rattle.std.specs.Prelude.{◌≡◌, ℕ, ◌^◌, nat_lt, Bool, false, if◌then◌else◌, List, [], length, take, replicate}
+use Rattle.std.specs.Prelude.{◌≡◌, ℕ, ◌-◌, ◌^◌, nat_lt, Bool, false, if◌then◌else◌, List, [], length, take, replicate}
 use Rattle.std.specs.Prelude.{Option, None, Some, Result, Ok, Err}
 use Rattle.std.specs.Option.{option_map}
 use Rattle.iw_octets.specs.declared.message.Message.TheVariants as messages
@@ -8,7 +8,7 @@ use Rattle.iw_octets.specs.declared.stag.Stag.{Stag}
 use Rattle.iw_queues.specs.declared.request.Request.{Request}
 use Rattle.iw_queues.specs.declared.request.Request.TheVariants as requests
 use Rattle.iw_ranges.specs.Arrived.{BringsOctets}
-use Rattle.iw_stream.specs.Stream.{ended}
+use Rattle.iw_stream.specs.Stream.{ended, place_of, left_out}
 use Rattle.iw_stream.specs.Work.{IsTry, task}
 use Rattle.iw_stream.specs.declared.answer.Step.{Step}
 use Rattle.iw_stream.specs.declared.answer.Step.TheVariants.{Done, Flushed, FlushedRecv, Asked, Opened, Closed, Placed}
@@ -21,7 +21,7 @@ use Rattle.iw_endpoint.specs.Endpoint.{step_at, after_work, emitted_at}
 use Rattle.iw_handle.specs.declared.held.Held.{Held}
 use Rattle.iw_handle.specs.declared.refusal.Refusal.{Refusal}
 use Rattle.iw_handle.specs.declared.refusal.Refusal.TheVariants as refusals
-use Rattle.iw_handle.specs.Refusals.{open_reason, answer_reason, post_reason, recv_reason, size_reason}
+use Rattle.iw_handle.specs.Refusals.{open_reason, answer_reason, post_reason, recv_reason, first_reason, size_reason}
 use Rattle.iw_handle.specs.State.{State, first_of, stream_refusal, room_refusal}
 use Rattle.iw_handle.specs.Words.{role_refusal, private_refusal}
 
@@ -43,6 +43,9 @@ refusal_to_post e number request = option_map post_reason (endpoint.post_refusal
 
 abbrev pub refusal_to_lend : EndpointState → ℕ → Option Refusal
 refusal_to_lend e number = option_map recv_reason (endpoint.recv_refusal e number)
+
+abbrev pub first_refusal : EndpointState → ℕ → Option Refusal
+first_refusal e number = option_map first_reason (endpoint.first_refusal e number)
 
 abbrev pub size_refusal : EndpointState → ℕ → ℕ → Option Refusal
 size_refusal e number size = option_map size_reason (endpoint.size_refusal e number size)
@@ -140,4 +143,5 @@ TriesAt e number = IsTry (task (stream_at e number))
 
 -- octets are kept, and one of them is new
 abbrev pub BringsAt : EndpointState → ℕ → ℕ → ℕ → Type 0
-BringsAt e number from n = (ended (stream_at e number) ≡ false) × BringsOctets (stream_at e number).arrived from n
+BringsAt e number from n =
+    let s = stream_at e number in (ended s ≡ false) × BringsOctets s.arrived (place_of s from) (n - left_out s from)

@@ -1,11 +1,11 @@
 // Why calls are refused.
 ghost use Rattle.std.specs.Prelude.{◌≡◌, ◌↔◌, None, pos};
 ghost use Rattle.iw_handle.specs.Refusals.{domain_reason, register_reason, store_reason, code_of};
-ghost use Rattle.iw_handle.specs.Refusals.{open_reason, answer_reason, post_reason, recv_reason, size_reason};
+ghost use Rattle.iw_handle.specs.Refusals.{open_reason, answer_reason, post_reason, recv_reason, first_reason, size_reason};
 
 use iw_endpoint::{
-    CallRefusal, DomainRefusal, NotAsked, OpenRefusal, PostRefusal, RecvRefusal, RegisterRefusal,
-    SizeRefusal, StoreRefusal,
+    CallRefusal, DomainRefusal, FirstRefusal, NotAsked, OpenRefusal, PostRefusal, RecvRefusal,
+    RegisterRefusal, SizeRefusal, StoreRefusal,
 };
 use thiserror::Error;
 
@@ -86,6 +86,9 @@ pub enum Refusal {
     /// The stream has emitted, or come through, more than 2^62 octets.
     #[error("the stream has gone too far")]
     TooFar,
+    /// Octets were delivered on the stream before.
+    #[error("octets were delivered before")]
+    Late,
 }
 
 pub(crate) fn domain_reason(refusal: DomainRefusal) -> Refusal
@@ -162,6 +165,15 @@ pub(crate) fn recv_reason(refusal: CallRefusal<RecvRefusal>) -> Refusal
     }
 }
 
+pub(crate) fn first_reason(refusal: CallRefusal<FirstRefusal>) -> Refusal
+    ensures { result ≡ first_reason refusal }
+{
+    match refusal {
+        CallRefusal::NoSuchStream => Refusal::NoSuchStream,
+        CallRefusal::Refused(FirstRefusal::Late) => Refusal::Late,
+    }
+}
+
 pub(crate) fn size_reason(refusal: CallRefusal<SizeRefusal>) -> Refusal
     ensures { result ≡ size_reason refusal }
 {
@@ -203,5 +215,6 @@ pub fn code(refusal: Option<Refusal>) -> i32
         Some(Refusal::Ended) => 23,
         Some(Refusal::BadSize) => 24,
         Some(Refusal::TooFar) => 25,
+        Some(Refusal::Late) => 26,
     }
 }

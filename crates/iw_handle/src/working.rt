@@ -1,11 +1,11 @@
 // Octets that come, and what is done with them.
 ghost use Rattle.std.specs.Prelude.{◌≡◌, None, Some, length, IfSome, IfNone, IfOk, IfErr, OnOk, OnErr, IsSomeAnd};
 ghost use Rattle.std.specs.Result.{result_err};
-ghost use Rattle.iw_endpoint.specs.Endpoint.{delivery_at, after_deliver, step_at, after_work};
+ghost use Rattle.iw_endpoint.specs.Endpoint.{with_first, delivery_at, after_deliver, step_at, after_work};
 ghost use Rattle.iw_handle.specs.Events.{event_at};
 ghost use Rattle.iw_handle.specs.State.{refusal_in, changed, told_in, stream_refusal};
 ghost use Rattle.iw_handle.specs.State.{copy_refusal, filled, length_told};
-ghost use Rattle.iw_handle.specs.Streams.{refusal_to_work, BringsAt, TriesAt, handed_in, fetched};
+ghost use Rattle.iw_handle.specs.Streams.{first_refusal, refusal_to_work, BringsAt, TriesAt, handed_in, fetched};
 ghost use Rattle.iw_handle.specs.Streams.{handed_by, held_worked, worked};
 ghost use Rattle.iw_handle.specs.Steps.{WorksOn};
 
@@ -13,7 +13,7 @@ use crate::copying::copy_out;
 use crate::event::{Event, event_of, is_quiet};
 use crate::handle::Handle;
 use crate::held::Held;
-use crate::refusal::Refusal;
+use crate::refusal::{Refusal, first_reason};
 use iw_endpoint::{CallRefusal, Delivery, Endpoint, MAX_PLACE, Octets, Step};
 use std::alloc::Global;
 
@@ -23,18 +23,18 @@ pub const QUIET_STEPS: u32 = 4_095;
 fn deliver(
     endpoint: &mut Endpoint,
     number: u8,
-    from: u64,
+    sequence: u32,
     octets: &[u8],
 ) -> Result<Delivery, Refusal>
     ensures refused { IfSome (stream_refusal endpoint.old number) (λ r. result ≡ Err r) }
     ensures memory { IfNone (stream_refusal endpoint.old number) (IfErr result (λ e. e ≡ Refusal.NoMemory)) }
     ensures want { IfNone (stream_refusal endpoint.old number)
-        (OnErr result (BringsAt endpoint.old number from (length octets.now))) }
-    ensures delivery { IfOk result (λ delivery. delivery ≡ delivery_at endpoint.old number from (length octets.now)) }
-    ensures ok { OnOk result (endpoint.new ≡ after_deliver endpoint.old number from octets.now) }
+        (OnErr result (BringsAt endpoint.old number sequence (length octets.now))) }
+    ensures delivery { IfOk result (λ delivery. delivery ≡ delivery_at endpoint.old number sequence (length octets.now)) }
+    ensures ok { OnOk result (endpoint.new ≡ after_deliver endpoint.old number sequence octets.now) }
     ensures err { OnErr result (endpoint.new ≡ endpoint.old) }
 {
-    match endpoint.deliver(number, from, octets) {
+    match endpoint.deliver(number, sequence, octets) {
         Ok(delivery) => Ok(delivery),
         Err(CallRefusal::NoSuchStream) => Err(Refusal::NoSuchStream),
         Err(CallRefusal::Refused(_)) => Err(Refusal::NoMemory),
@@ -142,31 +142,49 @@ fn fetch(held: &mut Held, alloc: Global, out: &mut [u8], len: &mut usize) -> Res
 }
 
 impl Handle {
-    /// Takes octets that came on a stream's connection, the first of them at the stream place `from`, as
-    /// [`Endpoint::deliver`] says. An `Err` changes nothing; `NoMemory` comes only where they would be kept and one of
-    /// them is new.
+    /// Sets the sequence number of the peer's first octet, as [`Endpoint::first_number`] says. `Late`: octets were
+    /// delivered on the stream before. An `Err` changes nothing.
+    pub fn first_number(&mut self, alloc: Global, number: u8, first: u32) -> Result<(), Refusal>
+        ensures refused { result_err result ≡ refusal_in self.old.state (λ e. first_refusal e number) }
+        ensures ok { OnOk result (self.new.state ≡ changed self.old.state (λ e. with_first e number first)) }
+        ensures err { OnErr result (self.new.state ≡ self.old.state) }
+    {
+        let Some(mut held) = self.take(alloc) else {
+            return Err(Refusal::Closed);
+        };
+        let done = held.endpoint.first_number(number, first);
+        self.put(held);
+        match done {
+            Ok(()) => Ok(()),
+            Err(refusal) => Err(first_reason(refusal)),
+        }
+    }
+
+    /// Takes octets that came on a stream's connection, the first of which has this sequence number, as
+    /// [`Endpoint::deliver`] says. An `Err` changes nothing; `NoMemory` comes only if they would be kept and one of them
+    /// is new.
     pub fn deliver(
         &mut self,
         alloc: Global,
         number: u8,
-        from: u64,
+        sequence: u32,
         octets: &[u8],
     ) -> Result<Delivery, Refusal>
         ensures refused { IfSome (refusal_in self.old.state (λ e. stream_refusal e number)) (λ r. result ≡ Err r) }
         ensures memory { IfNone (refusal_in self.old.state (λ e. stream_refusal e number))
             (IfErr result (λ e. e ≡ Refusal.NoMemory)) }
         ensures want { IfSome self.old.state (λ held. IfNone (stream_refusal held.endpoint number)
-            (OnErr result (BringsAt held.endpoint number from (length octets.now)))) }
+            (OnErr result (BringsAt held.endpoint number sequence (length octets.now)))) }
         ensures delivery { IfOk result
-            (λ delivery. Some delivery ≡ told_in self.old.state (λ e. delivery_at e number from (length octets.now))) }
+            (λ delivery. Some delivery ≡ told_in self.old.state (λ e. delivery_at e number sequence (length octets.now))) }
         ensures ok { OnOk result
-            (self.new.state ≡ changed self.old.state (λ e. after_deliver e number from octets.now)) }
+            (self.new.state ≡ changed self.old.state (λ e. after_deliver e number sequence octets.now)) }
         ensures err { OnErr result (self.new.state ≡ self.old.state) }
     {
         let Some(mut held) = self.take(alloc) else {
             return Err(Refusal::Closed);
         };
-        let done = deliver(&mut held.endpoint, number, from, octets);
+        let done = deliver(&mut held.endpoint, number, sequence, octets);
         self.put(held);
         done
     }

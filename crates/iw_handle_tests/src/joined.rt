@@ -1,5 +1,5 @@
 //! Two handles joined in memory: start-up, a Write, a Send, a Read, and an end.
-use iw_handle::{Handle, IDLE, read_request, rights_of, stag_of};
+use iw_handle::{Handle, IDLE, Refusal, read_request, rights_of, stag_of};
 use std::alloc::Global;
 use std::test::Fail;
 
@@ -12,11 +12,19 @@ const RESPONDER: u32 = 2;
 // Markers and CRCs.
 const OPTIONS: u32 = 3;
 
-// One end: its handle, and how many octets came for it.
+// The sequence number of an end's first octet: numbers wrap in the start-up frame.
+const FIRST: u32 = 4_294_967_290;
+
+// The sequence number that follows these octets, the first of which has this one.
+fn number_after(number: u32, octets: &[u8]) -> u32 {
+    ((u64::from(number) + octets.len() as u64) % (1 << 32)) as u32
+}
+
+// One end: its handle, and the sequence number of the octet that comes next.
 #[derive(Drop)]
 struct End {
     handle: Handle,
-    came: u64,
+    next: u32,
 }
 
 impl End {
@@ -25,7 +33,11 @@ impl End {
         handle.open(alloc)?;
         handle.add_domain(alloc, 1)?;
         handle.open_stream(alloc, STREAM, 1, role, OPTIONS, private)?;
-        Ok(End { handle, came: 0 })
+        handle.first_number(alloc, STREAM, FIRST)?;
+        Ok(End {
+            handle,
+            next: FIRST,
+        })
     }
 
     // Works until there is nothing to do, and tells the kind of each step.
@@ -57,8 +69,8 @@ impl End {
     }
 
     fn take(&mut self, alloc: Global, octets: &[u8]) -> Result<(), Fail> {
-        let _ = self.handle.deliver(alloc, STREAM, self.came, octets)?;
-        self.came = self.came.saturating_add(octets.len() as u64);
+        let _ = self.handle.deliver(alloc, STREAM, self.next, octets)?;
+        self.next = number_after(self.next, octets);
         Ok(())
     }
 }
@@ -106,6 +118,7 @@ fn start_up(rt: HostRuntime) -> Result<(), Fail> {
     b.handle.private(alloc, STREAM, &mut private, &mut len)?;
     assert_eq!(rt; private, *b"from a\0\0");
     assert_eq!(rt; len, 6);
+    assert_eq!(rt; b.handle.first_number(alloc, STREAM, 0), Err(Refusal::Late));
     Ok(())
 }
 

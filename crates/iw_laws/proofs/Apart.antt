@@ -38,7 +38,7 @@ use Rattle.iw_events.specs.declared.call.End.TheVariants.{A, B}
 use Rattle.iw_events.specs.declared.act.Act.{Act}
 use Rattle.iw_events.specs.declared.act.Act.TheVariants.{Domain, Register, Deregister, Invalidate, Store, Open, Stream}
 use Rattle.iw_events.specs.declared.act.StreamAct.{StreamAct}
-use Rattle.iw_events.specs.declared.act.StreamAct.TheVariants.{Recv, Post, Emit, Deliver, Raw, Mulpdu, Accept, Reject, Work, Break}
+use Rattle.iw_events.specs.declared.act.StreamAct.TheVariants.{Recv, Post, Emit, First, Deliver, Raw, Mulpdu, Accept, Reject, Work, Break}
 use Rattle.iw_events.specs.declared.act.Shown.TheVariants.{Fetched}
 use Rattle.iw_events.specs.declared.act.Seen.TheVariants as seen
 use Rattle.iw_events.specs.declared.act.Entry.{Entry}
@@ -151,8 +151,9 @@ module _ (s : StreamState) (t u : Table) (h : AreAlike s.domain t u) where
   stream_rule (Recv len refused) rule = rule
   stream_rule (Post request refused) rule = rule
   stream_rule (Emit shown) rule = rule ∙ shown_alike
-  stream_rule (Deliver from octets delivery) rule = rule
-  stream_rule (Raw from octets delivery) rule = rule
+  stream_rule (Deliver from number octets delivery) rule = rule
+  stream_rule (Raw number octets delivery) rule = rule
+  stream_rule (First number refused) rule = rule
   stream_rule (Mulpdu size refused) rule = rule
   stream_rule (Accept private answer) rule = rule
   stream_rule (Reject private refused) rule = rule

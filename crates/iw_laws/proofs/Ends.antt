@@ -11,7 +11,7 @@ use Rattle.iw_stream.specs.declared.answer.OpenRefusal.TheVariants.{NumberTaken,
 use Rattle.iw_events.specs.declared.act.Act.{Act}
 use Rattle.iw_events.specs.declared.act.Act.TheVariants.{Domain, Register, Deregister, Invalidate, Store, Open, Stream}
 use Rattle.iw_events.specs.declared.act.StreamAct.{StreamAct}
-use Rattle.iw_events.specs.declared.act.StreamAct.TheVariants.{Recv, Post, Emit, Deliver, Raw, Mulpdu, Accept, Reject, Work, Break}
+use Rattle.iw_events.specs.declared.act.StreamAct.TheVariants.{Recv, Post, Emit, First, Deliver, Raw, Mulpdu, Accept, Reject, Work, Break}
 use Rattle.iw_laws.specs.Words.{Octets, Opening, stream_acts, stream_acts_by, openings, openings_by, opening_in, was_opened, domain_of, table_after, table_by}
 use Rattle.iw_endpoint.specs.Endpoint.{EndpointState, stream_at, stream_numbers, unopened as no_stream, stream_of, has_stream, open_refusal}
 use Rattle.iw_endpoint.specs.Isolation.{after}
@@ -68,11 +68,13 @@ same_domain table s (Accept private (Ok agreed)) = refl
 same_domain table s (Accept private (Err refusal)) = refl
 same_domain table s (Reject private None) = refl
 same_domain table s (Reject private (Some refusal)) = refl
-same_domain table s (Deliver from octets Kept) = refl
-same_domain table s (Raw from octets Kept) = refl
-same_domain table s (Deliver from octets Dropped) = refl
-same_domain table s (Raw from octets Dropped) = refl
+same_domain table s (Deliver from number octets Kept) = refl
+same_domain table s (Raw number octets Kept) = refl
+same_domain table s (Deliver from number octets Dropped) = refl
+same_domain table s (Raw number octets Dropped) = refl
+same_domain table s (First number None) = refl
 same_domain table s (Mulpdu size None) = refl
+same_domain table s (First number (Some refusal)) = refl
 same_domain table s (Mulpdu size (Some refusal)) = refl
 same_domain table s (Work step) = worked_domain table s
 same_domain table s Break = refl

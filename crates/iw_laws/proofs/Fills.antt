@@ -8,6 +8,7 @@ use Rattle.std.proofs.lemmas.List.{append-nil, map-append}
 use Rattle.std.proofs.lemmas.Option.{same_Some}
 use Rattle.std.proofs.Math.Seq.{take-append_seam}
 use Rattle.arrayvec.specs.ArrayVec.{ArrayVec}
+use Rattle.iw_ranges.specs.Nearest.{place_near, before_start}
 use Rattle.iw_octets.specs.declared.head.UntaggedHead.{UntaggedHead}
 use Rattle.iw_octets.specs.declared.head.TaggedHead.{TaggedHead}
 use Rattle.iw_octets.specs.declared.segment.Segment.{Segment}
@@ -46,13 +47,13 @@ use Rattle.iw_stream.specs.Work.{scene, waiting}
 use Rattle.iw_stream.specs.Work as work
 use Rattle.iw_startup.specs.declared.progress.Progress.TheVariants as progresses
 use Rattle.iw_events.specs.declared.act.StreamAct.{StreamAct}
-use Rattle.iw_events.specs.declared.act.StreamAct.TheVariants.{Recv, Post, Emit, Deliver, Raw, Mulpdu, Accept, Reject, Work, Break}
+use Rattle.iw_events.specs.declared.act.StreamAct.TheVariants.{Recv, Post, Emit, First, Deliver, Raw, Mulpdu, Accept, Reject, Work, Break}
 use Rattle.iw_events.specs.declared.act.Shown.{Shown}
 use Rattle.iw_events.specs.declared.act.Shown.TheVariants as shows
 use Rattle.iw_events.specs.declared.act.Seen.{Seen}
 use Rattle.iw_events.specs.declared.act.Seen.TheVariants as seen
 use Rattle.iw_laws.specs.Words.{Octets, Sent, deed, ended_after, received_by}
-use Rattle.iw_laws.specs.Turns.{story_seen}
+use Rattle.iw_laws.specs.Turns.{story_seen, in_order_point}
 use Rattle.iw_laws.proofs.Checks.{HasBuffer, checked_buffer}
 use Rattle.iw_laws.proofs.Joins.{Waits, begun, told, joined-append, joined_next, completed_told}
 use Rattle.iw_laws.proofs.Buffers.{StandAt, reads_on}
@@ -598,11 +599,13 @@ fill_after table s t act rule due_is over k f = by act rule (λ h. ran (ended s)
     none = sym (append-nil s.receiving.buffers)
 
     by : (act : StreamAct Octets) → Told table s act → (ended (after_act s act) ≡ false → ended s ≡ false) → Fills (after_act s act) (tale_after t act)
-    by (Deliver from octets Kept) rule runs = calls (after_act s (Deliver from octets Kept)) (Deliver from octets Kept) refl refl refl (λ all of. of_earlier t.story.came from octets all of) refl (append-nil t.received) runs [] none
-    by (Raw from octets Kept) rule runs = calls (after_act s (Raw from octets Kept)) (Raw from octets Kept) refl refl refl (λ all of. of_earlier t.story.came from octets all of) refl (append-nil t.received) runs [] none
-    by (Deliver from octets Dropped) rule runs = calls s (Deliver from octets Dropped) refl refl refl (λ all of. of) refl (append-nil t.received) runs [] none
-    by (Raw from octets Dropped) rule runs = calls s (Raw from octets Dropped) refl refl refl (λ all of. of) refl (append-nil t.received) runs [] none
+    by (Deliver from number octets Kept) rule runs = calls (after_act s (Deliver from number octets Kept)) (Deliver from number octets Kept) refl refl refl (λ all of. of_earlier t.story.came (place_near number t.story.first (in_order_point t.story)) (drop (before_start number t.story.first (in_order_point t.story)) octets) all of) refl (append-nil t.received) runs [] none
+    by (Raw number octets Kept) rule runs = calls (after_act s (Raw number octets Kept)) (Raw number octets Kept) refl refl refl (λ all of. of_earlier t.story.came (place_near number t.story.first (in_order_point t.story)) (drop (before_start number t.story.first (in_order_point t.story)) octets) all of) refl (append-nil t.received) runs [] none
+    by (Deliver from number octets Dropped) rule runs = calls (after_act s (Deliver from number octets Dropped)) (Deliver from number octets Dropped) refl refl refl (λ all of. of) refl (append-nil t.received) runs [] none
+    by (Raw number octets Dropped) rule runs = calls (after_act s (Raw number octets Dropped)) (Raw number octets Dropped) refl refl refl (λ all of. of) refl (append-nil t.received) runs [] none
+    by (First number None) rule runs = calls (after_act s (First number None)) (First number None) refl refl refl (λ all of. of) refl (append-nil t.received) runs [] none
     by (Mulpdu size None) rule runs = calls (after_act s (Mulpdu size None)) (Mulpdu size None) refl refl refl (λ all of. of) refl (append-nil t.received) runs [] none
+    by (First number (Some refusal)) rule runs = calls s (First number (Some refusal)) refl refl refl (λ all of. of) refl (append-nil t.received) runs [] none
     by (Mulpdu size (Some refusal)) rule runs = calls s (Mulpdu size (Some refusal)) refl refl refl (λ all of. of) refl (append-nil t.received) runs [] none
     by (Accept private (Ok agreed)) rule runs = shut_filled s (after_act s (Accept private (Ok agreed))) t (tale_after t (Accept private (Ok agreed))) (not_answered s (accepting s agreed rule)) refl refl refl (append-nil t.received) k
     by (Accept private (Err refusal)) rule runs = calls s (Accept private (Err refusal)) refl refl refl (λ all of. of) refl (append-nil t.received) runs [] none

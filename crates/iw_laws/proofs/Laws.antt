@@ -1,4 +1,7 @@
 -- The laws, of whatever follows the rules.
+use Rattle.iw_ranges.specs.Nearest.{place_near, before_start}
+use Rattle.iw_ranges.specs.declared.Delivery.{Delivery}
+use Rattle.iw_stream.specs.declared.answer.FirstRefusal.TheVariants.{Late}
 use Rattle.std.proofs.Common.{◌≡◌, ◌⊎◌, ℕ, zero, suc, ◌+◌, ◌-◌, ◌%◌, ◌^◌, ◌<◌, ◌≤◌, List, [], ◌∷◌, ◌++◌, length, take, drop, length-take, length-drop, length-append, cond, map, Option, Some, None, Ok, Err, true, false, refl, sym, ap, ◌∙◌, subst, inl, inr, arith}
 use Rattle.std.proofs.lemmas.List.{append-nil, length-map}
 use Rattle.std.specs.Prelude.{option_map, is_some, not, nat_le, nat_lt, min, Bool, ◌&&◌, ◌||◌, Result, IfOk}
@@ -21,7 +24,7 @@ use Rattle.iw_octets.specs.declared.operation.TaggedOperation.TheVariants as tag
 use Rattle.iw_octets.specs.declared.operation.UntaggedOperation.TheVariants as untagged
 use Rattle.iw_octets.specs.Operation.{control_of, tagged_opcode, untagged_opcode}
 use Rattle.iw_stream.specs.Starting.{is_asked, sending, own_frame, first_place_out, agreement_in}
-use Rattle.iw_stream.specs.Stream.{StreamState, is_read, may_go, part_due, response_due, owes_frame, recv_refusal, recv_refusal_of, post_refusal, post_refusal_of, may_answer, delivery_of, ended}
+use Rattle.iw_stream.specs.Stream.{StreamState, is_read, may_go, part_due, response_due, owes_frame, recv_refusal, recv_refusal_of, post_refusal, post_refusal_of, may_answer, delivery_of, ended, place_of, left_out}
 use Rattle.iw_stream.specs.Ending.{has_ended, is_broken, last_word}
 use Rattle.iw_stream.specs.Work as work
 use Rattle.iw_stream.specs.declared.answer.PostRefusal.TheVariants as post_refusals
@@ -68,7 +71,7 @@ use Rattle.iw_events.specs.declared.call.Call.TheVariants as calls
 use Rattle.iw_events.specs.declared.act.Act.{Act}
 use Rattle.iw_events.specs.declared.act.Act.TheVariants.{Domain, Register, Deregister, Invalidate, Store, Open, Stream}
 use Rattle.iw_events.specs.declared.act.StreamAct.{StreamAct}
-use Rattle.iw_events.specs.declared.act.StreamAct.TheVariants.{Recv, Post, Emit, Deliver, Raw, Mulpdu, Accept, Reject, Work, Break}
+use Rattle.iw_events.specs.declared.act.StreamAct.TheVariants.{Recv, Post, Emit, First, Deliver, Raw, Mulpdu, Accept, Reject, Work, Break}
 use Rattle.iw_events.specs.declared.act.Shown.TheVariants.{Frame, Fetched, Fault as Denied, Nothing}
 use Rattle.iw_events.specs.declared.act.Shown.{Shown}
 use Rattle.iw_events.specs.declared.act.Seen.{Seen}
@@ -80,10 +83,10 @@ use Rattle.iw_laws.specs.Merged.{AreMerged, posts_in, response_segment}
 use Rattle.iw_laws.specs.Faithful.{FetchShown, FetchStream, count_done, AnswersReads, Answering}
 use Rattle.iw_laws.specs.Sends.{farewells, terminate_segment, IsStartFrame, IsLastWord, AreFirstFrames, Emission, AreAllFrames, HasNothing, Over, Closed, AllSent, ReadWaits, MaySend, FewReads, NothingShown, NothingStream, NothingOnlyAtRest, FrameSized, SizedStream, Sized, FrameAllowed, SpeaksStream, Speaks, CanFinish, FinishedStream, Finished}
 use Rattle.iw_laws.specs.Sends.{Silent as Muted}
-use Rattle.iw_laws.specs.Turns.{Answer, is_last, story, story_of, standing, TurnsSeen, TurnsStream, Turns}
+use Rattle.iw_laws.specs.Turns.{Answer, is_last, story, story_of, standing, TurnsSeen, TurnsStream, Turns, in_order_point}
 use Rattle.iw_laws.specs.Rest.{IdleStream, IdleOnlyAtRest}
 use Rattle.iw_laws.specs.Ends.{HoldsNoMessage, HoldsNothing, EndSeen, IsStartDue, EndShown, EndsStream, Ends}
-use Rattle.iw_laws.specs.Calls.{deregister_answer, invalidate_refusal, IsNew, open_refusal_by, EndAnswered, ShowsMemory, recv_refusal_by, post_refusal_by, may_answer_by, Accepted, Rejected, StreamAnswered, AnsweredStream, Answered, delivery_by, KeptStream, KeepsOctets, CarriedStream, CarriesOctets, OpenedStream, OpensFirst}
+use Rattle.iw_laws.specs.Calls.{deregister_answer, invalidate_refusal, IsNew, open_refusal_by, EndAnswered, ShowsMemory, recv_refusal_by, post_refusal_by, may_answer_by, Accepted, Rejected, StreamAnswered, AnsweredStream, Answered, delivery_by, KeptStream, KeepsOctets, IsCarried, CarriedStream, CarriesOctets, OpenedStream, OpensFirst}
 use Rattle.iw_laws.specs.Words.{OnSome, OnStream, AtEach}
 use Rattle.iw_endpoint.specs.Endpoint.{stream_numbers, has_stream, open_refusal, unasked}
 use Rattle.iw_endpoint.specs.Isolation.{answer_or}
@@ -102,7 +105,7 @@ use Rattle.iw_laws.proofs.Tales.{Tale, tale_of}
 use Rattle.iw_laws.proofs.Counts.{plain_part, message_at}
 use Rattle.iw_laws.proofs.Merges.{asked_or}
 use Rattle.iw_laws.proofs.Sending.{shown_good, Rests, Ended, Shut, Silent, Sent, MaySpeak, none_left, shows, EmitsStart, EmitsLast, EmitsPart, EmitsResponse, emits_as, terminate_small, terminate_good}
-use Rattle.iw_laws.proofs.Owns.{first_fits, Own, out_of, alone_out, lives, all_spoken, owes_some, runs_unbroken, answers_part, part_is_of, frame_plain, within, WithinTale, IsFramed, Unspoken, Spoken, below, past_start, before_start}
+use Rattle.iw_laws.proofs.Owns.{first_fits, Own, out_of, alone_out, lives, all_spoken, owes_some, runs_unbroken, answers_part, part_is_of, frame_plain, within, WithinTale, IsFramed, Unspoken, Spoken, below, past_start, before_start as owes_start}
 use Rattle.iw_laws.proofs.Messages.{start_frame_is, open_is, sequence_is, can_finish, cannot_finish}
 use Rattle.iw_laws.proofs.Heard.{IsHeard, hears_all}
 use Rattle.iw_laws.proofs.Delivered.{whole_of, received_prefix, writes_covered}
@@ -363,8 +366,9 @@ nothing_stream o c done table (Emit (Fetched from frame stag to octets)) rule ow
 nothing_stream o c done table (Emit (Denied fault)) rule own = tt
 nothing_stream o c done table (Post m refused) rule own = tt
 nothing_stream o c done table (Recv len refused) rule own = tt
-nothing_stream o c done table (Deliver from octets delivery) rule own = tt
-nothing_stream o c done table (Raw from octets delivery) rule own = tt
+nothing_stream o c done table (Deliver from number octets delivery) rule own = tt
+nothing_stream o c done table (Raw number octets delivery) rule own = tt
+nothing_stream o c done table (First number refused) rule own = tt
 nothing_stream o c done table (Mulpdu size refused) rule own = tt
 nothing_stream o c done table (Accept private answer) rule own = tt
 nothing_stream o c done table (Reject private refused) rule own = tt
@@ -407,7 +411,7 @@ start_frame : (o : Opening) (c : Connected) (done : List (StreamAct Octets)) (fr
 start_frame o c done from octets p own =
     let t : Tale = tale_of o done in
     let some : c.stream.sent < length (own_frame c.stream.start) = below c.stream.sent (length (own_frame c.stream.start)) (owes_some c.stream p.owes).1 in
-    ((before_start c.stream t own.emits own.sent p.owes).0, p.octets_are ∙ sym (start_frame_is c.stream t own.track), λ none. omega (arith, some, ap length p.octets_are, ap length none))
+    ((owes_start c.stream t own.emits own.sent p.owes).0, p.octets_are ∙ sym (start_frame_is c.stream t own.track), λ none. omega (arith, some, ap length p.octets_are, ap length none))
 
 frame_sized : (o : Opening) (c : Connected) (done : List (StreamAct Octets)) (from : ℕ) (octets : Octets) → Own o c (tale_of o done) → EmitsStart c.stream from octets ⊎ (EmitsLast c.stream from octets ⊎ EmitsPart c.stream from octets)
     → FrameSized (story o done) (size_set done) (sent done) (Frame from octets)
@@ -472,8 +476,9 @@ shown_sized o c done table (Emit (Denied fault)) rule own = tt
 shown_sized o c done table (Emit Nothing) rule own = tt
 shown_sized o c done table (Post m refused) rule own = tt
 shown_sized o c done table (Recv len refused) rule own = tt
-shown_sized o c done table (Deliver from octets delivery) rule own = tt
-shown_sized o c done table (Raw from octets delivery) rule own = tt
+shown_sized o c done table (Deliver from number octets delivery) rule own = tt
+shown_sized o c done table (Raw number octets delivery) rule own = tt
+shown_sized o c done table (First number refused) rule own = tt
 shown_sized o c done table (Mulpdu size refused) rule own = tt
 shown_sized o c done table (Accept private answer) rule own = tt
 shown_sized o c done table (Reject private refused) rule own = tt
@@ -513,8 +518,9 @@ shown_allowed o c done table (Emit (Denied fault)) rule own = may_send o c done 
 shown_allowed o c done table (Emit Nothing) rule own = tt
 shown_allowed o c done table (Post m refused) rule own = tt
 shown_allowed o c done table (Recv len refused) rule own = tt
-shown_allowed o c done table (Deliver from octets delivery) rule own = tt
-shown_allowed o c done table (Raw from octets delivery) rule own = tt
+shown_allowed o c done table (Deliver from number octets delivery) rule own = tt
+shown_allowed o c done table (Raw number octets delivery) rule own = tt
+shown_allowed o c done table (First number refused) rule own = tt
 shown_allowed o c done table (Mulpdu size refused) rule own = tt
 shown_allowed o c done table (Accept private answer) rule own = tt
 shown_allowed o c done table (Reject private refused) rule own = tt
@@ -537,8 +543,9 @@ turns_stream done n s c (Work step) k domain rule own =
 turns_stream done n s c (Post m refused) k domain rule own = tt
 turns_stream done n s c (Recv len refused) k domain rule own = tt
 turns_stream done n s c (Emit shown) k domain rule own = tt
-turns_stream done n s c (Deliver from octets delivery) k domain rule own = tt
-turns_stream done n s c (Raw from octets delivery) k domain rule own = tt
+turns_stream done n s c (Deliver from number octets delivery) k domain rule own = tt
+turns_stream done n s c (Raw number octets delivery) k domain rule own = tt
+turns_stream done n s c (First number refused) k domain rule own = tt
 turns_stream done n s c (Mulpdu size refused) k domain rule own = tt
 turns_stream done n s c (Accept private answer) k domain rule own = tt
 turns_stream done n s c (Reject private refused) k domain rule own = tt
@@ -586,8 +593,9 @@ fetch_shown done n s c (Emit (Frame from octets)) k domain rule own =
 fetch_shown done n s c (Emit Nothing) k domain rule own = tt
 fetch_shown done n s c (Post m refused) k domain rule own = tt
 fetch_shown done n s c (Recv len refused) k domain rule own = tt
-fetch_shown done n s c (Deliver from octets delivery) k domain rule own = tt
-fetch_shown done n s c (Raw from octets delivery) k domain rule own = tt
+fetch_shown done n s c (Deliver from number octets delivery) k domain rule own = tt
+fetch_shown done n s c (Raw number octets delivery) k domain rule own = tt
+fetch_shown done n s c (First number refused) k domain rule own = tt
 fetch_shown done n s c (Mulpdu size refused) k domain rule own = tt
 fetch_shown done n s c (Accept private answer) k domain rule own = tt
 fetch_shown done n s c (Reject private refused) k domain rule own = tt
@@ -629,8 +637,9 @@ finished_stream done n s c Break rule own = tt
 finished_stream done n s c (Post m refused) rule own = tt
 finished_stream done n s c (Recv len refused) rule own = tt
 finished_stream done n s c (Emit shown) rule own = tt
-finished_stream done n s c (Deliver from octets delivery) rule own = tt
-finished_stream done n s c (Raw from octets delivery) rule own = tt
+finished_stream done n s c (Deliver from number octets delivery) rule own = tt
+finished_stream done n s c (Raw number octets delivery) rule own = tt
+finished_stream done n s c (First number refused) rule own = tt
 finished_stream done n s c (Mulpdu size refused) rule own = tt
 finished_stream done n s c (Accept private answer) rule own = tt
 finished_stream done n s c (Reject private refused) rule own = tt
@@ -665,8 +674,9 @@ idle_stream s c done n Break rule o = tt
 idle_stream s c done n (Post m refused) rule o = tt
 idle_stream s c done n (Recv len refused) rule o = tt
 idle_stream s c done n (Emit shown) rule o = tt
-idle_stream s c done n (Deliver from octets delivery) rule o = tt
-idle_stream s c done n (Raw from octets delivery) rule o = tt
+idle_stream s c done n (Deliver from number octets delivery) rule o = tt
+idle_stream s c done n (Raw number octets delivery) rule o = tt
+idle_stream s c done n (First number refused) rule o = tt
 idle_stream s c done n (Mulpdu size refused) rule o = tt
 
 pub idle_at_rest : (trace : List (Entry Octets)) → Follows start trace → IdleOnlyAtRest trace
@@ -777,8 +787,9 @@ ends_stream done n s c (Work step) rule own = (end_seen (opening_of n done) c (s
 ends_stream done n s c (Emit shown) rule own = (tt, end_shown (opening_of n done) c (stream_acts n done) s.endpoint.table shown rule own)
 ends_stream done n s c (Post m refused) rule own = (tt, tt)
 ends_stream done n s c (Recv len refused) rule own = (tt, tt)
-ends_stream done n s c (Deliver from octets delivery) rule own = (tt, tt)
-ends_stream done n s c (Raw from octets delivery) rule own = (tt, tt)
+ends_stream done n s c (Deliver from number octets delivery) rule own = (tt, tt)
+ends_stream done n s c (Raw number octets delivery) rule own = (tt, tt)
+ends_stream done n s c (First number refused) rule own = (tt, tt)
 ends_stream done n s c (Mulpdu size refused) rule own = (tt, tt)
 ends_stream done n s c (Accept private answer) rule own = (tt, tt)
 ends_stream done n s c (Reject private refused) rule own = (tt, tt)
@@ -896,12 +907,13 @@ rejects_asked o c done (Some refusal) rule own = sym (asked_is o c done own) ∙
 stream_answered : (o : Opening) (c : Connected) (done : List (StreamAct Octets)) (table : Table) (act : StreamAct Octets) → StreamRule table c.stream act → Own o c (tale_of o done) → StreamAnswered (story o done) done act
 stream_answered o c done table (Recv len refused) rule own = rule ∙ recv_refused o c done own
 stream_answered o c done table (Post m refused) rule own = rule.1 ∙ post_refused o c done m own
+stream_answered o c done table (First number refused) rule own = rule ∙ (λ i. cond (sym own.numbered.delivered i) (Some Late) None)
 stream_answered o c done table (Mulpdu size refused) rule own = rule
 stream_answered o c done table (Accept private answer) rule own = accepts_asked o c done answer rule own
 stream_answered o c done table (Reject private refused) rule own = rejects_asked o c done refused rule own
 stream_answered o c done table (Emit shown) rule own = tt
-stream_answered o c done table (Deliver from octets delivery) rule own = tt
-stream_answered o c done table (Raw from octets delivery) rule own = tt
+stream_answered o c done table (Deliver from number octets delivery) rule own = tt
+stream_answered o c done table (Raw number octets delivery) rule own = tt
 stream_answered o c done table (Work step) rule own = tt
 stream_answered o c done table Break rule own = tt
 
@@ -910,17 +922,24 @@ answered_all trace follows = each_stream AnsweredStream trace follows (λ done s
 
 -- ---- octets that come
 
-delivery_is : (o : Opening) (c : Connected) (done : List (StreamAct Octets)) (from n : ℕ) → Own o c (tale_of o done) → delivery_of c.stream from n ≡ delivery_by (story o done) done from n
-delivery_is o c done from n own =
+delivery_is : (o : Opening) (c : Connected) (done : List (StreamAct Octets)) (from : Option ℕ) (number : ℕ) (octets : Octets) (x : Delivery) → Own o c (tale_of o done)
+    → delivery_of c.stream number (length octets) ≡ delivery_by (story o done) done (record { from = from; number = number; octets = octets; delivery = x })
+delivery_is o c done from number octets x own =
+    let s : StreamState = c.stream in
     let k = own.track in
-    (λ i. cond (own.ended i) Dropped (delivery ((k.arrived ∙ ap (advanced (story o done).came) (sym (point_is c.stream (tale_of o done) k))) i) from n))
+    let point : in_order_point (story o done) ≡ s.arrived.floor = point_is s (tale_of o done) k ∙ sym k.point in
+    ap (λ n. cond (ended s) Dropped (delivery s.arrived (place_of s number) n)) (sym (length-drop (left_out s number) octets))
+    ∙ (λ i. cond (own.ended i) Dropped (delivery ((k.arrived ∙ ap (advanced (story o done).came) (sym (point_is s (tale_of o done) k))) i)
+    (place_near number (sym own.numbered.first i) (sym point i))
+    (length (drop (before_start number (sym own.numbered.first i) (sym point i)) octets))))
 
 octets_kept : (o : Opening) (c : Connected) (done : List (StreamAct Octets)) (table : Table) (act : StreamAct Octets) → StreamRule table c.stream act → Own o c (tale_of o done)
-    → OnSome (λ z. z.delivery ≡ delivery_by (story o done) done z.from (length z.octets)) (deed act).coming
-octets_kept o c done table (Deliver from octets delivery) rule own = rule ∙ delivery_is o c done from (length octets) own
-octets_kept o c done table (Raw from octets delivery) rule own = rule ∙ delivery_is o c done from (length octets) own
+    → OnSome (λ z. z.delivery ≡ delivery_by (story o done) done z) (deed act).coming
+octets_kept o c done table (Deliver from number octets delivery) rule own = rule.1 ∙ delivery_is o c done (Some from) number octets delivery own
+octets_kept o c done table (Raw number octets delivery) rule own = rule ∙ delivery_is o c done None number octets delivery own
 octets_kept o c done table (Recv len refused) rule own = tt
 octets_kept o c done table (Post m refused) rule own = tt
+octets_kept o c done table (First number refused) rule own = tt
 octets_kept o c done table (Mulpdu size refused) rule own = tt
 octets_kept o c done table (Accept private answer) rule own = tt
 octets_kept o c done table (Reject private refused) rule own = tt
@@ -931,21 +950,47 @@ octets_kept o c done table Break rule own = tt
 pub keeps_octets : (trace : List (Entry Octets)) → Follows start trace → KeepsOctets trace
 keeps_octets trace follows = each_stream KeptStream trace follows (λ done s n c act k domain rule own. octets_kept (opening_of n done) c (stream_acts n done) s.endpoint.table act rule own)
 
--- octets that are delivered are the other end's
-octets_carried : (peer : EndState) (others : List (Act Octets)) (act : Act Octets) → ((n : ℕ) → wire_at peer n ≡ sent (stream_acts n others)) → PeerRule peer act → OnStream CarriedStream others act
-octets_carried peer others (Stream n act) wires rule = subst (λ z. WireRule z act) (wires n) rule.1
-octets_carried peer others (Domain pd refused) wires rule = tt
-octets_carried peer others (Register pd base rights octets answer) wires rule = tt
-octets_carried peer others (Deregister stag answer) wires rule = tt
-octets_carried peer others (Invalidate stag refused) wires rule = tt
-octets_carried peer others (Store stag to octets refused) wires rule = tt
-octets_carried peer others (Open n pd role options private refused) wires rule = tt
+-- octets that are delivered are the other end's, and have the numbers of their places
+carried : (o : Opening) (c : Connected) (done : List (StreamAct Octets)) (table : Table) (wire : Octets) (act : StreamAct Octets) → StreamRule table c.stream act → WireRule wire act → Own o c (tale_of o done)
+    → OnSome (λ z. OnSome (IsCarried wire (story o done).first z) z.from) (deed act).coming
+carried o c done table wire (Deliver from number octets delivery) rule there own =
+    record { stand = there; numbered = rule.0 ∙ ap (λ n. (n + from) % 2 ^ 32) (sym own.numbered.first) }
+carried o c done table wire (Raw number octets delivery) rule there own = tt
+carried o c done table wire (First number refused) rule there own = tt
+carried o c done table wire (Recv len refused) rule there own = tt
+carried o c done table wire (Post m refused) rule there own = tt
+carried o c done table wire (Emit shown) rule there own = tt
+carried o c done table wire (Mulpdu size refused) rule there own = tt
+carried o c done table wire (Accept private answer) rule there own = tt
+carried o c done table wire (Reject private refused) rule there own = tt
+carried o c done table wire (Work step) rule there own = tt
+carried o c done table wire Break rule there own = tt
+
+-- of the stream that an act is of
+wire_of : (peer : EndState) (others : List (Act Octets)) (n : ℕ) (act : StreamAct Octets) → wire_at peer n ≡ sent (stream_acts n others) → PeerRule peer (Stream n act) → WireRule (sent (stream_acts n others)) act
+wire_of peer others n act wire rule = subst (λ z. WireRule z act) wire rule.1
+
+carries : (P : List (Act Octets) → ℕ → StreamAct Octets → Type 0) (done : List (Act Octets)) (s peer : EndState) (act : Act Octets) → Rule s peer act
+    → ((n : ℕ) (a : StreamAct Octets) → has_stream s.endpoint n ≡ true → StreamRule s.endpoint.table (connected_at s n).stream a → PeerRule peer (Stream n a) → P done n a) → OnStream P done act
+carries P done s peer (Stream n act) rule h = h n act rule.0.0 rule.0.1 rule.1
+carries P done s peer (Domain pd refused) rule h = tt
+carries P done s peer (Register pd base rights octets answer) rule h = tt
+carries P done s peer (Deregister stag answer) rule h = tt
+carries P done s peer (Invalidate stag refused) rule h = tt
+carries P done s peer (Store stag to octets refused) rule h = tt
+carries P done s peer (Open n pd role options private refused) rule h = tt
 
 pub carries_octets : (trace : List (Entry Octets)) → Follows start trace → CarriesOctets trace
 carries_octets trace follows past e future is =
     let m = moment past e future trace follows is in
     let w : State = state_after start past in
-    octets_carried (end_of (other e.end) w) (acts (other e.end) past) e.act (λ n. (m.0.pairs e.end n).own_peer.own.wire) m.1.1
+    let s : EndState = end_of e.end w in
+    let done : List (Act Octets) = acts e.end past in
+    let others : List (Act Octets) = acts (other e.end) past in
+    carries (CarriedStream others) done s (end_of (other e.end) w) e.act m.1 (λ n act opened rule there.
+    let h = (m.0.pairs e.end n).own in
+    let mine = left_acts s.endpoint.table (connected_at s n).stream h.stream (tale n done) act h.is_left h.own.track rule in
+    carried (opening_of n done) (held h) (stream_acts n done) s.endpoint.table (sent (stream_acts n others)) act mine.0 (wire_of (end_of (other e.end) w) others n act (m.0.pairs e.end n).own_peer.own.wire there) h.own)
 
 -- ---- streams that are there
 
@@ -953,12 +998,13 @@ carries_octets trace follows past e future is =
 stream_opened : (s peer : EndState) (own others : List (Act Octets)) (act : Act Octets) → EndKept s own → EndKept peer others → Rule s peer act → OnStream (OpenedStream others) own act
 stream_opened s peer own others (Stream n act) k j rule = (sym (k.opened n) ∙ rule.0.0, go act rule.1.0)
   where
-    go : (act : StreamAct Octets) → (needs_peer (stream_call_of act) ≡ true → has_stream peer.endpoint n ≡ true) → OnSome (λ c. c.raw ≡ false → was_opened (openings n others) ≡ true) (deed act).coming
-    go (Deliver from octets delivery) h = λ raw. sym (j.opened n) ∙ h refl
-    go (Raw from octets delivery) h = λ raw. absurd (false≢true (sym raw))
+    go : (act : StreamAct Octets) → (needs_peer (stream_call_of act) ≡ true → has_stream peer.endpoint n ≡ true) → OnSome (λ c. OnSome (λ from. was_opened (openings n others) ≡ true) c.from) (deed act).coming
+    go (Deliver from number octets delivery) h = sym (j.opened n) ∙ h refl
+    go (Raw number octets delivery) h = tt
     go (Recv len refused) h = tt
     go (Post m refused) h = tt
     go (Emit shown) h = tt
+    go (First number refused) h = tt
     go (Mulpdu size refused) h = tt
     go (Accept private answer) h = tt
     go (Reject private refused) h = tt

@@ -29,6 +29,7 @@ pub mod Owns
 pub mod Messages
 pub mod Refused
 pub mod RefusedReads
+pub mod RefusedWrap
 pub mod RefusedSent
 pub mod RefusedEnds
 pub mod Heard
@@ -37,6 +38,7 @@ pub mod Responded
 pub mod Delivered
 pub mod Placed
 pub mod Ends
+pub mod Nearby
 pub mod Whole
 pub mod Apart
 pub mod RefusedApart

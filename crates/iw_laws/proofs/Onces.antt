@@ -1,5 +1,5 @@
 -- No two frames that were placed overlap: what a stream keeps of where they lie, at each act.
-use Rattle.std.proofs.Common.{◌≡◌, ℕ, zero, suc, ◌+◌, ◌-◌, ◌≤◌, List, [], ◌∷◌, ◌++◌, length, map, Option, Some, None, true, false, cond, Contains, Ok, Err, refl, sym, ap, ◌∙◌, subst, arith, inl, inr}
+use Rattle.std.proofs.Common.{◌≡◌, ℕ, zero, suc, ◌+◌, ◌-◌, ◌≤◌, List, [], ◌∷◌, ◌++◌, length, drop, map, Option, Some, None, true, false, cond, Contains, Ok, Err, refl, sym, ap, ◌∙◌, subst, arith, inl, inr}
 use Rattle.std.specs.Prelude.{◌⊎◌, is_some, max}
 use Rattle.std.specs.Option.{option_map, option_map_or, option_or}
 use Rattle.std.proofs.lemmas.Bool.{cases_lt, true≢false, false≢true}
@@ -25,7 +25,7 @@ use Rattle.iw_locate.proofs.Telling.{overlaps_are_told}
 use Rattle.iw_stream.specs.declared.judging.PlacedFrame.{PlacedFrame}
 use Rattle.iw_stream.specs.Frames.{Frame, EarlyRecord, placed, record_of, placed_at}
 use Rattle.iw_stream.specs.Starting.{is_open, expecting, first_place_in}
-use Rattle.iw_stream.specs.Stream.{StreamState, Due, StartUp, LastWord, Response, NextPart, NoneDue, due, may_answer}
+use Rattle.iw_stream.specs.Stream.{StreamState, Due, StartUp, LastWord, Response, NextPart, NoneDue, due, may_answer, place_of, left_out}
 use Rattle.iw_stream.specs.Work.{scene, waiting, clashes, inbox}
 use Rattle.iw_stream.specs.Work as work
 use Rattle.iw_stream.proofs.Landings.{length_ulpdu}
@@ -34,7 +34,7 @@ use Rattle.iw_startup.specs.declared.progress.Progress.{Progress}
 use Rattle.iw_startup.specs.declared.progress.Progress.TheVariants as progresses
 use Rattle.iw_memory.specs.Table.{Table}
 use Rattle.iw_events.specs.declared.act.StreamAct.{StreamAct}
-use Rattle.iw_events.specs.declared.act.StreamAct.TheVariants.{Recv, Post, Emit, Deliver, Raw, Mulpdu, Accept, Reject, Work, Break}
+use Rattle.iw_events.specs.declared.act.StreamAct.TheVariants.{Recv, Post, Emit, First, Deliver, Raw, Mulpdu, Accept, Reject, Work, Break}
 use Rattle.iw_events.specs.declared.act.Shown.{Shown}
 use Rattle.iw_events.specs.declared.act.Shown.TheVariants as shows
 use Rattle.iw_events.specs.declared.act.Seen.{Seen}
@@ -314,11 +314,13 @@ not_answered s e =
     ap is_open w.is ∙ ap is_some (unanswered_not_agreed w.startup (unanswered w.startup w.asked))
 
 pub once_after : (table : Table) (s : StreamState) (t : Tale) (act : StreamAct Octets) (spans : List (Option Span)) → Told table s act → Track s t → Onces s spans → Onces (after_act s act) (spans ++ spans_by t.story act)
-once_after table s t (Deliver from octets Kept) spans rule k o = still_once s (after_act s (Deliver from octets Kept)) spans refl refl (floor_takes s.arrived from octets) (λ r within. within) o
-once_after table s t (Raw from octets Kept) spans rule k o = still_once s (after_act s (Raw from octets Kept)) spans refl refl (floor_takes s.arrived from octets) (λ r within. within) o
-once_after table s t (Deliver from octets Dropped) spans rule k o = same_once s s spans refl refl refl refl o
-once_after table s t (Raw from octets Dropped) spans rule k o = same_once s s spans refl refl refl refl o
+once_after table s t (Deliver from number octets Kept) spans rule k o = still_once s (after_act s (Deliver from number octets Kept)) spans refl refl (floor_takes s.arrived (place_of s number) (drop (left_out s number) octets)) (λ r within. within) o
+once_after table s t (Raw number octets Kept) spans rule k o = still_once s (after_act s (Raw number octets Kept)) spans refl refl (floor_takes s.arrived (place_of s number) (drop (left_out s number) octets)) (λ r within. within) o
+once_after table s t (Deliver from number octets Dropped) spans rule k o = same_once s (after_act s (Deliver from number octets Dropped)) spans refl refl refl refl o
+once_after table s t (Raw number octets Dropped) spans rule k o = same_once s (after_act s (Raw number octets Dropped)) spans refl refl refl refl o
+once_after table s t (First number None) spans rule k o = same_once s (after_act s (First number None)) spans refl refl refl refl o
 once_after table s t (Mulpdu size None) spans rule k o = same_once s (after_act s (Mulpdu size None)) spans refl refl refl refl o
+once_after table s t (First number (Some refusal)) spans rule k o = same_once s s spans refl refl refl refl o
 once_after table s t (Mulpdu size (Some refusal)) spans rule k o = same_once s s spans refl refl refl refl o
 once_after table s t (Post m None) spans rule k o = same_once s (after_act s (Post m None)) spans refl refl refl refl o
 once_after table s t (Post m (Some refusal)) spans rule k o = same_once s s spans refl refl refl refl o

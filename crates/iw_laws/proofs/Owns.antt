@@ -88,7 +88,7 @@ use Rattle.iw_stream.specs.declared.answer.Role.{Role}
 use Rattle.iw_stream.specs.declared.answer.Role.TheVariants.{Preset, Initiator, Responder}
 use Rattle.iw_stream.specs.Frames.{payload_of}
 use Rattle.iw_stream.specs.Starting.{StartState, AtOnce, Unheard, Heard, is_open, sending, own_frame, first_place_in, is_responder, heard, answered_with, first_place_out}
-use Rattle.iw_stream.specs.Stream.{StreamState, Due, StartUp, Response as NextResponse, NextPart, NoneDue, LastWord, ended, size_refusal, due, emission_of, emitted, response_due, frame_of, is_read, reads_with, owes_frame, keeps_silent}
+use Rattle.iw_stream.specs.Stream.{StreamState, Due, StartUp, Response as NextResponse, NextPart, NoneDue, LastWord, ended, size_refusal, due, emission_of, emitted, response_due, frame_of, is_read, reads_with, owes_frame, keeps_silent, place_of, left_out}
 use Rattle.iw_stream.specs.declared.ending.Ending.{Ending}
 use Rattle.iw_stream.specs.declared.ending.Ending.TheVariants.{Runs, Over, Broken}
 use Rattle.iw_stream.specs.Ending.{has_ended, is_broken, last_word, with_last_word}
@@ -98,7 +98,7 @@ use Rattle.iw_laws.specs.Faithful.{count_done}
 use Rattle.iw_octets.specs.declared.fault.Fault.{Fault}
 use Rattle.iw_stream.specs.Work.{inbox, waiting}
 use Rattle.iw_events.specs.declared.act.StreamAct.{StreamAct}
-use Rattle.iw_events.specs.declared.act.StreamAct.TheVariants.{Recv, Post, Emit, Deliver, Raw, Mulpdu, Accept, Reject, Work, Break}
+use Rattle.iw_events.specs.declared.act.StreamAct.TheVariants.{Recv, Post, Emit, First, Deliver, Raw, Mulpdu, Accept, Reject, Work, Break}
 use Rattle.iw_events.specs.declared.act.Shown.{Shown}
 use Rattle.iw_events.specs.declared.act.Shown.TheVariants.{Frame, Fetched, Fault as Denied, Nothing}
 use Rattle.iw_events.specs.declared.act.Seen.TheVariants as seen
@@ -206,10 +206,16 @@ pub record Doing (t : Tale) : Type 0 where
   pub answered : count_done t.finished ≤ t.story.answered
   pub among : count_done t.finished ≤ count_done t.handed
 
+-- the acts tell the number of the peer's first octet, and whether octets were delivered
+pub record KnowsNumbers (s : StreamState) (t : Story) : Type 0 where
+  pub first : t.first ≡ s.first
+  pub delivered : t.was_delivered ≡ s.answered
+
 pub record Own (o : Opening) (c : Connected) (t : Tale) : Type 0 where
   pub wire : c.wire ≡ t.sent
   pub sent : c.stream.sent ≡ length t.sent
   pub due : c.stream.receiving.due ≡ (1 + length t.received) % 2 ^ 32
+  pub numbered : KnowsNumbers c.stream t.story
   pub starts : IsStartOf o c.stream.start
   pub small : length o.config.private.items ≤ 512
   pub emits : Emits c.stream t
@@ -224,19 +230,60 @@ pub record Own (o : Opening) (c : Connected) (t : Tale) : Type 0 where
 pub record LeavesHeard (s s' : StreamState) : Type 0 where
   pub receiving : s'.receiving ≡ s.receiving
   pub start : s'.start ≡ s.start
+  pub first : s'.first ≡ s.first
+  pub answered : s'.answered ≡ s.answered
 
 left_heard : (s : StreamState) (shown : Shown Octets) → LeavesHeard s (after_shown s shown)
 left_heard s (Frame from octets) = go (due s)
   where
     go : (d : Due) → LeavesHeard s (left_frame s d)
-    go StartUp = record { receiving = refl; start = refl }
-    go (LastWord payload) = record { receiving = refl; start = refl }
-    go (NextResponse part) = record { receiving = refl; start = refl }
-    go (NextPart part) = record { receiving = refl; start = refl }
-    go NoneDue = record { receiving = refl; start = refl }
-left_heard s (Fetched from frame stag to octets) = record { receiving = refl; start = refl }
-left_heard s (Denied fault) = record { receiving = refl; start = refl }
-left_heard s Nothing = record { receiving = refl; start = refl }
+    go StartUp = record { receiving = refl; start = refl; first = refl; answered = refl }
+    go (LastWord payload) = record { receiving = refl; start = refl; first = refl; answered = refl }
+    go (NextResponse part) = record { receiving = refl; start = refl; first = refl; answered = refl }
+    go (NextPart part) = record { receiving = refl; start = refl; first = refl; answered = refl }
+    go NoneDue = record { receiving = refl; start = refl; first = refl; answered = refl }
+left_heard s (Fetched from frame stag to octets) = record { receiving = refl; start = refl; first = refl; answered = refl }
+left_heard s (Denied fault) = record { receiving = refl; start = refl; first = refl; answered = refl }
+left_heard s Nothing = record { receiving = refl; start = refl; first = refl; answered = refl }
+
+knows_numbers : (s : StreamState) (t : Tale) (act : StreamAct Octets) → KnowsNumbers s t.story → KnowsNumbers (after_act s act) (tale_after t act).story
+knows_numbers s t (Work (seen.Received octets solicited invalidate)) h = record { first = h.first; delivered = h.delivered }
+knows_numbers s t (Work seen.Passed) h = record { first = h.first; delivered = h.delivered }
+knows_numbers s t (Work (seen.Requested size stag to)) h = record { first = h.first; delivered = h.delivered }
+knows_numbers s t (Work (seen.Done kind)) h = record { first = h.first; delivered = h.delivered }
+knows_numbers s t (Work (seen.Placed right stag to octets)) h = record { first = h.first; delivered = h.delivered }
+knows_numbers s t (Work (seen.Tried place)) h = record { first = h.first; delivered = h.delivered }
+knows_numbers s t (Work (seen.Buffered msn mo len)) h = record { first = h.first; delivered = h.delivered }
+knows_numbers s t (Work (seen.Flushed kind)) h = record { first = h.first; delivered = h.delivered }
+knows_numbers s t (Work (seen.FlushedRecv octets)) h = record { first = h.first; delivered = h.delivered }
+knows_numbers s t (Work (seen.Terminated fault)) h = record { first = h.first; delivered = h.delivered }
+knows_numbers s t Break h = record { first = h.first; delivered = h.delivered }
+knows_numbers s t (Work (seen.Fault fault)) h = record { first = h.first; delivered = h.delivered }
+knows_numbers s t (Work seen.Idle) h = record { first = h.first; delivered = h.delivered }
+knows_numbers s t (Recv len None) h = record { first = h.first; delivered = h.delivered }
+knows_numbers s t (Recv len (Some refusal)) h = record { first = h.first; delivered = h.delivered }
+knows_numbers s t (Post m None) h = record { first = h.first; delivered = h.delivered }
+knows_numbers s t (Post m (Some refusal)) h = record { first = h.first; delivered = h.delivered }
+knows_numbers s t (Emit shown) h = let told = shown_stays t.story shown in let left = left_heard s shown in record { first = told.first ∙ h.first ∙ sym left.first; delivered = told.was_delivered ∙ h.delivered ∙ sym left.answered }
+knows_numbers s t (Accept private (Ok agreed)) h = record { first = h.first; delivered = h.delivered }
+knows_numbers s t (Accept private (Err refusal)) h = record { first = h.first; delivered = h.delivered }
+knows_numbers s t (Reject private None) h = record { first = h.first; delivered = h.delivered }
+knows_numbers s t (Reject private (Some refusal)) h = record { first = h.first; delivered = h.delivered }
+knows_numbers s t (Work (seen.Asked private)) h = record { first = h.first; delivered = h.delivered }
+knows_numbers s t (Work (seen.Opened agreed private)) h = record { first = h.first; delivered = h.delivered }
+knows_numbers s t (Work (seen.Closed fault)) h = record { first = h.first; delivered = h.delivered }
+knows_numbers s t (Deliver from number octets Kept) h = record { first = h.first; delivered = refl }
+knows_numbers s t (Raw number octets Kept) h = record { first = h.first; delivered = refl }
+knows_numbers s t (Deliver from number octets Dropped) h = record { first = h.first; delivered = refl }
+knows_numbers s t (Raw number octets Dropped) h = record { first = h.first; delivered = refl }
+knows_numbers s t (First number None) h = record { first = refl; delivered = h.delivered }
+knows_numbers s t (Mulpdu size None) h = record { first = h.first; delivered = h.delivered }
+knows_numbers s t (First number (Some refusal)) h = record { first = h.first; delivered = h.delivered }
+knows_numbers s t (Mulpdu size (Some refusal)) h = record { first = h.first; delivered = h.delivered }
+
+on_any : {A P : Type 0} (o : Option A) → P → OnSome {A = A} (λ z. P) o
+on_any None h = tt
+on_any (Some x) h = h
 
 -- ---- the end
 
@@ -330,11 +377,13 @@ due_is s (Reject private (Some refusal)) done e = same_due s.receiving.due done 
 due_is s (Work (seen.Asked private)) done e = same_due s.receiving.due done e
 due_is s (Work (seen.Opened agreed private)) done e = same_due s.receiving.due done e
 due_is s (Work (seen.Closed fault)) done e = same_due s.receiving.due done e
-due_is s (Deliver from octets Kept) done e = same_due s.receiving.due done e
-due_is s (Raw from octets Kept) done e = same_due s.receiving.due done e
-due_is s (Deliver from octets Dropped) done e = same_due s.receiving.due done e
-due_is s (Raw from octets Dropped) done e = same_due s.receiving.due done e
+due_is s (Deliver from number octets Kept) done e = same_due s.receiving.due done e
+due_is s (Raw number octets Kept) done e = same_due s.receiving.due done e
+due_is s (Deliver from number octets Dropped) done e = same_due s.receiving.due done e
+due_is s (Raw number octets Dropped) done e = same_due s.receiving.due done e
+due_is s (First number None) done e = same_due s.receiving.due done e
 due_is s (Mulpdu size None) done e = same_due s.receiving.due done e
+due_is s (First number (Some refusal)) done e = same_due s.receiving.due done e
 due_is s (Mulpdu size (Some refusal)) done e = same_due s.receiving.due done e
 
 same_sent : (n : ℕ) (sent : List ℕ) → n ≡ length sent → n ≡ length (sent ++ [])
@@ -366,11 +415,13 @@ sent_is table s (Recv len None) sent rule e = same_sent s.sent sent e
 sent_is table s (Recv len (Some refusal)) sent rule e = same_sent s.sent sent e
 sent_is table s (Post m None) sent rule e = same_sent s.sent sent e
 sent_is table s (Post m (Some refusal)) sent rule e = same_sent s.sent sent e
-sent_is table s (Deliver from octets Kept) sent rule e = same_sent s.sent sent e
-sent_is table s (Raw from octets Kept) sent rule e = same_sent s.sent sent e
-sent_is table s (Deliver from octets Dropped) sent rule e = same_sent s.sent sent e
-sent_is table s (Raw from octets Dropped) sent rule e = same_sent s.sent sent e
+sent_is table s (Deliver from number octets Kept) sent rule e = same_sent s.sent sent e
+sent_is table s (Raw number octets Kept) sent rule e = same_sent s.sent sent e
+sent_is table s (Deliver from number octets Dropped) sent rule e = same_sent s.sent sent e
+sent_is table s (Raw number octets Dropped) sent rule e = same_sent s.sent sent e
+sent_is table s (First number None) sent rule e = same_sent s.sent sent e
 sent_is table s (Mulpdu size None) sent rule e = same_sent s.sent sent e
+sent_is table s (First number (Some refusal)) sent rule e = same_sent s.sent sent e
 sent_is table s (Mulpdu size (Some refusal)) sent rule e = same_sent s.sent sent e
 
 -- a stream that may speak still may
@@ -1298,10 +1349,10 @@ late : (b : Bool) (n : ℕ) → (b && nat_eq (n + 1) 0) ≡ false
 late true n = grind (arith, nat_tests)
 late false n = refl
 
-loud : (table : Table) (s : StreamState) (t : Tale) (act : StreamAct Octets) → Told table s act → t.story.reads ≡ s.reads → Track s t → (tale_after t act).story.turns ≡ t.story.turns + 1 → keeps_silent (after_act s act) ≡ false
-loud table s t act rule same k turns =
+loud : (table : Table) (s : StreamState) (t : Tale) (act : StreamAct Octets) → Told table s act → t.story.reads ≡ s.reads → OnSome (λ c. t.story.first ≡ s.first) (deed act).coming → Track s t → (tale_after t act).story.turns ≡ t.story.turns + 1 → keeps_silent (after_act s act) ≡ false
+loud table s t act rule same first k turns =
     let t' : Tale = tale_after t act in
-    silent_is (after_act s act) t' (tracking table s t act rule same k) ∙ ap (λ n. is_responder t'.story.start && nat_eq n 0) turns ∙ late (is_responder t'.story.start) t.story.turns
+    silent_is (after_act s act) t' (tracking table s t act rule same first k) ∙ ap (λ n. is_responder t'.story.start && nat_eq n 0) turns ∙ late (is_responder t'.story.start) t.story.turns
 
 -- the stream ends, and no Terminate is due: it may speak, or its link broke
 ends_loud : (s s' : StreamState) (t : Tale) (act : StreamAct Octets) → s'.start ≡ s.start → StaysQuiet s s' t act → s'.ending ≡ Over None → (story_after t.story act).ending ≡ Over None → is_open s.start ≡ true → keeps_silent s' ≡ false → Emits s t → Emits s' (tale_after t act)
@@ -1356,8 +1407,8 @@ fault_runs table s fault (inl j) = record { running = j.runs.running; started = 
 fault_runs table s fault (inr j) = record { running = j.runs.running; started = j.runs.started }
 
 -- octets that come leave it where it is
-waits : (s : StreamState) (from : ℕ) (octets : Octets) → keeps_silent (after_act s (Raw from octets Kept)) ≡ true → keeps_silent s ≡ true
-waits s from octets h = ap (λ n. is_responder s.start && nat_eq n (first_place_in s.start)) (sym (floor_takes s.arrived from octets)) ∙ h
+waits : (s : StreamState) (number : ℕ) (octets : Octets) → keeps_silent (after_act s (Raw number octets Kept)) ≡ true → keeps_silent s ≡ true
+waits s number octets h = ap (λ n. is_responder s.start && nat_eq n (first_place_in s.start)) (sym (floor_takes s.arrived (place_of s number) (drop (left_out s number) octets))) ∙ h
 
 -- ---- turns
 
@@ -1528,6 +1579,7 @@ emitting table s t (Work (seen.Fault fault)) rule sent k e =
     ends_fault s (after_act s (Work (seen.Fault fault))) t (Work (seen.Fault fault)) (fault_front s fault) (terminate_next t.story fault) k refl
     (record { queue = refl; numbers = refl; mulpdu = refl; reads = refl; asked = refl; posted = refl; handed = refl; size = refl; sent = refl; said = record { whole = refl; reads = refl; answered = refl; asked = refl; answers = refl; begun = refl }; running = λ h. absurd (true≢false (sym (by_ended s (fault_front s fault)) ∙ h)); farewell = refl })
     r.running r.started (λ h. h) refl refl (terminate_is s t fault k e.asks.asked) (front_few s fault) e
+emitting table s t (First number None) rule sent k e = quiet s (after_act s (First number None)) t (First number None) refl (record { queue = refl; numbers = refl; mulpdu = refl; reads = refl; asked = refl; posted = refl; handed = refl; size = refl; sent = refl; said = record { whole = refl; reads = refl; answered = refl; asked = refl; answers = refl; begun = refl }; running = λ h. h; farewell = refl }) (record { ending = refl; told = refl; farewell = refl }) (λ h. h) e
 emitting table s t (Mulpdu size None) rule sent k e = sets_size s t size rule e
 emitting table s t (Work (seen.Done kind)) rule sent k e = hands_out s t kind rule.0 rule.1 rule.2 e
 emitting table s t (Work (seen.Flushed kind)) rule sent k e = gives_up s t kind rule e
@@ -1536,13 +1588,14 @@ emitting table s t (Reject private None) rule sent k e = rejects_frame s (after_
 emitting table s t (Work (seen.Asked private)) rule sent k e = hears_on s (after_act s (Work (seen.Asked private))) t (Work (seen.Asked private)) progresses.Asked rule.0 refl (record { queue = refl; numbers = refl; mulpdu = refl; reads = refl; asked = refl; posted = refl; handed = refl; size = refl; sent = refl; said = record { whole = refl; reads = refl; answered = refl; asked = refl; answers = refl; begun = refl }; running = λ h. h; farewell = refl }) (record { ending = refl; told = refl; farewell = refl }) e
 emitting table s t (Work (seen.Opened agreed private)) rule sent k e = hears_on s (after_act s (Work (seen.Opened agreed private))) t (Work (seen.Opened agreed private)) progresses.Agreed rule.0 refl (record { queue = refl; numbers = refl; mulpdu = refl; reads = refl; asked = refl; posted = refl; handed = refl; size = refl; sent = refl; said = record { whole = refl; reads = refl; answered = refl; asked = refl; answers = refl; begun = refl }; running = λ h. h; farewell = refl }) (record { ending = refl; told = refl; farewell = refl }) e
 emitting table s t (Work (seen.Closed fault)) rule sent k e = hears_end s (after_act s (Work (seen.Closed fault))) t (Work (seen.Closed fault)) (progresses.Faulted fault) rule refl (record { queue = refl; numbers = refl; mulpdu = refl; reads = refl; asked = refl; posted = refl; handed = refl; size = refl; sent = refl; said = record { whole = refl; reads = refl; answered = refl; asked = refl; answers = refl; begun = refl }; running = λ h. absurd (true≢false h); farewell = refl }) refl refl e
-emitting table s t (Work (seen.Terminated fault)) rule sent k e = ends_loud s (after_act s (Work (seen.Terminated fault))) t (Work (seen.Terminated fault)) refl (record { queue = refl; numbers = refl; mulpdu = refl; reads = refl; asked = refl; posted = refl; handed = refl; size = refl; sent = refl; said = record { whole = refl; reads = refl; answered = refl; asked = refl; answers = refl; begun = refl }; running = λ h. absurd (true≢false h); farewell = refl }) refl refl rule.1.fronts.started (loud table s t (Work (seen.Terminated fault)) rule e.asks.reads k refl) e
+emitting table s t (Work (seen.Terminated fault)) rule sent k e = ends_loud s (after_act s (Work (seen.Terminated fault))) t (Work (seen.Terminated fault)) refl (record { queue = refl; numbers = refl; mulpdu = refl; reads = refl; asked = refl; posted = refl; handed = refl; size = refl; sent = refl; said = record { whole = refl; reads = refl; answered = refl; asked = refl; answers = refl; begun = refl }; running = λ h. absurd (true≢false h); farewell = refl }) refl refl rule.1.fronts.started (loud table s t (Work (seen.Terminated fault)) rule e.asks.reads tt k refl) e
 emitting table s t Break rule sent k e = ends_broken s (after_act s Break) t Break refl (record { queue = refl; numbers = refl; mulpdu = refl; reads = refl; asked = refl; posted = refl; handed = refl; size = refl; sent = refl; said = record { whole = refl; reads = refl; answered = refl; asked = refl; answers = refl; begun = refl }; running = λ h. absurd (true≢false h); farewell = refl }) refl refl (λ h. h) e
 emitting table s t (Emit Nothing) rule sent k e = quiet s s t (Emit Nothing) refl (record { queue = refl; numbers = refl; mulpdu = refl; reads = refl; asked = refl; posted = refl; handed = refl; size = refl; sent = refl; said = record { whole = refl; reads = refl; answered = refl; asked = refl; answers = refl; begun = refl }; running = λ h. h; farewell = refl }) (record { ending = refl; told = refl; farewell = refl }) (λ h. h) e
 emitting table s t (Post m (Some refusal)) rule sent k e = quiet s s t (Post m (Some refusal)) refl (record { queue = refl; numbers = refl; mulpdu = refl; reads = refl; asked = refl; posted = refl; handed = refl; size = refl; sent = refl; said = record { whole = refl; reads = refl; answered = refl; asked = refl; answers = refl; begun = refl }; running = λ h. h; farewell = refl }) (record { ending = refl; told = refl; farewell = refl }) (λ h. h) e
 emitting table s t (Recv len (Some refusal)) rule sent k e = quiet s s t (Recv len (Some refusal)) refl (record { queue = refl; numbers = refl; mulpdu = refl; reads = refl; asked = refl; posted = refl; handed = refl; size = refl; sent = refl; said = record { whole = refl; reads = refl; answered = refl; asked = refl; answers = refl; begun = refl }; running = λ h. h; farewell = refl }) (record { ending = refl; told = refl; farewell = refl }) (λ h. h) e
-emitting table s t (Deliver from octets Dropped) rule sent k e = quiet s s t (Deliver from octets Dropped) refl (record { queue = refl; numbers = refl; mulpdu = refl; reads = refl; asked = refl; posted = refl; handed = refl; size = refl; sent = refl; said = record { whole = refl; reads = refl; answered = refl; asked = refl; answers = refl; begun = refl }; running = λ h. h; farewell = refl }) (record { ending = refl; told = refl; farewell = refl }) (λ h. h) e
-emitting table s t (Raw from octets Dropped) rule sent k e = quiet s s t (Raw from octets Dropped) refl (record { queue = refl; numbers = refl; mulpdu = refl; reads = refl; asked = refl; posted = refl; handed = refl; size = refl; sent = refl; said = record { whole = refl; reads = refl; answered = refl; asked = refl; answers = refl; begun = refl }; running = λ h. h; farewell = refl }) (record { ending = refl; told = refl; farewell = refl }) (λ h. h) e
+emitting table s t (Deliver from number octets Dropped) rule sent k e = quiet s (after_act s (Deliver from number octets Dropped)) t (Deliver from number octets Dropped) refl (record { queue = refl; numbers = refl; mulpdu = refl; reads = refl; asked = refl; posted = refl; handed = refl; size = refl; sent = refl; said = record { whole = refl; reads = refl; answered = refl; asked = refl; answers = refl; begun = refl }; running = λ h. h; farewell = refl }) (record { ending = refl; told = refl; farewell = refl }) (λ h. h) e
+emitting table s t (Raw number octets Dropped) rule sent k e = quiet s (after_act s (Raw number octets Dropped)) t (Raw number octets Dropped) refl (record { queue = refl; numbers = refl; mulpdu = refl; reads = refl; asked = refl; posted = refl; handed = refl; size = refl; sent = refl; said = record { whole = refl; reads = refl; answered = refl; asked = refl; answers = refl; begun = refl }; running = λ h. h; farewell = refl }) (record { ending = refl; told = refl; farewell = refl }) (λ h. h) e
+emitting table s t (First number (Some refusal)) rule sent k e = quiet s s t (First number (Some refusal)) refl (record { queue = refl; numbers = refl; mulpdu = refl; reads = refl; asked = refl; posted = refl; handed = refl; size = refl; sent = refl; said = record { whole = refl; reads = refl; answered = refl; asked = refl; answers = refl; begun = refl }; running = λ h. h; farewell = refl }) (record { ending = refl; told = refl; farewell = refl }) (λ h. h) e
 emitting table s t (Mulpdu size (Some refusal)) rule sent k e = quiet s s t (Mulpdu size (Some refusal)) refl (record { queue = refl; numbers = refl; mulpdu = refl; reads = refl; asked = refl; posted = refl; handed = refl; size = refl; sent = refl; said = record { whole = refl; reads = refl; answered = refl; asked = refl; answers = refl; begun = refl }; running = λ h. h; farewell = refl }) (record { ending = refl; told = refl; farewell = refl }) (λ h. h) e
 emitting table s t (Accept private (Err refusal)) rule sent k e = quiet s s t (Accept private (Err refusal)) refl (record { queue = refl; numbers = refl; mulpdu = refl; reads = refl; asked = refl; posted = refl; handed = refl; size = refl; sent = refl; said = record { whole = refl; reads = refl; answered = refl; asked = refl; answers = refl; begun = refl }; running = λ h. h; farewell = refl }) (record { ending = refl; told = refl; farewell = refl }) (λ h. h) e
 emitting table s t (Reject private (Some refusal)) rule sent k e = quiet s s t (Reject private (Some refusal)) refl (record { queue = refl; numbers = refl; mulpdu = refl; reads = refl; asked = refl; posted = refl; handed = refl; size = refl; sent = refl; said = record { whole = refl; reads = refl; answered = refl; asked = refl; answers = refl; begun = refl }; running = λ h. h; farewell = refl }) (record { ending = refl; told = refl; farewell = refl }) (λ h. h) e
@@ -1552,11 +1605,11 @@ emitting table s t (Work (seen.Placed right stag to octets)) rule sent k e = qui
 emitting table s t (Work (seen.Tried place)) rule sent k e = quiet s (after_act s (Work (seen.Tried place))) t (Work (seen.Tried place)) refl (record { queue = refl; numbers = refl; mulpdu = refl; reads = refl; asked = refl; posted = refl; handed = refl; size = refl; sent = refl; said = record { whole = refl; reads = refl; answered = refl; asked = refl; answers = refl; begun = refl }; running = λ h. h; farewell = refl }) (record { ending = refl; told = refl; farewell = refl }) (λ h. h) e
 emitting table s t (Work (seen.Buffered msn mo len)) rule sent k e = quiet s (after_act s (Work (seen.Buffered msn mo len))) t (Work (seen.Buffered msn mo len)) refl (record { queue = refl; numbers = refl; mulpdu = refl; reads = refl; asked = refl; posted = refl; handed = refl; size = refl; sent = refl; said = record { whole = refl; reads = refl; answered = refl; asked = refl; answers = refl; begun = refl }; running = λ h. h; farewell = refl }) (record { ending = refl; told = refl; farewell = refl }) (λ h. h) e
 emitting table s t (Work (seen.FlushedRecv octets)) rule sent k e = quiet s (after_act s (Work (seen.FlushedRecv octets))) t (Work (seen.FlushedRecv octets)) refl (record { queue = refl; numbers = refl; mulpdu = refl; reads = refl; asked = refl; posted = refl; handed = refl; size = refl; sent = refl; said = record { whole = refl; reads = refl; answered = refl; asked = refl; answers = refl; begun = refl }; running = λ h. h; farewell = refl }) (record { ending = refl; told = refl; farewell = refl }) (λ h. h) e
-emitting table s t (Deliver from octets Kept) rule sent k e = quiet s (after_act s (Deliver from octets Kept)) t (Deliver from octets Kept) refl (record { queue = refl; numbers = refl; mulpdu = refl; reads = refl; asked = refl; posted = refl; handed = refl; size = refl; sent = refl; said = record { whole = refl; reads = refl; answered = refl; asked = refl; answers = refl; begun = refl }; running = λ h. h; farewell = refl }) (record { ending = refl; told = refl; farewell = refl }) (waits s from octets) e
-emitting table s t (Raw from octets Kept) rule sent k e = quiet s (after_act s (Raw from octets Kept)) t (Raw from octets Kept) refl (record { queue = refl; numbers = refl; mulpdu = refl; reads = refl; asked = refl; posted = refl; handed = refl; size = refl; sent = refl; said = record { whole = refl; reads = refl; answered = refl; asked = refl; answers = refl; begun = refl }; running = λ h. h; farewell = refl }) (record { ending = refl; told = refl; farewell = refl }) (waits s from octets) e
-emitting table s t (Work seen.Passed) rule sent k e = passes table s t rule k (loud table s t (Work seen.Passed) rule e.asks.reads k refl) e
-emitting table s t (Work (seen.Requested size stag to)) rule sent k e = takes table s t size stag to rule k (loud table s t (Work (seen.Requested size stag to)) rule e.asks.reads k refl) e
-emitting table s t (Work (seen.Received octets solicited invalidate)) rule sent k e = quiet s (after_act s (Work (seen.Received octets solicited invalidate))) t (Work (seen.Received octets solicited invalidate)) refl (record { queue = refl; numbers = refl; mulpdu = refl; reads = refl; asked = refl; posted = refl; handed = refl; size = refl; sent = refl; said = record { whole = refl; reads = refl; answered = refl; asked = refl; answers = refl; begun = refl }; running = λ h. h; farewell = refl }) (record { ending = refl; told = refl; farewell = refl }) (λ h. absurd (false≢true (sym (loud table s t (Work (seen.Received octets solicited invalidate)) rule e.asks.reads k refl) ∙ h))) e
+emitting table s t (Deliver from number octets Kept) rule sent k e = quiet s (after_act s (Deliver from number octets Kept)) t (Deliver from number octets Kept) refl (record { queue = refl; numbers = refl; mulpdu = refl; reads = refl; asked = refl; posted = refl; handed = refl; size = refl; sent = refl; said = record { whole = refl; reads = refl; answered = refl; asked = refl; answers = refl; begun = refl }; running = λ h. h; farewell = refl }) (record { ending = refl; told = refl; farewell = refl }) (waits s number octets) e
+emitting table s t (Raw number octets Kept) rule sent k e = quiet s (after_act s (Raw number octets Kept)) t (Raw number octets Kept) refl (record { queue = refl; numbers = refl; mulpdu = refl; reads = refl; asked = refl; posted = refl; handed = refl; size = refl; sent = refl; said = record { whole = refl; reads = refl; answered = refl; asked = refl; answers = refl; begun = refl }; running = λ h. h; farewell = refl }) (record { ending = refl; told = refl; farewell = refl }) (waits s number octets) e
+emitting table s t (Work seen.Passed) rule sent k e = passes table s t rule k (loud table s t (Work seen.Passed) rule e.asks.reads tt k refl) e
+emitting table s t (Work (seen.Requested size stag to)) rule sent k e = takes table s t size stag to rule k (loud table s t (Work (seen.Requested size stag to)) rule e.asks.reads tt k refl) e
+emitting table s t (Work (seen.Received octets solicited invalidate)) rule sent k e = quiet s (after_act s (Work (seen.Received octets solicited invalidate))) t (Work (seen.Received octets solicited invalidate)) refl (record { queue = refl; numbers = refl; mulpdu = refl; reads = refl; asked = refl; posted = refl; handed = refl; size = refl; sent = refl; said = record { whole = refl; reads = refl; answered = refl; asked = refl; answers = refl; begun = refl }; running = λ h. h; farewell = refl }) (record { ending = refl; told = refl; farewell = refl }) (λ h. absurd (false≢true (sym (loud table s t (Work (seen.Received octets solicited invalidate)) rule e.asks.reads tt k refl) ∙ h))) e
 
 ended_is : (table : Table) (s : StreamState) (act : StreamAct Octets) → Told table s act → ended (after_act s act) ≡ ended_after (ended s) act
 ended_is table s (Work (seen.Fault fault)) rule = by_ended s (fault_front s fault)
@@ -1584,11 +1637,13 @@ ended_is table s (Reject private (Some refusal)) rule = refl
 ended_is table s (Work (seen.Asked private)) rule = refl
 ended_is table s (Work (seen.Opened agreed private)) rule = refl
 ended_is table s (Work (seen.Closed fault)) rule = refl
-ended_is table s (Deliver from octets Kept) rule = refl
-ended_is table s (Raw from octets Kept) rule = refl
-ended_is table s (Deliver from octets Dropped) rule = refl
-ended_is table s (Raw from octets Dropped) rule = refl
+ended_is table s (Deliver from number octets Kept) rule = refl
+ended_is table s (Raw number octets Kept) rule = refl
+ended_is table s (Deliver from number octets Dropped) rule = refl
+ended_is table s (Raw number octets Dropped) rule = refl
+ended_is table s (First number None) rule = refl
 ended_is table s (Mulpdu size None) rule = refl
+ended_is table s (First number (Some refusal)) rule = refl
 ended_is table s (Mulpdu size (Some refusal)) rule = refl
 
 -- ---- how a stream began
@@ -1620,11 +1675,13 @@ starting o table s (Post m None) rule h = h
 starting o table s (Post m (Some refusal)) rule h = h
 starting o table s (Recv len None) rule h = h
 starting o table s (Recv len (Some refusal)) rule h = h
-starting o table s (Deliver from octets Kept) rule h = h
-starting o table s (Deliver from octets Dropped) rule h = h
-starting o table s (Raw from octets Kept) rule h = h
-starting o table s (Raw from octets Dropped) rule h = h
+starting o table s (Deliver from number octets Kept) rule h = h
+starting o table s (Deliver from number octets Dropped) rule h = h
+starting o table s (Raw number octets Kept) rule h = h
+starting o table s (Raw number octets Dropped) rule h = h
+starting o table s (First number None) rule h = h
 starting o table s (Mulpdu size None) rule h = h
+starting o table s (First number (Some refusal)) rule h = h
 starting o table s (Mulpdu size (Some refusal)) rule h = h
 starting o table s (Accept private (Err refusal)) rule h = h
 starting o table s (Reject private (Some refusal)) rule h = h
@@ -1720,11 +1777,13 @@ doing table s t (Recv len None) rule e k = quiet_doing t (Recv len None) refl re
 doing table s t (Recv len (Some refusal)) rule e k = quiet_doing t (Recv len (Some refusal)) refl refl (omega arith) k
 doing table s t (Post m None) rule e k = quiet_doing t (Post m None) refl refl (omega arith) k
 doing table s t (Post m (Some refusal)) rule e k = quiet_doing t (Post m (Some refusal)) refl refl (omega arith) k
-doing table s t (Deliver from octets Kept) rule e k = quiet_doing t (Deliver from octets Kept) refl refl (omega arith) k
-doing table s t (Deliver from octets Dropped) rule e k = quiet_doing t (Deliver from octets Dropped) refl refl (omega arith) k
-doing table s t (Raw from octets Kept) rule e k = quiet_doing t (Raw from octets Kept) refl refl (omega arith) k
-doing table s t (Raw from octets Dropped) rule e k = quiet_doing t (Raw from octets Dropped) refl refl (omega arith) k
+doing table s t (Deliver from number octets Kept) rule e k = quiet_doing t (Deliver from number octets Kept) refl refl (omega arith) k
+doing table s t (Deliver from number octets Dropped) rule e k = quiet_doing t (Deliver from number octets Dropped) refl refl (omega arith) k
+doing table s t (Raw number octets Kept) rule e k = quiet_doing t (Raw number octets Kept) refl refl (omega arith) k
+doing table s t (Raw number octets Dropped) rule e k = quiet_doing t (Raw number octets Dropped) refl refl (omega arith) k
+doing table s t (First number None) rule e k = quiet_doing t (First number None) refl refl (omega arith) k
 doing table s t (Mulpdu size None) rule e k = quiet_doing t (Mulpdu size None) refl refl (omega arith) k
+doing table s t (First number (Some refusal)) rule e k = quiet_doing t (First number (Some refusal)) refl refl (omega arith) k
 doing table s t (Mulpdu size (Some refusal)) rule e k = quiet_doing t (Mulpdu size (Some refusal)) refl refl (omega arith) k
 doing table s t (Accept private (Ok agreed)) rule e k = quiet_doing t (Accept private (Ok agreed)) refl refl (omega arith) k
 doing table s t (Accept private (Err refusal)) rule e k = quiet_doing t (Accept private (Err refusal)) refl refl (omega arith) k
@@ -1753,11 +1812,12 @@ owning o table c t act given own =
       wire = ap (λ z. z ++ sent_by act) own.wire;
       sent = sent_is table c.stream act t.sent rule own.sent;
       due = due_is c.stream act t.received own.due;
+      numbered = knows_numbers c.stream t act own.numbered;
       starts = starting o table c.stream act rule own.starts;
       small = own.small;
       emits = emitting table c.stream t act rule own.sent own.track own.emits;
       doing = doing table c.stream t act rule own.emits own.doing;
-      track = tracking table c.stream t act rule own.emits.asks.reads own.track;
+      track = tracking table c.stream t act rule own.emits.asks.reads (on_any (deed act).coming own.numbered.first) own.track;
       ended = ended_is table c.stream act rule ∙ ap (λ b. ended_after b act) own.ended;
       paid = paying table c.stream t act rule own.track t.acts (ended_is table c.stream act rule) own.paid;
       once = once_after table c.stream t act t.spans rule own.track own.once;
@@ -1802,8 +1862,9 @@ within opening table c t (Work seen.Idle) rule o = (tt, tt)
 within opening table c t (Post m refused) rule o = (tt, tt)
 within opening table c t (Recv len refused) rule o = (tt, tt)
 within opening table c t (Emit shown) rule o = (tt, tt)
-within opening table c t (Deliver from octets delivery) rule o = (tt, tt)
-within opening table c t (Raw from octets delivery) rule o = (tt, tt)
+within opening table c t (Deliver from number octets delivery) rule o = (tt, tt)
+within opening table c t (Raw number octets delivery) rule o = (tt, tt)
+within opening table c t (First number refused) rule o = (tt, tt)
 within opening table c t (Mulpdu size refused) rule o = (tt, tt)
 within opening table c t (Accept private answer) rule o = (tt, tt)
 within opening table c t (Reject private refused) rule o = (tt, tt)

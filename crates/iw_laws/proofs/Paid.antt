@@ -1,5 +1,5 @@
 -- How far an act can move the in-order point: at most 2^17 octets an act, those before counted in.
-use Rattle.std.proofs.Common.{◌≡◌, ℕ, ◌+◌, ◌-◌, ◌*◌, ◌<◌, ◌≤◌, [], length, take, Option, Some, None, Ok, Err, Bool, true, false, cond, refl, sym, ap, ◌∙◌, subst, arith, length-append, length-take, inl, inr}
+use Rattle.std.proofs.Common.{◌≡◌, ℕ, ◌+◌, ◌-◌, ◌*◌, ◌<◌, ◌≤◌, [], length, take, drop, Option, Some, None, Ok, Err, Bool, true, false, cond, refl, sym, ap, ◌∙◌, subst, arith, length-append, length-take, inl, inr}
 use Rattle.std.specs.Prelude.{is_some, not, nat_lt, nat_eq, slice_index, ◌==◌, ◌||◌}
 use Rattle.std.proofs.lemmas.Bool.{true≢false}
 use Rattle.std.proofs.lemmas.Bool.Decides.{nat_tests}
@@ -26,7 +26,7 @@ use Rattle.iw_startup.proofs.Openings.{unanswered_not_agreed}
 use Rattle.iw_fpdu.proofs.Follows.{frames_follow}
 use Rattle.iw_stream.specs.Frames.{Frame, segment_in, record_of, placed as placed_of}
 use Rattle.iw_stream.specs.Starting.{is_open, expecting, first_place_in, heard}
-use Rattle.iw_stream.specs.Stream.{StreamState, Due, StartUp, LastWord, Response, NextPart, NoneDue, ended, due}
+use Rattle.iw_stream.specs.Stream.{StreamState, Due, StartUp, LastWord, Response, NextPart, NoneDue, ended, due, place_of, left_out}
 use Rattle.iw_stream.specs.Work.{inbox, scene, early_frame}
 use Rattle.iw_stream.proofs.Fronts.{start_near}
 use Rattle.iw_locate.specs.declared.judged.State.{State}
@@ -36,7 +36,7 @@ use Rattle.iw_locate.specs.Records.{added}
 use Rattle.iw_startup.specs.declared.progress.Progress.{Progress}
 use Rattle.iw_startup.specs.declared.progress.Progress.TheVariants as progress
 use Rattle.iw_events.specs.declared.act.StreamAct.{StreamAct}
-use Rattle.iw_events.specs.declared.act.StreamAct.TheVariants.{Recv, Post, Emit, Deliver, Raw, Mulpdu, Accept, Reject, Work, Break}
+use Rattle.iw_events.specs.declared.act.StreamAct.TheVariants.{Recv, Post, Emit, First, Deliver, Raw, Mulpdu, Accept, Reject, Work, Break}
 use Rattle.iw_events.specs.declared.act.Shown.{Shown}
 use Rattle.iw_events.specs.declared.act.Shown.TheVariants as shows
 use Rattle.iw_events.specs.declared.act.Seen.TheVariants as seen
@@ -198,11 +198,13 @@ paying table s t act rule k n over p = by act rule (over_still s (after_act s ac
         pays s s' n still (shut_charge s s' t k (ap is_open m.is ∙ ap is_some (unanswered_not_agreed m.startup (unanswered m.startup m.asked))) (omega (arith, ap (λ (a : Arrived). a.floor) arrived)) front early) p
 
     by : (act : StreamAct Octets) → Told table s act → (ended s ≡ true → ended (after_act s act) ≡ true) → ended (after_act s act) ≡ ended_after (ended s) act → IsPaid (after_act s act) (n + 1)
-    by (Deliver from octets Kept) rule still over = pays s (after_act s (Deliver from octets Kept)) n still (comes_few s (after_act s (Deliver from octets Kept)) t from octets refl refl refl refl k) p
-    by (Raw from octets Kept) rule still over = pays s (after_act s (Raw from octets Kept)) n still (comes_few s (after_act s (Raw from octets Kept)) t from octets refl refl refl refl k) p
-    by (Deliver from octets Dropped) rule still over = same s still refl refl refl refl
-    by (Raw from octets Dropped) rule still over = same s still refl refl refl refl
+    by (Deliver from number octets Kept) rule still over = pays s (after_act s (Deliver from number octets Kept)) n still (comes_few s (after_act s (Deliver from number octets Kept)) t (place_of s number) (drop (left_out s number) octets) refl refl refl refl k) p
+    by (Raw number octets Kept) rule still over = pays s (after_act s (Raw number octets Kept)) n still (comes_few s (after_act s (Raw number octets Kept)) t (place_of s number) (drop (left_out s number) octets) refl refl refl refl k) p
+    by (Deliver from number octets Dropped) rule still over = same (after_act s (Deliver from number octets Dropped)) still refl refl refl refl
+    by (Raw number octets Dropped) rule still over = same (after_act s (Raw number octets Dropped)) still refl refl refl refl
+    by (First number None) rule still over = same (after_act s (First number None)) still refl refl refl refl
     by (Mulpdu size None) rule still over = same (after_act s (Mulpdu size None)) still refl refl refl refl
+    by (First number (Some refusal)) rule still over = same s still refl refl refl refl
     by (Mulpdu size (Some refusal)) rule still over = same s still refl refl refl refl
     by (Accept private (Ok agreed)) rule still over = answers (after_act s (Accept private (Ok agreed))) still (may s (accepting s agreed rule)) refl refl refl
     by (Accept private (Err refusal)) rule still over = same s still refl refl refl refl

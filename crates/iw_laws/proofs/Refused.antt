@@ -1,4 +1,5 @@
 -- Each wrong run breaks its law.
+use Rattle.iw_ranges.specs.Nearest.{numbers_ahead, place_near, before_start}
 use Rattle.std.proofs.Common.{◌≡◌, ℕ, zero, suc, ◌<◌, ◌≤◌, [], ◌∷◌, ◌++◌, length, map, subst, take, replicate, Some, None, Ok, true, false, refl, sym, ap, ◌∙◌, arith, inl, inr, get_or}
 use Rattle.std.specs.Option.{option_map_or}
 use Rattle.std.proofs.lemmas.Bool.{false≢true, true≢false}
@@ -54,18 +55,18 @@ refuses_act_unopened h = false≢true (h [] (a (works seen.Idle)) [] refl).0
 
 pub refuses_delivery_unopened : RefusesDeliveryUnopened
 unfolding acts openings
-refuses_delivery_unopened h = false≢true ((h (take 2 delivers_unopened) (a delivers_nothing) [] refl).1 refl)
+refuses_delivery_unopened h = false≢true (h (take 2 delivers_unopened) (a delivers_nothing) [] refl).1
 
 pub refuses_frames_past_fault : RefusesFramesBehindFault
 unfolding acts stream_acts ended
 refuses_frames_past_fault h = true≢false (h (take 5 reads_past_fault) (b (works places)) [] refl).0.running
 
 pub refuses_frames_unopened : RefusesFramesUnopened
-unfolding acts stream_acts openings story agreed_of pushed
+unfolding acts stream_acts openings story agreed_of pushed numbers_ahead place_near before_start
 refuses_frames_unopened h = false≢true (h (take 5 reads_unopened) (b (works places)) [] refl).0.open_now
 
 pub refuses_rest_with_reply : RefusesRestWithReply
-unfolding acts stream_acts openings ended story agreed_of progress_of startup_end fixed_fault taken_in held
+unfolding acts stream_acts openings ended story agreed_of progress_of startup_end fixed_fault taken_in held numbers_ahead place_near before_start
 refuses_rest_with_reply h = elim (h (take 3 rests_with_reply) (a (works seen.Idle)) [] refl).reason [
   | Over e ↦ false≢true e
   | AwaitsFrame f ↦ let none : progress.Agreed ≡ progress.More = f.comes in cc
@@ -108,7 +109,7 @@ sent_whole t start = record {
 }
 
 sent_one : IsSentMessage (story_of 0 (acts A (take 4 never_finished))) (sent (stream_acts 0 (acts A (take 4 never_finished)))) (posted (stream_acts 0 (acts A (take 4 never_finished)))) (length (handed_kinds (stream_acts 0 (acts A (take 4 never_finished))))) kinds.Send
-unfolding acts stream_acts openings story posted handed_kinds sent
+unfolding acts stream_acts openings story posted handed_kinds sent numbers_ahead place_near before_start
 sent_one = sent_whole (story_of 0 (acts A (take 4 never_finished))) (shown_stays (story_of 0 (acts A (take 3 never_finished))) (Frame 0 send_frame)).start
 
 pub refuses_never_finished : RefusesNeverFinished
@@ -147,7 +148,7 @@ not_large : (u : Octets) → large_octets ≡ frame_octets plain 0 u → length 
 not_large u e few = omega (arith, few, large_size, ap length e, length_written plain 0 u, plain_after (frame_size (length u)))
 
 pub refuses_too_large : RefusesTooLarge
-unfolding acts stream_acts openings story sent size_set large_octets
+unfolding acts stream_acts openings story sent size_set large_octets numbers_ahead place_near before_start
 refuses_too_large h = elim (h (take 4 sends_too_large) (a (emits large_octets)) [] refl).1 [
   | inl s ↦ absurd (omega (arith, large_size, ap length s.1))
   | inr f ↦ not_large (segment_octets f.segment) f.is f.fits
@@ -158,7 +159,7 @@ not_empty : (u : Octets) → [] ≡ frame_octets plain 0 u → ⊥
 not_empty u e = omega (arith, ap length e, length_written plain 0 u, low_after (frame_size (length u)))
 
 pub refuses_empty_frame : RefusesEmptyFrame
-unfolding acts stream_acts openings story sent size_set
+unfolding acts stream_acts openings story sent size_set numbers_ahead place_near before_start
 refuses_empty_frame h = elim (h (take 3 sends_empty) (a (emits [])) [] refl).1 [
   | inl s ↦ s.2 refl
   | inr f ↦ not_empty (segment_octets f.segment) f.is
@@ -194,7 +195,7 @@ not_cut segment known e few full =
     omega (arith, full more, ap length same, cut_size.0)
 
 pub refuses_cut_short : RefusesCutShort
-unfolding acts stream_acts openings story sent size_set
+unfolding acts stream_acts openings story sent size_set numbers_ahead place_near before_start
 refuses_cut_short h = elim (h (take 3 cuts_short) (a (emits cut_frame)) [] refl).1 [
   | inl s ↦ absurd (omega (arith, ap length s.1))
   | inr f ↦ not_cut f.segment f.known f.is f.fits f.full
@@ -216,7 +217,7 @@ not_terminate payload e =
     omega (arith, other)
 
 pub refuses_past_end : RefusesBehindEnd
-unfolding acts stream_acts openings story sent ended
+unfolding acts stream_acts openings story sent ended numbers_ahead place_near before_start
 refuses_past_end h = elim (h (take 5 sends_past_end) (a (emits send_frame)) [] refl) [
   | inl s ↦ absurd (omega (arith, ap length s.1))
   | inr (inl w) ↦ not_terminate w.payload w.is
@@ -226,8 +227,8 @@ refuses_past_end h = elim (h (take 5 sends_past_end) (a (emits send_frame)) [] r
 pub refuses_other_octets : RefusesOtherOctets
 unfolding acts stream_acts sent
 refuses_other_octets h =
-    let r = h (take 6 delivers_others) (b (on (Deliver 0 (9 ∷ []) Kept))) [] refl refl in
-    let other : 9 ≡ 0 = ap (λ (xs : Octets). get_or xs 0 0) r.are in
+    let r = h (take 6 delivers_others) (b (on (Deliver 0 0 (9 ∷ []) Kept))) [] refl in
+    let other : 9 ≡ 0 = ap (λ (xs : Octets). get_or xs 0 0) r.stand.are in
     omega (arith, other)
 
 pub refuses_kept_past_end : RefusesKeptBehindEnd
@@ -235,7 +236,7 @@ unfolding acts stream_acts ended
 refuses_kept_past_end h = let r = h (take 4 keeps_past_end) (b (raw 8 (0 ∷ []))) [] refl in let other : Kept ≡ Dropped = r in cc
 
 pub refuses_unasked_accept : RefusesUnaskedAccept
-unfolding acts stream_acts openings story ended progress_of startup_end
+unfolding acts stream_acts openings story ended progress_of startup_end numbers_ahead place_near before_start
 refuses_unasked_accept h =
     false≢true (h (take 2 accepts_unasked) (b (on (Accept [] (Ok (record { send_markers = false; expect_markers = false; crc = false }))))) [] refl).0
 
@@ -255,7 +256,7 @@ refuses_fetch_invalid h = elim (h (take 8 fetches_invalid) (b fetches_last) [] r
 ]
 
 pub refuses_read_unanswered : RefusesReadUnanswered
-unfolding acts stream_acts openings story posted handed_kinds
+unfolding acts stream_acts openings story posted handed_kinds numbers_ahead place_near before_start
 refuses_read_unanswered h =
     let t : Story = story_of 0 (acts A (take 4 reads_unanswered)) in
     let r = h (take 4 reads_unanswered) (a (works (seen.Done kinds.Read))) [] refl in
@@ -270,7 +271,7 @@ refuses_placed_unwritable h = elim (h (take 4 places_readable) (b (works places)
 ]
 
 pub refuses_buffered_past : RefusesBufferedPast
-unfolding acts stream_acts openings story
+unfolding acts stream_acts openings story numbers_ahead place_near before_start
 refuses_buffered_past h =
     let r = (h (take 4 buffers_past) (b buffers_one) [] refl).1 in
     let none : [] ≡ r.buffer = same_Some _ _ r.is in

@@ -1,4 +1,5 @@
 -- The wrong runs of frames that are placed before their turn, or once, break their laws.
+use Rattle.iw_ranges.specs.Nearest.{numbers_ahead, place_near, before_start}
 use Rattle.std.proofs.Common.{◌≡◌, ℕ, ◌+◌, ◌<◌, List, [], ◌∷◌, ◌++◌, map, take, drop, replicate, Some, None, true, false, Ok, Err, refl, sym, ap, ◌∙◌, subst, arith, inl, inr}
 use Rattle.std.specs.Prelude.{slice_get, ◌||◌, is_some, Result}
 use Rattle.std.specs.List.{Contains, list_all, range_with_len}
@@ -74,7 +75,7 @@ unfolding the_frame write_ulpdu read_segment read_tagged
 turns_freely s = refl
 
 pub refuses_second_check : RefusesSecondCheck
-unfolding acts stream_acts openings story
+unfolding acts stream_acts openings story numbers_ahead place_near before_start
 refuses_second_check h =
     let before : Story = story_of 0 (acts B (take 4 checks_again)) in
     let t : Story = story_of 0 (acts B (take 6 checks_again)) in
@@ -112,7 +113,7 @@ judged_there t start at_first came =
     ap (λ o. option_map (span_of (expecting t.start)) (option_or o (early_frame t))) (comes_next t start at_first came) ∙ ap (λ z. Some (span_of (expecting z) the_frame)) start ∙ ap Some span_is
 
 spans_are : spans_placed (opening_of 0 (acts B places_twice)) (stream_acts 0 (acts B places_twice)) ≡ Some the_span ∷ Some the_span ∷ []
-unfolding acts stream_acts openings story spans_placed
+unfolding acts stream_acts openings story spans_placed numbers_ahead place_near before_start
 spans_are =
     let t : Story = story_of 0 (acts B (take 4 places_twice)) in
     let u : Story = story_of 0 (acts B (take 5 places_twice)) in
@@ -161,11 +162,11 @@ free_there = record {
 }
 
 scene_there : turns.scene (story_of 0 (acts B (take 3 idles_while_free))) ≡ scene_of {T = ArrayVec ℕ} (record { markers = true; crc = false }) 0 the_came []
-unfolding the_came acts stream_acts openings story taken_in advanced
+unfolding the_came acts stream_acts openings story taken_in advanced numbers_ahead place_near before_start
 scene_there = refl
 
 pub refuses_idle_while_free : RefusesIdleWhileFree
-unfolding acts stream_acts openings ended story
+unfolding acts stream_acts openings ended story numbers_ahead place_near before_start
 refuses_idle_while_free h =
     elim (h (take 3 idles_while_free) (b (works seen.Idle)) [] refl refl refl refl) [
       | inl none ↦ none 516 (subst (λ (v : Scene (ArrayVec ℕ)). IsFree v 516) (sym scene_there) free_there)
@@ -187,7 +188,7 @@ the_send : Frame
 the_send = record { start = 516; mismatch = None; ulpdu = send_ulpdu }
 
 send_scene : turns.scene (story_of 0 (acts B (take 4 tries_send))) ≡ scene_of {T = ArrayVec ℕ} layout_marked 0 send_came []
-unfolding send_came layout_marked acts stream_acts openings story taken_in advanced
+unfolding send_came layout_marked acts stream_acts openings story taken_in advanced numbers_ahead place_near before_start
 send_scene = refl
 
 send_read : frame_in (scene_of {T = ArrayVec ℕ} layout_marked 0 send_came []) 516 ≡ the_send
@@ -216,7 +217,7 @@ tried_at t s place j = go (verdict s j.frame) refl
         tried (λ at is there. let same : Ok at ≡ Ok (landing.Terminate fault) = sym is ∙ e in let lands : at ≡ landing.Terminate fault = cc same in subst HasPlace lands there)
 
 pub refuses_tried_send : RefusesTriedSend
-unfolding acts stream_acts openings story
+unfolding acts stream_acts openings story numbers_ahead place_near before_start
 refuses_tried_send h =
     let t : Story = story_of 0 (acts B (take 4 tries_send)) in
     let s : Standing = standing 0 (acts B (take 4 tries_send)) in

@@ -1,4 +1,5 @@
 -- Each wrong run of a stream that ends breaks its law.
+use Rattle.iw_ranges.specs.Nearest.{numbers_ahead, place_near, before_start}
 use Rattle.std.proofs.Common.{◌≡◌, ℕ, List, [], ◌∷◌, length, take, None, Some, Option, Bool, true, false, cond, refl, sym, ap, ◌∙◌, arith, inl, inr, get_or, Result, Ok, Err}
 use Rattle.std.proofs.lemmas.Option.{none-some}
 use Rattle.iw_octets.specs.declared.fault.Fault.{Fault}
@@ -20,7 +21,7 @@ use Rattle.iw_events.specs.declared.call.End.{End}
 use Rattle.iw_events.specs.declared.call.End.TheVariants.{A, B}
 use Rattle.iw_events.specs.declared.act.Seen.TheVariants as seen
 use Rattle.iw_events.specs.declared.act.Shown.TheVariants as shows
-use Rattle.iw_laws.specs.Words.{Octets, Sent, acts, stream_acts, openings, has_raw, ended, sent, posted, handed_kinds, received, table_after}
+use Rattle.iw_laws.specs.Words.{Octets, Sent, acts, stream_acts, openings, ended, sent, posted, handed_kinds, received, table_after}
 use Rattle.iw_laws.specs.Turns.{Story, story, story_of, standing, seen_judged, seen_tried}
 use Rattle.iw_laws.specs.WrongRuns.{a, b, works, places, stag, send_frame, terminates_again, skips_faulted, terminates_twice, forgets_posted, gives_up_sent, returns_buffer_first, places_invalidated}
 use Rattle.iw_laws.specs.WrongRuns.{RefusesSkippedSend, RefusesSecondTerminate, RefusesForgottenMessage, RefusesFinishedFlushed, RefusesBufferFirst, RefusesPlacedInvalidated}
@@ -30,7 +31,7 @@ use Rattle.iw_laws.proofs.RefusedReads.{opened_at_once, honest}
 use Rattle.iw_laws.proofs.Tracks.{shown_stays}
 
 pub refuses_skipped_send : RefusesSkippedSend
-unfolding acts stream_acts openings has_raw posted received opened_at_once
+unfolding acts stream_acts openings story posted received opened_at_once numbers_ahead place_near before_start
 refuses_skipped_send h =
     let r = h skips_faulted [] refl A 0 (honest skips_faulted opened calm) in
     let other : 0x69 ≡ 0x68 = ap (λ (xs : List Sent). get_or (first_octets xs) 0 0) r.1 in
@@ -44,12 +45,12 @@ refuses_skipped_send h =
     opened A = refl
     opened B = refl
 
-    calm : (x : End) → has_raw (stream_acts 0 (acts x skips_faulted)) ≡ false
+    calm : (x : End) → (story_of 0 (acts x skips_faulted)).strays ≡ false
     calm A = refl
     calm B = refl
 
 pub refuses_second_terminate : RefusesSecondTerminate
-unfolding acts stream_acts openings story sent ended
+unfolding acts stream_acts openings story sent ended numbers_ahead place_near before_start
 refuses_second_terminate h = elim ((h (take 5 terminates_twice) (b terminates_again) [] refl).1 refl) [
   | inl s ↦ absurd (omega (arith, ap length s.is.0))
   | inr w ↦ none-some _ w.is_due
@@ -62,7 +63,7 @@ refuses_forgotten_message h =
     omega (arith, few)
 
 pub refuses_finished_flushed : RefusesFinishedFlushed
-unfolding acts stream_acts openings story posted handed_kinds sent
+unfolding acts stream_acts openings story posted handed_kinds sent numbers_ahead place_near before_start
 refuses_finished_flushed h =
     let t = story_of 0 (acts A (take 5 gives_up_sent)) in
     (h (take 5 gives_up_sent) (a (works (seen.Flushed kinds.Send))) [] refl).0.unfinished kinds.Send

@@ -1,4 +1,5 @@
 -- Each wrong run with Reads breaks its law.
+use Rattle.iw_ranges.specs.Nearest.{numbers_ahead, place_near, before_start}
 use Rattle.std.proofs.Common.{◌≡◌, ℕ, zero, suc, ◌+◌, ◌*◌, ◌%◌, ◌-◌, ◌^◌, ◌<◌, ◌≤◌, List, [], ◌∷◌, ◌++◌, length, take, drop, map, replicate, Option, Some, None, Err, Bool, true, false, cond, refl, sym, ap, ◌∙◌, subst, arith, inl, inr}
 use Rattle.std.specs.Prelude.{fold, nat_eq, nat_lt, slice_get}
 use Rattle.std.specs.Option.{option_map, option_map_or}
@@ -44,9 +45,10 @@ use Rattle.iw_stream.proofs.Headers.{turn_kept, left_kept}
 use Rattle.iw_events.specs.declared.call.End.{End}
 use Rattle.iw_events.specs.declared.call.End.TheVariants.{A, B}
 use Rattle.iw_events.specs.declared.act.Seen.TheVariants as seen
+use Rattle.iw_events.specs.declared.act.Shown.{Shown}
 use Rattle.iw_events.specs.declared.act.Shown.TheVariants as shows
-use Rattle.iw_laws.specs.Words.{Octets, Opening, OnSome, acts, stream_acts, openings, opening_of, has_raw, posted, received, finished_kinds, handed_kinds, placings, size_set, table_after}
-use Rattle.iw_laws.specs.Turns.{Answer, fetches_for, Located, Story, located_of, frames_in, next_frame, next_reads, asked_in, next_asked, segment_out, read_out, sends_segment, says_farewell, story_shown, story_after, untold, story, story_of, standing, carries_response, seen_judged, seen_turned, front_verdict}
+use Rattle.iw_laws.specs.Words.{Octets, Opening, OnSome, acts, stream_acts, openings, opening_of, posted, received, finished_kinds, handed_kinds, placings, size_set, table_after}
+use Rattle.iw_laws.specs.Turns.{Answer, in_order_point, past_last, fetches_for, Located, Story, located_of, frames_in, next_frame, next_reads, asked_in, next_asked, segment_out, read_out, sends_segment, says_farewell, story_shown, story_after, untold, story, story_of, standing, carries_response, seen_judged, seen_turned, front_verdict}
 use Rattle.iw_laws.specs.Merged.{response_segment}
 use Rattle.iw_laws.specs.Sends.{IsAnswered}
 use Rattle.iw_stream.specs.Ending.{last_word}
@@ -88,6 +90,18 @@ comes_next t u start turns came short =
     let frames : frames_in t ≡ located_of plain 0 octets = λ i. located_of (expecting (start i)) 0 (drop (first_place_in (start i)) (all i)) in
     let first = located_first plain 0 octets (intact u) [] (frames_follow.first false) (written_is_first plain 0 u [] (frames_follow.first false) short) in
     λ i. option_map (λ (f : Located). f.frame) (slice_get ((frames ∙ first) i) (turns i))
+
+-- octets with the number 0 that come after a frame went out, where nothing had its turn
+comes_first : (t : Story) (shown : Shown Octets) (octets : Octets) → t.first ≡ 0 → in_order_point t ≡ 0
+    → in_order (taken_in (story_shown t shown).came (place_near 0 (story_shown t shown).first (in_order_point (story_shown t shown)))
+    (drop (before_start 0 (story_shown t shown).first (in_order_point (story_shown t shown))) octets)) ≡ in_order (taken_in t.came 0 octets)
+unfolding numbers_ahead place_near before_start
+comes_first t shown octets first point =
+    let kept = shown_stays t shown in
+    let numbered : (story_shown t shown).first ≡ 0 = kept.first ∙ first in
+    let here : in_order_point (story_shown t shown) ≡ 0 =
+    (λ i. first_place_in (kept.start i) + past_last 0 (take (kept.turns i) (located_of (expecting (kept.start i)) 0 (drop (first_place_in (kept.start i)) (in_order (kept.came i)))))) ∙ point in
+    λ i. in_order (taken_in (kept.came i) (place_near 0 (numbered i) (here i)) (drop (before_start 0 (numbered i) (here i)) octets))
 
 -- ---- the Read of four octets
 
@@ -150,7 +164,7 @@ out_reads (suc n) before t start quiet few =
     (λ i. length (fold story_after (cond (past i) t (option_map_or (says_farewell t) (quiet i) (option_map_or (sends_segment t) (out i) t))) (stream_acts 0 (acts A (reads_out n (before + 1))))).reads) ∙ omega (arith, rest, one)
 
 pub refuses_seventeen_reads : RefusesSeventeenReads
-unfolding acts stream_acts openings story
+unfolding acts stream_acts openings story numbers_ahead place_near before_start
 refuses_seventeen_reads h =
     let few = h seventeen_reads [] (sym (append-nil seventeen_reads)) A 0 in
     omega (arith, few, out_reads 17 0 (untold (opening_of 0 (acts A seventeen_reads))) refl refl (omega arith))
@@ -184,7 +198,7 @@ takes : (t : Story) → t.start ≡ AtOnce plain → t.turns ≡ 0 → t.asked �
 takes t start turns none came = takes_up read_one fits_one request_framed t start turns none came
 
 pub refuses_fetch_elsewhere : RefusesFetchElsewhere
-unfolding acts stream_acts openings story
+unfolding acts stream_acts openings story numbers_ahead place_near before_start
 refuses_fetch_elsewhere h =
     let r = h (take 5 fetches_elsewhere) (b fetches_others) [] refl in
     let w = takes (story_of 0 (acts B (take 4 fetches_elsewhere))) refl refl refl request_came in
@@ -213,7 +227,7 @@ unfolding taken_in held request_octets
 two_came = refl
 
 pub refuses_denied_readable : RefusesDeniedReadable
-unfolding acts stream_acts openings story size_set table_after empty
+unfolding acts stream_acts openings story size_set table_after empty numbers_ahead place_near before_start
 refuses_denied_readable h =
     let r = h (take 6 denies_readable) (b denies_first) [] refl in
     let t : Story = story_of 0 (acts B (take 6 denies_readable)) in
@@ -232,7 +246,7 @@ response_fits last octets = record { ddp_version = omega arith; control = omega 
 
 -- one goes out in a frame that is not shown as fetched
 pub refuses_untold_response : RefusesUntoldResponse
-unfolding acts stream_acts openings story
+unfolding acts stream_acts openings story numbers_ahead place_near before_start
 refuses_untold_response h =
     let t : Story = story_of 0 (acts B (take 6 leaks_region)) in
     let answer : Segment Octets = response_segment read_one 0 true first_four in
@@ -271,14 +285,14 @@ not_asked : (table : Table) (domain ticket : ℕ) → response_verdict table dom
 not_asked table domain ticket = refl
 
 pub refuses_places_past : RefusesPlacesPast
-unfolding acts stream_acts openings story
+unfolding acts stream_acts openings story numbers_ahead place_near before_start
 refuses_places_past h =
     let asks : Story = story_of 0 (acts A (take 4 places_past)) in
     let t : Story = story_of 0 (acts A (take 6 places_past)) in
     let s : Standing = standing 0 (acts A (take 6 places_past)) in
     let kept = shown_stays asks (shows.Frame 0 request_frame) in
     let frame : Frame = standing_at (frame_start false 0) (intact long_ulpdu) in
-    let next : next_frame t ≡ Some frame = comes_next t long_ulpdu kept.start kept.turns (ap (λ z. in_order (taken_in z 0 long_response)) kept.came ∙ long_came ∙ sym long_framed) (omega (arith, long_size)) in
+    let next : next_frame t ≡ Some frame = comes_next t long_ulpdu kept.start kept.turns (comes_first asks (shows.Frame 0 request_frame) long_response refl refl ∙ long_came ∙ sym long_framed) (omega (arith, long_size)) in
     let reads : s.reads ≡ outstanding (asks.whole % 2 ^ 64) = ap (λ (z : Story). z.reads) (asked_story asks refl refl) ∙ asked_reads asks 1 in
     let judged : verdict s frame ≡ Err faults.OPERATION_UNEXPECTED =
     ap (λ o. head_verdict s (judged_segment o (length long_ulpdu) s.asked.next (length s.asked.unanswered)) (length (payload_of o))) long_carries
@@ -321,7 +335,7 @@ ends_short : (table : Table) (domain : ℕ) (r : Receiving) (ticket : ℕ) → s
 ends_short table domain r ticket = refl
 
 pub refuses_ends_early : RefusesEndsEarly
-unfolding acts stream_acts openings story
+unfolding acts stream_acts openings story numbers_ahead place_near before_start
 refuses_ends_early h =
     let r = (h (take 7 ends_early) (a (works seen.Passed)) [] refl).1 in
     let asks : Story = story_of 0 (acts A (take 4 ends_early)) in
@@ -329,7 +343,7 @@ refuses_ends_early h =
     let s : Standing = standing 0 (acts A (take 7 ends_early)) in
     let kept = shown_stays asks (shows.Frame 0 request_frame) in
     let frame : Frame = standing_at (frame_start false 0) (intact short_ulpdu) in
-    let next : next_frame t ≡ Some frame = comes_next t short_ulpdu kept.start kept.turns (ap (λ z. in_order (taken_in z 0 short_response)) kept.came ∙ short_came ∙ sym short_framed) (omega (arith, short_size)) in
+    let next : next_frame t ≡ Some frame = comes_next t short_ulpdu kept.start kept.turns (comes_first asks (shows.Frame 0 request_frame) short_response refl refl ∙ short_came ∙ sym short_framed) (omega (arith, short_size)) in
     let same : r.frame ≡ frame = same_Some _ _ (sym r.is_next ∙ next) in
     let reads : s.reads ≡ outstanding (asks.whole % 2 ^ 64) = ap (λ (z : Story). z.reads) (asked_story asks refl refl) ∙ asked_reads asks 1 in
     let turn : turn_of s (placed frame) ≡ Err faults.PROTECTION_BOUNDS =
@@ -339,7 +353,7 @@ refuses_ends_early h =
 
 -- ---- a Write's turn
 
-write_ulpdu : Octets
+pub write_ulpdu : Octets
 write_ulpdu = (0xc1 ∷ 0x40 ∷ 1 ∷ 0 ∷ 0 ∷ 0 ∷ []) ++ replicate 8 0 ++ (0xaa ∷ [])
 
 write_is : segment_octets (write_segment stag 0 0 true (0xaa ∷ [])) ≡ write_ulpdu
@@ -361,6 +375,10 @@ write_size : length write_ulpdu ≡ 15
 unfolding write_ulpdu
 write_size = refl
 
+-- and is next where it came first
+pub write_next : (t : Story) → t.start ≡ AtOnce plain → t.turns ≡ 0 → t.came ≡ taken_in nothing 0 write_frame → next_frame t ≡ Some (standing_at (frame_start false 0) (intact write_ulpdu))
+write_next t start turns came = comes_next t write_ulpdu start turns (ap in_order came ∙ write_came ∙ sym write_framed) (omega (arith, write_size))
+
 -- it leaves the Reads that are outstanding
 leaves_reads : (t : Story) → t.start ≡ AtOnce plain → t.turns ≡ 0 → in_order t.came ≡ write_frame → next_reads t ≡ t.reads
 leaves_reads t start turns came =
@@ -369,7 +387,7 @@ leaves_reads t start turns came =
     ap (λ o. option_map_or (λ f. reads_left t.reads (placed f)) o t.reads) next ∙ left_kept t.reads frame (write_segment stag 0 0 true (0xaa ∷ [])) write_carries
 
 pub refuses_done_by_write : RefusesDoneByWrite
-unfolding acts stream_acts openings story posted handed_kinds
+unfolding acts stream_acts openings story posted handed_kinds numbers_ahead place_near before_start
 refuses_done_by_write h =
     let r = h (take 8 done_by_write) (a (works (seen.Done kinds.Read))) [] refl in
     let asks : Story = story_of 0 (acts A (take 4 done_by_write)) in
@@ -377,7 +395,7 @@ refuses_done_by_write h =
     let kept = shown_stays asks (shows.Frame 0 request_frame) in
     let beyond : Story = story_of 0 (acts A (take 8 done_by_write)) in
     let answered : 1 ≤ beyond.answered = subst (IsAnswered beyond (Read read_one ∷ [])) (sym (same_Some _ _ r.is)) r.answered in
-    let left : next_reads t ≡ t.reads = leaves_reads t kept.start kept.turns (ap (λ z. in_order (taken_in z 0 write_frame)) kept.came ∙ write_came) in
+    let left : next_reads t ≡ t.reads = leaves_reads t kept.start kept.turns (comes_first asks (shows.Frame 0 request_frame) write_frame refl refl ∙ write_came) in
     omega (arith, answered, kept.answered, ap length left)
 
 -- ---- Reads of an honest stream
@@ -385,12 +403,12 @@ refuses_done_by_write h =
 unfoldable pub opened_at_once : Opening
 opened_at_once = record { domain = 1; role = Preset; config = record { markers = false; crc = false; private = record { items = [] } } }
 
-pub honest : (run : Run) → ((x : End) → openings 0 (acts x run) ≡ opened_at_once ∷ []) → ((x : End) → has_raw (stream_acts 0 (acts x run)) ≡ false) → IsHonest 0 run
+pub honest : (run : Run) → ((x : End) → openings 0 (acts x run) ≡ opened_at_once ∷ []) → ((x : End) → (story_of 0 (acts x run)).strays ≡ false) → IsHonest 0 run
 unfolding opened_at_once
 honest run opened calm = record { opening = λ x. opened_at_once; opened = opened; fits = λ x. inl (refl, refl, refl, refl); calm = calm }
 
 pub refuses_sinks_unfetched : RefusesSinksUnfetched
-unfolding acts stream_acts openings story has_raw placings opened_at_once
+unfolding acts stream_acts openings story placings opened_at_once numbers_ahead place_near before_start
 refuses_sinks_unfetched h =
     let r = h sinks_unfetched [] refl B 0 (honest sinks_unfetched opened calm) in
     omega (arith, (r.covers (record { stag = number_of stag; to = 0; octet = 0xaa })).most)
@@ -399,7 +417,7 @@ refuses_sinks_unfetched h =
     opened A = refl
     opened B = refl
 
-    calm : (x : End) → has_raw (stream_acts 0 (acts x sinks_unfetched)) ≡ false
+    calm : (x : End) → (story_of 0 (acts x sinks_unfetched)).strays ≡ false
     calm A = refl
     calm B = refl
 
@@ -416,7 +434,7 @@ answered_whole t w none first =
     ∙ (λ i. first i ++ record { request = w.request i; octets = none i ++ first_four } ∷ [])
 
 pub refuses_done_unplaced : RefusesDoneUnplaced
-unfolding acts stream_acts openings story has_raw finished_kinds placings opened_at_once
+unfolding acts stream_acts openings story finished_kinds placings opened_at_once numbers_ahead place_near before_start
 refuses_done_unplaced h =
     let r = h done_unplaced [] refl B 0 (honest done_unplaced opened calm) in
     let cell : Cell = record { stag = number_of stag; to = 0; octet = 0x0a } in
@@ -427,12 +445,12 @@ refuses_done_unplaced h =
     opened A = refl
     opened B = refl
 
-    calm : (x : End) → has_raw (stream_acts 0 (acts x done_unplaced)) ≡ false
-    calm A = refl
-    calm B = refl
+    calm : (x : End) → (story_of 0 (acts x done_unplaced)).strays ≡ false
+    calm A = (shown_stays (story_of 0 (acts A (take 3 done_unplaced))) (shows.Frame 0 request_frame)).strays
+    calm B = (shown_stays (story_of 0 (acts B (take 9 done_unplaced))) (shows.Fetched 0 (frame_octets plain 0 (segment_octets (response_segment read_one 0 true first_four))) stag 0 first_four)).strays
 
 pub refuses_done_unanswered : RefusesDoneUnanswered
-unfolding acts stream_acts openings story has_raw finished_kinds opened_at_once
+unfolding acts stream_acts openings story finished_kinds opened_at_once numbers_ahead place_near before_start
 refuses_done_unanswered h =
     let r = h done_unanswered [] refl B 0 (honest done_unanswered opened calm) in
     omega (arith, (r.covers (record { stag = 0; to = 0; octet = 0 })).answered)
@@ -441,8 +459,8 @@ refuses_done_unanswered h =
     opened A = refl
     opened B = refl
 
-    calm : (x : End) → has_raw (stream_acts 0 (acts x done_unanswered)) ≡ false
-    calm A = refl
+    calm : (x : End) → (story_of 0 (acts x done_unanswered)).strays ≡ false
+    calm A = (shown_stays (story_of 0 (acts A (take 5 done_unanswered))) (shows.Frame 0 request_frame)).strays
     calm B = refl
 
 -- ---- Writes of an honest stream
@@ -451,25 +469,25 @@ written_cell : Cell
 written_cell = record { stag = number_of stag; to = 0; octet = 0xaa }
 
 pub refuses_write_twice : RefusesWriteTwice
-unfolding acts stream_acts openings has_raw posted placings received opened_at_once written_cell
+unfolding acts stream_acts openings story posted placings received opened_at_once written_cell numbers_ahead place_near before_start
 refuses_write_twice h = let r = h writes_twice [] refl A 0 (honest writes_twice opened calm) written_cell in omega (arith, r.most)
   where
     opened : (x : End) → openings 0 (acts x writes_twice) ≡ opened_at_once ∷ []
     opened A = refl
     opened B = refl
 
-    calm : (x : End) → has_raw (stream_acts 0 (acts x writes_twice)) ≡ false
+    calm : (x : End) → (story_of 0 (acts x writes_twice)).strays ≡ false
     calm A = refl
     calm B = refl
 
 pub refuses_send_before_write : RefusesSendBeforeWrite
-unfolding acts stream_acts openings has_raw posted placings received opened_at_once written_cell
+unfolding acts stream_acts openings story posted placings received opened_at_once written_cell numbers_ahead place_near before_start
 refuses_send_before_write h = let r = h receives_unwritten [] refl A 0 (honest receives_unwritten opened calm) written_cell in omega (arith, r.before 0 (omega arith))
   where
     opened : (x : End) → openings 0 (acts x receives_unwritten) ≡ opened_at_once ∷ []
     opened A = refl
     opened B = refl
 
-    calm : (x : End) → has_raw (stream_acts 0 (acts x receives_unwritten)) ≡ false
+    calm : (x : End) → (story_of 0 (acts x receives_unwritten)).strays ≡ false
     calm A = refl
     calm B = refl

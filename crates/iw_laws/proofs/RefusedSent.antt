@@ -1,4 +1,5 @@
 -- Each wrong run of messages that go out breaks its law.
+use Rattle.iw_ranges.specs.Nearest.{numbers_ahead, place_near, before_start}
 use Rattle.std.proofs.Common.{◌≡◌, ℕ, Bool, List, [], ◌∷◌, ◌++◌, length, map, take, cond, Option, Some, None, true, false, refl, sym, ap, ◌∙◌, arith, inl, inr}
 use Rattle.std.specs.Prelude.{nat_lt}
 use Rattle.std.specs.Option.{option_map_or}
@@ -60,7 +61,7 @@ none_go_out t octets start asks quiet e =
     ]
 
 pub refuses_unposted_send : RefusesUnpostedSend
-unfolding acts stream_acts openings story sent posted
+unfolding acts stream_acts openings story sent posted numbers_ahead place_near before_start
 refuses_unposted_send h =
     let before : Story = story_of 0 (acts A (take 2 sends_unposted)) in
     let t : Story = story_of 0 (acts A sends_unposted) in
@@ -85,7 +86,7 @@ some_frames t e = nothing_sent t (send_posted ∷ []) 0 kinds.Send (record {
 })
 
 pub refuses_held_back : RefusesHeldBack
-unfolding acts stream_acts openings ended story sent posted send_posted
+unfolding acts stream_acts openings ended story sent posted send_posted numbers_ahead place_near before_start
 refuses_held_back h =
     let t : Story = story_of 0 (acts A (take 3 holds_back)) in
     elim (h (take 3 holds_back) (a emits_nothing) [] refl).2 [

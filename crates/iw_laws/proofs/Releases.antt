@@ -1,13 +1,14 @@
 -- A call to work at a stream at which octets of placed frames were given up is answered as at one at which all that came is held, and leaves what that leaves.
-use Rattle.std.proofs.Common.{◌≡◌, inl, inr, ℕ, ◌+◌, ◌-◌, ◌<◌, ◌≤◌, List, [], length, take, Option, Some, None, Ok, Err, Result, Bool, true, false, not, cond, Contains, refl, sym, ap, ◌∙◌, subst, arith}
+use Rattle.std.proofs.Common.{◌≡◌, inl, inr, ℕ, ◌+◌, ◌-◌, ◌<◌, ◌≤◌, List, [], length, take, drop, Option, Some, None, Ok, Err, Result, Bool, true, false, not, cond, Contains, refl, sym, ap, ◌∙◌, subst, arith}
 use Rattle.std.specs.Prelude.{nat_eq, slice_get, ◌&&◌, ◌||◌}
 use Rattle.std.specs.Option.{option_map_or}
 use Rattle.std.proofs.lemmas.Bool.{true≢false, false≢true}
 use Rattle.iw_octets.specs.declared.fault.Fault.{Fault}
 use Rattle.iw_memory.specs.Table.{Table}
-use Rattle.iw_ranges.specs.Arrived.{Arrived, given_up, advanced, released}
+use Rattle.iw_ranges.specs.Arrived.{Arrived, delivery, taken_in, given_up, advanced, released}
 use Rattle.iw_ranges.specs.InOrder.{is_gone, IsHeld}
 use Rattle.iw_ranges.specs.Laws.{IsLeftOf}
+use Rattle.iw_ranges.specs.Nearest.{place_near, before_start}
 use Rattle.iw_ranges.proofs.InOrder.{held_moves}
 use Rattle.iw_ranges.proofs.ByPlace.{gives_up_places, stays_come}
 use Rattle.iw_ranges.specs.declared.Delivery.{Delivery}
@@ -35,14 +36,14 @@ use Rattle.iw_stream.specs.declared.ending.Ending.TheVariants.{Over}
 use Rattle.iw_stream.specs.Frames.{Frame, EarlyRecord, placed, record_tried}
 use Rattle.iw_stream.specs.Judging.{verdict, early_verdict, turn_of}
 use Rattle.iw_stream.specs.Starting.{StartState, AtOnce, Unheard, Heard, is_open, awaits_frame, is_responder, expecting, first_place_in, progress_in, heard, private_in}
-use Rattle.iw_stream.specs.Stream.{StreamState, ended, ends_by, Due, StartUp, LastWord, Response, NextPart, NoneDue, due, owes_frame, response_due, part_due, emission_due, octets_due, left_due, left_fetched, frame_fetched, delivery_of, after_deliver}
+use Rattle.iw_stream.specs.Stream.{StreamState, ended, ends_by, Due, StartUp, LastWord, Response, NextPart, NoneDue, due, owes_frame, response_due, part_due, emission_due, octets_due, left_due, left_fetched, frame_fetched, delivery_of, after_deliver, place_of, left_out}
 use Rattle.iw_stream.specs.Terminating.{terminate_judged, is_request_of}
 use Rattle.iw_stream.specs.Work.{Task, HandOut, GiveUp, GiveBack, Hear, Turn, Clash, Judge, Try, Rest, task, frame_task, front_task, handing_back, next_frame, waiting, clashes, clash_fault, early_frame, scene, inbox, standing, step_of, left_by, table_left, heard_step, after_hearing, after_turn, after_judging, after_trying, work_step, worked, table_worked}
 use Rattle.iw_stream.specs.Work as work
 use Rattle.iw_stream.proofs.Fronts.{carried_by}
 use Rattle.iw_stream.proofs.Tasks.{IsRunning, IsResting, Ended, Unanswered, Without, by_task, task_hands_back, task_hears, task_frame}
 use Rattle.iw_events.specs.declared.act.StreamAct.{StreamAct}
-use Rattle.iw_events.specs.declared.act.StreamAct.TheVariants.{Recv, Post, Emit, Deliver, Raw, Mulpdu, Accept, Reject, Work, Break}
+use Rattle.iw_events.specs.declared.act.StreamAct.TheVariants.{Recv, Post, Emit, First, Deliver, Raw, Mulpdu, Accept, Reject, Work, Break}
 use Rattle.iw_laws.specs.Words.{Octets}
 use Rattle.iw_laws.specs.Rules.{StreamRule, seen_of, shown_of}
 use Rattle.iw_laws.proofs.States.{stream_after}
@@ -329,12 +330,29 @@ module _ (table : Table) (s : StreamState) (came : Arrived) (left : IsLeftOf s.a
   due_like NoneDue = stays_alike
 
   -- ---- what comes
-  delivery_same : (from n : ℕ) → delivery_of s from n ≡ delivery_of v from n
-  delivery_same from n = ap (λ b. cond (ended s) Dropped (cond b Dropped Kept)) (left_drops s.arrived came from n left)
+  -- octets land alike
+  place_same : (number : ℕ) → place_of s number ≡ place_of v number
+  place_same number = ap (place_near number s.first) left.floor
 
-  comes_like : (from : ℕ) (octets : Octets) (delivery : Delivery) → Like (after_deliver s from octets delivery) (after_deliver v from octets delivery)
-  comes_like from octets Kept = record { same = λ x. refl; left = left_takes s.arrived came from octets left; only = only_takes (scene s) only from octets }
-  comes_like from octets Dropped = stays_alike
+  out_same : (number : ℕ) → left_out s number ≡ left_out v number
+  out_same number = ap (before_start number s.first) left.floor
+
+  delivery_same : (number n : ℕ) → delivery_of s number n ≡ delivery_of v number n
+  delivery_same number n =
+      ap (λ b. cond (ended s) Dropped (cond b Dropped Kept)) (left_drops s.arrived came (place_of s number) (n - left_out s number) left)
+      ∙ (λ i. cond (ended s) Dropped (delivery came (place_same number i) (n - out_same number i)))
+
+  comes_like : (number : ℕ) (octets : Octets) (delivery : Delivery) → Like (after_deliver s number octets delivery) (after_deliver v number octets delivery)
+  comes_like number octets Kept =
+      let is : record v { arrived = taken_in came (place_of s number) (drop (left_out s number) octets); answered = true } ≡ after_deliver v number octets Kept =
+      λ i. record v { arrived = taken_in came (place_same number i) (drop (out_same number i) octets); answered = true } in
+      subst (Like (after_deliver s number octets Kept)) is
+      (record {
+        same = λ x. refl;
+        left = left_takes s.arrived came (place_of s number) (drop (left_out s number) octets) left;
+        only = only_takes (scene s) only (place_of s number) (drop (left_out s number) octets);
+      })
+  comes_like number octets Dropped = record { same = λ x. refl; left = left; only = only }
 
   -- ---- the user answers
   answers_like : (a b : StreamState) → is_open s.start ≡ false → ((x : Arrived) → record a { arrived = x } ≡ record b { arrived = x }) → a.arrived ≡ s.arrived → b.arrived ≡ came → Like a b
@@ -358,9 +376,11 @@ module _ (table : Table) (s : StreamState) (came : Arrived) (left : IsLeftOf s.a
   acts_like (Post request (Some refusal)) rule = (rule, stays_alike)
   acts_like (Emit shown) rule =
       (rule ∙ ap (λ d. shown_of table (emission_due table s d) (octets_due table s d)) due_same ∙ shown_alike (due v), subst (λ d. Like (left_due table s d) (left_due table v (due v))) (sym due_same) (due_like (due v)))
-  acts_like (Deliver from octets delivery) rule = (rule ∙ delivery_same from (length octets), comes_like from octets delivery)
-  acts_like (Raw from octets delivery) rule = (rule ∙ delivery_same from (length octets), comes_like from octets delivery)
+  acts_like (Deliver from number octets delivery) rule = ((rule.0, rule.1 ∙ delivery_same number (length octets)), comes_like number octets delivery)
+  acts_like (Raw number octets delivery) rule = (rule ∙ delivery_same number (length octets), comes_like number octets delivery)
+  acts_like (First number None) rule = (rule, record { same = λ x. refl; left = left; only = only })
   acts_like (Mulpdu size None) rule = (rule, record { same = λ x. refl; left = left; only = only })
+  acts_like (First number (Some refusal)) rule = (rule, stays_alike)
   acts_like (Mulpdu size (Some refusal)) rule = (rule, stays_alike)
   acts_like (Accept private (Ok agreed)) rule = (rule, answers_like (stream_after table s (Accept private (Ok agreed))) (stream_after table v (Accept private (Ok agreed))) (not_answered s (accepting s agreed rule)) (λ x. refl) refl refl)
   acts_like (Accept private (Err refusal)) rule = (rule, stays_alike)

@@ -46,7 +46,7 @@ use Rattle.iw_stream.specs.Stream.{StreamState, Due, StartUp, LastWord, Response
 use Rattle.iw_reads.specs.declared.response.ResponsePart.{ResponsePart}
 use Rattle.iw_stream.specs.Work.{Task, HandOut, GiveUp, GiveBack, Hear, Turn, Clash, Judge, Try, Rest, task, standing, judged_step, tried_step, turned_step, heard_step, step_of, table_judged, table_passed, table_left, inbox, work_step, table_worked}
 use Rattle.iw_events.specs.declared.act.StreamAct.{StreamAct}
-use Rattle.iw_events.specs.declared.act.StreamAct.TheVariants.{Recv, Post, Emit, Deliver, Raw, Mulpdu, Accept, Reject, Work, Break}
+use Rattle.iw_events.specs.declared.act.StreamAct.TheVariants.{Recv, Post, Emit, First, Deliver, Raw, Mulpdu, Accept, Reject, Work, Break}
 use Rattle.iw_events.specs.Events.{stream_call_of}
 use Rattle.iw_laws.specs.Early.{HasPlace}
 use Rattle.iw_laws.specs.Words.{Octets, sent_by, table_seen}
@@ -336,11 +336,12 @@ shown_sends table s = go (due s)
 
 -- octets that are not delivered need not be the other end's
 pub own_octets : (wire : Octets) (act : StreamAct Octets) → needs_peer (stream_call_of act) ≡ false → WireRule wire act
-own_octets wire (Deliver from octets delivery) e = absurd (true≢false e)
-own_octets wire (Raw from octets delivery) e = λ raw. absurd (true≢false raw)
+own_octets wire (Deliver from number octets delivery) e = absurd (true≢false e)
+own_octets wire (Raw number octets delivery) e = tt
 own_octets wire (Recv len refused) e = tt
 own_octets wire (Post message refused) e = tt
 own_octets wire (Emit shown) e = tt
+own_octets wire (First number refused) e = tt
 own_octets wire (Mulpdu size refused) e = tt
 own_octets wire (Accept private answer) e = tt
 own_octets wire (Reject private refused) e = tt

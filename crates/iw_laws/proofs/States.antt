@@ -12,7 +12,7 @@ use Rattle.iw_memory.specs.Table.{Table, region_at, register_refusal, next_stag}
 use Rattle.iw_memory.proofs.TableLemmas.{deregistered-none, with_region-none}
 use Rattle.iw_stream.specs.declared.answer.Role.{Role}
 use Rattle.iw_stream.specs.Starting.{private_in, agreement_in}
-use Rattle.iw_stream.specs.Stream.{StreamState, opened, with_buffer, with_request, with_mulpdu, accepted, rejected, breaks, after_emit, after_deliver, recv_refusal, post_refusal, size_refusal}
+use Rattle.iw_stream.specs.Stream.{StreamState, opened, with_buffer, with_request, with_mulpdu, accepted, rejected, breaks, after_emit, after_deliver, recv_refusal, post_refusal, size_refusal, with_first, first_refusal}
 use Rattle.iw_stream.specs.Work.{worked}
 use Rattle.iw_endpoint.specs.declared.refusal.CallRefusal.TheVariants.{Refused}
 use Rattle.iw_endpoint.specs.Endpoint as endpoint
@@ -22,7 +22,7 @@ use Rattle.iw_events.specs.declared.call.Options.{Options}
 use Rattle.iw_events.specs.declared.act.Act.{Act}
 use Rattle.iw_events.specs.declared.act.Act.TheVariants.{Domain, Register, Deregister, Invalidate, Store, Open, Stream}
 use Rattle.iw_events.specs.declared.act.StreamAct.{StreamAct}
-use Rattle.iw_events.specs.declared.act.StreamAct.TheVariants.{Recv, Post, Emit, Deliver, Raw, Mulpdu, Accept, Reject, Work, Break}
+use Rattle.iw_events.specs.declared.act.StreamAct.TheVariants.{Recv, Post, Emit, First, Deliver, Raw, Mulpdu, Accept, Reject, Work, Break}
 use Rattle.iw_events.specs.declared.act.Shown.{Shown}
 use Rattle.iw_laws.specs.Words.{Octets, Opening, no_opening, config_for, private_data, deed, octets_shown, sent_by, stream_acts_by, registered_under, table_by, table_by_stream}
 use Rattle.iw_laws.specs.Rules.{EndState, StreamRule, EndRule, wire_at, wires_after, call_made, end_after}
@@ -55,9 +55,11 @@ stream_after table s (Recv len (Some refusal)) = s
 stream_after table s (Post request None) = with_request s request
 stream_after table s (Post request (Some refusal)) = s
 stream_after table s (Emit shown) = after_emit table s
-stream_after table s (Deliver from octets delivery) = after_deliver s from octets delivery
-stream_after table s (Raw from octets delivery) = after_deliver s from octets delivery
+stream_after table s (Deliver from number octets delivery) = after_deliver s number octets delivery
+stream_after table s (Raw number octets delivery) = after_deliver s number octets delivery
+stream_after table s (First number None) = with_first s number
 stream_after table s (Mulpdu size None) = with_mulpdu s size
+stream_after table s (First number (Some refusal)) = s
 stream_after table s (Mulpdu size (Some refusal)) = s
 stream_after table s (Accept private (Ok agreed)) = accepted s (private_data private)
 stream_after table s (Accept private (Err refusal)) = s
@@ -128,7 +130,9 @@ stream_left e n (Recv len None) there rule = ap (λ (z : EndpointState). z.strea
 stream_left e n (Recv len (Some r)) there rule = ap (λ (z : EndpointState). z.streams) (asked e (endpoint.with_buffer e n (replicate len 0)) n recv_refusal (Some r) there rule) ∙ put_back e.streams n there
 stream_left e n (Post m None) there rule = ap (λ (z : EndpointState). z.streams) (asked e (endpoint.with_request e n m) n (λ s. post_refusal s m) None there rule.1)
 stream_left e n (Post m (Some r)) there rule = ap (λ (z : EndpointState). z.streams) (asked e (endpoint.with_request e n m) n (λ s. post_refusal s m) (Some r) there rule.1) ∙ put_back e.streams n there
+stream_left e n (First number None) there rule = ap (λ (z : EndpointState). z.streams) (asked e (endpoint.with_first e n number) n first_refusal None there rule)
 stream_left e n (Mulpdu size None) there rule = ap (λ (z : EndpointState). z.streams) (asked e (endpoint.with_mulpdu e n size) n (λ s. size_refusal size) None there rule)
+stream_left e n (First number (Some r)) there rule = ap (λ (z : EndpointState). z.streams) (asked e (endpoint.with_first e n number) n first_refusal (Some r) there rule) ∙ put_back e.streams n there
 stream_left e n (Mulpdu size (Some r)) there rule = ap (λ (z : EndpointState). z.streams) (asked e (endpoint.with_mulpdu e n size) n (λ s. size_refusal size) (Some r) there rule) ∙ put_back e.streams n there
 stream_left e n (Accept private (Ok agreed)) there rule =
     ap (λ (z : EndpointState). z.streams) (asked e (endpoint.accepted e n (private_data private)) n unasked None there (granted (unasked (stream_at e n)) agreed (agreement_in (stream_at e n).start) rule).0)
@@ -137,12 +141,12 @@ stream_left e n (Accept private (Err r)) there rule =
 stream_left e n (Reject private None) there rule = ap (λ (z : EndpointState). z.streams) (asked e (endpoint.rejected e n (private_data private)) n unasked None there rule)
 stream_left e n (Reject private (Some r)) there rule = ap (λ (z : EndpointState). z.streams) (asked e (endpoint.rejected e n (private_data private)) n unasked (Some r) there rule) ∙ put_back e.streams n there
 stream_left e n (Emit shown) there rule = ap (λ (z : EndpointState). z.streams) (found (stream_of e n) e (endpoint.after_emit e n) there)
-stream_left e n (Deliver from octets delivery) there rule =
-    ap (λ (z : EndpointState). z.streams) (found (stream_of e n) e (endpoint.after_deliver e n from octets) there)
-    ∙ ap (λ x. slice_set e.streams n (Some (after_deliver (stream_at e n) from octets x))) (sym rule)
-stream_left e n (Raw from octets delivery) there rule =
-    ap (λ (z : EndpointState). z.streams) (found (stream_of e n) e (endpoint.after_deliver e n from octets) there)
-    ∙ ap (λ x. slice_set e.streams n (Some (after_deliver (stream_at e n) from octets x))) (sym rule)
+stream_left e n (Deliver from number octets delivery) there rule =
+    ap (λ (z : EndpointState). z.streams) (found (stream_of e n) e (endpoint.after_deliver e n number octets) there)
+    ∙ ap (λ x. slice_set e.streams n (Some (after_deliver (stream_at e n) number octets x))) (sym rule.1)
+stream_left e n (Raw number octets delivery) there rule =
+    ap (λ (z : EndpointState). z.streams) (found (stream_of e n) e (endpoint.after_deliver e n number octets) there)
+    ∙ ap (λ x. slice_set e.streams n (Some (after_deliver (stream_at e n) number octets x))) (sym rule)
 stream_left e n (Work step) there rule = ap (λ (z : EndpointState). z.streams) (found (stream_of e n) e (endpoint.after_work e n) there)
 stream_left e n Break there rule = ap (λ (z : EndpointState). z.streams) (found (stream_of e n) e (endpoint.broken e n) there)
 
@@ -172,12 +176,13 @@ missing (Some x) r h = absurd (none-some _ (sym h))
 stream_table : (e : EndpointState) (n : ℕ) (act : StreamAct Octets) → has_stream e n ≡ true → StreamRule e.table (stream_at e n) act → (after e (call_made (Stream n act))).table ≡ table_by_stream e.table act
 stream_table e n (Recv len refused) there rule = same_table (endpoint.recv_refusal e n) e (endpoint.with_buffer e n (replicate len 0)) refl
 stream_table e n (Post m refused) there rule = same_table (endpoint.post_refusal e n m) e (endpoint.with_request e n m) refl
+stream_table e n (First number refused) there rule = same_table (endpoint.first_refusal e n) e (endpoint.with_first e n number) refl
 stream_table e n (Mulpdu size refused) there rule = same_table (endpoint.size_refusal e n size) e (endpoint.with_mulpdu e n size) refl
 stream_table e n (Accept private answer) there rule = same_table (endpoint.answer_refusal e n) e (endpoint.accepted e n (private_data private)) refl
 stream_table e n (Reject private refused) there rule = same_table (endpoint.answer_refusal e n) e (endpoint.rejected e n (private_data private)) refl
 stream_table e n (Emit shown) there rule = same_there (stream_of e n) e (endpoint.after_emit e n) refl
-stream_table e n (Deliver from octets delivery) there rule = same_there (stream_of e n) e (endpoint.after_deliver e n from octets) refl
-stream_table e n (Raw from octets delivery) there rule = same_there (stream_of e n) e (endpoint.after_deliver e n from octets) refl
+stream_table e n (Deliver from number octets delivery) there rule = same_there (stream_of e n) e (endpoint.after_deliver e n number octets) refl
+stream_table e n (Raw number octets delivery) there rule = same_there (stream_of e n) e (endpoint.after_deliver e n number octets) refl
 stream_table e n (Work step) there rule =
     let s : StreamState = stream_at e n in
     ap (λ (z : EndpointState). z.table) (found (stream_of e n) e (endpoint.after_work e n) there)

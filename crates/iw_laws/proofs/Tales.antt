@@ -13,7 +13,7 @@ use Rattle.iw_events.specs.declared.act.StreamAct.{StreamAct}
 use Rattle.iw_events.specs.declared.act.Entry.{Entry}
 use Rattle.iw_laws.specs.Once.{Span, Placed, placed_after, spans_by, spans_placed}
 use Rattle.iw_laws.specs.Turns.{Story, story, story_after, untold}
-use Rattle.iw_laws.specs.Words.{Opening, Octets, other, acts, acts_if, stream_acts, stream_acts_by, openings, openings_by, posted, posted_by, finished_kinds, finished_by, handed_kinds, handed_by, size_set, size_after, Sent, received, received_by, has_raw, raw_after, ended, ended_after, sent, sent_by, Placing, placings, placed_by, table_after, table_by}
+use Rattle.iw_laws.specs.Words.{Opening, Octets, other, acts, acts_if, stream_acts, stream_acts_by, openings, openings_by, posted, posted_by, finished_kinds, finished_by, handed_kinds, handed_by, size_set, size_after, Sent, received, received_by, ended, ended_after, sent, sent_by, Placing, placings, placed_by, table_after, table_by}
 
 -- what the acts of one end say of one of its streams
 pub record Tale : Type 0 where
@@ -27,11 +27,10 @@ pub record Tale : Type 0 where
   pub placings : List Placing
   pub story : Story
   pub ended : Bool
-  pub raw : Bool
   pub spans : List (Option Span)
 
 abbrev pub tale_of : Opening → List (StreamAct Octets) → Tale
-tale_of o done = record { acts = length done; posted = posted done; finished = finished_kinds done; handed = handed_kinds done; size = size_set done; received = received done; sent = sent done; placings = placings done; story = story o done; ended = ended done; raw = has_raw done; spans = spans_placed o done }
+tale_of o done = record { acts = length done; posted = posted done; finished = finished_kinds done; handed = handed_kinds done; size = size_set done; received = received done; sent = sent done; placings = placings done; story = story o done; ended = ended done; spans = spans_placed o done }
 
 abbrev pub tale_after : Tale → StreamAct Octets → Tale
 tale_after t act = record {
@@ -45,7 +44,6 @@ tale_after t act = record {
   placings = t.placings ++ placed_by act;
   story = story_after t.story act;
   ended = ended_after t.ended act;
-  raw = raw_after t.raw act;
   spans = t.spans ++ spans_by t.story act;
 }
 
@@ -67,7 +65,7 @@ spans-push o done act =
     ap (λ (p : Placed). p.spans) (fold-push placed_after first done act) ∙ ap (λ t. (fold placed_after first done).spans ++ spans_by t act) (same_story first done)
 
 pub tale-push : (o : Opening) (done : List (StreamAct Octets)) (act : StreamAct Octets) → tale_of o (done ++ act ∷ []) ≡ tale_after (tale_of o done) act
-unfolding posted finished_kinds handed_kinds size_set received sent placings story ended has_raw
+unfolding posted finished_kinds handed_kinds size_set received sent placings story ended
 tale-push o done act = λ i. record {
   acts = length_push done act i;
   posted = flat_map-push posted_by done act i;
@@ -79,7 +77,6 @@ tale-push o done act = λ i. record {
   placings = flat_map-push placed_by done act i;
   story = fold-push story_after (untold o) done act i;
   ended = fold-push ended_after false done act i;
-  raw = fold-push raw_after false done act i;
   spans = spans-push o done act i;
 }
 

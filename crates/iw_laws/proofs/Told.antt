@@ -55,13 +55,13 @@ use Rattle.iw_stream.specs.Ending.{last_word}
 use Rattle.iw_stream.specs.Terminating.{terminate_judged, terminate_turned, terminate_fetched}
 use Rattle.iw_stream.specs.Judging.{or_else, fault_or, is_solicited, stag_to_invalidate, invalidation_fault, send_turning, early_verdict, table_tried, verdict, answering_by, is_response, tagged_turn, segment_turn, turn_of, receiving_turned, left_by_turn, reads_left, receiving_tried}
 use Rattle.iw_stream.specs.Starting.{StartState, AtOnce, Unheard, Heard, is_open, own_frame, awaits_frame, expecting, first_place_in, progress_in, heard, agreement_in, private_in}
-use Rattle.iw_stream.specs.Stream.{StreamState, Due, StartUp, LastWord, Response, NextPart, NoneDue, ended, ends, ends_by, due, owes_frame, is_mute, part_due, response_due, frame_of_part, frame_of_terminate, frame_fetched, reads_with, octets_due, octets_fetched, emission_due, emission_fetched, emission_of, emitted, left_due, left_fetched, with_buffer, with_request, with_mulpdu, after_emit, after_deliver, accepted, rejected, breaks}
+use Rattle.iw_stream.specs.Stream.{StreamState, Due, StartUp, LastWord, Response, NextPart, NoneDue, ended, ends, ends_by, due, owes_frame, is_mute, part_due, response_due, frame_of_part, frame_of_terminate, frame_fetched, reads_with, octets_due, octets_fetched, emission_due, emission_fetched, emission_of, emitted, left_due, left_fetched, with_buffer, with_request, with_mulpdu, after_emit, after_deliver, accepted, rejected, breaks, with_first}
 use Rattle.iw_stream.specs.Work.{Task, Hear, Turn, Clash, Judge, Try, inbox, scene, next_frame, early_frame, waiting, clashes, clash_fault, hears, heard_step, turned_step, judged_step, tried_step, step_of, after_hearing, after_turn, after_judging, after_trying, left_by, table_judged, table_passed, table_left, work_step, worked, table_worked}
 use Rattle.iw_stream.specs.Work as work
 use Rattle.iw_stream.proofs.Headers.{payload_kept, turn_kept, turned_kept, left_kept}
 use Rattle.iw_stream.proofs.Tasks.{IsRunning, IsResting, by_task}
 use Rattle.iw_events.specs.declared.act.StreamAct.{StreamAct}
-use Rattle.iw_events.specs.declared.act.StreamAct.TheVariants.{Recv, Post, Emit, Deliver, Raw, Mulpdu, Accept, Reject, Work, Break}
+use Rattle.iw_events.specs.declared.act.StreamAct.TheVariants.{Recv, Post, Emit, First, Deliver, Raw, Mulpdu, Accept, Reject, Work, Break}
 use Rattle.iw_events.specs.declared.act.Shown.{Shown}
 use Rattle.iw_events.specs.declared.act.Shown.TheVariants as shows
 use Rattle.iw_events.specs.declared.act.Seen.{Seen}
@@ -169,9 +169,11 @@ after_act s (Recv len (Some refusal)) = s
 after_act s (Post request None) = with_request s request
 after_act s (Post request (Some refusal)) = s
 after_act s (Emit shown) = after_shown s shown
-after_act s (Deliver from octets delivery) = after_deliver s from octets delivery
-after_act s (Raw from octets delivery) = after_deliver s from octets delivery
+after_act s (Deliver from number octets delivery) = after_deliver s number octets delivery
+after_act s (Raw number octets delivery) = after_deliver s number octets delivery
+after_act s (First number None) = with_first s number
 after_act s (Mulpdu size None) = with_mulpdu s size
+after_act s (First number (Some refusal)) = s
 after_act s (Mulpdu size (Some refusal)) = s
 after_act s (Accept private (Ok agreed)) = accepted s (private_data private)
 after_act s (Accept private (Err refusal)) = s
@@ -777,10 +779,11 @@ Told table s (Work step) = Sees table s step
 Told table s (Recv len refused) = StreamRule table s (Recv len refused)
 Told table s (Post message refused) = StreamRule table s (Post message refused)
 Told table s (Emit shown) = StreamRule table s (Emit shown)
-Told table s (Deliver from octets delivery) = StreamRule table s (Deliver from octets delivery)
-Told table s (Raw from octets delivery) = StreamRule table s (Raw from octets delivery)
+Told table s (Deliver from number octets delivery) = StreamRule table s (Deliver from number octets delivery)
+Told table s (Raw number octets delivery) = StreamRule table s (Raw number octets delivery)
 Told table s (Accept private answer) = StreamRule table s (Accept private answer)
 Told table s (Reject private refused) = StreamRule table s (Reject private refused)
+Told table s (First number refused) = StreamRule table s (First number refused)
 Told table s (Mulpdu size refused) = StreamRule table s (Mulpdu size refused)
 Told table s Break = Unit {0}
 
@@ -789,10 +792,11 @@ told table s (Work step) k rule = (sees table s k step rule).0
 told table s (Recv len refused) k rule = rule
 told table s (Post message refused) k rule = rule
 told table s (Emit shown) k rule = rule
-told table s (Deliver from octets delivery) k rule = rule
-told table s (Raw from octets delivery) k rule = rule
+told table s (Deliver from number octets delivery) k rule = rule
+told table s (Raw number octets delivery) k rule = rule
 told table s (Accept private answer) k rule = rule
 told table s (Reject private refused) k rule = rule
+told table s (First number refused) k rule = rule
 told table s (Mulpdu most refused) k rule = rule
 told table s Break k rule = rule
 
@@ -819,12 +823,14 @@ left_told table s (Recv len (Some refusal)) k rule = equal_has refl
 left_told table s (Post message None) k rule = equal_has refl
 left_told table s (Post message (Some refusal)) k rule = equal_has refl
 left_told table s (Emit shown) k rule = equal_has (left_shown table s shown rule)
-left_told table s (Deliver from octets delivery) k rule = equal_has refl
-left_told table s (Raw from octets delivery) k rule = equal_has refl
+left_told table s (Deliver from number octets delivery) k rule = equal_has refl
+left_told table s (Raw number octets delivery) k rule = equal_has refl
 left_told table s (Accept private (Ok agreed)) k rule = equal_has refl
 left_told table s (Accept private (Err refusal)) k rule = equal_has refl
 left_told table s (Reject private None) k rule = equal_has refl
 left_told table s (Reject private (Some refusal)) k rule = equal_has refl
+left_told table s (First number None) k rule = equal_has refl
 left_told table s (Mulpdu most None) k rule = equal_has refl
+left_told table s (First number (Some refusal)) k rule = equal_has refl
 left_told table s (Mulpdu most (Some refusal)) k rule = equal_has refl
 left_told table s Break k rule = equal_has refl

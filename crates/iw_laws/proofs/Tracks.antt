@@ -1,5 +1,5 @@
 -- The frames that came, one behind the other, and the one at the in-order point of a stream's state.
-use Rattle.std.proofs.Common.{subst, ◌≡◌, ℕ, suc, ◌+◌, ◌-◌, ◌*◌, ◌<◌, ◌≤◌, List, [], ◌∷◌, ◌++◌, length, take, drop, map, replicate, Option, Some, None, Bool, true, false, cond, refl, sym, ap, ◌∙◌, arith, append_assoc, length-append, length-take, Ok, Err, inl, inr}
+use Rattle.std.proofs.Common.{subst, ◌≡◌, ℕ, suc, ◌+◌, ◌-◌, ◌*◌, ◌<◌, ◌≤◌, List, [], ◌∷◌, ◌++◌, length, take, drop, map, replicate, Option, Some, None, Bool, true, false, cond, refl, sym, ap, ◌∙◌, arith, append_assoc, length-append, length-take, length-drop, Ok, Err, inl, inr}
 use Rattle.std.specs.Prelude.{All, slice_get, max, nat_eq, nat_lt, is_some, not, ◌&&◌, ◌||◌}
 use Rattle.std.specs.List.{Contains}
 use Rattle.std.specs.Option.{option_map, option_map_or, option_or}
@@ -18,6 +18,7 @@ use Rattle.iw_octets.specs.declared.stag.Stag.{Stag}
 use Rattle.iw_memory.specs.declared.rights.Right.{Right}
 use Rattle.iw_memory.specs.Table.{Table}
 use Rattle.iw_ranges.specs.declared.Delivery.TheVariants.{Kept, Dropped}
+use Rattle.iw_ranges.specs.Nearest.{place_near, before_start}
 use Rattle.iw_ranges.specs.Arrived.{Arrived, in_order, delivery, taken_in, advanced}
 use Rattle.iw_ranges.specs.InOrder.{IsHeld, IsInWindow, IsOf}
 use Rattle.iw_ranges.proofs.InOrder.{takes, moves, moves_takes, floor_takes, floor_moves, held_takes, held_moves, window_takes, window_moves, short}
@@ -61,7 +62,7 @@ use Rattle.iw_stream.specs.Judging.{receiving_turned, is_read_response, is_respo
 use Rattle.iw_stream.specs.Terminating.{terminate_fetched}
 use Rattle.iw_stream.specs.Starting.{StartState, AtOnce, Unheard, Heard, IsFresh, is_open, expecting, first_place_in, is_responder, progress_in, heard, agreement_in, answered_with, first_place_out}
 use Rattle.iw_stream.specs.Starting as starting
-use Rattle.iw_stream.specs.Stream.{StreamState, Due, StartUp, LastWord, Response, NextPart, NoneDue, ended, due, may_answer, keeps_silent, delivery_of, ends_by}
+use Rattle.iw_stream.specs.Stream.{StreamState, Due, StartUp, LastWord, Response, NextPart, NoneDue, ended, due, may_answer, keeps_silent, delivery_of, ends_by, place_of, left_out}
 use Rattle.iw_stream.specs.declared.ending.Ending.TheVariants.{Over}
 use Rattle.iw_stream.specs.Ending.{has_ended, last_word, with_last_word}
 use Rattle.iw_stream.specs.Work.{inbox, scene, waiting, clashes}
@@ -69,14 +70,14 @@ use Rattle.iw_stream.specs.Work as work
 use Rattle.iw_stream.proofs.Fronts.{carried_by, frame_whole}
 use Rattle.iw_stream.proofs.Headers.{turned_kept, left_kept}
 use Rattle.iw_events.specs.declared.act.StreamAct.{StreamAct}
-use Rattle.iw_events.specs.declared.act.StreamAct.TheVariants.{Recv, Post, Emit, Deliver, Raw, Mulpdu, Accept, Reject, Work, Break}
+use Rattle.iw_events.specs.declared.act.StreamAct.TheVariants.{Recv, Post, Emit, First, Deliver, Raw, Mulpdu, Accept, Reject, Work, Break}
 use Rattle.iw_events.specs.declared.act.Shown.{Shown}
 use Rattle.iw_events.specs.declared.act.Seen.{Seen}
 use Rattle.iw_events.specs.declared.act.Seen.TheVariants as seen
-use Rattle.iw_laws.specs.Words.{Octets, Sent, Placing, placed_by, private_data, listed, written as written_of, written_by, sunk, sunk_by, as_write}
+use Rattle.iw_laws.specs.Words.{Octets, Sent, Placing, placed_by, private_data, listed, written as written_of, written_by, sunk, sunk_by, as_write, OnSome, deed}
 use Rattle.iw_queues.specs.Joined.{Cell, count_in, count_writes, count_segments}
 use Rattle.iw_fpdu.specs.Places.{frame_start}
-use Rattle.iw_laws.specs.Turns.{Located, located_of, past_last}
+use Rattle.iw_laws.specs.Turns.{Located, located_of, past_last, in_order_point}
 use Rattle.iw_laws.specs.Sends.{asked_of}
 use Rattle.iw_reads.specs.declared.reads.Outstanding.{Outstanding}
 use Rattle.iw_reads.specs.Outstanding.{response_turn_fault, reads_turned}
@@ -550,7 +551,7 @@ same_track s s' t t' same arrived came turns placed receiving still fore_is k sh
 }
 
 -- octets that are kept are so by what came before, on a stream that has not ended
-kept_is : (s : StreamState) (from n : ℕ) → Kept ≡ delivery_of s from n → (ended s ≡ false) × (delivery s.arrived from n ≡ Kept)
+kept_is : (s : StreamState) (from n : ℕ) → Kept ≡ cond (ended s) Dropped (delivery s.arrived from n) → (ended s ≡ false) × (delivery s.arrived from n ≡ Kept)
 kept_is s from n e = go (ended s) refl e
   where
     go : (over : Bool) → ended s ≡ over → Kept ≡ cond over Dropped (delivery s.arrived from n) → (ended s ≡ false) × (delivery s.arrived from n ≡ Kept)
@@ -566,7 +567,7 @@ stays s s' t more k running next placed = go (fore s) refl (k.joins.waits runnin
     go (Some (frame, rest)) e w = ap segment_at (next ∙ first_stays (expecting s.start) (length k.before) (inbox s) more frame rest k.between (sym (front_is s t k) ∙ e))
 
 -- octets come
-pub comes : (s s' : StreamState) (t t' : Tale) (from : ℕ) (octets : Octets) → Kept ≡ delivery_of s from (length octets)
+pub comes : (s s' : StreamState) (t t' : Tale) (from : ℕ) (octets : Octets) → Kept ≡ cond (ended s) Dropped (delivery s.arrived from (length octets))
     → SameStart s s' t t' → s'.arrived ≡ taken_in s.arrived from octets → s'.front ≡ s.front → s'.early ≡ s.early → ended s' ≡ ended s → s'.receiving ≡ s.receiving
     → t'.story.came ≡ taken_in t.story.came from octets → t'.story.turns ≡ t.story.turns → t'.story.placed ≡ t.story.placed → t'.story.early ≡ t.story.early → t'.story.receiving ≡ t.story.receiving → t'.received ≡ t.received → t'.placings ≡ t.placings
     → (k : Track s t) → Tells t'.story.answered (asked_of t'.story) k.segments → Track s' t'
@@ -1137,6 +1138,9 @@ rejects s t private e k =
 -- what goes out changes nothing of what came
 pub record StaysHeard (t t' : Story) : Type 0 where
   pub came : t'.came ≡ t.came
+  pub first : t'.first ≡ t.first
+  pub was_delivered : t'.was_delivered ≡ t.was_delivered
+  pub strays : t'.strays ≡ t.strays
   pub start : t'.start ≡ t.start
   pub turns : t'.turns ≡ t.turns
   pub placed : t'.placed ≡ t.placed
@@ -1149,14 +1153,14 @@ pub shown_stays : (t : Story) (shown : Shown Octets) → StaysHeard t (story_sho
 shown_stays t (shows.Frame from octets) = go (nat_lt from (first_place_out t.start)) (last_word t.ending) (segment_out t from octets)
   where
     go : (first : Bool) (w : Option Octets) (o : Option (Segment Octets)) → StaysHeard t (cond first t (option_map_or (says_farewell t) w (option_map_or (sends_segment t) o t)))
-    go true w o = record { came = refl; start = refl; turns = refl; placed = refl; early = refl; receiving = refl; answered = refl; asked = refl }
-    go false (Some payload) o = record { came = refl; start = refl; turns = refl; placed = refl; early = refl; receiving = refl; answered = refl; asked = refl }
-    go false None None = record { came = refl; start = refl; turns = refl; placed = refl; early = refl; receiving = refl; answered = refl; asked = refl }
-    go false None (Some segment) = record { came = refl; start = refl; turns = refl; placed = refl; early = refl; receiving = refl; answered = refl; asked = refl }
+    go true w o = record { came = refl; first = refl; was_delivered = refl; strays = refl; start = refl; turns = refl; placed = refl; early = refl; receiving = refl; answered = refl; asked = refl }
+    go false (Some payload) o = record { came = refl; first = refl; was_delivered = refl; strays = refl; start = refl; turns = refl; placed = refl; early = refl; receiving = refl; answered = refl; asked = refl }
+    go false None None = record { came = refl; first = refl; was_delivered = refl; strays = refl; start = refl; turns = refl; placed = refl; early = refl; receiving = refl; answered = refl; asked = refl }
+    go false None (Some segment) = record { came = refl; first = refl; was_delivered = refl; strays = refl; start = refl; turns = refl; placed = refl; early = refl; receiving = refl; answered = refl; asked = refl }
 shown_stays t (shows.Fetched from frame stag to octets) = go t.asked.unanswered refl
   where
     go : (waiting : List Asked) → t.asked.unanswered ≡ waiting → StaysHeard t (fetches_for t waiting octets)
-    go [] is = record { came = refl; start = refl; turns = refl; placed = refl; early = refl; receiving = refl; answered = refl; asked = refl }
+    go [] is = record { came = refl; first = refl; was_delivered = refl; strays = refl; start = refl; turns = refl; placed = refl; early = refl; receiving = refl; answered = refl; asked = refl }
     go (oldest ∷ others) is = by (nat_eq (length t.begun + length octets) oldest.request.size)
       where
         by : (b : Bool) → StaysHeard t (cond b (record t {
@@ -1166,6 +1170,9 @@ shown_stays t (shows.Fetched from frame stag to octets) = go t.asked.unanswered 
         }) (record t { asked = record t.asked { fetched = length t.begun + length octets }; begun = t.begun ++ octets }))
         by true = record {
           came = refl;
+          first = refl;
+          was_delivered = refl;
+          strays = refl;
           start = refl;
           turns = refl;
           placed = refl;
@@ -1176,9 +1183,9 @@ shown_stays t (shows.Fetched from frame stag to octets) = go t.asked.unanswered 
               ∙ append_assoc (map (λ (x : Answer). x.request) t.answers) (oldest.request ∷ []) (map (λ (x : Asked). x.request) others)
               ∙ ap (λ z. map (λ (x : Answer). x.request) t.answers ++ map (λ (x : Asked). x.request) z) (sym is);
         }
-        by false = record { came = refl; start = refl; turns = refl; placed = refl; early = refl; receiving = refl; answered = refl; asked = refl }
-shown_stays t (shows.Fault fault) = record { came = refl; start = refl; turns = refl; placed = refl; early = refl; receiving = refl; answered = refl; asked = refl }
-shown_stays t shows.Nothing = record { came = refl; start = refl; turns = refl; placed = refl; early = refl; receiving = refl; answered = refl; asked = refl }
+        by false = record { came = refl; first = refl; was_delivered = refl; strays = refl; start = refl; turns = refl; placed = refl; early = refl; receiving = refl; answered = refl; asked = refl }
+shown_stays t (shows.Fault fault) = record { came = refl; first = refl; was_delivered = refl; strays = refl; start = refl; turns = refl; placed = refl; early = refl; receiving = refl; answered = refl; asked = refl }
+shown_stays t shows.Nothing = record { came = refl; first = refl; was_delivered = refl; strays = refl; start = refl; turns = refl; placed = refl; early = refl; receiving = refl; answered = refl; asked = refl }
 
 goes_out : (s s' : StreamState) (t t' : Tale) → s'.start ≡ s.start → s'.arrived ≡ s.arrived → s'.front ≡ s.front → s'.early ≡ s.early → s'.receiving ≡ s.receiving
     → StaysHeard t.story t'.story → t'.placings ≡ t.placings → (k : Track s t) → Joins k.segments s'.receiving (is_some s'.front) (ended s') (segment_at (fore s')) t'.received k.shown → Track s' t'
@@ -1507,50 +1514,80 @@ tried table s t place j k =
     (λ c. let same : count_writes c (sunk (t.placings ++ [])) ≡ count_writes c (sunk t.placings) = ap (λ z. count_writes c (sunk z)) (append-nil t.placings) in omega (arith, same))
     k)
 
-pub tracking : (table : Table) (s : StreamState) (t : Tale) (act : StreamAct Octets) → Told table s act → t.story.reads ≡ s.reads → Track s t → Track (after_act s act) (tale_after t act)
-tracking table s t (Deliver from octets Kept) rule r k =
-    comes s (after_act s (Deliver from octets Kept)) t (tale_after t (Deliver from octets Kept)) from octets rule (kept_start s (after_act s (Deliver from octets Kept)) t (tale_after t (Deliver from octets Kept)) refl refl) refl refl refl refl refl refl refl refl refl refl (append-nil t.received) (append-nil t.placings) k k.tells
-tracking table s t (Raw from octets Kept) rule r k =
-    comes s (after_act s (Raw from octets Kept)) t (tale_after t (Raw from octets Kept)) from octets rule (kept_start s (after_act s (Raw from octets Kept)) t (tale_after t (Raw from octets Kept)) refl refl) refl refl refl refl refl refl refl refl refl refl (append-nil t.received) (append-nil t.placings) k k.tells
-tracking table s t (Deliver from octets Dropped) rule r k = same s s t (tale_after t (Deliver from octets Dropped)) refl refl refl refl refl refl (append-nil t.placings) k (quiet s t k)
-tracking table s t (Raw from octets Dropped) rule r k = same s s t (tale_after t (Raw from octets Dropped)) refl refl refl refl refl refl (append-nil t.placings) k (quiet s t k)
-tracking table s t (Mulpdu size (Some refusal)) rule r k = same s s t (tale_after t (Mulpdu size (Some refusal))) refl refl refl refl refl refl (append-nil t.placings) k (quiet s t k)
-tracking table s t (Accept private (Err refusal)) rule r k = same s s t (tale_after t (Accept private (Err refusal))) refl refl refl refl refl refl (append-nil t.placings) k (quiet s t k)
-tracking table s t (Reject private (Some refusal)) rule r k = same s s t (tale_after t (Reject private (Some refusal))) refl refl refl refl refl refl (append-nil t.placings) k (quiet s t k)
-tracking table s t (Recv len (Some refusal)) rule r k = same s s t (tale_after t (Recv len (Some refusal))) refl refl refl refl refl refl (append-nil t.placings) k (quiet s t k)
-tracking table s t (Post m (Some refusal)) rule r k = same s s t (tale_after t (Post m (Some refusal))) refl refl refl refl refl refl (append-nil t.placings) k (quiet s t k)
-tracking table s t (Work seen.Idle) rule r k = same s s t (tale_after t (Work seen.Idle)) refl refl refl refl refl refl (append-nil t.placings) k (quiet s t k)
-tracking table s t (Mulpdu size None) rule r k = same s (after_act s (Mulpdu size None)) t (tale_after t (Mulpdu size None)) refl refl refl refl refl refl (append-nil t.placings) k (quiet s t k)
-tracking table s t (Post m None) rule r k = same s (after_act s (Post m None)) t (tale_after t (Post m None)) refl refl refl refl refl refl (append-nil t.placings) k (quiet s t k)
-tracking table s t (Work (seen.Done kind)) rule r k = same s (after_act s (Work (seen.Done kind))) t (tale_after t (Work (seen.Done kind))) refl refl refl refl refl refl (append-nil t.placings) k (quiet s t k)
-tracking table s t (Emit shown) rule r k = emits_any s t shown k
-tracking table s t (Accept private (Ok agreed)) rule r k = accepts s t private agreed (accepting s agreed rule) k
-tracking table s t (Reject private None) rule r k = rejects s t private (refusing s rule) k
-tracking table s t (Work (seen.Asked private)) rule r k = asks s t private rule.0 k
-tracking table s t (Work (seen.Opened agreed private)) rule r k = opens s t agreed private rule.0 k
-tracking table s t (Work (seen.Closed fault)) rule r k = closes s t fault rule k
-tracking table s t (Recv len None) rule r k =
+-- octets land where the acts say
+module _ (s : StreamState) (t : Tale) (number : ℕ) (first : t.story.first ≡ s.first) (k : Track s t) where
+  here_is : in_order_point t.story ≡ s.arrived.floor
+  here_is = point_is s t k ∙ sym k.point
+
+  place_told : place_near number t.story.first (in_order_point t.story) ≡ place_of s number
+  place_told = λ i. place_near number (first i) (here_is i)
+
+  out_told : before_start number t.story.first (in_order_point t.story) ≡ left_out s number
+  out_told = λ i. before_start number (first i) (here_is i)
+
+kept_left : (s : StreamState) (number : ℕ) (octets : Octets) → Kept ≡ delivery_of s number (length octets) → Kept ≡ cond (ended s) Dropped (delivery s.arrived (place_of s number) (length (drop (left_out s number) octets)))
+kept_left s number octets e = e ∙ ap (λ n. cond (ended s) Dropped (delivery s.arrived (place_of s number) n)) (sym (length-drop (left_out s number) octets))
+
+-- what the turns, the placings and the responses go by stays
+stays_put : (s s' : StreamState) (t t' : Tale) → s'.start ≡ s.start → s'.arrived ≡ s.arrived → s'.front ≡ s.front → s'.early ≡ s.early → s'.receiving ≡ s.receiving
+    → t'.story.start ≡ t.story.start → t'.story.came ≡ t.story.came → t'.story.turns ≡ t.story.turns → t'.story.placed ≡ t.story.placed → t'.story.early ≡ t.story.early → t'.story.receiving ≡ t.story.receiving
+    → t'.story.answered ≡ t.story.answered → asked_of t'.story ≡ asked_of t.story → t'.placings ≡ t.placings
+    → (k : Track s t) → Joins k.segments s'.receiving (is_some s'.front) (ended s') (segment_at (fore s')) t'.received k.shown → Track s' t'
+stays_put s s' t t' start arrived front early receiving start_told came turns placed early_told receiving_told answered asked placings k joins =
+    same_track s s' t t' (kept_start s s' t t' start start_told) arrived
+    came turns (placed ∙ k.placed ∙ sym (ap is_some front)) (receiving_told ∙ k.receiving ∙ sym receiving) (λ h. ap is_some front)
+    (λ f h. same_fore s s' start arrived f (k.fore_is f (sym front ∙ h))) k k.shown
+    (same_early s s' t t' k.shown start arrived early early_told placings (still_clear s s' start front early k.early.clear) k.early) (same_sent s s' t.story t'.story k.intro start early came k.sent_ones) joins
+    (record { answered_are = answered ∙ k.tells.answered_are; asked_are = asked ∙ k.tells.asked_are })
+
+pub tracking : (table : Table) (s : StreamState) (t : Tale) (act : StreamAct Octets) → Told table s act → t.story.reads ≡ s.reads → OnSome (λ c. t.story.first ≡ s.first) (deed act).coming → Track s t → Track (after_act s act) (tale_after t act)
+tracking table s t (Deliver from number octets Kept) rule r f k =
+    comes s (after_act s (Deliver from number octets Kept)) t (tale_after t (Deliver from number octets Kept)) (place_of s number) (drop (left_out s number) octets) (kept_left s number octets rule.1) (kept_start s (after_act s (Deliver from number octets Kept)) t (tale_after t (Deliver from number octets Kept)) refl refl) refl refl refl refl refl
+    (λ i. taken_in t.story.came (place_told s t number f k i) (drop (out_told s t number f k i) octets)) refl refl refl refl (append-nil t.received) (append-nil t.placings) k k.tells
+tracking table s t (Raw number octets Kept) rule r f k =
+    comes s (after_act s (Raw number octets Kept)) t (tale_after t (Raw number octets Kept)) (place_of s number) (drop (left_out s number) octets) (kept_left s number octets rule) (kept_start s (after_act s (Raw number octets Kept)) t (tale_after t (Raw number octets Kept)) refl refl) refl refl refl refl refl
+    (λ i. taken_in t.story.came (place_told s t number f k i) (drop (out_told s t number f k i) octets)) refl refl refl refl (append-nil t.received) (append-nil t.placings) k k.tells
+tracking table s t (Deliver from number octets Dropped) rule r f k = stays_put s (after_act s (Deliver from number octets Dropped)) t (tale_after t (Deliver from number octets Dropped)) refl refl refl refl refl refl refl refl refl refl refl refl refl (append-nil t.placings) k (quiet s t k)
+tracking table s t (Raw number octets Dropped) rule r f k = stays_put s (after_act s (Raw number octets Dropped)) t (tale_after t (Raw number octets Dropped)) refl refl refl refl refl refl refl refl refl refl refl refl refl (append-nil t.placings) k (quiet s t k)
+tracking table s t (First number (Some refusal)) rule r f k = same s s t (tale_after t (First number (Some refusal))) refl refl refl refl refl refl (append-nil t.placings) k (quiet s t k)
+tracking table s t (Mulpdu size (Some refusal)) rule r f k = same s s t (tale_after t (Mulpdu size (Some refusal))) refl refl refl refl refl refl (append-nil t.placings) k (quiet s t k)
+tracking table s t (Accept private (Err refusal)) rule r f k = same s s t (tale_after t (Accept private (Err refusal))) refl refl refl refl refl refl (append-nil t.placings) k (quiet s t k)
+tracking table s t (Reject private (Some refusal)) rule r f k = same s s t (tale_after t (Reject private (Some refusal))) refl refl refl refl refl refl (append-nil t.placings) k (quiet s t k)
+tracking table s t (Recv len (Some refusal)) rule r f k = same s s t (tale_after t (Recv len (Some refusal))) refl refl refl refl refl refl (append-nil t.placings) k (quiet s t k)
+tracking table s t (Post m (Some refusal)) rule r f k = same s s t (tale_after t (Post m (Some refusal))) refl refl refl refl refl refl (append-nil t.placings) k (quiet s t k)
+tracking table s t (Work seen.Idle) rule r f k = same s s t (tale_after t (Work seen.Idle)) refl refl refl refl refl refl (append-nil t.placings) k (quiet s t k)
+tracking table s t (First number None) rule r f k = stays_put s (after_act s (First number None)) t (tale_after t (First number None)) refl refl refl refl refl refl refl refl refl refl refl refl refl (append-nil t.placings) k (quiet s t k)
+tracking table s t (Mulpdu size None) rule r f k = same s (after_act s (Mulpdu size None)) t (tale_after t (Mulpdu size None)) refl refl refl refl refl refl (append-nil t.placings) k (quiet s t k)
+tracking table s t (Post m None) rule r f k = same s (after_act s (Post m None)) t (tale_after t (Post m None)) refl refl refl refl refl refl (append-nil t.placings) k (quiet s t k)
+tracking table s t (Work (seen.Done kind)) rule r f k = same s (after_act s (Work (seen.Done kind))) t (tale_after t (Work (seen.Done kind))) refl refl refl refl refl refl (append-nil t.placings) k (quiet s t k)
+tracking table s t (Emit shown) rule r f k = emits_any s t shown k
+tracking table s t (Accept private (Ok agreed)) rule r f k = accepts s t private agreed (accepting s agreed rule) k
+tracking table s t (Reject private None) rule r f k = rejects s t private (refusing s rule) k
+tracking table s t (Work (seen.Asked private)) rule r f k = asks s t private rule.0 k
+tracking table s t (Work (seen.Opened agreed private)) rule r f k = opens s t agreed private rule.0 k
+tracking table s t (Work (seen.Closed fault)) rule r f k = closes s t fault rule k
+tracking table s t (Recv len None) rule r f k =
     let s' : StreamState = after_act s (Recv len None) in
     let t' : Tale = tale_after t (Recv len None) in
     same_track s s' t t' (kept_start s s' t t' refl refl) refl refl refl k.placed (ap (λ (r : Receiving). with_buffer r (replicate len 0)) k.receiving) (λ h. refl) (λ f h. same_fore s s' refl refl f (k.fore_is f h)) k
     k.shown (same_early s s' t t' k.shown refl refl refl refl (append-nil t.placings) k.early.clear k.early) k.sent_ones
     (joins_buffer k.segments s.receiving (is_some s.front) (ended s) (segment_at (fore s)) (t.received ++ []) k.shown (replicate len 0) (quiet s t k)) k.tells
-tracking table s t (Work (seen.Placed right stag to octets)) rule r k = elim rule [
+tracking table s t (Work (seen.Placed right stag to octets)) rule r f k = elim rule [
   | inl (judged, w) ↦ placed_there table s t right stag to octets w k
   | inr (judged, w) ↦ placed_early table s t right stag to octets judged w k
 ]
-tracking table s t (Work (seen.Tried place)) rule r k = tried table s t place rule k
-tracking table s t (Work (seen.Buffered msn mo len)) rule r k = elim rule [
+tracking table s t (Work (seen.Tried place)) rule r f k = tried table s t place rule k
+tracking table s t (Work (seen.Buffered msn mo len)) rule r f k = elim rule [
   | inl (judged, w) ↦ buffered_there s t msn mo len w k
   | inr (judged, w) ↦ buffered_early table s t msn mo len judged w k
 ]
-tracking table s t (Work (seen.Requested size stag to)) rule r k =
+tracking table s t (Work (seen.Requested size stag to)) rule r f k =
     let w = rule.1 in
     let s' : StreamState = after_act s (Work (seen.Requested size stag to)) in
     let t' : Tale = tale_after t (Work (seen.Requested size stag to)) in
     turned s s' t t' w.fronts.frame w.fronts.rest (Untagged w.head w.payload) w.fronts.whole w.fronts.carries w.fronts.started (kept_start s s' t t' refl refl) refl refl refl refl refl refl refl
     k.receiving k k.shown (same_counts s t t' k (Untagged w.head w.payload) w.fronts (append-nil t.placings)) (requests s t size stag to (segment_at (fore s')) w k) (request_tells s t size stag to w k)
-tracking table s t (Work seen.Passed) rule r k =
+tracking table s t (Work seen.Passed) rule r f k =
     let w = rule.1 in
     let s' : StreamState = after_act s (Work seen.Passed) in
     let t' : Tale = tale_after t (Work seen.Passed) in
@@ -1558,7 +1595,7 @@ tracking table s t (Work seen.Passed) rule r k =
     turned s s' t t' w.fronts.frame w.fronts.rest w.segment w.fronts.whole w.fronts.carries w.fronts.started (kept_start s s' t t' refl refl) refl refl refl refl refl refl refl
     (next_turns s t true w.segment w.fronts k) k now.shown (same_placings s t t' now.shown (append-nil t.placings) now.counts) (passes s t w.segment (segment_at (fore s')) w.fronts w.passing k now)
     (passing_tells s t w.segment w.fronts w.passing r k)
-tracking table s t (Work (seen.Received octets solicited invalidate)) rule r k =
+tracking table s t (Work (seen.Received octets solicited invalidate)) rule r f k =
     let c = rule.1 in
     let s' : StreamState = after_act s (Work (seen.Received octets solicited invalidate)) in
     let t' : Tale = tale_after t (Work (seen.Received octets solicited invalidate)) in
@@ -1566,21 +1603,21 @@ tracking table s t (Work (seen.Received octets solicited invalidate)) rule r k =
     turned s s' t t' c.fronts.frame c.fronts.rest (Untagged c.head c.payload) c.fronts.whole c.fronts.carries c.fronts.started (kept_start s s' t t' refl refl) refl refl refl refl refl refl refl
     (ap finished k.receiving) k now.shown (same_placings s t t' now.shown (append-nil t.placings) now.counts) (receives s t octets solicited invalidate (segment_at (fore s')) c k now)
     (plain_tells k.segments c.head c.payload (now.joins.waits refl refl) k.tells)
-tracking table s t (Work (seen.Terminated fault)) rule r k =
+tracking table s t (Work (seen.Terminated fault)) rule r f k =
     let w = rule.1 in
     let s' : StreamState = after_act s (Work (seen.Terminated fault)) in
     let t' : Tale = tale_after t (Work (seen.Terminated fault)) in
     turned s s' t t' w.fronts.frame w.fronts.rest (Untagged w.head w.payload) w.fronts.whole w.fronts.carries w.fronts.started (kept_start s s' t t' refl refl) refl refl refl refl refl refl refl
     k.receiving k k.shown (same_counts s t t' k (Untagged w.head w.payload) w.fronts (append-nil t.placings)) (terminates s t (segment_at (fore s')) w k) (last_tells k.segments w.head w.payload w.queue k.tells)
-tracking table s t (Work (seen.Fault fault)) rule r k =
+tracking table s t (Work (seen.Fault fault)) rule r f k =
     goes_out s (after_act s (Work (seen.Fault fault))) t (tale_after t (Work (seen.Fault fault))) refl refl refl refl refl stays_heard (append-nil t.placings) k (over_joins (by_ended s (fault_front s fault)) (quiet s t k))
   where
     stays_heard : StaysHeard t.story (tale_after t (Work (seen.Fault fault))).story
-    stays_heard = record { came = refl; start = refl; turns = refl; placed = refl; early = refl; receiving = refl; answered = refl; asked = refl }
-tracking table s t Break rule r k =
-    goes_out s (after_act s Break) t (tale_after t Break) refl refl refl refl refl (record { came = refl; start = refl; turns = refl; placed = refl; early = refl; receiving = refl; answered = refl; asked = refl }) (append-nil t.placings) k (over_joins refl (quiet s t k))
-tracking table s t (Work (seen.Flushed kind)) rule r k = same s (after_act s (Work (seen.Flushed kind))) t (tale_after t (Work (seen.Flushed kind))) refl refl refl refl refl refl (append-nil t.placings) k (quiet s t k)
-tracking table s t (Work (seen.FlushedRecv octets)) rule r k =
+    stays_heard = record { came = refl; first = refl; was_delivered = refl; strays = refl; start = refl; turns = refl; placed = refl; early = refl; receiving = refl; answered = refl; asked = refl }
+tracking table s t Break rule r f k =
+    goes_out s (after_act s Break) t (tale_after t Break) refl refl refl refl refl (record { came = refl; first = refl; was_delivered = refl; strays = refl; start = refl; turns = refl; placed = refl; early = refl; receiving = refl; answered = refl; asked = refl }) (append-nil t.placings) k (over_joins refl (quiet s t k))
+tracking table s t (Work (seen.Flushed kind)) rule r f k = same s (after_act s (Work (seen.Flushed kind))) t (tale_after t (Work (seen.Flushed kind))) refl refl refl refl refl refl (append-nil t.placings) k (quiet s t k)
+tracking table s t (Work (seen.FlushedRecv octets)) rule r f k =
     let s' : StreamState = after_act s (Work (seen.FlushedRecv octets)) in
     let t' : Tale = tale_after t (Work (seen.FlushedRecv octets)) in
     same_track s s' t t' (kept_start s s' t t' refl refl) refl refl refl k.placed (ap flushed k.receiving) (λ h. refl) (λ f h. same_fore s s' refl refl f (k.fore_is f h)) k

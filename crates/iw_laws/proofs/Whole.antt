@@ -1,8 +1,10 @@
 -- Whatever follows the rules is as the laws say.
-use Rattle.std.proofs.Common.{◌≡◌, ℕ, zero, suc, ◌^◌, ◌<◌, ◌≤◌, List, [], ◌∷◌, ◌++◌, length, replicate, Option, Some, None, Bool, true, false, cond, eqb, refl, sym, ap, ◌∙◌, subst, arith, append_assoc, length-append, length-take, eqb-true, ◌-◌, Ok, Err, inl, inr, ◌⊎◌}
-use Rattle.std.specs.Prelude.{map, is_some, slice_index_or, unwrap_or}
+use Rattle.iw_laws.proofs.Nearby.{lands_near}
+use Rattle.std.proofs.Common.{◌≡◌, ℕ, zero, suc, ◌+◌, ◌^◌, ◌<◌, ◌≤◌, List, [], ◌∷◌, ◌++◌, length, drop, replicate, Option, Some, None, Bool, true, false, cond, eqb, refl, sym, ap, ◌∙◌, subst, arith, append_assoc, length-append, length-take, eqb-true, ◌-◌, Ok, Err, inl, inr, ◌⊎◌}
+use Rattle.std.specs.Prelude.{map, is_some, slice_index_or, unwrap_or, not, ◌||◌, Bool, ◌%◌, ◌^◌}
 use Rattle.std.proofs.lemmas.List.{append-nil}
 use Rattle.std.proofs.lemmas.Bool.{false≢true, true≢false}
+use Rattle.iw_ranges.specs.Nearest.{place_near, before_start}
 use Rattle.iw_octets.specs.Segment.{segment_octets}
 use Rattle.iw_memory.specs.Table.{Table}
 use Rattle.iw_ranges.specs.declared.Delivery.TheVariants.{Kept, Dropped}
@@ -40,14 +42,14 @@ use Rattle.iw_events.specs.declared.call.End.TheVariants.{A, B}
 use Rattle.iw_events.specs.declared.act.Act.{Act}
 use Rattle.iw_events.specs.declared.act.Act.TheVariants.{Domain, Register, Deregister, Invalidate, Store, Open, Stream}
 use Rattle.iw_events.specs.declared.act.StreamAct.{StreamAct}
-use Rattle.iw_events.specs.declared.act.StreamAct.TheVariants.{Recv, Post, Emit, Deliver, Raw, Mulpdu, Accept, Reject, Work, Break}
+use Rattle.iw_events.specs.declared.act.StreamAct.TheVariants.{Recv, Post, Emit, First, Deliver, Raw, Mulpdu, Accept, Reject, Work, Break}
 use Rattle.iw_events.specs.declared.act.Shown.TheVariants.{Frame, Fetched, Fault as Denied, Nothing}
 use Rattle.iw_events.specs.declared.act.Entry.{Entry}
 use Rattle.iw_events.specs.declared.act.Seen.TheVariants as seen
-use Rattle.iw_laws.specs.Turns.{story}
+use Rattle.iw_laws.specs.Turns.{story, in_order_point, is_near}
 use Rattle.iw_laws.specs.Sends.{terminate_segment}
 use Rattle.std.specs.Prelude.{nat_lt}
-use Rattle.iw_laws.specs.Words.{Octets, other, acts, stream_acts, stream_acts_by, Opening, no_opening, opening_in, opening_of, openings, openings_by, posted, finished_kinds, handed_kinds, size_set, received, ended, sent, sent_by, placings, table_after}
+use Rattle.iw_laws.specs.Words.{Octets, other, acts, stream_acts, stream_acts_by, Opening, no_opening, opening_in, opening_of, openings, openings_by, posted, finished_kinds, handed_kinds, size_set, received, ended, sent, sent_by, placings, table_after, OnSome, deed}
 use Rattle.iw_endpoint.specs.Endpoint.{stream_of, stream_at, unopened as no_stream, has_stream, no_streams}
 use Rattle.iw_laws.specs.Rules.{EndState, State, end_of, with_end, at_first, start, Rule, WireRule, StreamRule, end_after, after_entry, state_after, Follows, EndRule, wire_at, no_wires}
 use Rattle.iw_laws.proofs.States.{opening_by, Connected, connected, unconnected, connected_at, connected_after, streams_after, stream_after, wire_still, wire_more}
@@ -79,12 +81,12 @@ pub record Holds (l : Opening) (c : Connected) (t : Tale) : Type 0 where
 abbrev pub held : {l : Opening} {c : Connected} {t : Tale} → Holds l c t → Connected
 held {l} {c} {t} h = record { stream = h.stream; wire = c.wire }
 
--- a stream at both ends, with what the acts say of each; where no raw octets came, what came is what the other end sent
+-- a stream at both ends, with what the acts say of each; if no octets strayed, what came is what the other end sent
 pub record Pair (l : Opening) (c : Connected) (t : Tale) (m : Opening) (d : Connected) (u : Tale) : Type 0 where
   pub own : Holds l c t
   pub own_peer : Holds m d u
-  pub out : u.raw ≡ false → IsOf u.story.came t.sent
-  pub back : t.raw ≡ false → IsOf t.story.came u.sent
+  pub out : u.story.strays ≡ false → IsOf u.story.came t.sent
+  pub back : t.story.strays ≡ false → IsOf t.story.came u.sent
 
 swapped : {l m : Opening} {c d : Connected} {t u : Tale} → Pair l c t m d u → Pair m d u l c t
 swapped p = record { own = p.own_peer; own_peer = p.own; out = p.back; back = p.out }
@@ -92,38 +94,70 @@ swapped p = record { own = p.own_peer; own_peer = p.own; out = p.back; back = p.
 moved : {l l' : Opening} {c c' : Connected} {t t' : Tale} (m : Opening) (d : Connected) (u : Tale) → l ≡ l' → c ≡ c' → t ≡ t' → Pair l c t m d u → Pair l' c' t' m d u
 moved {l = l} {l' = l'} {c = c} {c' = c'} {t = t} {t' = t'} m d u e a b p = subst (λ z. Pair l' c' z m d u) b (subst (λ z. Pair l' z t m d u) a (subst (λ z. Pair z c t m d u) e p))
 
+-- octets that come from a place have that place's number
+abbrev IsNumbered : ℕ → StreamAct Octets → Type 0
+IsNumbered first act = OnSome (λ c. OnSome (λ from. c.number ≡ (first + from) % 2 ^ 32) c.from) (deed act).coming
+
+is_numbered : (table : Table) (s : StreamState) (act : StreamAct Octets) → StreamRule table s act → IsNumbered s.first act
+is_numbered table s (Deliver from number octets delivery) rule = rule.0
+is_numbered table s (Raw number octets delivery) rule = tt
+is_numbered table s (First number refused) rule = tt
+is_numbered table s (Recv len refused) rule = tt
+is_numbered table s (Post m refused) rule = tt
+is_numbered table s (Emit shown) rule = tt
+is_numbered table s (Mulpdu size refused) rule = tt
+is_numbered table s (Accept private answer) rule = tt
+is_numbered table s (Reject private refused) rule = tt
+is_numbered table s (Work step) rule = tt
+is_numbered table s Break rule = tt
+
+neither : (a b : Bool) → (a || b) ≡ false → (a ≡ false) × (b ≡ false)
+neither true b h = absurd (true≢false h)
+neither false b h = (refl, h)
+
+not_false : (b : Bool) → not b ≡ false → b ≡ true
+not_false true h = refl
+not_false false h = absurd (true≢false h)
+
 -- what came stays what the other end sent
-still_of : (t : Tale) (u : Tale) (act : StreamAct Octets) → WireRule u.sent act → (t.raw ≡ false → IsOf t.story.came u.sent)
-    → (tale_after t act).raw ≡ false → IsOf (tale_after t act).story.came u.sent
-still_of t u (Deliver from octets Kept) rule h raw =
-    subst (λ z. IsOf (taken_in t.story.came from z) u.sent) (sym (rule refl).are) (of_takes t.story.came from (length octets) u.sent (h raw))
-still_of t u (Deliver from octets Dropped) rule h raw = h raw
-still_of t u (Raw from octets delivery) rule h raw = absurd (true≢false raw)
-still_of t u (Mulpdu size refused) rule h raw = h raw
-still_of t u (Accept private (Ok agreed)) rule h raw = h raw
-still_of t u (Accept private (Err refusal)) rule h raw = h raw
-still_of t u (Reject private None) rule h raw = h raw
-still_of t u (Reject private (Some refusal)) rule h raw = h raw
-still_of t u (Work (seen.Asked private)) rule h raw = h raw
-still_of t u (Work (seen.Opened agreed private)) rule h raw = h raw
-still_of t u (Work (seen.Closed fault)) rule h raw = h raw
-still_of t u (Emit shown) rule h raw = subst (λ z. IsOf z u.sent) (sym (shown_stays t.story shown).came) (h raw)
-still_of t u (Post m refused) rule h raw = h raw
-still_of t u (Recv len None) rule h raw = h raw
-still_of t u (Recv len (Some refusal)) rule h raw = h raw
-still_of t u (Work (seen.Done kind)) rule h raw = h raw
-still_of t u (Work (seen.Placed right stag to octets)) rule h raw = h raw
-still_of t u (Work (seen.Tried place)) rule h raw = h raw
-still_of t u (Work (seen.Buffered msn mo len)) rule h raw = h raw
-still_of t u (Work (seen.Requested size stag to)) rule h raw = h raw
-still_of t u (Work seen.Passed) rule h raw = h raw
-still_of t u (Work (seen.Received octets solicited invalidate)) rule h raw = h raw
-still_of t u (Work (seen.Flushed kind)) rule h raw = h raw
-still_of t u (Work (seen.FlushedRecv octets)) rule h raw = h raw
-still_of t u (Work (seen.Terminated fault)) rule h raw = h raw
-still_of t u (Work (seen.Fault fault)) rule h raw = h raw
-still_of t u Break rule h raw = h raw
-still_of t u (Work seen.Idle) rule h raw = h raw
+still_of : (t : Tale) (u : Tale) (act : StreamAct Octets) → WireRule u.sent act → IsNumbered t.story.first act → (t.story.strays ≡ false → IsOf t.story.came u.sent)
+    → (tale_after t act).story.strays ≡ false → IsOf (tale_after t act).story.came u.sent
+still_of t u (Deliver from number octets Kept) rule n h calm =
+    let point : ℕ = in_order_point t.story in
+    let c = neither (not (is_near point from)) t.story.strays calm in
+    let l = lands_near t.story.first point from octets (not_false (is_near point from) c.0) in
+    let place : place_near number t.story.first point ≡ from = ap (λ z. place_near z t.story.first point) n ∙ l.0 in
+    let rest : drop (before_start number t.story.first point) octets ≡ octets = ap (λ z. drop (before_start z t.story.first point) octets) n ∙ l.1 in
+    subst (λ z. IsOf z u.sent) (λ i. taken_in t.story.came (sym place i) (sym rest i))
+    (subst (λ z. IsOf (taken_in t.story.came from z) u.sent) (sym rule.are) (of_takes t.story.came from (length octets) u.sent (h c.1)))
+still_of t u (Deliver from number octets Dropped) rule n h calm = h (neither (not (is_near (in_order_point t.story) from)) t.story.strays calm).1
+still_of t u (Raw number octets delivery) rule n h calm = absurd (true≢false calm)
+still_of t u (First number refused) rule n h calm = h calm
+still_of t u (Mulpdu size refused) rule n h calm = h calm
+still_of t u (Accept private (Ok agreed)) rule n h calm = h calm
+still_of t u (Accept private (Err refusal)) rule n h calm = h calm
+still_of t u (Reject private None) rule n h calm = h calm
+still_of t u (Reject private (Some refusal)) rule n h calm = h calm
+still_of t u (Work (seen.Asked private)) rule n h calm = h calm
+still_of t u (Work (seen.Opened agreed private)) rule n h calm = h calm
+still_of t u (Work (seen.Closed fault)) rule n h calm = h calm
+still_of t u (Emit shown) rule n h calm = subst (λ z. IsOf z u.sent) (sym (shown_stays t.story shown).came) (h (sym (shown_stays t.story shown).strays ∙ calm))
+still_of t u (Post m refused) rule n h calm = h calm
+still_of t u (Recv len None) rule n h calm = h calm
+still_of t u (Recv len (Some refusal)) rule n h calm = h calm
+still_of t u (Work (seen.Done kind)) rule n h calm = h calm
+still_of t u (Work (seen.Placed right stag to octets)) rule n h calm = h calm
+still_of t u (Work (seen.Tried place)) rule n h calm = h calm
+still_of t u (Work (seen.Buffered msn mo len)) rule n h calm = h calm
+still_of t u (Work (seen.Requested size stag to)) rule n h calm = h calm
+still_of t u (Work seen.Passed) rule n h calm = h calm
+still_of t u (Work (seen.Received octets solicited invalidate)) rule n h calm = h calm
+still_of t u (Work (seen.Flushed kind)) rule n h calm = h calm
+still_of t u (Work (seen.FlushedRecv octets)) rule n h calm = h calm
+still_of t u (Work (seen.Terminated fault)) rule n h calm = h calm
+still_of t u (Work (seen.Fault fault)) rule n h calm = h calm
+still_of t u Break rule n h calm = h calm
+still_of t u (Work seen.Idle) rule n h calm = h calm
 
 -- an act of the stream
 holding : (table : Table) (l : Opening) (c : Connected) (t : Tale) (act : StreamAct Octets) → StreamRule table c.stream act → Holds l c t → Holds l (connected_after table c act) (tale_after t act)
@@ -137,7 +171,8 @@ streamed table l c t m d u act rule wire p = record {
   own = holding table l c t act rule p.own;
   own_peer = p.own_peer;
   out = λ raw. of_more u.story.came t.sent (sent_by act) (p.out raw);
-  back = still_of t u act (subst (λ z. WireRule z act) p.own_peer.own.wire wire) p.back;
+  back = still_of t u act (subst (λ z. WireRule z act) p.own_peer.own.wire wire)
+      (subst (λ z. IsNumbered z act) (ap (λ (z : StreamState). z.first) p.own.is_left.has.same ∙ sym p.own.own.numbered.first) (is_numbered table c.stream act rule)) p.back;
 }
 
 -- ---- at the start, and at an opening
@@ -270,6 +305,7 @@ no_own o small = record {
   wire = refl;
   sent = refl;
   due = refl;
+  numbered = record { first = refl; delivered = refl };
   starts = starts_at_first o;
   small = small;
   emits = no_emits o;
@@ -426,8 +462,9 @@ emits_few opening table c t (Emit (Denied fault)) rule o = omega arith
 emits_few opening table c t (Emit Nothing) rule o = omega arith
 emits_few opening table c t (Recv len refused) rule o = omega arith
 emits_few opening table c t (Post m refused) rule o = omega arith
-emits_few opening table c t (Deliver from octets delivery) rule o = omega arith
-emits_few opening table c t (Raw from octets delivery) rule o = omega arith
+emits_few opening table c t (Deliver from number octets delivery) rule o = omega arith
+emits_few opening table c t (Raw number octets delivery) rule o = omega arith
+emits_few opening table c t (First number refused) rule o = omega arith
 emits_few opening table c t (Mulpdu size refused) rule o = omega arith
 emits_few opening table c t (Accept private answer) rule o = omega arith
 emits_few opening table c t (Reject private refused) rule o = omega arith

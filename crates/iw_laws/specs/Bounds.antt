@@ -4,7 +4,7 @@ use Rattle.iw_events.specs.declared.call.End.{End}
 use Rattle.iw_events.specs.declared.call.Call.{Call}
 use Rattle.iw_events.specs.declared.call.Call.TheVariants.{Domain, Register, Deregister, Invalidate, Store, Open, Stream}
 use Rattle.iw_events.specs.declared.call.StreamCall.{StreamCall}
-use Rattle.iw_events.specs.declared.call.StreamCall.TheVariants.{Recv, Post, Emit, Deliver, Raw, Mulpdu, Accept, Reject, Work, Break}
+use Rattle.iw_events.specs.declared.call.StreamCall.TheVariants.{Recv, Post, Emit, First, Deliver, Raw, Mulpdu, Accept, Reject, Work, Break}
 use Rattle.iw_stream.specs.Stream.{StreamState}
 use Rattle.iw_laws.specs.Words.{Octets}
 use Rattle.iw_endpoint.specs.Endpoint.{has_stream, stream_at}
@@ -27,7 +27,8 @@ IsShortState w = (x : End) → IsShortEnd (end_of x w)
 -- a delivery of octets that were not emitted
 abbrev pub AsksOver : List ℕ → StreamCall Octets → Type 0
 AsksOver peer (Deliver from len) = length peer < from + len
-AsksOver peer (Raw from octets) = ⊥
+AsksOver peer (Raw number octets) = ⊥
+AsksOver peer (First number) = ⊥
 AsksOver peer (Mulpdu size) = ⊥
 AsksOver peer (Accept private) = ⊥
 AsksOver peer (Reject private) = ⊥

@@ -1,5 +1,5 @@
 -- How each call is answered, and what becomes of octets that come.
-use Rattle.std.specs.Prelude.{◌≡◌, ℕ, ◌+◌, ◌-◌, ◌≤◌, nat_le, nat_lt, not, ◌&&◌, ◌||◌, Bool, true, false, List, ◌∷◌, ◌++◌, length, take, drop, if◌then◌else◌, Option, Some, None, Result, Ok, Err, IfOk}
+use Rattle.std.specs.Prelude.{◌≡◌, ℕ, ◌+◌, ◌-◌, ◌%◌, ◌^◌, ◌≤◌, nat_le, nat_lt, not, ◌&&◌, ◌||◌, Bool, true, false, List, ◌∷◌, ◌++◌, length, take, drop, if◌then◌else◌, Option, Some, None, Result, Ok, Err, IfOk}
 use Rattle.std.specs.Option.{option_map_or}
 use Rattle.std.specs.Result.{result_err}
 use Rattle.iw_octets.specs.declared.stag.Stag.{Stag}
@@ -16,6 +16,8 @@ use Rattle.iw_stream.specs.declared.answer.PostRefusal.{PostRefusal}
 use Rattle.iw_stream.specs.declared.answer.PostRefusal.TheVariants as posting
 use Rattle.iw_stream.specs.declared.answer.RecvRefusal.{RecvRefusal}
 use Rattle.iw_stream.specs.declared.answer.RecvRefusal.TheVariants as receiving
+use Rattle.iw_stream.specs.declared.answer.FirstRefusal.{FirstRefusal}
+use Rattle.iw_stream.specs.declared.answer.FirstRefusal.TheVariants.{Late}
 use Rattle.iw_stream.specs.declared.answer.OpenRefusal.{OpenRefusal}
 use Rattle.iw_stream.specs.declared.answer.OpenRefusal.TheVariants.{NumberTaken, BadNumber, NoDomain}
 use Rattle.iw_stream.specs.Starting.{is_open, is_asked, agreement_in}
@@ -24,10 +26,10 @@ use Rattle.iw_endpoint.specs.Endpoint.{stream_numbers}
 use Rattle.iw_events.specs.declared.act.Act.{Act}
 use Rattle.iw_events.specs.declared.act.Act.TheVariants.{Domain, Register, Deregister, Invalidate, Store, Open, Stream}
 use Rattle.iw_events.specs.declared.act.StreamAct.{StreamAct}
-use Rattle.iw_events.specs.declared.act.StreamAct.TheVariants.{Recv, Post, Emit, Deliver, Raw, Mulpdu, Accept, Reject, Work, Break}
+use Rattle.iw_events.specs.declared.act.StreamAct.TheVariants.{Recv, Post, Emit, First, Deliver, Raw, Mulpdu, Accept, Reject, Work, Break}
 use Rattle.iw_events.specs.declared.act.Entry.{Entry}
-use Rattle.iw_laws.specs.Words.{Octets, other, acts, deed, stream_acts, openings, was_opened, posted, handed_kinds, ended, sent, table_after}
-use Rattle.iw_laws.specs.Turns.{Story, story_of, in_order_point}
+use Rattle.iw_laws.specs.Words.{Octets, Coming, other, acts, deed, stream_acts, openings, was_opened, posted, handed_kinds, ended, sent, table_after}
+use Rattle.iw_laws.specs.Turns.{Story, story_of, in_order_point, landed}
 use Rattle.iw_laws.specs.Words.{OnSome, OnStream, AtEach}
 
 -- ---- the calls of an end
@@ -79,6 +81,10 @@ post_refusal_by t before request =
     else if nat_lt 16777216 (size_of request) then Some posting.TooLong
     else None
 
+-- the number of the peer's first octet comes before any delivery
+abbrev pub first_refusal_by : Story → Option FirstRefusal
+first_refusal_by t = if t.was_delivered then Some Late else None
+
 -- the peer's Request was read, and is not answered
 abbrev pub may_answer_by : Story → List (StreamAct Octets) → Bool
 may_answer_by t before = not (ended before) && is_asked t.start
@@ -100,8 +106,9 @@ StreamAnswered t before (Mulpdu size refused) = refused ≡ size_refusal size
 StreamAnswered t before (Accept private answer) = Accepted t before answer
 StreamAnswered t before (Reject private refused) = Rejected t before refused
 StreamAnswered t before (Emit shown) = Unit {0}
-StreamAnswered t before (Deliver from octets delivery) = Unit {0}
-StreamAnswered t before (Raw from octets delivery) = Unit {0}
+StreamAnswered t before (First number refused) = refused ≡ first_refusal_by t
+StreamAnswered t before (Deliver from number octets delivery) = Unit {0}
+StreamAnswered t before (Raw number octets delivery) = Unit {0}
 StreamAnswered t before (Work step) = Unit {0}
 StreamAnswered t before Break = Unit {0}
 
@@ -115,12 +122,13 @@ Answered = AtEach (OnStream AnsweredStream)
 -- ---- octets that come
 
 -- they are dropped where the stream has ended, an octet lies out of the window, or there would be too many islands
-abbrev pub delivery_by : Story → List (StreamAct Octets) → ℕ → ℕ → Delivery
-delivery_by t before from n = if ended before then Dropped else delivery (advanced t.came (in_order_point t)) from n
+abbrev pub delivery_by : Story → List (StreamAct Octets) → Coming → Delivery
+delivery_by t before c =
+    if ended before then Dropped else delivery (advanced t.came (in_order_point t)) (landed t c).place (length (landed t c).octets)
 
 abbrev pub KeptStream : List (Act Octets) → ℕ → StreamAct Octets → Type 0
 KeptStream before n act =
-    OnSome (λ c. c.delivery ≡ delivery_by (story_of n before) (stream_acts n before) c.from (length c.octets)) (deed act).coming
+    OnSome (λ c. c.delivery ≡ delivery_by (story_of n before) (stream_acts n before) c) (deed act).coming
 
 -- octets are kept wherever they can be
 abbrev pub KeepsOctets : List (Entry Octets) → Type 0
@@ -131,22 +139,27 @@ pub record StandIn (sent : Octets) (from : ℕ) (octets : Octets) : Type 0 where
   pub within : from + length octets ≤ length sent
   pub are : octets ≡ take (length octets) (drop from sent)
 
--- octets that are not raw are those that the other end sent
-abbrev pub CarriedStream : List (Act Octets) → ℕ → StreamAct Octets → Type 0
-CarriedStream peer n act = OnSome (λ c. c.raw ≡ false → StandIn (sent (stream_acts n peer)) c.from c.octets) (deed act).coming
+-- octets that come from a place of what the other end sent are those that stand there, and the first of them has that place's number
+pub record IsCarried (sent : Octets) (first : ℕ) (c : Coming) (from : ℕ) : Type 0 where
+  pub stand : StandIn sent from c.octets
+  pub numbered : c.number ≡ (first + from) % 2 ^ 32
 
--- at every entry, by what was done at the other end before
+-- by what was done at the other end before, and at its own
+abbrev pub CarriedStream : List (Act Octets) → List (Act Octets) → ℕ → StreamAct Octets → Type 0
+CarriedStream peer before n act =
+    OnSome (λ c. OnSome (IsCarried (sent (stream_acts n peer)) (story_of n before).first c) c.from) (deed act).coming
+
 abbrev pub CarriesOctets : List (Entry Octets) → Type 0
 CarriesOctets trace =
     (past : List (Entry Octets)) (e : Entry Octets) (future : List (Entry Octets)) → trace ≡ past ++ e ∷ future
-    → OnStream CarriedStream (acts (other e.end) past) e.act
+    → OnStream (CarriedStream (acts (other e.end) past)) (acts e.end past) e.act
 
 -- ---- streams that are there
 
 -- the stream was opened at its end and, if octets come that are not raw, at the other
 abbrev pub OpenedStream : List (Act Octets) → List (Act Octets) → ℕ → StreamAct Octets → Type 0
 OpenedStream peer before n act =
-    (was_opened (openings n before) ≡ true) × OnSome (λ c. c.raw ≡ false → was_opened (openings n peer) ≡ true) (deed act).coming
+    (was_opened (openings n before) ≡ true) × OnSome (λ c. OnSome (λ from. was_opened (openings n peer) ≡ true) c.from) (deed act).coming
 
 -- each act of a stream comes after its opening, and a delivery after both openings
 abbrev pub OpensFirst : List (Entry Octets) → Type 0

@@ -1,5 +1,5 @@
 -- The state of both ends, which answer is right in a state, and what each entry leaves of it.
-use Rattle.std.specs.Prelude.{◌≡◌, ℕ, ◌<◌, ◌^◌, List, [], ◌∷◌, ◌++◌, length, take, replicate, slice_index_or, slice_set, Bool, true, false, Option, Some, None}
+use Rattle.std.specs.Prelude.{◌≡◌, ℕ, ◌+◌, ◌%◌, ◌<◌, ◌^◌, List, [], ◌∷◌, ◌++◌, length, take, replicate, slice_index_or, slice_set, Bool, true, false, Option, Some, None}
 use Rattle.std.specs.Option.{option_map_or}
 use Rattle.iw_octets.specs.declared.stag.Stag.{Stag}
 use Rattle.iw_octets.specs.declared.message.Message.TheVariants.{Write, Send}
@@ -13,7 +13,7 @@ use Rattle.iw_stream.specs.declared.answer.Step.TheVariants as steps
 use Rattle.iw_stream.specs.declared.answer.Emission.{Emission}
 use Rattle.iw_stream.specs.declared.answer.Emission.TheVariants as emissions
 use Rattle.iw_stream.specs.Starting.{private_in, agreement_in}
-use Rattle.iw_stream.specs.Stream.{StreamState, recv_refusal, post_refusal, size_refusal, emission_of, emitted, delivery_of}
+use Rattle.iw_stream.specs.Stream.{StreamState, recv_refusal, post_refusal, size_refusal, emission_of, emitted, first_refusal, delivery_of}
 use Rattle.iw_stream.specs.Work.{work_step, worked, table_worked}
 use Rattle.iw_events.specs.declared.call.End.{End}
 use Rattle.iw_events.specs.declared.call.End.TheVariants.{A, B}
@@ -23,7 +23,7 @@ use Rattle.iw_events.specs.Events.{stream_call_of}
 use Rattle.iw_events.specs.declared.act.Act.{Act}
 use Rattle.iw_events.specs.declared.act.Act.TheVariants.{Domain, Register, Deregister, Invalidate, Store, Open, Stream}
 use Rattle.iw_events.specs.declared.act.StreamAct.{StreamAct}
-use Rattle.iw_events.specs.declared.act.StreamAct.TheVariants.{Recv, Post, Emit, Deliver, Raw, Mulpdu, Accept, Reject, Work, Break}
+use Rattle.iw_events.specs.declared.act.StreamAct.TheVariants.{Recv, Post, Emit, First, Deliver, Raw, Mulpdu, Accept, Reject, Work, Break}
 use Rattle.iw_events.specs.declared.act.Shown.{Shown}
 use Rattle.iw_events.specs.declared.act.Shown.TheVariants.{Frame, Fetched, Fault as Denied, Nothing}
 use Rattle.iw_events.specs.declared.act.Seen.{Seen}
@@ -113,8 +113,9 @@ abbrev pub StreamRule : Table → StreamState → StreamAct Octets → Type 0
 StreamRule table s (Recv len refused) = refused ≡ recv_refusal s
 StreamRule table s (Post request refused) = FitsPosted request × (refused ≡ post_refusal s request)
 StreamRule table s (Emit shown) = shown ≡ shown_of table (emission_of table s) (emitted table s)
-StreamRule table s (Deliver from octets delivery) = delivery ≡ delivery_of s from (length octets)
-StreamRule table s (Raw from octets delivery) = delivery ≡ delivery_of s from (length octets)
+StreamRule table s (First number refused) = refused ≡ first_refusal s
+StreamRule table s (Deliver from number octets delivery) = (number ≡ (s.first + from) % 2 ^ 32) × (delivery ≡ delivery_of s number (length octets))
+StreamRule table s (Raw number octets delivery) = delivery ≡ delivery_of s number (length octets)
 StreamRule table s (Mulpdu size refused) = refused ≡ size_refusal size
 StreamRule table s (Accept private answer) = answer ≡ answer_or (unasked s) (agreement_in s.start)
 StreamRule table s (Reject private refused) = refused ≡ unasked s
@@ -124,12 +125,13 @@ StreamRule table s Break = Unit {0}
 
 -- octets that are delivered are those that the other end sent on the stream
 abbrev pub WireRule : Octets → StreamAct Octets → Type 0
-WireRule wire act = OnSome (λ c. c.raw ≡ false → StandIn wire c.from c.octets) (deed act).coming
+WireRule wire act = OnSome (λ c. OnSome (λ from. StandIn wire from c.octets) c.from) (deed act).coming
 
 -- a delivery needs the stream at the other end too
 abbrev pub needs_peer : StreamCall Octets → Bool
 needs_peer (stream_calls.Deliver from len) = true
-needs_peer (stream_calls.Raw from octets) = false
+needs_peer (stream_calls.Raw number octets) = false
+needs_peer (stream_calls.First number) = false
 needs_peer (stream_calls.Mulpdu size) = false
 needs_peer (stream_calls.Accept private) = false
 needs_peer (stream_calls.Reject private) = false
@@ -166,8 +168,9 @@ abbrev pub stream_call_made : StreamAct Octets → calls.StreamCall
 stream_call_made (Recv len refused) = calls.PostRecv (replicate len 0)
 stream_call_made (Post request refused) = calls.Post request
 stream_call_made (Emit shown) = calls.Emit
-stream_call_made (Deliver from octets delivery) = calls.Deliver from octets
-stream_call_made (Raw from octets delivery) = calls.Deliver from octets
+stream_call_made (First number refused) = calls.FirstNumber number
+stream_call_made (Deliver from number octets delivery) = calls.Deliver number octets
+stream_call_made (Raw number octets delivery) = calls.Deliver number octets
 stream_call_made (Mulpdu size refused) = calls.SetMulpdu size
 stream_call_made (Accept private answer) = calls.Accept (private_data private)
 stream_call_made (Reject private refused) = calls.Reject (private_data private)

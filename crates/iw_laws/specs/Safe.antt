@@ -9,7 +9,7 @@ use Rattle.iw_events.specs.declared.act.Act.{Act}
 use Rattle.iw_events.specs.declared.act.StreamAct.{StreamAct}
 use Rattle.iw_events.specs.declared.act.Entry.{Entry}
 use Rattle.iw_stream.specs.declared.answer.Role.TheVariants.{Preset, Initiator, Responder}
-use Rattle.iw_laws.specs.Words.{Octets, other, acts, deed, stream_acts, openings, Opening, domain_of, posted, sends, received, has_raw, placings, written, Buffering, table_after}
+use Rattle.iw_laws.specs.Words.{Octets, other, acts, deed, stream_acts, openings, Opening, domain_of, posted, sends, received, placings, written, Buffering, table_after}
 use Rattle.iw_laws.specs.Words.{OnSome, OnStream, AtEach}
 use Rattle.iw_laws.specs.Turns.{story_of}
 
@@ -21,12 +21,12 @@ Fits a b =
     ((a.role ≡ Preset) × (b.role ≡ Preset) × (a.config.markers ≡ b.config.markers) × (a.config.crc ≡ b.config.crc))
     ⊎ (((a.role ≡ Initiator) × (b.role ≡ Responder)) ⊎ ((a.role ≡ Responder) × (b.role ≡ Initiator)))
 
--- both ends were opened so, and were given nothing but what the other end sent there
+-- both ends were opened so, and were given nothing but what the other end sent there, each delivery from within 2^30 of the in-order point
 pub record IsHonest (n : ℕ) (trace : List (Entry Octets)) : Type 0 where
   pub opening : End → Opening
   pub opened : (x : End) → openings n (acts x trace) ≡ opening x ∷ []
   pub fits : (x : End) → Fits (opening x) (opening (other x))
-  pub calm : (x : End) → has_raw (stream_acts n (acts x trace)) ≡ false
+  pub calm : (x : End) → (story_of n (acts x trace)).strays ≡ false
 
 -- at every moment, what an end has received on an honest stream is a prefix of the Sends posted at the other end
 abbrev pub InOrder : List (Entry Octets) → Type 0

@@ -1,5 +1,5 @@
 -- What became of each frame that came, in words of the trace alone.
-use Rattle.std.specs.Prelude.{◌≡◌, ◌⊎◌, ℕ, zero, suc, ◌+◌, ◌-◌, ◌%◌, ◌^◌, ◌==◌, ◌&&◌, nat_lt, if◌then◌else◌, List, [], ◌∷◌, ◌++◌, length, take, drop, replicate, slice_get, fold, Bool, true, false, ◌||◌, is_some, Option, Some, None, Result, Ok, Err}
+use Rattle.std.specs.Prelude.{◌≡◌, ◌⊎◌, ℕ, zero, suc, ◌+◌, ◌-◌, ◌%◌, ◌^◌, ◌==◌, ◌&&◌, nat_lt, nat_le, not, unwrap_or, if◌then◌else◌, List, [], ◌∷◌, ◌++◌, length, take, drop, replicate, slice_get, fold, Bool, true, false, ◌||◌, is_some, Option, Some, None, Result, Ok, Err}
 use Rattle.std.specs.Option.{option_map, option_map_or, option_or}
 use Rattle.arrayvec.specs.ArrayVec.{ArrayVec}
 use Rattle.iw_octets.specs.declared.fault.Fault.{Fault}
@@ -17,6 +17,7 @@ use Rattle.iw_reads.specs.declared.requests.Asked.{Asked}
 use Rattle.iw_reads.specs.Outstanding.{asked_for}
 use Rattle.iw_reads.specs.Requests.{Requested, nothing_asked, taken_up}
 use Rattle.iw_ranges.specs.Arrived.{Arrived, nothing, in_order, advanced}
+use Rattle.iw_ranges.specs.Nearest.{place_near, before_start}
 use Rattle.iw_fpdu.specs.declared.layout.Layout.{Layout}
 use Rattle.iw_fpdu.specs.Frame.{frame_end}
 use Rattle.iw_fpdu.specs.Laws.{found_at}
@@ -51,7 +52,7 @@ use Rattle.iw_events.specs.declared.act.Shown.TheVariants as shows
 use Rattle.iw_events.specs.declared.act.Seen.{Seen}
 use Rattle.iw_events.specs.declared.act.Seen.TheVariants as seen
 use Rattle.iw_events.specs.declared.act.Entry.{Entry}
-use Rattle.iw_laws.specs.Words.{Octets, deed, stream_acts, Opening, opening_of, domain_of, ended, came_after, table_after}
+use Rattle.iw_laws.specs.Words.{Octets, deed, stream_acts, Opening, opening_of, domain_of, ended, Coming, taken, table_after}
 use Rattle.iw_laws.specs.Words.{OnSome, OnStream, AtEach}
 
 -- ---- frames, each with its places
@@ -92,6 +93,9 @@ pub record Answer : Type 0 where
 
 pub record Story : Type 0 where
   pub came : Arrived  -- the octets that came, each at its place
+  pub first : ℕ  -- the number of the peer's first octet
+  pub was_delivered : Bool  -- octets were delivered, kept or dropped
+  pub strays : Bool  -- octets came that need not be those that the other end sent at their place
   pub start : StartState  -- what the start-up has come to: what both ends asked for and answered, as far as it was read
   pub turns : ℕ  -- how many frames had their turn
   pub placed : Bool  -- the frame whose turn is next was placed, when those before it had had theirs
@@ -275,10 +279,38 @@ story_shown t (shows.Fetched from frame stag to octets) = fetches_for t t.asked.
 story_shown t (shows.Fault fault) = ends_by t (terminate_fetched t.asked fault)
 story_shown t shows.Nothing = t
 
+-- octets of the stream from this place on
+pub record Landed : Type 0 where
+  pub place : ℕ
+  pub octets : Octets
+
+-- where octets land that come: by the number of the first of them, at the place nearest to the in-order point as it then stands; those that
+-- lie before the stream are left out
+abbrev pub landed : Story → Coming → Landed
+landed t c = record {
+  place = place_near c.number t.first (in_order_point t);
+  octets = drop (before_start c.number t.first (in_order_point t)) c.octets;
+}
+
+-- the octets that came, each at its place in the stream: the first copy of each stays
+abbrev pub came_after : Story → StreamAct Octets → Arrived
+came_after t act = option_map_or (λ c. taken t.came (landed t c).place (landed t c).octets c.delivery) (deed act).coming t.came
+
+-- a place from which octets come lies within 2^30 of the in-order point, on either side
+abbrev pub is_near : ℕ → ℕ → Bool
+is_near point from = nat_le from (point + 2 ^ 30) && nat_le point (from + 2 ^ 30)
+
+-- octets stray that the other end need not have sent, and those that come from further away
+abbrev pub is_stray : Story → Coming → Bool
+is_stray t c = option_map_or (λ from. not (is_near (in_order_point t) from)) c.from true
+
 -- the calls
 abbrev pub story_called : Story → StreamAct Octets → Story
 story_called t act = record t {
-  came = came_after t.came act;
+  came = came_after t act;
+  first = unwrap_or (deed act).first t.first;
+  was_delivered = option_map_or (λ c. true) (deed act).coming t.was_delivered;
+  strays = option_map_or (λ c. is_stray t c || t.strays) (deed act).coming t.strays;
   start = option_map_or (answered_with t.start) (deed act).reply t.start;
   receiving = option_map_or (λ len. with_buffer t.receiving (replicate len 0)) (deed act).buffer t.receiving;
   ending = if (deed act).breaks then Broken else if (deed act).ends then Over None else t.ending;
@@ -291,6 +323,9 @@ story_after t act = option_map_or (story_seen t) (deed act).step (option_map_or 
 abbrev pub untold : Opening → Story
 untold o = record {
   came = nothing;
+  first = 0;
+  was_delivered = false;
+  strays = false;
   start = start_at_first o.role o.config;
   turns = 0;
   placed = false;

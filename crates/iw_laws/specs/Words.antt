@@ -29,7 +29,7 @@ use Rattle.iw_stream.specs.declared.answer.Role.TheVariants.{Preset}
 use Rattle.iw_events.specs.declared.act.Act.{Act}
 use Rattle.iw_events.specs.declared.act.Act.TheVariants.{Domain, Register, Deregister, Invalidate, Store, Open, Stream}
 use Rattle.iw_events.specs.declared.act.StreamAct.{StreamAct}
-use Rattle.iw_events.specs.declared.act.StreamAct.TheVariants.{Recv, Post, Emit, Deliver, Raw, Mulpdu, Accept, Reject, Work, Break}
+use Rattle.iw_events.specs.declared.act.StreamAct.TheVariants.{Recv, Post, Emit, First, Deliver, Raw, Mulpdu, Accept, Reject, Work, Break}
 use Rattle.iw_events.specs.declared.act.Shown.{Shown}
 use Rattle.iw_events.specs.declared.act.Shown.TheVariants.{Frame, Fetched, Fault as Denied, Nothing}
 use Rattle.iw_events.specs.declared.act.Seen.{Seen}
@@ -127,10 +127,10 @@ pub record Sent : Type 0 where
   pub solicited : Bool
   pub invalidate : Option Stag
 
--- octets that came from a place on, and what became of them; raw ones need not be those that the other end sent
+-- octets that came, the first of them with this number, and what became of them
 pub record Coming : Type 0 where
-  pub raw : Bool
-  pub from : ℕ
+  pub from : Option ℕ  -- the place of the first of them in what the other end sent; none of raw ones, which it need not have sent
+  pub number : ℕ
   pub octets : Octets
   pub delivery : Delivery
 
@@ -159,6 +159,7 @@ pub record Deed : Type 0 where
   pub buffer : Option ℕ  -- the length of a receive buffer that was posted
   pub size : Option ℕ  -- the ULPDU size that was set
   pub reply : Option Reply  -- how the peer's Request was answered
+  pub first : Option ℕ  -- the number of the peer's first octet
   pub coming : Option Coming
   pub shown : Option (Shown Octets)  -- what a call to emit gave; and of it:
   pub fetched : Option Fetching
@@ -178,6 +179,7 @@ no_deed = record {
   buffer = None;
   size = None;
   reply = None;
+  first = None;
   coming = None;
   shown = None;
   fetched = None;
@@ -237,10 +239,11 @@ abbrev pub deed : StreamAct Octets → Deed
 deed (Recv len refused) = record no_deed { buffer = unless refused len }
 deed (Post request refused) = record no_deed { posted = unless refused request }
 deed (Emit shown) = record no_deed { shown = Some shown; fetched = fetched_in shown; ends = is_denied shown }
-deed (Deliver from octets delivery) =
-    record no_deed { coming = Some (record { raw = false; from = from; octets = octets; delivery = delivery }) }
-deed (Raw from octets delivery) =
-    record no_deed { coming = Some (record { raw = true; from = from; octets = octets; delivery = delivery }) }
+deed (First number refused) = record no_deed { first = unless refused number }
+deed (Deliver from number octets delivery) =
+    record no_deed { coming = Some (record { from = Some from; number = number; octets = octets; delivery = delivery }) }
+deed (Raw number octets delivery) =
+    record no_deed { coming = Some (record { from = None; number = number; octets = octets; delivery = delivery }) }
 deed (Mulpdu size refused) = record no_deed { size = unless refused size }
 deed (Accept private answer) = record no_deed { reply = acceptance private answer }
 deed (Reject private refused) =
@@ -300,15 +303,6 @@ received_by act = listed (deed act).received
 unfoldable pub received : List (StreamAct Octets) → List Sent
 received done = flat_map received_by done
 
--- ---- where octets come from
-
-abbrev pub raw_after : Bool → StreamAct Octets → Bool
-raw_after raw act = option_map_or (λ c. if c.raw then true else raw) (deed act).coming raw
-
--- whether octets came that need not be those that the other end sent
-unfoldable pub has_raw : List (StreamAct Octets) → Bool
-has_raw done = fold raw_after false done
-
 -- ---- the end of a stream
 
 abbrev pub ended_after : Bool → StreamAct Octets → Bool
@@ -343,10 +337,6 @@ size_set done = fold size_after 1400 done
 abbrev pub taken : Arrived → ℕ → Octets → Delivery → Arrived
 taken came from octets Kept = taken_in came from octets
 taken came from octets Dropped = came
-
--- the octets that came, each at its place in the stream: the first copy of each stays
-abbrev pub came_after : Arrived → StreamAct Octets → Arrived
-came_after came act = option_map_or (λ c. taken came c.from c.octets c.delivery) (deed act).coming came
 
 -- ---- memory
 

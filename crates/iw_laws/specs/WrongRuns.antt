@@ -8,7 +8,7 @@ use Rattle.iw_octets.specs.Payload.{request_octets}
 use Rattle.iw_octets.specs.Segment.{segment_octets}
 use Rattle.iw_memory.specs.declared.rights.Right.TheVariants as rights
 use Rattle.iw_memory.specs.declared.refusal.DomainRefusal.TheVariants.{DomainTaken}
-use Rattle.iw_ranges.specs.declared.Delivery.TheVariants.{Kept}
+use Rattle.iw_ranges.specs.declared.Delivery.TheVariants.{Kept, Dropped}
 use Rattle.iw_queues.specs.declared.request.Kind.TheVariants as kinds
 use Rattle.iw_queues.specs.declared.request.Request.TheVariants.{Message as Posted, Read}
 use Rattle.iw_queues.specs.Segments.{request_segment}
@@ -22,7 +22,7 @@ use Rattle.iw_events.specs.declared.call.End.TheVariants.{A, B}
 use Rattle.iw_events.specs.declared.act.Act.{Act}
 use Rattle.iw_events.specs.declared.act.Act.TheVariants.{Domain, Register, Invalidate, Open, Stream}
 use Rattle.iw_events.specs.declared.act.StreamAct.{StreamAct}
-use Rattle.iw_events.specs.declared.act.StreamAct.TheVariants.{Recv, Post, Emit, Deliver, Raw, Mulpdu, Accept, Work, Break}
+use Rattle.iw_events.specs.declared.act.StreamAct.TheVariants.{Recv, Post, Emit, First, Deliver, Raw, Mulpdu, Accept, Work, Break}
 use Rattle.iw_events.specs.declared.act.Shown.TheVariants.{Frame, Fetched, Fault as Denied, Nothing}
 use Rattle.iw_events.specs.declared.act.Seen.{Seen}
 use Rattle.iw_events.specs.declared.act.Seen.TheVariants as seen
@@ -57,7 +57,7 @@ abbrev pub on : StreamAct Octets → Act Octets
 on act = Stream 0 act
 
 abbrev pub raw : ℕ → Octets → Act Octets
-raw from octets = on (Raw from octets Kept)
+raw number octets = on (Raw number octets Kept)
 
 abbrev pub works : Seen Octets → Act Octets
 works step = on (Work step)
@@ -94,7 +94,7 @@ idles_unopened = a (works seen.Idle) ∷ []
 
 -- no octets are delivered from an end that has no such stream
 abbrev pub delivers_nothing : Act Octets
-delivers_nothing = on (Deliver 0 [] Kept)
+delivers_nothing = on (Deliver 0 0 [] Kept)
 
 abbrev pub delivers_unopened : Run
 delivers_unopened = opens a Preset ++ (a delivers_nothing ∷ [])
@@ -217,7 +217,7 @@ RefusesBehindEnd = ¬ Speaks sends_past_end
 
 abbrev pub delivers_others : Run
 delivers_others =
-    opens a Preset ++ (a sends_one ∷ a (emits send_frame) ∷ []) ++ opens b Preset ++ (b (on (Deliver 0 (9 ∷ []) Kept)) ∷ [])
+    opens a Preset ++ (a sends_one ∷ a (emits send_frame) ∷ []) ++ opens b Preset ++ (b (on (Deliver 0 0 (9 ∷ []) Kept)) ∷ [])
 
 abbrev pub keeps_past_end : Run
 keeps_past_end =
@@ -290,6 +290,47 @@ RefusesPlacedUnwritable = ¬ Within places_readable
 
 abbrev pub RefusesBufferedPast : Type 0
 RefusesBufferedPast = ¬ Within buffers_past
+
+-- ---- sequence numbers that wrap
+
+-- the peer's first octet has a number six before the wrap
+abbrev pub numbers_high : Act Octets
+numbers_high = on (First 4294967290 None)
+
+-- the first octet that the other end sent is handed in with another number
+abbrev pub delivers_misnumbered : Act Octets
+delivers_misnumbered = on (Deliver 0 0 (0 ∷ []) Kept)
+
+abbrev pub misnumbers : Run
+misnumbers =
+    opens a Preset ++ (a sends_one ∷ a (emits send_frame) ∷ []) ++ opens b Preset ++ (b numbers_high ∷ b delivers_misnumbered ∷ [])
+
+-- octets past the wrap are dropped, as if numbers did not wrap
+abbrev pub drops_wrapped : Act Octets
+drops_wrapped = on (Raw 22 (0 ∷ []) Dropped)
+
+abbrev pub drops_past_wrap : Run
+drops_past_wrap = opens b Preset ++ (b numbers_high ∷ b drops_wrapped ∷ [])
+
+-- the frame of a Write that begins before the wrap is whole, and the stream has nothing to do
+abbrev pub rests_past_wrap : Run
+rests_past_wrap = opens b Preset ++ (b numbers_high ∷ b (raw 4294967290 write_frame) ∷ b (works seen.Idle) ∷ [])
+
+-- the number of the first octet is set after a delivery
+abbrev pub numbers_late : Run
+numbers_late = opens b Preset ++ (b (raw 0 (0 ∷ [])) ∷ b numbers_high ∷ [])
+
+abbrev pub RefusesMisnumbered : Type 0
+RefusesMisnumbered = ¬ CarriesOctets misnumbers
+
+abbrev pub RefusesDroppedPastWrap : Type 0
+RefusesDroppedPastWrap = ¬ KeepsOctets drops_past_wrap
+
+abbrev pub RefusesRestPastWrap : Type 0
+RefusesRestPastWrap = ¬ IdleOnlyAtRest rests_past_wrap
+
+abbrev pub RefusesLateNumber : Type 0
+RefusesLateNumber = ¬ Answered numbers_late
 
 -- ---- domains that see one another
 
@@ -475,7 +516,7 @@ abbrev pub done_unplaced : Run
 done_unplaced =
     opens a Preset ++ asks_one
     ++ opens b Preset
-    ++ (b (lends first_four) ∷ b (on (Deliver 0 request_frame Kept)) ∷ b (works (seen.Requested 4 stag 0)) ∷ b (fetches read_one 0 0 true 0 first_four) ∷ [])
+    ++ (b (lends first_four) ∷ b (on (Deliver 0 0 request_frame Kept)) ∷ b (works (seen.Requested 4 stag 0)) ∷ b (fetches read_one 0 0 true 0 first_four) ∷ [])
     ++ (a (works (seen.Done kinds.Read)) ∷ [])
 
 abbrev pub RefusesDoneUnplaced : Type 0

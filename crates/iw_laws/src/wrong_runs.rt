@@ -17,6 +17,7 @@ ghost use Rattle.iw_laws.specs.WrongRuns.{RefusesUnpostedSend, RefusesHeldBack, 
 ghost use Rattle.iw_laws.specs.WrongRuns.{RefusesWriteTwice, RefusesSendBeforeWrite};
 ghost use Rattle.iw_laws.specs.WrongRuns.{RefusesPlacedUnwritable, RefusesBufferedPast};
 ghost use Rattle.iw_laws.specs.WrongRuns.{RefusesUntoldResponse, RefusesDeniedReadable};
+ghost use Rattle.iw_laws.specs.WrongRuns.{RefusesMisnumbered, RefusesDroppedPastWrap, RefusesRestPastWrap, RefusesLateNumber};
 
 /// A stream that was never opened does nothing, not even rest.
 pub fn refuses_act_unopened()
@@ -136,6 +137,26 @@ pub fn refuses_placed_unwritable()
 /// No octet of a Send is placed past the end of its receive buffer.
 pub fn refuses_buffered_past()
     ensures { RefusesBufferedPast }
+{}
+
+/// Octets are delivered with the number of their place, counted from the number of the peer's first octet.
+pub fn refuses_misnumbered()
+    ensures { RefusesMisnumbered }
+{}
+
+/// Octets whose numbers lie past the wrap are not dropped for it.
+pub fn refuses_dropped_past_wrap()
+    ensures { RefusesDroppedPastWrap }
+{}
+
+/// A frame that begins before the wrap is not left where it came whole.
+pub fn refuses_rest_past_wrap()
+    ensures { RefusesRestPastWrap }
+{}
+
+/// The number of the peer's first octet is not set after a delivery.
+pub fn refuses_late_number()
+    ensures { RefusesLateNumber }
 {}
 
 /// STags aren't numbered over all domains: the second domain's first region is in its first slot.

@@ -1,5 +1,5 @@
 -- Calls at an endpoint one after another, and what they come to.
-use Rattle.std.proofs.Common.{◌≡◌, ℕ, ◌+◌, List, [], ◌∷◌, ◌++◌, length, take, drop, refl, sym, inl, inr, arith, append_assoc, append-nil, take-append-drop}
+use Rattle.std.proofs.Common.{◌≡◌, ℕ, ◌+◌, ◌%◌, ◌^◌, List, [], ◌∷◌, ◌++◌, length, take, drop, refl, sym, inl, inr, arith, append_assoc, append-nil, take-append-drop}
 use Rattle.std.specs.Prelude.{Option, None, Some, Ok, true, is_some}
 use Rattle.std.specs.Io.KnownBytes.{Appends, Consumes, Keeps}
 use Rattle.std.proofs.KnownBytes.{Appends-kept, Appends-nil, Appends-trans, Consumes-nil, Consumes-trans}
@@ -56,7 +56,7 @@ quietly p s s' event came went goes = record {
 }
 
 abbrev pub at : EndpointState → ℕ → Told → Phase → ℕ → Standing
-at e c t phase k = record { endpoint = e; came = c; told = t; phase = phase; posted = k }
+at e c t phase k = record { endpoint = e; next = c; told = t; phase = phase; posted = k }
 
 pub lends : (p : Plan) (e e' : EndpointState) (c : ℕ) (t : Told) (k : ℕ) (buffer : List ℕ) → buffer ≡ receive_buffer →
     e' ≡ with_buffer e p.number buffer → Did p (at e c t Lending k) (at e' c t (after_lending p.part) k) [] []
@@ -78,7 +78,7 @@ works p e e' c c' t t' k phase step is after same tells asks =
     quietly p _ _ (Worked step) refl refl (refl, sym is, rw (after, same, tells, asks) refl)
 
 pub delivers : (p : Plan) (e e' : EndpointState) (c c' : ℕ) (t : Told) (k : ℕ) (octets : List ℕ) → MayHear p.part k →
-    e' ≡ after_deliver e p.number c octets → c' ≡ c + length octets →
+    e' ≡ after_deliver e p.number c octets → c' ≡ (c + length octets) % 2 ^ 32 →
     Did p (at e c t Listening k) (at e' c' t Working k) octets []
 delivers p e e' c c' t k octets may after count = record {
   events = Delivered octets ∷ [];

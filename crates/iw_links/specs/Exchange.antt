@@ -1,5 +1,5 @@
 -- What a connection does at an endpoint from its opening on.
-use Rattle.std.specs.Prelude.{◌≡◌, ℕ, ◌+◌, ◌≤◌, ◌^◌, List, [], ◌∷◌, ◌++◌, length, replicate, take, ◌⊎◌, Option, None, Some, Bool, true, false, not, is_some, if◌then◌else◌, Ok}
+use Rattle.std.specs.Prelude.{◌≡◌, ℕ, ◌+◌, ◌-◌, ◌%◌, ◌≤◌, ◌^◌, List, [], ◌∷◌, ◌++◌, length, replicate, take, ◌⊎◌, Option, None, Some, Bool, true, false, not, is_some, if◌then◌else◌, Ok}
 use Rattle.std.specs.Option.{option_map}
 use Rattle.std.specs.Io.KnownBytes.{Appends, Consumes, IsAtEnd}
 use Rattle.arrayvec.specs.ArrayVec.{ArrayVec}
@@ -18,7 +18,7 @@ use Rattle.iw_stream.specs.declared.answer.Role.{Role}
 use Rattle.iw_stream.specs.declared.answer.Role.TheVariants as roles
 use Rattle.iw_stream.specs.declared.answer.Step.{Step}
 use Rattle.iw_stream.specs.declared.answer.Step.TheVariants as steps
-use Rattle.iw_stream.specs.Stream.{ended}
+use Rattle.iw_stream.specs.Stream.{ended, place_of, left_out}
 use Rattle.iw_endpoint.specs.Endpoint.{EndpointState, fresh, added, registered, opened, octets_of, with_buffer, accepted, after_deliver, step_at, after_work, with_request, emission_at, emitted_at, after_emit, private_at, broken, has_stream, stream_at}
 use Rattle.iw_links.specs.declared.exchange.Terms.{Terms}
 use Rattle.iw_links.specs.declared.report.Ended.{Ended}
@@ -182,11 +182,11 @@ pub data Event : Type 0 where
   Posted : Request (List ℕ) → Event
   Emitted : Emission → List ℕ → Event
 
--- How a connection stands: the endpoint, how many octets came, what is to be told, what is done next, and how many
+-- How a connection stands: the endpoint, the sequence number of the octet that comes next, what is to be told, what is done next, and how many
 -- messages were posted.
 pub record Standing : Type 0 where
   pub endpoint : EndpointState
-  pub came : ℕ
+  pub next : ℕ
   pub told : Told
   pub phase : Phase
   pub posted : ℕ
@@ -195,7 +195,7 @@ pub record Standing : Type 0 where
 abbrev pub started : Plan → EndpointState → Standing
 started p e = record {
   endpoint = opened e p.number 1 (role_of p.part) p.config;
-  came = 0;
+  next = 0;
   told = record { received = None; ended = None };
   phase = Lending;
   posted = 0;
@@ -234,8 +234,8 @@ abbrev pub IsDue : Part → ℕ → Standing → Request (List ℕ) → Type 0
 IsDue (Serves region) n s request = IsAnswer region s request
 IsDue (Asks text) n s request = IsWrite n text s request ⊎ IsSend text s request
 
--- The call, at the stream of the plan, takes one standing to the other. Octets are delivered at the place that follows
--- all that came before.
+-- The call, at the stream of the plan, takes one standing to the other. Octets are delivered by the sequence number
+-- that follows all that came before, which counts modulo 2^32.
 abbrev pub Goes : Plan → Standing → Event → Standing → Type 0
 Goes p s (Lent buffer) s' =
     (s.phase ≡ Lending) × (buffer ≡ receive_buffer) ×
@@ -246,8 +246,8 @@ Goes p s (Accepted private) s' =
 Goes p s (Delivered octets) s' =
     (s.phase ≡ Listening) × MayHear p.part s.posted ×
     (s' ≡ record s {
-      endpoint = after_deliver s.endpoint p.number s.came octets;
-      came = s.came + length octets;
+      endpoint = after_deliver s.endpoint p.number s.next octets;
+      next = (s.next + length octets) % 2 ^ 32;
       phase = Working;
     })
 Goes p s (Worked step) s' =
@@ -318,12 +318,12 @@ pub record Exchanged (p : Plan) (s : Standing) (i o : Option (List ℕ)) (s' : S
   pub writes : Appends o o' outs
 
 -- Octets that were read could not be delivered: the stream has not ended and some of them are new, so that memory was
--- wanted; or there were too many to be counted.
+-- wanted.
 abbrev pub IsUndelivered : Plan → Standing → List ℕ → Type 0
 IsUndelivered p s octets =
     (s.phase ≡ Listening) × (has_stream s.endpoint p.number ≡ true →
-    ((ended (stream_at s.endpoint p.number) ≡ false) × BringsOctets (stream_at s.endpoint p.number).arrived s.came (length octets))
-    ⊎ (2 ^ 64 ≤ s.came + length octets))
+    let stream = stream_at s.endpoint p.number in
+    (ended stream ≡ false) × BringsOctets stream.arrived (place_of stream s.next) (length octets - left_out stream s.next))
 
 -- The same up to where the link broke, in whatever phase: what the reader gave was delivered, but for octets that could
 -- not be; and the writer took what was emitted, or the front of it alone.
@@ -365,9 +365,9 @@ pub record Finished (p : Plan) (s : Standing) (i o : Option (List ℕ)) (at : Ph
 -- to the end of what the reader gives; the link did not break
 pub record Completed (p : Plan) (e : EndpointState) (i o : Option (List ℕ)) (e' : EndpointState) (i' o' : Option (List ℕ))
     (report : Report) : Type 0 where
-  pub came : ℕ
+  pub next : ℕ
   pub told : Told
-  pub finished : Finished p (started p e) i o (λ phase posted. record { endpoint = e'; came = came; told = told; phase = phase; posted = posted }) i' o' told
+  pub finished : Finished p (started p e) i o (λ phase posted. record { endpoint = e'; next = next; told = told; phase = phase; posted = posted }) i' o' told
   pub is : report ≡ report_of told false
   pub end : IsAtEnd i'
 
@@ -375,9 +375,9 @@ pub record Completed (p : Plan) (e : EndpointState) (i o : Option (List ℕ)) (e
 pub record BrokeOff (p : Plan) (e : EndpointState) (i o : Option (List ℕ)) (e' : EndpointState) (i' o' : Option (List ℕ))
     (report : Report) : Type 0 where
   pub last : EndpointState
-  pub came : ℕ
+  pub next : ℕ
   pub told : Told
-  pub failed : Failed p (started p e) i o (λ phase posted. record { endpoint = last; came = came; told = told; phase = phase; posted = posted }) i' o'
+  pub failed : Failed p (started p e) i o (λ phase posted. record { endpoint = last; next = next; told = told; phase = phase; posted = posted }) i' o'
   pub endpoint : e' ≡ after_break last p.number
   pub is : report ≡ report_of told true
 

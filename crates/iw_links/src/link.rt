@@ -1,4 +1,4 @@
-ghost use Rattle.std.specs.Prelude.{◌≡◌, ◌+◌, ◌≤◌, ◌^◌, ◌++◌, [], length, take, List, ℕ, if◌then◌else◌};
+ghost use Rattle.std.specs.Prelude.{◌≡◌, ◌+◌, ◌%◌, ◌≤◌, ◌^◌, ◌++◌, [], length, take, List, ℕ, if◌then◌else◌};
 ghost use Rattle.std.specs.Prelude.{Some, None, Ok, IfOk, IfErr, OnOk, OnErr};
 ghost use Rattle.iw_memory.specs.Table.{next_stag};
 ghost use Rattle.iw_stream.specs.Kept.{IsWithinBuffer};
@@ -74,8 +74,8 @@ pub fn listener(alloc: Global) -> Result<(Endpoint, Stag), AllocError>
 /// How a connection stands.
 #[derive(Drop)]
 pub(crate) struct Link {
-    /// How many octets came.
-    pub(crate) came: u64,
+    /// The sequence number of the octet that comes next.
+    pub(crate) next: u32,
     /// The octets of the Send that was received.
     pub(crate) received: Option<Octets>,
     /// How the stream ended.
@@ -87,12 +87,12 @@ pub(crate) struct Link {
 impl Link {
     /// One on which nothing came.
     pub(crate) fn new() -> Link
-        ensures came { result.came ≡ 0 }
+        ensures next { result.next ≡ 0 }
         ensures received { result.received ≡ None }
         ensures ended { result.ended ≡ None }
     {
         Link {
-            came: 0,
+            next: 0,
             received: None,
             ended: None,
             is_open: false,
@@ -114,7 +114,7 @@ impl Link {
     fn tell(&mut self, step: Step<Octets>)
         requires { IsWithinBuffer step }
         ensures told { told_in self.new ≡ told_by (told_in self.old) step }
-        ensures came { self.new.came ≡ self.old.came }
+        ensures next { self.new.next ≡ self.old.next }
     {
         match step {
             Step::Received { buffer, len, .. } => {
@@ -180,8 +180,15 @@ pub(crate) fn post(
     Err(Broken)
 }
 
-/// Delivers the octets of a read, at the place that follows all that came before. An `Err` changes nothing: memory was
-/// wanted, or there were too many octets to be counted.
+// The sequence number that follows these octets, the first of which has this one. It wraps.
+fn number_after(number: u32, octets: &[u8]) -> u32
+    ensures { result ≡ (number + length octets.now) % 2 ^ 32 }
+{
+    ((u64::from(number) + octets.len() as u64) % (1 << 32)) as u32
+}
+
+/// Delivers the octets of a read, by the sequence number that follows all that came before. An `Err` is want of memory, and
+/// changes nothing.
 pub(crate) fn deliver(
     plan: &Plan<'_>,
     endpoint: &mut Endpoint,
@@ -195,12 +202,9 @@ pub(crate) fn deliver(
     ensures lost { OnErr result ((k : ℕ) →
         IsUndelivered (plan_of plan.now) (standing endpoint.old link.old Listening k) octets.now) }
 {
-    let Some(came) = link.came.checked_add(octets.len() as u64) else {
-        return Err(Broken);
-    };
-    match endpoint.deliver(plan.terms.number, link.came, octets) {
+    match endpoint.deliver(plan.terms.number, link.next, octets) {
         Ok(_) => {
-            link.came = came;
+            link.next = number_after(link.next, octets);
             Ok(())
         }
         Err(_) => Err(Broken),

@@ -10,3 +10,4 @@ pub mod ByPlace
 pub mod InOrder
 pub mod Blocks
 pub mod Left
+pub mod NearPlaces

@@ -1,7 +1,7 @@
 //! What the calls of [`Islands`](crate::Islands) leave, said of each place of the stream.
 ghost use Rattle.iw_ranges.specs.Laws.{KeepsFirstCopies, AddsPlaces, StaysCome, InOrderGrows};
 ghost use Rattle.iw_ranges.specs.Laws.{GivesUpPlaces, GivesUpBefore};
-ghost use Rattle.iw_ranges.specs.Nearest.{TellsPlaces, KnownPlaces};
+ghost use Rattle.iw_ranges.specs.Nearest.{TellsPlaces, TellsNear, KnownPlaces};
 
 /// Of an octet that came twice the first copy stays.
 pub fn first_copies_stay()
@@ -36,6 +36,11 @@ pub fn what_is_in_order_grows()
 /// Of the places near to one, no two have the same number.
 pub fn numbers_tell_places()
     ensures { TellsPlaces }
+{}
+
+/// [`near`](crate::nearest::near) gives the nearest place, and for the number of a place of the stream that is near this one.
+pub fn near_places_are_nearest()
+    ensures { TellsNear }
 {}
 
 /// The definition gives worked places.

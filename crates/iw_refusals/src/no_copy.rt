@@ -145,7 +145,7 @@ impl<'h> Receiver<'h> {
     }
 
     // Takes octets in. A delivery that is refused is made again.
-    fn deliver(&mut self, from: u64, octets: &[u8]) -> Result<(), Fail> {
+    fn deliver(&mut self, from: u32, octets: &[u8]) -> Result<(), Fail> {
         if self.stream.deliver(from, octets).is_err() {
             self.stream.deliver(from, octets)?;
         }
@@ -155,7 +155,7 @@ impl<'h> Receiver<'h> {
     // Takes the frame from stream place `from` up to `to` in, and works it off.
     fn take(&mut self, wire: &[u8], from: usize, to: usize) -> Result<(), Fail> {
         let frame = wire.get(from..to).ok_or("a frame")?;
-        self.deliver(from as u64, frame)?;
+        self.deliver(from as u32, frame)?;
         self.work()
     }
 }

@@ -28,7 +28,7 @@ enum Ending {
 }
 
 /// The schedules, by the names of their files, `NAME.schedule`. The trace of one that has a trace is in `NAME.trace`.
-const ROWS: [(&str, Ending); 80] = [
+const ROWS: [(&str, Ending); 84] = [
     ("first", Ending::Completed),
     ("one-write", Ending::Completed),
     ("empty-messages", Ending::Completed),
@@ -88,6 +88,8 @@ const ROWS: [(&str, Ending); 80] = [
     ("a-read-whose-source-was-invalidated", Ending::Faulted),
     ("terminate", Ending::Faulted),
     ("terminates-that-come", Ending::Faulted),
+    ("numbers-that-wrap", Ending::Completed),
+    ("places-before-a-stream", Ending::Completed),
     ("break", Ending::Completed),
     ("a-break-in-the-middle-of-a-send", Ending::Completed),
     ("a-broken-stream-hands-back", Ending::Completed),
@@ -103,6 +105,14 @@ const ROWS: [(&str, Ending); 80] = [
     ("unknown-word", Ending::Refused("line 2: BadWord")),
     ("number-too-large", Ending::Refused("line 1: BadNumber")),
     ("too-often", Ending::Refused("line 1: BadNumber")),
+    (
+        "a-sequence-number-too-large",
+        Ending::Refused("line 3: BadNumber"),
+    ),
+    (
+        "a-first-number-too-large",
+        Ending::Refused("line 3: BadNumber"),
+    ),
     ("odd-digits", Ending::Refused("line 1: BadOctets")),
     (
         "an-stag-where-the-kind-has-none",

@@ -6,7 +6,7 @@ use Rattle.iw_events.specs.declared.call.Call.{Call}
 use Rattle.iw_events.specs.declared.call.Call.TheVariants.{Domain, Register, Deregister, Invalidate, Store, Open, Stream}
 use Rattle.iw_octets.specs.declared.message.Message.TheVariants as messages
 use Rattle.iw_queues.specs.declared.request.Request.TheVariants as requests
-use Rattle.iw_events.specs.declared.call.StreamCall.TheVariants.{Recv, Deliver, Raw, Mulpdu, Accept, Reject, Break}
+use Rattle.iw_events.specs.declared.call.StreamCall.TheVariants.{Recv, First, Deliver, Raw, Mulpdu, Accept, Reject, Break}
 use Rattle.iw_schedules.specs.declared.fault.FaultName.{FaultName}
 use Rattle.iw_schedules.specs.declared.kinds.TheConstants.{MAX_WORD_OCTETS}
 use Rattle.iw_schedules.specs.declared.words.CallWord.{CallWord}
@@ -19,10 +19,10 @@ use Rattle.iw_schedules.specs.SendKind.{kind_word, is_solicited, invalidated_wor
 use Rattle.iw_schedules.specs.Rights.{rights_word}
 use Rattle.iw_schedules.specs.Options.{options_word}
 use Rattle.iw_schedules.specs.Words.{role_text, roles, role_word, call_text, call_words, call_word}
-use Rattle.iw_schedules.specs.Calls.{field, octet_number, long_number, size_number, times_at, step_call, one, posted, read_of, domain_at, register_at, deregister_at, invalidate_at, store_at, open_at, accept_at, reject_at, recv_at, send_at, write_at, read_at, steps_at, deliver_at, raw_at, mulpdu_at, break_at, beyond, calls_at}
+use Rattle.iw_schedules.specs.Calls.{field, octet_number, long_number, short_number, times_at, step_call, one, posted, read_of, domain_at, register_at, deregister_at, invalidate_at, store_at, open_at, accept_at, reject_at, recv_at, send_at, write_at, read_at, steps_at, deliver_at, raw_at, first_at, mulpdu_at, break_at, beyond, calls_at}
 use Rattle.iw_schedules.specs.Grammar.{Word, IsOctetNumber, IsTimes, IsCall}
 use Rattle.iw_schedules.specs.Grammar.IsKind.{plain, solicited, invalidating, both as solicited_and_invalidating}
-use Rattle.iw_schedules.specs.Grammar.IsCall.{domain, register, deregister, invalidate, store, opening, accept, reject, recv, send, write, read, emit, emit_times, work, work_times, deliver, raw, mulpdu, breaking}
+use Rattle.iw_schedules.specs.Grammar.IsCall.{domain, register, deregister, invalidate, store, opening, accept, reject, recv, send, write, read, emit, emit_times, work, work_times, deliver, raw, first, mulpdu, breaking}
 use Rattle.iw_schedules.proofs.KindLaws.{bind_ok, okay, number_is, number_again, times_is, times_again, stag_is, stag_again, octets_is, octets_again, private_is, private_again, rights_is, rights_again, options_are, options_again, one_of_is, kind_is}
 
 abbrev Calls : Type 0
@@ -161,7 +161,7 @@ read_is words calls e =
     reads octet_number words _ (calls, []) (λ ws. IsCall (codes "read" ∷ ws) calls) e (λ a stream past_a is_a then_a.
     reads stag_word past_a _ (calls, []) (λ ws. IsCall (codes "read" ∷ a ∷ ws) calls) then_a (λ b sink past_b is_b then_b.
     reads long_number past_b _ (calls, []) (λ ws. IsCall (codes "read" ∷ a ∷ b ∷ ws) calls) then_b (λ c sink_to past_c is_c then_c.
-    reads size_number past_c _ (calls, []) (λ ws. IsCall (codes "read" ∷ a ∷ b ∷ c ∷ ws) calls) then_c (λ d size past_d is_d then_d.
+    reads short_number past_c _ (calls, []) (λ ws. IsCall (codes "read" ∷ a ∷ b ∷ c ∷ ws) calls) then_c (λ d size past_d is_d then_d.
     reads stag_word past_d _ (calls, []) (λ ws. IsCall (codes "read" ∷ a ∷ b ∷ c ∷ d ∷ ws) calls) then_d (λ f source past_f is_f then_f.
     reads long_number past_f _ (calls, []) (λ ws. IsCall (codes "read" ∷ a ∷ b ∷ c ∷ d ∷ f ∷ ws) calls) then_f (λ g source_to others is_g then_g.
     finishes (λ ws made. IsCall (codes "read" ∷ a ∷ b ∷ c ∷ d ∷ f ∷ g ∷ ws) made) calls (posted stream (requests.Read (read_of sink sink_to size source source_to))) others then_g
@@ -179,15 +179,22 @@ pub raw_is : (words : List Word) (calls : Calls) → raw_at words ≡ Ok (calls,
 unfolding raw_at
 raw_is words calls e =
     reads octet_number words _ (calls, []) (λ ws. IsCall (codes "raw" ∷ ws) calls) e (λ a stream past_a is_a then_a.
-    reads long_number past_a _ (calls, []) (λ ws. IsCall (codes "raw" ∷ a ∷ ws) calls) then_a (λ b from past_b is_b then_b.
+    reads short_number past_a _ (calls, []) (λ ws. IsCall (codes "raw" ∷ a ∷ ws) calls) then_a (λ b number past_b is_b then_b.
     reads octets_word past_b _ (calls, []) (λ ws. IsCall (codes "raw" ∷ a ∷ b ∷ ws) calls) then_b (λ c octets others is_c then_c.
-    finishes (λ ws made. IsCall (codes "raw" ∷ a ∷ b ∷ c ∷ ws) made) calls (one (Stream stream (Raw from octets))) others then_c (raw (number_is 255 a stream is_a) (number_is (2 ^ 64 - 1) b from is_b) (octets_is c octets is_c)))))
+    finishes (λ ws made. IsCall (codes "raw" ∷ a ∷ b ∷ c ∷ ws) made) calls (one (Stream stream (Raw number octets))) others then_c (raw (number_is 255 a stream is_a) (number_is (2 ^ 32 - 1) b number is_b) (octets_is c octets is_c)))))
+
+pub first_is : (words : List Word) (calls : Calls) → first_at words ≡ Ok (calls, []) → IsCall (codes "first" ∷ words) calls
+unfolding first_at
+first_is words calls e =
+    reads octet_number words _ (calls, []) (λ ws. IsCall (codes "first" ∷ ws) calls) e (λ a stream past_a is_a then_a.
+    reads short_number past_a _ (calls, []) (λ ws. IsCall (codes "first" ∷ a ∷ ws) calls) then_a (λ b number others is_b then_b.
+    finishes (λ ws made. IsCall (codes "first" ∷ a ∷ b ∷ ws) made) calls (one (Stream stream (First number))) others then_b (first (number_is 255 a stream is_a) (number_is (2 ^ 32 - 1) b number is_b))))
 
 pub mulpdu_is : (words : List Word) (calls : Calls) → mulpdu_at words ≡ Ok (calls, []) → IsCall (codes "mulpdu" ∷ words) calls
 unfolding mulpdu_at
 mulpdu_is words calls e =
     reads octet_number words _ (calls, []) (λ ws. IsCall (codes "mulpdu" ∷ ws) calls) e (λ a stream past_a is_a then_a.
-    reads size_number past_a _ (calls, []) (λ ws. IsCall (codes "mulpdu" ∷ a ∷ ws) calls) then_a (λ b size others is_b then_b.
+    reads short_number past_a _ (calls, []) (λ ws. IsCall (codes "mulpdu" ∷ a ∷ ws) calls) then_a (λ b size others is_b then_b.
     finishes (λ ws made. IsCall (codes "mulpdu" ∷ a ∷ b ∷ ws) made) calls (one (Stream stream (Mulpdu size))) others then_b (mulpdu (number_is 255 a stream is_a) (number_is (2 ^ 32 - 1) b size is_b))))
 
 pub break_is : (words : List Word) (calls : Calls) → break_at words ≡ Ok (calls, []) → IsCall (codes "break" ∷ words) calls
@@ -256,6 +263,7 @@ past_is named.Emit words calls e = emit_is words calls e
 past_is named.Work words calls e = work_is words calls e
 past_is named.Deliver words calls e = deliver_is words calls e
 past_is named.Raw words calls e = raw_is words calls e
+past_is named.First words calls e = first_is words calls e
 past_is named.Mulpdu words calls e = mulpdu_is words calls e
 past_is named.Break words calls e = break_is words calls e
 
@@ -273,7 +281,7 @@ role_again Initiator = refl
 role_again Responder = refl
 
 pub calls_again : (words : List Word) (calls : Calls) → IsCall words calls → calls_at words ≡ Ok (calls, [])
-unfolding calls_at call_word domain_at register_at deregister_at invalidate_at store_at open_at accept_at reject_at recv_at send_at write_at read_at steps_at deliver_at raw_at mulpdu_at break_at
+unfolding calls_at call_word domain_at register_at deregister_at invalidate_at store_at open_at accept_at reject_at recv_at send_at write_at read_at steps_at deliver_at raw_at first_at mulpdu_at break_at
 calls_again words calls (domain {a} {pd} p) = rw (number_again 255 a pd p) refl
 calls_again words calls (register {a} {b} {c} {d} {pd} {base} {rights} {octets} p q r s) = rw (number_again 255 a pd p, number_again (2 ^ 64 - 1) b base q, rights_again c rights r, octets_again d octets s) refl
 calls_again words calls (deregister {a} {stag} p) = rw (stag_again a stag p) refl
@@ -295,6 +303,7 @@ calls_again words calls (emit_times {a} {b} {stream} {n} p q) = rw (number_again
 calls_again words calls (work {a} {stream} p) = rw (number_again 255 a stream p) refl
 calls_again words calls (work_times {a} {b} {stream} {n} p q) = rw (number_again 255 a stream p, times_again b n q) refl
 calls_again words calls (deliver {a} {b} {c} {stream} {from} {len} p q r) = rw (number_again 255 a stream p, number_again (2 ^ 64 - 1) b from q, number_again (2 ^ 64 - 1) c len r) refl
-calls_again words calls (raw {a} {b} {c} {stream} {from} {octets} p q r) = rw (number_again 255 a stream p, number_again (2 ^ 64 - 1) b from q, octets_again c octets r) refl
+calls_again words calls (raw {a} {b} {c} {stream} {number} {octets} p q r) = rw (number_again 255 a stream p, number_again (2 ^ 32 - 1) b number q, octets_again c octets r) refl
+calls_again words calls (first {a} {b} {stream} {number} p q) = rw (number_again 255 a stream p, number_again (2 ^ 32 - 1) b number q) refl
 calls_again words calls (mulpdu {a} {b} {stream} {size} p q) = rw (number_again 255 a stream p, number_again (2 ^ 32 - 1) b size q) refl
 calls_again words calls (breaking {a} {stream} p) = rw (number_again 255 a stream p) refl

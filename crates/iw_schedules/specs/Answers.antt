@@ -25,6 +25,8 @@ use Rattle.iw_stream.specs.declared.answer.PostRefusal.{PostRefusal}
 use Rattle.iw_stream.specs.declared.answer.PostRefusal.TheVariants as posts
 use Rattle.iw_stream.specs.declared.answer.RecvRefusal.{RecvRefusal}
 use Rattle.iw_stream.specs.declared.answer.RecvRefusal.TheVariants as recvs
+use Rattle.iw_stream.specs.declared.answer.FirstRefusal.{FirstRefusal}
+use Rattle.iw_stream.specs.declared.answer.FirstRefusal.TheVariants as firsts
 use Rattle.iw_stream.specs.declared.answer.SizeRefusal.{SizeRefusal}
 use Rattle.iw_stream.specs.declared.answer.SizeRefusal.TheVariants as sizes
 use Rattle.iw_stream.specs.declared.answer.OpenRefusal.{OpenRefusal}
@@ -95,6 +97,9 @@ post_refusal posts.NoMemory = (4, codes "NoMemory")
 
 abbrev pub size_refusal : SizeRefusal → Numbered
 size_refusal sizes.BadSize = (1, codes "BadSize")
+
+abbrev pub first_refusal : FirstRefusal → Numbered
+first_refusal firsts.Late = (1, codes "Late")
 
 -- of `accept`, and of `reject`
 abbrev pub not_asked : Numbered

@@ -8,7 +8,7 @@ use Rattle.iw_queues.specs.declared.request.Request.TheVariants as requests
 use Rattle.iw_events.specs.declared.call.Call.{Call}
 use Rattle.iw_events.specs.declared.call.Call.TheVariants.{Domain, Register, Deregister, Invalidate, Store, Open, Stream}
 use Rattle.iw_events.specs.declared.call.StreamCall.{StreamCall}
-use Rattle.iw_events.specs.declared.call.StreamCall.TheVariants.{Recv, Post, Emit, Deliver, Raw, Mulpdu, Accept, Reject, Work, Break}
+use Rattle.iw_events.specs.declared.call.StreamCall.TheVariants.{Recv, Post, Emit, First, Deliver, Raw, Mulpdu, Accept, Reject, Work, Break}
 use Rattle.iw_schedules.specs.declared.fault.FaultName.{FaultName}
 use Rattle.iw_schedules.specs.declared.fault.FaultName.TheVariants.{BadWord}
 use Rattle.iw_schedules.specs.declared.kinds.TheConstants.{MAX_WORD_OCTETS}
@@ -44,8 +44,8 @@ octet_number word = number_word 255 word
 abbrev pub long_number : List ℕ → Result ℕ FaultName
 long_number word = number_word (2 ^ 64 - 1) word
 
-abbrev pub size_number : List ℕ → Result ℕ FaultName
-size_number word = number_word (2 ^ 32 - 1) word
+abbrev pub short_number : List ℕ → Result ℕ FaultName
+short_number word = number_word (2 ^ 32 - 1) word
 
 -- how often, and once where the word is left out
 abbrev pub times_at : List (List ℕ) → Taken ℕ
@@ -143,7 +143,7 @@ read_at words = do
   stream ← field octet_number words
   sink ← field stag_word stream.1
   sink_to ← field long_number sink.1
-  size ← field size_number sink_to.1
+  size ← field short_number sink_to.1
   source ← field stag_word size.1
   source_to ← field long_number source.1
   Ok (posted stream.0 (requests.Read (read_of sink.0 sink_to.0 size.0 source.0 source_to.0)), source_to.1)
@@ -169,14 +169,20 @@ deliver_at words = do
 unfoldable pub raw_at : List (List ℕ) → Taken (List (Call (List ℕ)))
 raw_at words = do
   stream ← field octet_number words
-  from ← field long_number stream.1
-  octets ← field octets_word from.1
-  Ok (one (Stream stream.0 (Raw from.0 octets.0)), octets.1)
+  number ← field short_number stream.1
+  octets ← field octets_word number.1
+  Ok (one (Stream stream.0 (Raw number.0 octets.0)), octets.1)
+
+unfoldable pub first_at : List (List ℕ) → Taken (List (Call (List ℕ)))
+first_at words = do
+  stream ← field octet_number words
+  number ← field short_number stream.1
+  Ok (one (Stream stream.0 (First number.0)), number.1)
 
 unfoldable pub mulpdu_at : List (List ℕ) → Taken (List (Call (List ℕ)))
 mulpdu_at words = do
   stream ← field octet_number words
-  size ← field size_number stream.1
+  size ← field short_number stream.1
   Ok (one (Stream stream.0 (Mulpdu size.0)), size.1)
 
 unfoldable pub break_at : List (List ℕ) → Taken (List (Call (List ℕ)))
@@ -202,6 +208,7 @@ beyond named.Emit words = steps_at steps.Emit words
 beyond named.Work words = steps_at steps.Work words
 beyond named.Deliver words = deliver_at words
 beyond named.Raw words = raw_at words
+beyond named.First words = first_at words
 beyond named.Mulpdu words = mulpdu_at words
 beyond named.Break words = break_at words
 

@@ -14,7 +14,7 @@ use Rattle.iw_stream.specs.declared.answer.Role.{Role}
 use Rattle.iw_events.specs.declared.call.Options.{Options}
 use Rattle.iw_events.specs.declared.call.Call.{Call}
 use Rattle.iw_events.specs.declared.call.Call.TheVariants.{Domain, Register, Deregister, Invalidate, Store, Open, Stream}
-use Rattle.iw_events.specs.declared.call.StreamCall.TheVariants.{Recv, Emit, Deliver, Raw, Mulpdu, Accept, Reject, Work, Break}
+use Rattle.iw_events.specs.declared.call.StreamCall.TheVariants.{Recv, Emit, First, Deliver, Raw, Mulpdu, Accept, Reject, Work, Break}
 use Rattle.iw_schedules.specs.declared.fault.FaultName.{FaultName}
 use Rattle.iw_schedules.specs.declared.fault.ScheduleFault.{ScheduleFault}
 use Rattle.iw_schedules.specs.declared.fault.ScheduleFault.TheVariants.{Line, NoMemory}
@@ -46,9 +46,9 @@ IsOctetNumber word n = IsNumber 255 word n
 abbrev pub IsLongNumber : Word → ℕ → Type 0
 IsLongNumber word n = IsNumber (2 ^ 64 - 1) word n
 
--- the size of a Read or of a ULPDU
-abbrev pub IsSize : Word → ℕ → Type 0
-IsSize word n = IsNumber (2 ^ 32 - 1) word n
+-- the size of a Read or of a ULPDU, or a sequence number
+abbrev pub IsShortNumber : Word → ℕ → Type 0
+IsShortNumber word n = IsNumber (2 ^ 32 - 1) word n
 
 -- how often an event happens
 pub record IsTimes (word : Word) (n : ℕ) : Type 0 where
@@ -103,7 +103,7 @@ pub data IsCall : List Word → List (Call (List ℕ)) → Type 0 where
   write : {a b c d : Word} {stream to : ℕ} {stag : Stag} {octets : List ℕ} → IsOctetNumber a stream → IsStag b stag → IsLongNumber c to → IsOctets d octets
       → IsCall (codes "write" ∷ a ∷ b ∷ c ∷ d ∷ []) (posted stream (requests.Message (messages.Write stag to octets)))
   read : {a b c d e f : Word} {stream sink_to size source_to : ℕ} {sink source : Stag}
-      → IsOctetNumber a stream → IsStag b sink → IsLongNumber c sink_to → IsSize d size → IsStag e source
+      → IsOctetNumber a stream → IsStag b sink → IsLongNumber c sink_to → IsShortNumber d size → IsStag e source
       → IsLongNumber f source_to
       → IsCall (codes "read" ∷ a ∷ b ∷ c ∷ d ∷ e ∷ f ∷ []) (posted stream (requests.Read (read_of sink sink_to size source source_to)))
   emit : {a : Word} {stream : ℕ} → IsOctetNumber a stream → IsCall (codes "emit" ∷ a ∷ []) (one (Stream stream Emit))
@@ -112,9 +112,10 @@ pub data IsCall : List Word → List (Call (List ℕ)) → Type 0 where
   work_times : {a b : Word} {stream n : ℕ} → IsOctetNumber a stream → IsTimes b n → IsCall (codes "work" ∷ a ∷ b ∷ []) (replicate n (Stream stream Work))
   deliver : {a b c : Word} {stream from len : ℕ} → IsOctetNumber a stream → IsLongNumber b from → IsLongNumber c len
       → IsCall (codes "deliver" ∷ a ∷ b ∷ c ∷ []) (one (Stream stream (Deliver from len)))
-  raw : {a b c : Word} {stream from : ℕ} {octets : List ℕ} → IsOctetNumber a stream → IsLongNumber b from → IsOctets c octets
-      → IsCall (codes "raw" ∷ a ∷ b ∷ c ∷ []) (one (Stream stream (Raw from octets)))
-  mulpdu : {a b : Word} {stream size : ℕ} → IsOctetNumber a stream → IsSize b size → IsCall (codes "mulpdu" ∷ a ∷ b ∷ []) (one (Stream stream (Mulpdu size)))
+  raw : {a b c : Word} {stream number : ℕ} {octets : List ℕ} → IsOctetNumber a stream → IsShortNumber b number → IsOctets c octets
+      → IsCall (codes "raw" ∷ a ∷ b ∷ c ∷ []) (one (Stream stream (Raw number octets)))
+  first : {a b : Word} {stream number : ℕ} → IsOctetNumber a stream → IsShortNumber b number → IsCall (codes "first" ∷ a ∷ b ∷ []) (one (Stream stream (First number)))
+  mulpdu : {a b : Word} {stream size : ℕ} → IsOctetNumber a stream → IsShortNumber b size → IsCall (codes "mulpdu" ∷ a ∷ b ∷ []) (one (Stream stream (Mulpdu size)))
   breaking : {a : Word} {stream : ℕ} → IsOctetNumber a stream → IsCall (codes "break" ∷ a ∷ []) (one (Stream stream Break))
 
 -- an end, and calls at it

@@ -12,12 +12,12 @@ use Rattle.iw_memory.specs.declared.refusal.NoRegion.{NoRegion}
 use Rattle.iw_events.specs.declared.act.Act.{Act}
 use Rattle.iw_events.specs.declared.act.Act.TheVariants.{Domain, Register, Deregister, Invalidate, Store, Open, Stream}
 use Rattle.iw_events.specs.declared.act.StreamAct.{StreamAct}
-use Rattle.iw_events.specs.declared.act.StreamAct.TheVariants.{Recv, Post, Emit, Deliver, Raw, Mulpdu, Accept, Reject, Work, Break}
+use Rattle.iw_events.specs.declared.act.StreamAct.TheVariants.{Recv, Post, Emit, First, Deliver, Raw, Mulpdu, Accept, Reject, Work, Break}
 use Rattle.iw_events.specs.declared.act.Entry.{Entry}
 use Rattle.iw_schedules.specs.declared.words.CallWord.{CallWord}
 use Rattle.iw_schedules.specs.declared.words.CallWord.TheVariants as named
 use Rattle.iw_schedules.specs.Words.{end_text, call_text}
-use Rattle.iw_schedules.specs.Answers.{Words, octets_text, stag_text, domain_refusal, register_refusal, no_region, store_refusal, open_refusal, recv_refusal, post_refusal, size_refusal, not_asked, refused, ok_or_refused, delivery_text, accepted_words, shown_words, seen_words}
+use Rattle.iw_schedules.specs.Answers.{Words, octets_text, stag_text, domain_refusal, register_refusal, no_region, store_refusal, open_refusal, recv_refusal, post_refusal, size_refusal, not_asked, refused, ok_or_refused, delivery_text, accepted_words, shown_words, seen_words, first_refusal}
 
 abbrev pub registered : Result Stag RegisterRefusal → Words
 registered (Ok stag) = stag_text stag ∷ []
@@ -46,8 +46,9 @@ abbrev pub stream_word : StreamAct (List ℕ) → CallWord
 stream_word (Recv len refusal) = named.Recv
 stream_word (Post message refusal) = post_word message
 stream_word (Emit shown) = named.Emit
-stream_word (Deliver from octets delivery) = named.Deliver
-stream_word (Raw from octets delivery) = named.Raw
+stream_word (First number refusal) = named.First
+stream_word (Deliver from number octets delivery) = named.Deliver
+stream_word (Raw number octets delivery) = named.Raw
 stream_word (Mulpdu size refusal) = named.Mulpdu
 stream_word (Accept private answer) = named.Accept
 stream_word (Reject private refusal) = named.Reject
@@ -58,8 +59,9 @@ abbrev pub stream_answer : StreamAct (List ℕ) → Words
 stream_answer (Recv len refusal) = ok_or_refused (option_map recv_refusal refusal)
 stream_answer (Post message refusal) = ok_or_refused (option_map post_refusal refusal)
 stream_answer (Emit shown) = shown_words shown
-stream_answer (Deliver from octets delivery) = delivery_text delivery ∷ []
-stream_answer (Raw from octets delivery) = delivery_text delivery ∷ []
+stream_answer (First number refusal) = ok_or_refused (option_map first_refusal refusal)
+stream_answer (Deliver from number octets delivery) = delivery_text delivery ∷ []
+stream_answer (Raw number octets delivery) = delivery_text delivery ∷ []
 stream_answer (Mulpdu size refusal) = ok_or_refused (option_map size_refusal refusal)
 stream_answer (Accept private answer) = accepted_words answer
 stream_answer (Reject private refusal) = ok_or_refused (option_map (λ missing. not_asked) refusal)

@@ -8,7 +8,7 @@ use Rattle.iw_stream.specs.declared.answer.Role.TheVariants.{Preset, Initiator, 
 use Rattle.iw_schedules.specs.declared.fault.FaultName.{FaultName}
 use Rattle.iw_schedules.specs.declared.fault.FaultName.TheVariants.{BadWord}
 use Rattle.iw_schedules.specs.declared.words.CallWord.{CallWord}
-use Rattle.iw_schedules.specs.declared.words.CallWord.TheVariants.{Domain, Register, Deregister, Invalidate, Store, Open, Accept, Reject, Recv, Send, Write, Read, Emit, Work, Deliver, Raw, Mulpdu, Break}
+use Rattle.iw_schedules.specs.declared.words.CallWord.TheVariants.{Domain, Register, Deregister, Invalidate, Store, Open, Accept, Reject, Recv, Send, Write, Read, Emit, Work, Deliver, Raw, First, Mulpdu, Break}
 
 -- the one of these that has this text
 abbrev pub one_of : {X : Type 0} → (X → List ℕ) → List X → List ℕ → Result X FaultName
@@ -54,11 +54,12 @@ call_text Emit = codes "emit"
 call_text Work = codes "work"
 call_text Deliver = codes "deliver"
 call_text Raw = codes "raw"
+call_text First = codes "first"
 call_text Mulpdu = codes "mulpdu"
 call_text Break = codes "break"
 
 abbrev pub call_words : List CallWord
-call_words = Domain ∷ Register ∷ Deregister ∷ Invalidate ∷ Store ∷ Open ∷ Accept ∷ Reject ∷ Recv ∷ Send ∷ Write ∷ Read ∷ Emit ∷ Work ∷ Deliver ∷ Raw ∷ Mulpdu ∷ Break ∷ []
+call_words = Domain ∷ Register ∷ Deregister ∷ Invalidate ∷ Store ∷ Open ∷ Accept ∷ Reject ∷ Recv ∷ Send ∷ Write ∷ Read ∷ Emit ∷ Work ∷ Deliver ∷ Raw ∷ First ∷ Mulpdu ∷ Break ∷ []
 
 unfoldable pub call_word : List ℕ → Result CallWord FaultName
 call_word word = one_of call_text call_words word

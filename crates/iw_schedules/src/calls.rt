@@ -8,9 +8,9 @@ ghost use Rattle.iw_schedules.specs.Rights.{rights_word};
 ghost use Rattle.iw_schedules.specs.Options.{options_word};
 ghost use Rattle.iw_schedules.specs.Words.{role_word, call_word};
 ghost use Rattle.iw_schedules.specs.Calls.{calls_of, calls_at, step_call, steps_at};
-ghost use Rattle.iw_schedules.specs.Calls.{next_word, field, beyond, octet_number, long_number, size_number, times_at};
+ghost use Rattle.iw_schedules.specs.Calls.{next_word, field, beyond, octet_number, long_number, short_number, times_at};
 ghost use Rattle.iw_schedules.specs.Calls.{domain_at, register_at, deregister_at, invalidate_at, store_at};
-ghost use Rattle.iw_schedules.specs.Calls.{open_at, accept_at, reject_at, mulpdu_at, break_at, deliver_at, raw_at};
+ghost use Rattle.iw_schedules.specs.Calls.{open_at, accept_at, reject_at, mulpdu_at, break_at, first_at, deliver_at, raw_at};
 ghost use Rattle.iw_schedules.specs.Calls.{recv_at, send_at, write_at, read_at};
 
 use crate::fault::{FaultName, ReadError};
@@ -87,9 +87,9 @@ fn long_number_in(words: &mut Pieces<'_>) -> Result<u64, ReadError>
     Ok(kinds::number(next(words)?, u64::MAX)?)
 }
 
-// The size of a Read or of a ULPDU.
-fn size_in(words: &mut Pieces<'_>) -> Result<u32, ReadError>
-    ensures { Gives (λ n. (n, words.new)) result (field size_number words.old) }
+// A number of 32 bits: the size of a Read or of a ULPDU, or a sequence number.
+fn short_number_in(words: &mut Pieces<'_>) -> Result<u32, ReadError>
+    ensures { Gives (λ n. (n, words.new)) result (field short_number words.old) }
 {
     Ok(kinds::number(next(words)?, u64::from(u32::MAX))? as u32)
 }
@@ -304,7 +304,7 @@ fn read<A: Allocator>(words: &mut Pieces<'_>) -> Result<Calls<Bytes<A>>, ReadErr
     let request = ReadRequest {
         sink: stag_in(words)?,
         sink_to: long_number_in(words)?,
-        size: size_in(words)?,
+        size: short_number_in(words)?,
         source: stag_in(words)?,
         source_to: long_number_in(words)?,
     };
@@ -342,9 +342,19 @@ fn raw<A: Allocator + Copy>(alloc: A, words: &mut Pieces<'_>) -> Result<Calls<By
     ensures { Gives (λ calls. (calls_of calls, words.new)) result (raw_at words.old) }
 {
     let stream = octet_number_in(words)?;
-    let from = long_number_in(words)?;
+    let number = short_number_in(words)?;
     let octets = octets_in(alloc, words)?;
-    let call = StreamCall::Raw { from, octets };
+    let call = StreamCall::Raw { number, octets };
+    Ok(Calls::One(Call::Stream { stream, call }))
+}
+
+#[tactic(auto, unfolding(crate::specs::Calls::first_at))]
+fn first<A: Allocator>(words: &mut Pieces<'_>) -> Result<Calls<Bytes<A>>, ReadError>
+    ensures { Gives (λ calls. (calls_of calls, words.new)) result (first_at words.old) }
+{
+    let stream = octet_number_in(words)?;
+    let number = short_number_in(words)?;
+    let call = StreamCall::First { number };
     Ok(Calls::One(Call::Stream { stream, call }))
 }
 
@@ -353,7 +363,7 @@ fn mulpdu<A: Allocator>(words: &mut Pieces<'_>) -> Result<Calls<Bytes<A>>, ReadE
     ensures { Gives (λ calls. (calls_of calls, words.new)) result (mulpdu_at words.old) }
 {
     let stream = octet_number_in(words)?;
-    let size = size_in(words)?;
+    let size = short_number_in(words)?;
     let call = StreamCall::Mulpdu { size };
     Ok(Calls::One(Call::Stream { stream, call }))
 }
@@ -392,6 +402,7 @@ fn calls_past<A: Allocator + Copy>(
         CallWord::Work => steps(Step::Work, words),
         CallWord::Deliver => deliver(words),
         CallWord::Raw => raw(alloc, words),
+        CallWord::First => first(words),
         CallWord::Mulpdu => mulpdu(words),
         CallWord::Break => break_link(words),
     }

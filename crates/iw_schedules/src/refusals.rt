@@ -3,12 +3,12 @@
 ghost use Rattle.std.specs.Prelude.{◌≡◌};
 ghost use Rattle.iw_schedules.specs.Answers.{domain_refusal, register_refusal, store_refusal, no_region};
 ghost use Rattle.iw_schedules.specs.Answers.{open_refusal, not_asked, startup_fault};
-ghost use Rattle.iw_schedules.specs.Answers.{size_refusal, recv_refusal, post_refusal};
+ghost use Rattle.iw_schedules.specs.Answers.{size_refusal, recv_refusal, post_refusal, first_refusal};
 ghost use Rattle.iw_schedules.specs.Shown.{shown_refusal};
 
 use iw_memory::{DomainRefusal, NoRegion, RegisterRefusal, StoreRefusal};
 use iw_startup::{NotAsked, StartupFault};
-use iw_stream::{OpenRefusal, PostRefusal, RecvRefusal, SizeRefusal};
+use iw_stream::{FirstRefusal, OpenRefusal, PostRefusal, RecvRefusal, SizeRefusal};
 
 /// The number and the name of a refusal, or of what closed a stream.
 #[derive(Clone, Copy)]
@@ -100,6 +100,14 @@ pub(crate) fn of_size(refusal: SizeRefusal) -> Refusal
 {
     match refusal {
         SizeRefusal::BadSize => Refusal::new(1, "BadSize"),
+    }
+}
+
+pub(crate) fn of_first(refusal: FirstRefusal) -> Refusal
+    ensures { shown_refusal result ≡ first_refusal refusal }
+{
+    match refusal {
+        FirstRefusal::Late => Refusal::new(1, "Late"),
     }
 }
 

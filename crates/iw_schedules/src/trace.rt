@@ -340,6 +340,7 @@ fn stream_name<A: Allocator>(act: &StreamAct<Bytes<A>>) -> CallWord
         StreamAct::Emit(_) => CallWord::Emit,
         StreamAct::Deliver { .. } => CallWord::Deliver,
         StreamAct::Raw { .. } => CallWord::Raw,
+        StreamAct::First { .. } => CallWord::First,
         StreamAct::Mulpdu { .. } => CallWord::Mulpdu,
         StreamAct::Accept { .. } => CallWord::Accept,
         StreamAct::Reject { .. } => CallWord::Reject,
@@ -364,6 +365,9 @@ fn add_stream_answer<A: Allocator + Copy>(
         StreamAct::Emit(shown) => add_shown(text, shown),
         StreamAct::Deliver { delivery, .. } => appending::word(text, delivery_name(*delivery)),
         StreamAct::Raw { delivery, .. } => appending::word(text, delivery_name(*delivery)),
+        StreamAct::First { refused, .. } => {
+            appending::outcome(text, refused.map(refusals::of_first))
+        }
         StreamAct::Mulpdu { refused, .. } => {
             appending::outcome(text, refused.map(refusals::of_size))
         }

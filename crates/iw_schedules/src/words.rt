@@ -25,13 +25,14 @@ pub(crate) enum CallWord {
     Work,
     Deliver,
     Raw,
+    First,
     Mulpdu,
     Break,
 }
 
 impl CallWord {
     /// Every one of them.
-    pub(crate) const ALL: [CallWord; 18] = [
+    pub(crate) const ALL: [CallWord; 19] = [
         CallWord::Domain,
         CallWord::Register,
         CallWord::Deregister,
@@ -48,6 +49,7 @@ impl CallWord {
         CallWord::Work,
         CallWord::Deliver,
         CallWord::Raw,
+        CallWord::First,
         CallWord::Mulpdu,
         CallWord::Break,
     ];
@@ -72,6 +74,7 @@ impl CallWord {
             CallWord::Work => "work",
             CallWord::Deliver => "deliver",
             CallWord::Raw => "raw",
+            CallWord::First => "first",
             CallWord::Mulpdu => "mulpdu",
             CallWord::Break => "break",
         }

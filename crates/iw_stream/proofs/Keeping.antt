@@ -103,6 +103,45 @@ keeps_taken s place octets k =
           room = p.room;
         }
 
+-- ---- what is told of deliveries
+pub keeps_told : (s : StreamState) (first : ℕ) (answered : Bool) → Keeps s → Keeps (record s { first = first; answered = answered })
+keeps_told s first answered k = record {
+  started = record {
+    unopened = k.started.unopened;
+    unsent = k.started.unsent;
+    alone = k.started.alone;
+    beyond = k.started.beyond;
+  };
+  between = k.between;
+  aligned = k.aligned;
+  enough = k.enough;
+  few = k.few;
+  is_placed = λ e. told s.front (k.is_placed e);
+  clear = k.clear;
+  headed = k.headed;
+  buffered = k.buffered;
+  unopened = k.unopened;
+  first = k.first;
+  awaited = k.awaited;
+}
+  where
+    told : (o : Option PlacedFrame) → IfSome o (IsPlaced s) → IfSome o (IsPlaced (record s { first = first; answered = answered }))
+    told None p = tt
+    told (Some frame) p =
+        let at = p.stands in record {
+          stands = record {
+            begins = at.begins;
+            low = at.low;
+            whole = at.whole;
+            header = at.header;
+            on = at.on;
+            near = at.near;
+            come = at.come;
+            next = at.next;
+          };
+          room = p.room;
+        }
+
 pub keeps_delivered : {D E : Type 0} (s : StreamState) (place : ℕ) (octets : List ℕ) (result : Result D E) (after : Arrived) → OnOk result (after ≡ delivered s.arrived place octets) → OnErr result (after ≡ s.arrived) → Keeps s
     → Keeps (record s { arrived = after })
 keeps_delivered s place octets (Err e) after ok err k = subst (λ a. Keeps (record s { arrived = a })) (sym err) k

@@ -1,5 +1,5 @@
 -- The state of a stream, and what each call but work leaves of it.
-use Rattle.std.specs.Prelude.{ℕ, ◌≡◌, ◌+◌, ◌-◌, ◌==◌, nat_lt, nat_le, Bool, true, false, not, ◌&&◌, ◌||◌, List, [], length, if◌then◌else◌, Option, Some, None, Result, Ok, Err}
+use Rattle.std.specs.Prelude.{ℕ, ◌≡◌, ◌+◌, ◌-◌, ◌==◌, nat_lt, nat_le, Bool, true, false, not, ◌&&◌, ◌||◌, List, [], length, drop, if◌then◌else◌, Option, Some, None, Result, Ok, Err}
 use Rattle.std.specs.Option.{option_map, option_map_or}
 use Rattle.iw_octets.specs.declared.constants.TheConstants.{MAX_ULPDU}
 use Rattle.iw_octets.specs.declared.fault.Fault.{Fault}
@@ -10,6 +10,7 @@ use Rattle.iw_memory.specs.Table.{Table}
 use Rattle.iw_ranges.specs.declared.Delivery.{Delivery}
 use Rattle.iw_ranges.specs.declared.Delivery.TheVariants.{Kept, Dropped}
 use Rattle.iw_ranges.specs.Arrived.{Arrived, nothing, delivery, taken_in}
+use Rattle.iw_ranges.specs.Nearest.{place_near, before_start}
 use Rattle.iw_fpdu.specs.Frame.{frame_octets}
 use Rattle.iw_untagged.specs.declared.queue.BufferRefusal.{BufferRefusal}
 use Rattle.iw_untagged.specs.declared.queue.BufferRefusal.TheVariants as buffer_refusals
@@ -35,6 +36,8 @@ use Rattle.iw_startup.specs.declared.side.Reply.TheVariants.{Accept, Reject}
 use Rattle.iw_stream.specs.declared.answer.Role.{Role}
 use Rattle.iw_stream.specs.declared.answer.Emission.{Emission}
 use Rattle.iw_stream.specs.declared.answer.Emission.TheVariants as emissions
+use Rattle.iw_stream.specs.declared.answer.FirstRefusal.{FirstRefusal}
+use Rattle.iw_stream.specs.declared.answer.FirstRefusal.TheVariants.{Late}
 use Rattle.iw_stream.specs.declared.answer.PostRefusal.{PostRefusal}
 use Rattle.iw_stream.specs.declared.answer.PostRefusal.TheVariants as post_refusals
 use Rattle.iw_stream.specs.declared.answer.RecvRefusal.{RecvRefusal}
@@ -60,6 +63,8 @@ pub record StreamState : Type 0 where
   pub receiving : Receiving
   pub reads : List Outstanding  -- the Reads whose requests were emitted and whose responses have not come whole, oldest first
   pub asked : Requested  -- the peer's Read Requests
+  pub first : ℕ  -- the sequence number of the peer's first octet
+  pub answered : Bool  -- octets were delivered, and kept or dropped
   pub arrived : Arrived  -- what came, from the in-order point on
   pub front : Option PlacedFrame  -- the frame at the in-order point, once it was placed there
   pub early : List EarlyRecord  -- the frames that were judged before their turn, lowest first
@@ -77,6 +82,8 @@ opened domain role config = record {
   receiving = nothing_received;
   reads = [];
   asked = nothing_asked;
+  first = 0;
+  answered = false;
   arrived = nothing;
   front = None;
   early = [];
@@ -245,14 +252,29 @@ after_emit table s = left_due table s (due s)
 
 -- ---- delivery
 
--- what becomes of n octets that come from a place on
+-- why the number of the peer's first octet is not set: octets were delivered before
+abbrev pub first_refusal : StreamState → Option FirstRefusal
+first_refusal s = if s.answered then Some Late else None
+
+abbrev pub with_first : StreamState → ℕ → StreamState
+with_first s number = record s { first = number }
+
+-- the place of the first octet of a delivery, by its sequence number: the one nearest to the in-order point, or 0 where that lies before the stream
+abbrev pub place_of : StreamState → ℕ → ℕ
+place_of s number = place_near number s.first s.arrived.floor
+
+-- how many of its octets lie before the stream then: they are left out
+abbrev pub left_out : StreamState → ℕ → ℕ
+left_out s number = before_start number s.first s.arrived.floor
+
+-- what becomes of n octets, the first of which has this number
 abbrev pub delivery_of : StreamState → ℕ → ℕ → Delivery
-delivery_of s from n = if ended s then Dropped else delivery s.arrived from n
+delivery_of s number n = if ended s then Dropped else delivery s.arrived (place_of s number) (n - left_out s number)
 
 -- of an octet that came before, the first copy stays
 abbrev pub after_deliver : StreamState → ℕ → List ℕ → Delivery → StreamState
-after_deliver s from octets Kept = record s { arrived = taken_in s.arrived from octets }
-after_deliver s from octets Dropped = s
+after_deliver s number octets Kept = record s { arrived = taken_in s.arrived (place_of s number) (drop (left_out s number) octets); answered = true }
+after_deliver s number octets Dropped = record s { answered = true }
 
 -- ---- postings
 

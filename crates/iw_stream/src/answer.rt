@@ -49,6 +49,14 @@ pub enum RecvRefusal {
     Ended,
 }
 
+/// Why the sequence number of the peer's first octet is not set.
+#[derive(Clone, Copy, Debug, PartialEq, Eq, Error)]
+pub enum FirstRefusal {
+    /// Octets were delivered before, and kept or dropped.
+    #[error("octets were delivered before")]
+    Late,
+}
+
 /// Why a ULPDU size is not set.
 #[derive(Clone, Copy, Debug, PartialEq, Eq, Error)]
 pub enum SizeRefusal {

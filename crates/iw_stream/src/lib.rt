@@ -6,7 +6,8 @@
 //!
 //! 1. posts receive buffers (`post_recv`) and, once the stream is open, messages and Reads (`post`);
 //! 2. sends what `emit` appends, until it answers [`Emission::Nothing`];
-//! 3. hands in octets that came, with their place in the stream (`deliver`), in any order;
+//! 3. hands in octets that came, with their sequence number (`deliver`; `first_number` sets that of the peer's first octet), in
+//!    any order;
 //! 4. calls `work` until it answers [`Step::Idle`]: each call does one step and says what it did. Where it is
 //!    [`Step::Asked`], the owner accepts or rejects the peer's Request.
 //!
@@ -30,7 +31,9 @@ mod stream;
 mod terminating;
 mod turning;
 
-pub use answer::{Emission, OpenRefusal, PostRefusal, RecvRefusal, Role, SizeRefusal, Step};
+pub use answer::{
+    Emission, FirstRefusal, OpenRefusal, PostRefusal, RecvRefusal, Role, SizeRefusal, Step,
+};
 pub use ending::Ending;
 pub use iw_queues::{Kind, Request};
 pub use iw_ranges::Delivery;

@@ -1,4 +1,4 @@
-ghost use Rattle.std.specs.Prelude.{◌≡◌, length, false, is_ok, IfSome, IfNone, IfOk, IfErr, IsErr, OnOk, OnErr};
+ghost use Rattle.std.specs.Prelude.{◌≡◌, ◌-◌, length, false, is_ok, IfSome, IfNone, IfOk, IfErr, IsErr, OnOk, OnErr};
 ghost use Rattle.std.specs.Result.{result_err};
 ghost use Rattle.iw_ranges.specs.Arrived.{BringsOctets};
 ghost use Rattle.iw_stream.specs.Starting.{private_in, agreement_in};
@@ -10,7 +10,7 @@ mod room;
 mod tasks;
 mod turns;
 
-use crate::answer::{PostRefusal, RecvRefusal, Role, SizeRefusal};
+use crate::answer::{FirstRefusal, PostRefusal, RecvRefusal, Role, SizeRefusal};
 use crate::emitting::Numbers;
 use crate::ending::Ending;
 use crate::incoming::Incoming;
@@ -20,6 +20,7 @@ use bytes::Bytes;
 use iw_octets::MAX_ULPDU;
 use iw_queues::{Refusal, Request, SendQueue};
 use iw_ranges::Delivery;
+use iw_ranges::nearest::near;
 use iw_reads::{Reads, Requests};
 use iw_startup::{Agreed, Config, NotAsked, PrivateData};
 use iw_untagged::{BufferRefusal, RecvQueue};
@@ -51,6 +52,9 @@ pub struct Stream<A: Allocator = Global> {
     reads: Reads<A>,
     // The peer's Read Requests.
     asked: Requests,
+    // The sequence number of the peer's first octet, and whether octets were delivered, and kept or dropped.
+    first: u32,
+    answered: bool,
     start: Start,
 }
 
@@ -88,6 +92,7 @@ fn recv_refusal_of(refusal: BufferRefusal) -> RecvRefusal
 impl<A: Allocator> Stream<A> {
     ghost use Rattle.iw_stream.specs.Stream.{opened, ended, breaks, may_answer, accepted, rejected};
     ghost use Rattle.iw_stream.specs.Stream.{post_refusal, with_request, recv_refusal, with_buffer};
+    ghost use Rattle.iw_stream.specs.Stream.{first_refusal, with_first, place_of, left_out};
     ghost use Rattle.iw_stream.specs.Stream.{delivery_of, after_deliver, size_refusal, with_mulpdu};
     ghost use Rattle.iw_stream.specs.Kept.{IsWithin};
 
@@ -115,6 +120,8 @@ impl<A: Allocator> Stream<A> {
             receiving,
             reads: Reads::new(alloc),
             asked: Requests::new(),
+            first: 0,
+            answered: false,
             start,
         })
     }
@@ -241,21 +248,52 @@ impl<A: Allocator> Stream<A> {
         Ok(())
     }
 
-    /// Takes octets that came, the first of them at the stream place `from`.
+    /// Sets the sequence number of the peer's first octet, 0 where none was set. Of several calls the last counts.
     ///
-    /// They are dropped whole where one of them lies 262,144 octets or more past the in-order point, or where they would
-    /// make more than 1,024 islands; where the stream has ended, they are dropped too. An `Err` is want of memory, comes
-    /// only where they would be kept and one of them is new, and changes nothing.
-    pub fn deliver(&mut self, from: u64, octets: &[u8]) -> Result<Delivery, AllocError>
-        ensures delivery { IfOk result (λ delivery. delivery ≡ delivery_of self.old from (length octets.now)) }
-        ensures after { IfOk result (λ delivery. self.new ≡ after_deliver self.old from octets.now delivery) }
+    /// `Late`: octets were delivered before, and kept or dropped. An `Err` changes nothing.
+    pub fn first_number(&mut self, number: u32) -> Result<(), FirstRefusal>
+        ensures refused { result_err result ≡ first_refusal self.old }
+        ensures ok { OnOk result (self.new ≡ with_first self.old number) }
         ensures err { OnErr result (self.new ≡ self.old) }
-        ensures memory { OnErr result ((ended self.old ≡ false) × BringsOctets self.old.arrived from (length octets.now)) }
+    {
+        if self.answered {
+            return Err(FirstRefusal::Late);
+        }
+        self.first = number;
+        Ok(())
+    }
+
+    /// The sequence number of the peer's first octet.
+    pub fn peer_first(&self) -> u32
+        ensures { result ≡ self.now.first }
+    {
+        self.first
+    }
+
+    /// Takes octets that came, the first of which has this sequence number: numbers count modulo 2^32 (RFC 9293 3.4), from that
+    /// of the peer's first octet ([`Stream::first_number`]). Of the places with that number it has the one nearest to the
+    /// in-order point, less than 2^31 octets past it or at most 2^31 before it.
+    ///
+    /// Octets before the in-order point are ignored, and so are those before the peer's first. They are dropped whole where one
+    /// of them lies 262,144 octets or more past the in-order point, or where they would make more than 1,024 islands; where the
+    /// stream has ended, they are dropped too. An `Err` is want of memory, comes only where they would be kept and one of them
+    /// is new, and changes nothing.
+    pub fn deliver(&mut self, number: u32, octets: &[u8]) -> Result<Delivery, AllocError>
+        ensures delivery { IfOk result (λ delivery. delivery ≡ delivery_of self.old number (length octets.now)) }
+        ensures after { IfOk result (λ delivery. self.new ≡ after_deliver self.old number octets.now delivery) }
+        ensures err { OnErr result (self.new ≡ self.old) }
+        ensures memory { OnErr result ((ended self.old ≡ false)
+            × BringsOctets self.old.arrived (place_of self.old number) (length octets.now - left_out self.old number)) }
     {
         if self.ending.has_ended() {
+            self.answered = true;
             return Ok(Delivery::Dropped);
         }
-        self.arrived.add(from, octets)
+        self.arrived.limits();
+        let (place, octets) = near(number, self.first, self.arrived.floor(), octets);
+        let delivery = self.arrived.add(place, octets)?;
+        self.answered = true;
+        Ok(delivery)
     }
 
     /// The link broke: the stream has ended, and nothing more is emitted, a Terminate or a start-up frame that was due

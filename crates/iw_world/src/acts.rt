@@ -1,6 +1,6 @@
 //! The calls of an end's streams.
 
-ghost use Rattle.std.specs.Prelude.{◌≡◌, ◌≢◌, ◌+◌, ◌<◌, ◌≤◌, ◌^◌, true, false, length, take, is_some, IfOk, IfErr, OnOk};
+ghost use Rattle.std.specs.Prelude.{◌≡◌, ◌≢◌, ◌+◌, ◌%◌, ◌<◌, ◌≤◌, ◌^◌, true, false, length, take, is_some, IfOk, IfErr, OnOk};
 ghost use Rattle.iw_events.specs.declared.act.Seen.TheVariants.{Received};
 ghost use Rattle.iw_events.specs.Events.{stream_call_of};
 ghost use Rattle.iw_endpoint.specs.Endpoint.{has_stream, stream_at, private_at};
@@ -75,7 +75,11 @@ impl<A: Allocator + Copy> Host<A> {
             StreamCall::Post { message } => self.post(number, message),
             StreamCall::Emit => self.emit(alloc, number),
             StreamCall::Deliver { from, len } => self.deliver(alloc, wire, number, *from, *len),
-            StreamCall::Raw { from, octets } => self.raw(number, *from, octets),
+            StreamCall::Raw {
+                number: from,
+                octets,
+            } => self.raw(number, *from, octets),
+            StreamCall::First { number: first } => Ok(self.first(number, *first)),
             StreamCall::Mulpdu { size } => Ok(self.mulpdu(number, *size)),
             StreamCall::Accept { private } => self.accept(number, private),
             StreamCall::Reject { private } => self.reject(number, private),
@@ -153,9 +157,11 @@ impl<A: Allocator + Copy> Host<A> {
         let start = from as usize;
         let octets = &wire[start..start + len as usize];
         let copy = Bytes::copy_from_slice(alloc, octets)?;
-        let delivery = stream::deliver(&mut self.endpoint, number, from, octets)?;
+        let handed_in = number_of(stream::first_of(&self.endpoint, number), from);
+        let delivery = stream::deliver(&mut self.endpoint, number, handed_in, octets)?;
         Ok(StreamAct::Deliver {
             from,
+            number: handed_in,
             octets: copy,
             delivery,
         })
@@ -164,7 +170,7 @@ impl<A: Allocator + Copy> Host<A> {
     fn raw(
         &mut self,
         number: u8,
-        from: u64,
+        from: u32,
         octets: &Bytes<A>,
     ) -> Result<StreamAct<Bytes<A>>, Failure>
         requires { has_stream self.old.endpoint number ≡ true }
@@ -176,10 +182,23 @@ impl<A: Allocator + Copy> Host<A> {
         let copy = octets.clone()?;
         let delivery = stream::deliver(&mut self.endpoint, number, from, octets.as_slice())?;
         Ok(StreamAct::Raw {
-            from,
+            number: from,
             octets: copy,
             delivery,
         })
+    }
+
+    fn first(&mut self, number: u8, first: u32) -> StreamAct<Bytes<A>>
+        requires { has_stream self.old.endpoint number ≡ true }
+        ensures rule { EndRule self.old.endpoint (Act.Stream number result) }
+        ensures call { stream_call_of result ≡ StreamCall.First first }
+        ensures state { self.new ≡ end_after self.old (Act.Stream number result) }
+    {
+        let refused = stream::set_first(&mut self.endpoint, number, first);
+        StreamAct::First {
+            number: first,
+            refused,
+        }
     }
 
     fn mulpdu(&mut self, number: u8, size: u32) -> StreamAct<Bytes<A>>
@@ -259,12 +278,21 @@ fn needs_peer<A: Allocator>(call: &StreamCall<Bytes<A>>) -> bool
         | StreamCall::Post { .. }
         | StreamCall::Emit
         | StreamCall::Raw { .. }
+        | StreamCall::First { .. }
         | StreamCall::Mulpdu { .. }
         | StreamCall::Accept { .. }
         | StreamCall::Reject { .. }
         | StreamCall::Work
         | StreamCall::Break => false,
     }
+}
+
+// The sequence number of the octet at a place, where that at place 0 has `first`.
+fn number_of(first: u32, place: u64) -> u32
+    requires { place ≤ 2 ^ 62 }
+    ensures { result ≡ (first + place) % 2 ^ 32 }
+{
+    ((u64::from(first) + place) % (1 << 32)) as u32
 }
 
 // What is shown of a step that left the endpoint so.

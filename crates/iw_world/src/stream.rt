@@ -7,14 +7,15 @@ ghost use Rattle.iw_endpoint.specs.Isolation as calls;
 ghost use Rattle.iw_stream.specs.Starting.{agreement_in};
 ghost use Rattle.iw_stream.specs.Work.{work_step};
 ghost use Rattle.iw_laws.specs.Bounds.{IsShort};
-ghost use Rattle.iw_stream.specs.Stream.{post_refusal, recv_refusal, size_refusal, delivery_of};
+ghost use Rattle.iw_stream.specs.Stream.{post_refusal, recv_refusal, size_refusal, first_refusal, delivery_of};
 
 use crate::fault::Failure;
 use bytes::Bytes;
 use iw_endpoint::{CallRefusal, Endpoint};
 use iw_octets::Octets;
 use iw_stream::{
-    Agreed, Delivery, NotAsked, PostRefusal, PrivateData, RecvRefusal, Request, SizeRefusal, Step,
+    Agreed, Delivery, FirstRefusal, NotAsked, PostRefusal, PrivateData, RecvRefusal, Request,
+    SizeRefusal, Step,
 };
 use std::alloc::Allocator;
 
@@ -57,11 +58,39 @@ pub(crate) fn post<A: Allocator>(
     }
 }
 
-/// Delivers octets that came.
+/// Sets the sequence number of the peer's first octet.
+pub(crate) fn set_first<A: Allocator>(
+    endpoint: &mut Endpoint<A>,
+    number: u8,
+    first: u32,
+) -> Option<FirstRefusal>
+    requires { has_stream endpoint.old number ≡ true }
+    ensures rule { result ≡ first_refusal (stream_at endpoint.old number) }
+    ensures state { endpoint.new ≡ after endpoint.old (calls.AtStream number (calls.FirstNumber first)) }
+{
+    match endpoint.first_number(number, first) {
+        Ok(()) => None,
+        Err(CallRefusal::Refused(refusal)) => Some(refusal),
+        Err(CallRefusal::NoSuchStream) => unreachable!(),
+    }
+}
+
+/// The sequence number of the peer's first octet.
+pub(crate) fn first_of<A: Allocator>(endpoint: &Endpoint<A>, number: u8) -> u32
+    requires { has_stream endpoint.now number ≡ true }
+    ensures { result ≡ (stream_at endpoint.now number).first }
+{
+    match endpoint.peer_first(number) {
+        Ok(first) => first,
+        Err(_) => unreachable!(),
+    }
+}
+
+/// Delivers octets that came, the first of them with this sequence number.
 pub(crate) fn deliver<A: Allocator>(
     endpoint: &mut Endpoint<A>,
     number: u8,
-    from: u64,
+    from: u32,
     octets: &[u8],
 ) -> Result<Delivery, Failure>
     requires { has_stream endpoint.old number ≡ true }

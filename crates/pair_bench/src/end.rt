@@ -136,7 +136,9 @@ pub(crate) fn work(endpoint: &mut Endpoint) -> Result<Came> {
 
 /// Hands in what came past the first `before` octets, and works.
 pub(crate) fn take(endpoint: &mut Endpoint, before: u64, octets: &[u8]) -> Result<Came> {
-    if let Err(refusal) = endpoint.deliver(STREAM, before, octets) {
+    // Sequence numbers wrap.
+    let number = (before % (1 << 32)) as u32;
+    if let Err(refusal) = endpoint.deliver(STREAM, number, octets) {
         bail!("deliver: {refusal:?}");
     }
     work(endpoint)

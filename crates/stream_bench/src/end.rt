@@ -98,9 +98,10 @@ impl End {
         }
     }
 
-    /// Takes octets that came.
+    /// Takes octets that came, the first of them at this place: its number wraps.
     pub(crate) fn deliver(&mut self, from: u64, octets: &[u8]) -> Result<(), Stop> {
-        match self.stream.deliver(from, octets)? {
+        let number = (from % (1 << 32)) as u32;
+        match self.stream.deliver(number, octets)? {
             Delivery::Kept => Ok(()),
             Delivery::Dropped => Err(Stop),
         }

@@ -6,10 +6,10 @@ use Rattle.iw_links.proofs.serving.serve.Goals as goal
 
 pub returns-in-Ok-listen_to-clause-served : goal.returns-in-Ok-listen_to-clause-served
 returns-in-Ok-listen_to-clause-served g c = inl (record {
-  came = c.listen_to.new.link.came;
+  next = c.listen_to.new.link.next;
   told = told_in c.listen_to.new.link;
   finished = begins (plan_for c.args.terms (Serves c.args.region)) _ _ _ _ _ _ _ _ _ _ _ (rw c.config.ensures at c.in-Ok.ensures.ok)
-      c.new-link.ensures.came c.new-link.ensures.received c.new-link.ensures.ended c.in-Ok-listen_to.ensures.ok;
+      c.new-link.ensures.next c.new-link.ensures.received c.new-link.ensures.ended c.in-Ok-listen_to.ensures.ok;
   is = c.into_report.ensures;
   end = c.in-Ok-listen_to.ensures.end;
 })
@@ -17,10 +17,10 @@ returns-in-Ok-listen_to-clause-served g c = inl (record {
 pub returns-in-Err-listen_to-clause-served : goal.returns-in-Err-listen_to-clause-served
 returns-in-Err-listen_to-clause-served g c = inr (record {
   last = c.listen_to.new.endpoint;
-  came = c.listen_to.new.link.came;
+  next = c.listen_to.new.link.next;
   told = told_in c.listen_to.new.link;
   failed = begins_to_fail (plan_for c.args.terms (Serves c.args.region)) _ _ _ _ _ _ _ _ _ _ (rw c.config.ensures at c.in-Ok.ensures.ok)
-      c.new-link.ensures.came c.new-link.ensures.received c.new-link.ensures.ended c.in-Err-listen_to.ensures.err;
+      c.new-link.ensures.next c.new-link.ensures.received c.new-link.ensures.ended c.in-Err-listen_to.ensures.err;
   endpoint = c.break_off.ensures.endpoint;
   is = c.break_off.ensures.report;
 })
