@@ -44,8 +44,9 @@ abbrev pub stream_faults : StreamAct (List ℕ) → Bool
 stream_faults (stream_acts.Recv len refused) = false
 stream_faults (stream_acts.Post message refused) = false
 stream_faults (stream_acts.Emit shown) = shows_fault shown
-stream_faults (stream_acts.Deliver from octets delivery) = false
-stream_faults (stream_acts.Raw from octets delivery) = false
+stream_faults (stream_acts.First number refused) = false
+stream_faults (stream_acts.Deliver from number octets delivery) = false
+stream_faults (stream_acts.Raw number octets delivery) = false
 stream_faults (stream_acts.Mulpdu size refused) = false
 stream_faults (stream_acts.Accept private answer) = false
 stream_faults (stream_acts.Reject private refused) = false

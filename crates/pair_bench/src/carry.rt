@@ -67,18 +67,24 @@ fn send_blocks<W: Write>(
     flush(endpoint, out, output)
 }
 
-// Reads until a message has come.
-fn hear<R: Read>(endpoint: &mut Endpoint, buffer: &mut [u8], input: &mut R) -> Result<()> {
-    let mut came = 0u64;
+// Reads until a message has come, and tells the sequence number of the octet that comes next.
+fn hear<R: Read>(
+    endpoint: &mut Endpoint,
+    first: u32,
+    buffer: &mut [u8],
+    input: &mut R,
+) -> Result<u32> {
+    let mut next = first;
     for _ in 0..u64::MAX {
         let n = input.read(buffer)?;
         ensure!(n > 0, "the other end is gone");
-        if let Came::Message = end::take(endpoint, came, &buffer[..n])? {
-            return Ok(());
+        let came = end::take(endpoint, next, &buffer[..n])?;
+        next = end::number_after(next, &buffer[..n]);
+        if let Came::Message = came {
+            break;
         }
-        came = came.saturating_add(n as u64);
     }
-    Ok(())
+    Ok(next)
 }
 
 fn copy_out<W: Write>(octets: &[u8], blocks: u32, output: &mut W) -> Result<()> {
@@ -101,28 +107,49 @@ fn copy_in<R: Read>(blocks: u32, buffer: &mut [u8], input: &mut R) -> Result<()>
     Ok(())
 }
 
-/// Sends a load, and waits until the other end says that it has come.
+/// The end that sends, and the sequence number of the octet that comes next for it; for a plain copy neither.
+#[derive(Drop)]
+pub(crate) struct Sender {
+    endpoint: Option<Endpoint>,
+    next: u32,
+}
+
+/// The end that sends a load.
+pub(crate) fn sender(alloc: Global, load: &Load) -> Result<Sender> {
+    let endpoint = match load.way {
+        Way::Copied => None,
+        Way::Written { mulpdu, is_framed } => Some(end::end(alloc, mulpdu, is_framed)?),
+    };
+    Ok(Sender {
+        endpoint,
+        next: end::FIRST,
+    })
+}
+
+/// Sends the blocks of a round, and waits until the other end says that they have come.
 pub(crate) fn send<R: Read, W: Write>(
     alloc: Global,
     load: &Load,
     octets: &Bytes,
+    sender: &mut Sender,
     input: &mut R,
     output: &mut W,
 ) -> Result<()> {
     let mut buffer = vec![in alloc; 0u8; BLOCK]?;
-    match load.way {
-        Way::Copied => send_copied(load.blocks, octets.as_slice(), &mut buffer, input, output),
-        Way::Written { mulpdu, is_framed } => {
-            let mut endpoint = end::end(alloc, mulpdu, is_framed)?;
-            send_written(
+    match &mut sender.endpoint {
+        None => send_copied(load.blocks, octets.as_slice(), &mut buffer, input, output),
+        Some(endpoint) => {
+            sender.next = send_written(
                 alloc,
                 load,
                 octets,
-                &mut endpoint,
+                endpoint,
+                sender.next,
                 &mut buffer,
                 input,
                 output,
-            )
+            )?;
+            Ok(())
         }
     }
 }
@@ -139,18 +166,22 @@ fn send_copied<R: Read, W: Write>(
     Ok(())
 }
 
+// It tells the sequence number of the octet that comes next.
 fn send_written<R: Read, W: Write>(
     alloc: Global,
     load: &Load,
     octets: &Bytes,
     endpoint: &mut Endpoint,
+    next: u32,
     buffer: &mut [u8],
     input: &mut R,
     output: &mut W,
-) -> Result<()> {
+) -> Result<u32> {
     let mut out = Vec::new(alloc);
     send_blocks(endpoint, octets, load.blocks, &mut out, output)?;
-    hear(endpoint, buffer, input)
+    let next = hear(endpoint, next, buffer, input)?;
+    end::lend_buffer(alloc, endpoint)?;
+    Ok(next)
 }
 
 // Whether each block of the region that was written to is as it was sent.
@@ -160,6 +191,38 @@ fn is_written(endpoint: &Endpoint, stag: Stag, octets: &[u8], blocks: u32) -> bo
     };
     let count = blocks.min(REGION_BLOCKS) as usize;
     all.chunks(BLOCK).take(count).all(|block| block == octets)
+}
+
+// Clears the region, so that the next round has to write it anew.
+fn clear(endpoint: &mut Endpoint, stag: Stag) {
+    if endpoint.local(stag).is_some() {
+        endpoint.local_mut(stag).fill(0);
+    }
+}
+
+// Takes a round in and answers, and tells the sequence number of the octet that comes next.
+fn serve_round<R: Read, W: Write>(
+    alloc: Global,
+    load: &Load,
+    endpoint: &mut Endpoint,
+    stag: Stag,
+    next: u32,
+    octets: &[u8],
+    buffer: &mut [u8],
+    input: &mut R,
+    output: &mut W,
+) -> Result<u32> {
+    let next = hear(endpoint, next, buffer, input)?;
+    ensure!(
+        is_written(endpoint, stag, octets, load.blocks),
+        "other octets were written"
+    );
+    clear(endpoint, stag);
+    end::lend_buffer(alloc, endpoint)?;
+    post_end(endpoint)?;
+    let mut out = Vec::new(alloc);
+    flush(endpoint, &mut out, output)?;
+    Ok(next)
 }
 
 fn serve<R: Read, W: Write>(
@@ -173,17 +236,24 @@ fn serve<R: Read, W: Write>(
     let length = (REGION_BLOCKS as usize).saturating_mul(BLOCK);
     let stag = end::lend_region(endpoint, vec![in alloc; 0u8; length]?)?;
     let mut buffer = vec![in alloc; 0u8; BLOCK]?;
-    hear(endpoint, buffer.as_mut_slice(), input)?;
-    ensure!(
-        is_written(endpoint, stag, octets, load.blocks),
-        "other octets were written"
-    );
-    post_end(endpoint)?;
-    let mut out = Vec::new(alloc);
-    flush(endpoint, &mut out, output)
+    let mut next = end::FIRST;
+    for _ in 0..load.rounds {
+        next = serve_round(
+            alloc,
+            load,
+            endpoint,
+            stag,
+            next,
+            octets,
+            &mut buffer,
+            input,
+            output,
+        )?;
+    }
+    Ok(())
 }
 
-/// Takes a load in, and answers once it has come.
+/// Takes a load in, and answers each round once it has come.
 pub(crate) fn receive<R: Read, W: Write>(
     alloc: Global,
     load: &Load,
@@ -192,7 +262,7 @@ pub(crate) fn receive<R: Read, W: Write>(
     output: &mut W,
 ) -> Result<()> {
     match load.way {
-        Way::Copied => receive_copied(alloc, load.blocks, input, output),
+        Way::Copied => receive_copied(alloc, load, input, output),
         Way::Written { mulpdu, is_framed } => {
             let mut endpoint = end::end(alloc, mulpdu, is_framed)?;
             serve(alloc, load, &mut endpoint, octets.as_slice(), input, output)
@@ -202,12 +272,14 @@ pub(crate) fn receive<R: Read, W: Write>(
 
 fn receive_copied<R: Read, W: Write>(
     alloc: Global,
-    blocks: u32,
+    load: &Load,
     input: &mut R,
     output: &mut W,
 ) -> Result<()> {
     let mut buffer = vec![in alloc; 0u8; BLOCK]?;
-    copy_in(blocks, buffer.as_mut_slice(), input)?;
-    output.write_all(&[1])?;
+    for _ in 0..load.rounds {
+        copy_in(load.blocks, buffer.as_mut_slice(), input)?;
+        output.write_all(&[1])?;
+    }
     Ok(())
 }

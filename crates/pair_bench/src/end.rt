@@ -9,6 +9,9 @@ pub(crate) const DOMAIN: u8 = 1;
 
 pub(crate) const STREAM: u8 = 0;
 
+/// The sequence number of an end's first octet: numbers wrap in the first block.
+pub(crate) const FIRST: u32 = u32::MAX - 999;
+
 /// How many blocks the region has that is written to, again and again: few, so that it stays in the processor's caches,
 /// as the buffer of a plain copy does.
 pub(crate) const REGION_BLOCKS: u32 = 2;
@@ -21,7 +24,7 @@ fn made<T: Drop, E: Debug + Drop>(call: &str, answer: Result<T, E>) -> Result<T>
     }
 }
 
-/// An end, open at once, with a buffer for a message.
+/// An end, open at once, with a buffer for a message. The other end's first octet has the number [`FIRST`].
 pub(crate) fn end(alloc: Global, mulpdu: u32, is_framed: bool) -> Result<Endpoint> {
     let mut endpoint = Endpoint::new(alloc)?;
     set_up(alloc, &mut endpoint, mulpdu, is_framed)?;
@@ -31,8 +34,9 @@ pub(crate) fn end(alloc: Global, mulpdu: u32, is_framed: bool) -> Result<Endpoin
 fn set_up(alloc: Global, endpoint: &mut Endpoint, mulpdu: u32, is_framed: bool) -> Result<()> {
     made("add_domain", endpoint.add_domain(DOMAIN))?;
     open(endpoint, is_framed)?;
+    made("first_number", endpoint.first_number(STREAM, FIRST))?;
     made("set_mulpdu", endpoint.set_mulpdu(STREAM, mulpdu))?;
-    lend_buffer(endpoint, vec![in alloc; 0u8; 16]?)
+    lend_buffer(alloc, endpoint)
 }
 
 fn open(endpoint: &mut Endpoint, is_framed: bool) -> Result<()> {
@@ -44,8 +48,9 @@ fn open(endpoint: &mut Endpoint, is_framed: bool) -> Result<()> {
     made("open", endpoint.open(STREAM, DOMAIN, Role::Preset, config))
 }
 
-fn lend_buffer(endpoint: &mut Endpoint, buffer: Vec<u8>) -> Result<()> {
-    match endpoint.post_recv(STREAM, buffer) {
+/// Posts a buffer for a message.
+pub(crate) fn lend_buffer(alloc: Global, endpoint: &mut Endpoint) -> Result<()> {
+    match endpoint.post_recv(STREAM, vec![in alloc; 0u8; 16]?) {
         Ok(()) => Ok(()),
         Err((refusal, _)) => bail!("post_recv: {refusal:?}"),
     }
@@ -134,12 +139,15 @@ pub(crate) fn work(endpoint: &mut Endpoint) -> Result<Came> {
     Ok(came)
 }
 
-/// Hands in what came past the first `before` octets, and works.
-pub(crate) fn take(endpoint: &mut Endpoint, before: u64, octets: &[u8]) -> Result<Came> {
-    // Sequence numbers wrap.
-    let number = (before % (1 << 32)) as u32;
+/// Hands in what came, the first octet of which has this sequence number, and works.
+pub(crate) fn take(endpoint: &mut Endpoint, number: u32, octets: &[u8]) -> Result<Came> {
     if let Err(refusal) = endpoint.deliver(STREAM, number, octets) {
         bail!("deliver: {refusal:?}");
     }
     work(endpoint)
+}
+
+/// The sequence number that follows these octets, the first of which has this one. It wraps.
+pub(crate) fn number_after(number: u32, octets: &[u8]) -> u32 {
+    ((u64::from(number) + octets.len() as u64) % (1 << 32)) as u32
 }

@@ -12,11 +12,12 @@ pub(crate) enum Way {
     Written { mulpdu: u32, is_framed: bool },
 }
 
-/// Octets to carry: so many blocks.
+/// Octets to carry: so many blocks a round, each round answered before the next.
 #[derive(Clone, Copy)]
 pub(crate) struct Load {
     pub(crate) way: Way,
     pub(crate) blocks: u32,
+    pub(crate) rounds: u32,
 }
 
 impl Way {

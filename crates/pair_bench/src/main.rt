@@ -1,8 +1,8 @@
 //! Carries loads between two processes over loopback TCP, as Writes and as a plain copy.
 //!
-//! `pair_bench send NAME BLOCKS` prints its port and, once a load has gone over the first connection, the nanoseconds that
-//! this took; `pair_bench receive PORT NAME BLOCKS` takes it in. With no words it carries a few blocks each way between two
-//! processes, and prints which came.
+//! `pair_bench send NAME BLOCKS ROUNDS` prints its port and, once so many blocks have gone over the first connection, the
+//! nanoseconds that this took, a line for each round; `pair_bench receive PORT NAME BLOCKS ROUNDS` takes them in. With no
+//! words it carries a few blocks each way between two processes, in two rounds, and prints which came.
 #![tactic(auto)]
 
 mod carry;
@@ -21,13 +21,20 @@ use std::time::Instant;
 // This program's own file.
 const SELF: &str = "/proc/self/exe";
 
-// How many blocks are carried where no time is measured.
+// How many blocks are carried in a round, and in how many, where no time is measured.
 const FEW: &str = "20";
 
-fn load_of(name: &str, blocks: &str) -> Result<Load> {
+const TWICE: &str = "2";
+
+fn load_of(name: &str, blocks: &str, rounds: &str) -> Result<Load> {
     let blocks = number(blocks)?;
+    let rounds = number(rounds)?;
     match Way::named(name) {
-        Some(way) => Ok(Load { way, blocks }),
+        Some(way) => Ok(Load {
+            way,
+            blocks,
+            rounds,
+        }),
         None => bail!("no load is named {name}"),
     }
 }
@@ -42,7 +49,7 @@ fn payload<R: AllocGlobal>(rt: &R) -> Result<Bytes> {
 }
 
 fn add_words(command: &mut Command, port: &str, name: &str) -> Result<()> {
-    for word in ["receive", port, name, FEW] {
+    for word in ["receive", port, name, FEW, TWICE] {
         command.arg(word)?;
     }
     command.stdin(Stdio::null());
@@ -66,12 +73,12 @@ fn start<R: Runtime + AllocGlobal + Processes>(
     Ok(command.spawn(rt)?)
 }
 
-// Carries a load over the next connection, and tells how many nanoseconds it took.
+// Carries a load over the next connection, and tells how many nanoseconds each round took.
 fn carry_over<R: Runtime + AllocGlobal + Net>(
     rt: &R,
     listener: &R::Listener,
     load: &Load,
-) -> Result<u128> {
+) -> Result<Vec<u128>> {
     let (mut stream, _) = listener.accept()?;
     send_over(rt, &mut stream, load)
 }
@@ -80,7 +87,7 @@ fn send_over<R: Runtime + AllocGlobal + Net>(
     rt: &R,
     stream: &mut R::Stream,
     load: &Load,
-) -> Result<u128> {
+) -> Result<Vec<u128>> {
     let octets = payload(rt)?;
     stream.set_nodelay(true)?;
     let mut output = stream.try_clone()?;
@@ -93,23 +100,30 @@ fn timed<R: Runtime + AllocGlobal + Net>(
     octets: &Bytes,
     input: &mut R::Stream,
     output: &mut R::Stream,
-) -> Result<u128> {
-    let start = Instant::now(rt)?;
-    carry::send(rt.alloc(), load, octets, input, output)?;
-    Ok(start.elapsed(rt)?.as_nanos())
+) -> Result<Vec<u128>> {
+    let mut sender = carry::sender(rt.alloc(), load)?;
+    let mut times = Vec::new(rt.alloc());
+    for _ in 0..load.rounds {
+        let start = Instant::now(rt)?;
+        carry::send(rt.alloc(), load, octets, &mut sender, input, output)?;
+        times.push(start.elapsed(rt)?.as_nanos())?;
+    }
+    Ok(times)
 }
 
 fn bind<R: Runtime + Net>(rt: &R) -> Result<R::Listener> {
     Ok(TcpListener::bind(rt, (Ipv4Addr::LOCALHOST, 0u16))?)
 }
 
-// Carries a load to the process that connects to the port which is printed, and prints the time.
+// Carries a load to the process that connects to the port which is printed, and prints the times.
 fn send<R: Runtime + AllocGlobal + Net>(rt: &R, load: &Load) -> Result<()> {
     let listener = bind(rt)?;
     let port = listener.local_addr()?.port();
     println!(rt; "{port}")?;
-    let time = carry_over(rt, &listener, load)?;
-    println!(rt; "{time}")?;
+    let times = carry_over(rt, &listener, load)?;
+    for time in times.iter() {
+        println!(rt; "{time}")?;
+    }
     Ok(())
 }
 
@@ -137,10 +151,10 @@ fn carry_beside<R: Runtime + AllocGlobal + Net + Processes>(
 
 // Carries a few blocks to a second process.
 fn try_out<R: Runtime + AllocGlobal + Net + Processes>(rt: &R, name: &str) -> Result<()> {
-    let load = load_of(name, FEW)?;
+    let load = load_of(name, FEW, TWICE)?;
     let listener = bind(rt)?;
     if carry_beside(rt, &listener, name, &load)? {
-        println!(rt; "{name}: {FEW} blocks came")?;
+        println!(rt; "{name}: {FEW} blocks came twice")?;
         return Ok(());
     }
     bail!("{name}: the receiving process failed")
@@ -178,11 +192,16 @@ fn run<R: Runtime + AllocGlobal + Net + Processes>(rt: &R) -> Result<()> {
 fn follow<R: Runtime + AllocGlobal + Net + Processes>(rt: &R, words: &[String]) -> Result<()> {
     match words {
         [_] => try_all(rt),
-        [_, _, name, blocks] => send(rt, &load_of(name.as_str(), blocks.as_str())?),
-        [_, _, port, name, blocks] => {
-            receive(rt, port.as_str(), &load_of(name.as_str(), blocks.as_str())?)
-        }
-        _ => bail!("send NAME BLOCKS, or receive PORT NAME BLOCKS"),
+        [_, _, name, blocks, rounds] => send(
+            rt,
+            &load_of(name.as_str(), blocks.as_str(), rounds.as_str())?,
+        ),
+        [_, _, port, name, blocks, rounds] => receive(
+            rt,
+            port.as_str(),
+            &load_of(name.as_str(), blocks.as_str(), rounds.as_str())?,
+        ),
+        _ => bail!("send NAME BLOCKS ROUNDS, or receive PORT NAME BLOCKS ROUNDS"),
     }
 }
 
