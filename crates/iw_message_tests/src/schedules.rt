@@ -25,7 +25,8 @@ const TEXTS: &str = "0 | #
 1 | a read 0 01000000 0 0 01000000 0
 1 | a mulpdu 0 4294967295
 1 | a deliver 0 18446744073709551615 18446744073709551615
-1 | a raw 0 18446744073709551615 00
+1 | a first 0 4294967295
+1 | a raw 0 4294967295 00
 100001 | a emit 0 100000/a work 0
 line 1: BadWord | a
 line 1: BadWord | b
@@ -61,6 +62,7 @@ line 1: BadWord | a reads 0 01000000 0 4 01000000 0
 line 1: BadWord | a mulpdu 0
 line 1: BadWord | a mulpdu 0 128 1
 line 1: BadWord | a raws 0 0 aa
+line 1: BadWord | a first 0
 line 1: BadWord | a raw 0 0
 line 1: BadWord | a raw 0 0 aa bb
 line 1: BadWord | a break
@@ -122,7 +124,8 @@ line 1: BadWord | a emit 0 3\x20
 line 1: BadNumber | a work 0 -
 line 1: BadNumber | a deliver 0 0 18446744073709551616
 line 1: BadNumber | a deliver 0 -1 4
-line 1: BadNumber | a raw 0 18446744073709551616 -
+line 1: BadNumber | a first 0 4294967296
+line 1: BadNumber | a raw 0 4294967296 -
 line 1: BadNumber | a raw 256 0 abc
 line 1: BadNumber | a mulpdu 256 4294967296
 line 1: BadNumber | a mulpdu 0 4294967296
@@ -158,7 +161,7 @@ line 1: BadOctets | a write 0 01000000 0 aa*20000001
 line 1: BadOctets | a write 0 01000000 0 aabb*10000001
 line 1: BadOctets | a write 0 01000000 0 aa\r
 line 1: BadOctets | a write 0 01000000 0 --
-line 1: BadOctets | a raw 0 18446744073709551615 abc
+line 1: BadOctets | a raw 0 4294967295 abc
 line 1: BadWord | \r/
 line 1: BadNumber | a domain 1\r/b domain 1\r/
 line 1: BadWord | a fly 0/a domain 256/
