@@ -109,18 +109,18 @@ fn copy_in<R: Read>(blocks: u32, buffer: &mut [u8], input: &mut R) -> Result<()>
 
 /// The end that sends, and the sequence number of the octet that comes next for it; for a plain copy neither.
 #[derive(Drop)]
-pub(crate) struct Sender {
+pub(crate) struct SendingEnd {
     endpoint: Option<Endpoint>,
     next: u32,
 }
 
 /// The end that sends a load.
-pub(crate) fn sender(alloc: Global, load: &Load) -> Result<Sender> {
+pub(crate) fn sending_end(alloc: Global, load: &Load) -> Result<SendingEnd> {
     let endpoint = match load.way {
         Way::Copied => None,
         Way::Written { mulpdu, is_framed } => Some(end::end(alloc, mulpdu, is_framed)?),
     };
-    Ok(Sender {
+    Ok(SendingEnd {
         endpoint,
         next: end::FIRST,
     })
@@ -131,7 +131,7 @@ pub(crate) fn send<R: Read, W: Write>(
     alloc: Global,
     load: &Load,
     octets: &Bytes,
-    sender: &mut Sender,
+    sender: &mut SendingEnd,
     input: &mut R,
     output: &mut W,
 ) -> Result<()> {

@@ -101,7 +101,7 @@ fn timed<R: Runtime + AllocGlobal + Net>(
     input: &mut R::Stream,
     output: &mut R::Stream,
 ) -> Result<Vec<u128>> {
-    let mut sender = carry::sender(rt.alloc(), load)?;
+    let mut sender = carry::sending_end(rt.alloc(), load)?;
     let mut times = Vec::new(rt.alloc());
     for _ in 0..load.rounds {
         let start = Instant::now(rt)?;
