@@ -318,7 +318,7 @@ impl<'h> Side<'h> {
         let Ok(first) = self.endpoint.peer_first(number) else {
             return Err(Stopped::NoSuchStream);
         };
-        let handed_in = first.wrapping_add(from as u32);
+        let handed_in = first.wrapping_add((from % (1 << 32)) as u32);
         Ok(StreamAct::Deliver {
             from,
             number: handed_in,
