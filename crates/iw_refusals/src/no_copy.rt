@@ -155,7 +155,7 @@ impl<'h> Receiver<'h> {
     // Takes the frame from stream place `from` up to `to` in, and works it off.
     fn take(&mut self, wire: &[u8], from: usize, to: usize) -> Result<(), Fail> {
         let frame = wire.get(from..to).ok_or("a frame")?;
-        self.deliver(from as u32, frame)?;
+        self.deliver((from % (1 << 32)) as u32, frame)?;
         self.work()
     }
 }
