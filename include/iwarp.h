@@ -1,7 +1,7 @@
 /* An iWARP endpoint for C programs: RDMAP over DDP over MPA (RFC 5040, 5041, 5044), over sockets that the program owns.
  *
- * A handle holds the registered regions of one end and its streams, by numbers from 0 to 63. It does no input or output,
- * starts no thread, keeps no time and calls nothing of the program but malloc, realloc and free. The program
+ * A handle holds the registered regions of one end and its streams, by numbers from 0 to 63. It does no input or
+ * output, starts no thread, keeps no time and calls nothing of the program but malloc, realloc and free. The program
  *
  * 1. opens a handle (iwarp_new), adds a domain (iwarp_add_domain), and registers what peers may use (iwarp_register);
  * 2. opens a stream for each connection (iwarp_open), and posts receive buffers (iwarp_post_recv);
@@ -9,33 +9,35 @@
  *    came before it, modulo 2^32 (iwarp_deliver), and calls iwarp_work_on, or iwarp_work, until it tells IWARP_IDLE. At
  *    IWARP_ASKED it calls iwarp_accept or iwarp_reject and goes on;
  * 4. when it may write: calls iwarp_emit until it tells IWARP_NOTHING, and writes out what each call gave;
- * 5. once IWARP_OPENED was told, or iwarp_accept was called: posts Writes, Sends and Reads (iwarp_post_write and so on),
- *    then does 4;
- * 6. when the connection closed: calls iwarp_break, and iwarp_work_on until IWARP_IDLE, which hands back what was posted.
+ * 5. once IWARP_OPENED was told, or iwarp_accept was called: posts Writes, Sends and Reads (iwarp_post_write and so
+ *    on), then does 4;
+ * 6. when the connection closed: calls iwarp_break, and iwarp_work_on until IWARP_IDLE, which hands back what was
+ *    posted.
  *
  * A caller must uphold, at each call:
  *
- * - `handle` leads to a `struct iwarp` that is closed (`IWARP_CLOSED`), or as the last call on it left it. Where a
+ * - `handle` points to a `struct iwarp` that is closed (`IWARP_CLOSED`), or as the last call on it left it. If a
  *   `struct iwarp` is copied, only one of the copies is used from then on. Nothing else writes its field.
- * - No pointer is null, also where its count is 0. `octets` and `private_data` lead to `n` octets that can be read, and
- *   nothing writes them during the call; `out` to `room` octets that can be written. What the
- *   pointers of one call lead to does not overlap.
- * - One call at a time on a handle, and all of them on one thread. Several handles may be open, on the same thread or on
- *   others.
+ * - No pointer is null, even if its count is 0. `octets` and `private_data` point to `n` octets that can be read, and
+ *   that nothing writes during the call; `out` points to `room` octets that can be written. What the pointers of one
+ *   call point to does not overlap.
+ * - One call at a time on a handle, and all of them on one thread. Several handles may be open, on the same thread or
+ *   on others.
  * - No call from a signal handler, nor from the forked child of a process that has threads.
  * - The program's malloc, realloc and free are of one allocator, and align to 16.
  *
- * Each function but iwarp_free returns IWARP_OK, or the first reason that holds why it did nothing. If it is not IWARP_OK,
- * the handle and all that the call may write are as they were, but for a length that is told with IWARP_NO_ROOM (by
- * iwarp_emit with IWARP_NO_MEMORY too), and for the steps that iwarp_work_on has done by then.
- * IWARP_NO_MEMORY comes where malloc refused; the call may be made again. What a call copies it copies before its other
- * checks, so that IWARP_NO_MEMORY can come in place of another reason there.
+ * Each function except iwarp_free returns IWARP_OK, or the first reason why it did nothing. If it is not IWARP_OK, the
+ * handle and all that the call may write are as they were, with two exceptions: a length that is told with
+ * IWARP_NO_ROOM (by iwarp_emit with IWARP_NO_MEMORY too), and the steps that iwarp_work_on has done by then.
+ * IWARP_NO_MEMORY means that malloc refused; the call may be made again. A call that copies octets copies them before
+ * its other checks, so it may return IWARP_NO_MEMORY in place of another reason.
  *
- * A peer's mistake never is a code: iwarp_work tells IWARP_FAULT, or iwarp_emit IWARP_DENIED, and that stream has ended. */
+ * A peer's mistake is never a return code: iwarp_work tells IWARP_FAULT, or iwarp_emit IWARP_DENIED, and that stream
+ * has ended. */
 #ifndef IWARP_H
 #define IWARP_H
 
-/* A compiler that comes without headers. */
+/* For a compiler without headers. */
 #if __has_include(<stddef.h>) && __has_include(<stdint.h>)
 #include <stddef.h>
 #include <stdint.h>
@@ -67,7 +69,7 @@ enum {
     IWARP_NO_ROOM = 4, /* the buffer is too short: the length that is needed was told */
     IWARP_NO_SUCH_STREAM = 5, /* no stream was opened under this number */
     IWARP_NO_REGION = 6, /* the STag names no region */
-    IWARP_OUTSIDE = 7, /* not all the octets stand in the region */
+    IWARP_OUTSIDE = 7, /* not all the octets lie in the region */
     IWARP_BAD_DOMAIN = 8, /* 0 is no domain's number */
     IWARP_DOMAIN_TAKEN = 9,
     IWARP_NO_DOMAIN = 10, /* the domain was not added */
@@ -94,10 +96,10 @@ enum {
 /* Opens a closed handle, with an endpoint that has no domain and no stream. */
 int32_t iwarp_new(struct iwarp *handle);
 
-/* Gives back all that the handle has, and closes it. A closed handle stays closed, so a second call does nothing. */
+/* Frees all that the handle has, and closes it. A closed handle stays closed, so a second call does nothing. */
 void iwarp_free(struct iwarp *handle);
 
-/* Adds a protection domain: `pd` is 1 to 255. Streams reach regions of their own domain alone. */
+/* Adds a protection domain: `pd` is 1 to 255. Streams reach only regions of their own domain. */
 int32_t iwarp_add_domain(struct iwarp *handle, uint8_t pd);
 
 /* ---- regions */
@@ -107,22 +109,23 @@ enum {
     IWARP_WRITE = 1, /* a peer's Writes are placed in it */
     IWARP_READ = 2, /* a peer's Reads are answered from it */
     IWARP_SINK = 4, /* this end's Reads are placed in it */
-    IWARP_INVALIDATE = 8 /* a peer may put it out of use */
+    IWARP_INVALIDATE = 8 /* a peer may invalidate it */
 };
 
 struct iwarp_facts {
     uint64_t base; /* the tagged offset of its first octet */
     uint64_t len;
     uint32_t rights; /* a sum of IWARP_WRITE and so on */
-    uint32_t valid; /* 1 where peers may use it, and else 0 */
+    uint32_t valid; /* 1 if peers may use it, else 0 */
 };
 
-/* Registers a copy of the octets, the first of them at the tagged offset `base`, and tells by which STag peers name them. */
+/* Registers a copy of the octets, the first of them at the tagged offset `base`, and tells by which STag peers name
+ * them. */
 int32_t iwarp_register(struct iwarp *handle, uint8_t pd, uint64_t base, const uint8_t *octets, size_t n, uint32_t rights,
                        uint32_t *stag);
 
-/* Takes a region out, valid or not, and copies its octets to the front of `out`: from then on its STag names nothing. `*n`
- * is how many octets it has, with IWARP_NO_ROOM too. */
+/* Deregisters a region, valid or not, and copies its octets to the front of `out`: from then on its STag names nothing.
+ * `*n` is how many octets it has, with IWARP_NO_ROOM too. */
 int32_t iwarp_deregister(struct iwarp *handle, uint32_t stag, uint8_t *out, size_t room, size_t *n);
 
 /* Ends the use of a region by peers. It stays registered. */
@@ -158,8 +161,8 @@ enum {
     IWARP_USES_CRC = 4
 };
 
-/* Opens a stream in a domain, under a number from 0 to 63 that stays taken for good. An initiator's Request has the private
- * data; that of others is not used. */
+/* Opens a stream in a domain, under a number from 0 to 63 that stays taken for good. An initiator's Request has the
+ * private data; in other roles it is not used. */
 int32_t iwarp_open(struct iwarp *handle, uint8_t stream, uint8_t pd, uint32_t role, uint32_t options,
                    const uint8_t *private_data, size_t n);
 
@@ -169,8 +172,8 @@ int32_t iwarp_accept(struct iwarp *handle, uint8_t stream, const uint8_t *privat
 /* Rejects the Request: the stream has ended, and the Reply is still to be emitted. */
 int32_t iwarp_reject(struct iwarp *handle, uint8_t stream, const uint8_t *private_data, size_t n);
 
-/* Copies the private data of the peer's start-up frame to the front of `out`: 512 octets at most, none before it was read.
- * `*n` is how many octets they are, with IWARP_NO_ROOM too. */
+/* Copies the private data of the peer's start-up frame to the front of `out`: 512 octets at most, none before it was
+ * read. `*n` is how many octets they are, with IWARP_NO_ROOM too. */
 int32_t iwarp_private(struct iwarp *handle, uint8_t stream, uint8_t *out, size_t room, size_t *n);
 
 /* Tells that the connection broke or closed: the stream has ended, and nothing more is emitted. */
@@ -184,11 +187,11 @@ int32_t iwarp_set_mulpdu(struct iwarp *handle, uint8_t stream, uint32_t size);
 /* How a Send is posted, and how one was received. */
 enum {
     IWARP_SOLICITED = 1,
-    IWARP_INVALIDATES = 2 /* `stag` names a region of the receiver that goes out of use with it */
+    IWARP_INVALIDATES = 2 /* `stag` names a region of the receiver that the Send invalidates */
 };
 
-/* Posts a Send of a copy of the octets. `flags` is a sum of IWARP_SOLICITED and IWARP_INVALIDATES; `stag` is looked at only
- * with the latter. */
+/* Posts a Send of a copy of the octets. `flags` is a sum of IWARP_SOLICITED and IWARP_INVALIDATES; `stag` is looked
+ * at only with the latter. */
 int32_t iwarp_post_send(struct iwarp *handle, uint8_t stream, const uint8_t *octets, size_t n, uint32_t flags, uint32_t stag);
 
 /* Posts a Write of a copy of the octets, to a region of the peer. */
@@ -203,17 +206,17 @@ int32_t iwarp_post_recv(struct iwarp *handle, uint8_t stream, size_t n);
 
 /* ---- octets that come and go */
 
-/* Sets the sequence number of the peer's first octet: 0 if it is never set. Of several calls before the first octets are
- * delivered the last counts; after that: IWARP_LATE. A program that sees TCP's own numbers sets the one that follows the
- * number of the peer's SYN. A program that reads a socket has no need of it. */
+/* Sets the sequence number of the peer's first octet: 0 if it is never set. Of several calls before the first octets
+ * are delivered the last counts; after that the answer is IWARP_LATE. A program that sees TCP's own numbers sets the
+ * one that follows the number of the peer's SYN. A program that reads a socket does not need this call. */
 int32_t iwarp_first_number(struct iwarp *handle, uint8_t stream, uint32_t number);
 
-/* Takes octets that came, in any order; `number` is the sequence number of the first of them. Numbers wrap, as TCP's do:
- * behind 4294967295 comes 0. Of the places with that number it has the one nearest to the in-order point, less than 2^31
- * octets past it or at most 2^31 before it. Octets before the in-order point are ignored. A program that reads a socket adds
- * up what each read gave, in a uint32_t: that is the number of what the next read gives. `*kept` is 1, or 0 if all of the
- * octets are dropped: because one lies 262,144 or more past the in-order point, because there would be more than 1,024
- * islands (runs of octets with a gap before them), or because the stream has ended. */
+/* Takes octets that came, in any order; `number` is the sequence number of the first of them. Numbers wrap, as TCP's
+ * do: 0 follows 4294967295. Of the places with that number it has the one nearest to the in-order point, less than
+ * 2^31 octets past it or at most 2^31 before it. Octets before the in-order point are ignored. A program that reads
+ * a socket adds up what each read gave, in a uint32_t: that is the number of what the next read gives. `*kept` is 1,
+ * or 0 if all of the octets are dropped: because one lies 262,144 or more past the in-order point, because there
+ * would be more than 1,024 islands (runs of octets with a gap before them), or because the stream has ended. */
 int32_t iwarp_deliver(struct iwarp *handle, uint8_t stream, uint32_t number, const uint8_t *octets, size_t n, uint32_t *kept);
 
 /* What a step of work did. */
@@ -241,7 +244,7 @@ enum { IWARP_MESSAGE_WRITE = 1, IWARP_MESSAGE_SEND = 2, IWARP_MESSAGE_READ = 3 }
 /* What is wrong with a start-up frame. */
 enum { IWARP_BAD_KEY = 1, IWARP_BAD_REVISION = 2, IWARP_BAD_LENGTH = 3, IWARP_REJECTED = 4 };
 
-/* What its kind does not name is 0. */
+/* Fields that the comment on its kind does not name are 0. */
 struct iwarp_event {
     uint32_t kind; /* IWARP_IDLE and so on */
     uint32_t message;
@@ -257,17 +260,19 @@ struct iwarp_event {
     uint64_t len;
 };
 
-/* Does one step at a stream. To be called until it tells IWARP_IDLE: after octets were delivered, after some were emitted, and
- * after iwarp_break. A message or buffer that it tells stays for iwarp_fetch until the next one that is told on this handle. */
+/* Does one step at a stream. Call it until it tells IWARP_IDLE: after octets were delivered, after some were
+ * emitted, and after iwarp_break. A message or buffer that it tells stays for iwarp_fetch until the next one is told
+ * on this handle. */
 int32_t iwarp_work(struct iwarp *handle, uint8_t stream, struct iwarp_event *event);
 
-/* Calls iwarp_work as often as it is IWARP_OK and tells IWARP_PLACED, IWARP_BUFFERED, IWARP_REQUESTED, IWARP_PASSED or
- * IWARP_TRIED, at most 4,096 times, and returns and tells what the last of these calls does. So it tells what the program has
- * to act on, IWARP_IDLE, or, after 4,096 steps, one of those. Where a call is refused, the steps before it are done. */
+/* Calls iwarp_work as long as it returns IWARP_OK and tells IWARP_PLACED, IWARP_BUFFERED, IWARP_REQUESTED,
+ * IWARP_PASSED or IWARP_TRIED, at most 4,096 times, and returns and tells what the last of these calls does. So it
+ * tells what the program has to act on, IWARP_IDLE, or, after 4,096 steps, one of those. If a call is refused, the
+ * steps before it are done. */
 int32_t iwarp_work_on(struct iwarp *handle, uint8_t stream, struct iwarp_event *event);
 
-/* Copies the message or buffer that was told last to the front of `out`, and gives it up. `*n` is how many octets it has, with
- * IWARP_NO_ROOM too; 0 where there is none. */
+/* Copies the message or buffer that was told last to the front of `out`, and forgets it. `*n` is how many octets it
+ * has, with IWARP_NO_ROOM too; 0 if there is none. */
 int32_t iwarp_fetch(struct iwarp *handle, uint8_t *out, size_t room, size_t *n);
 
 /* What a call to emit did. */
@@ -278,7 +283,7 @@ enum {
     IWARP_DENIED = 3 /* no frame: the peer may not read that, and the stream has ended by a fault, `layer`, `error`, `code` */
 };
 
-/* What its kind does not name is 0. */
+/* Fields that the comment on its kind does not name are 0. */
 struct iwarp_emission {
     uint32_t kind; /* IWARP_NOTHING and so on */
     uint32_t stag;
@@ -290,9 +295,9 @@ struct iwarp_emission {
     uint64_t n;
 };
 
-/* Emits the next frame of a stream to the front of `out`, to be written to its connection whole and in order. To be called
- * until it tells IWARP_NOTHING; after IWARP_DENIED a Terminate is due. `*n` is how many octets the frame has, with
- * IWARP_NO_ROOM and IWARP_NO_MEMORY too: nothing has moved then. 66,000 octets are enough for any frame. */
+/* Emits the next frame of a stream to the front of `out`: write it to the stream's connection, whole and in order. Call
+ * it until it tells IWARP_NOTHING; after IWARP_DENIED a Terminate is due. `*n` is how many octets the frame has, with
+ * IWARP_NO_ROOM and IWARP_NO_MEMORY too: then nothing else has changed. 66,000 octets are enough for any frame. */
 int32_t iwarp_emit(struct iwarp *handle, uint8_t stream, uint8_t *out, size_t room, size_t *n, struct iwarp_emission *emission);
 
 #ifdef __cplusplus
