@@ -1,1 +1,3 @@
 pub mod Splices
+pub mod Receivings
+pub mod Placements

@@ -1,2 +1,3 @@
 pub mod Receiving
+pub mod Store
 pub mod Laws

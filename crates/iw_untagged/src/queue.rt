@@ -1,11 +1,12 @@
-ghost use Rattle.std.specs.Prelude.{◌≡◌, ◌+◌, ◌<◌, ◌≤◌, ◌↔◌, nat_le, ℕ, List, [], length, slice_get};
-ghost use Rattle.std.specs.Prelude.{IsTrue, IfSome, IfNone, IsOkAnd, IfErr, IsErr, OnOk, OnErr};
+ghost use Rattle.std.specs.Prelude.{◌≡◌, ◌+◌, ◌≤◌, ◌==◌, nat_le, ℕ, List, length, false};
+ghost use Rattle.std.specs.Prelude.{IsSome, IfSome, IfNone, IsOkAnd, IfOk, IfErr, IsErr, OnOk, OnErr};
 ghost use Rattle.std.specs.Result.{result_err};
 ghost use Rattle.std.specs.Option.{option_map};
 ghost use Rattle.std.specs.Iterator.{IsFinite};
-ghost use Rattle.iw_octets.specs.Octets.{splice};
 ghost use Rattle.iw_octets.specs.Pieces.{AddUpTo, JoinTo};
 
+use crate::buffers::Buffers;
+use crate::pool::SharedQueue;
 use crate::received::Received;
 use iw_octets::{Fault, Octets};
 use std::alloc::{AllocError, Allocator, Global};
@@ -22,22 +23,23 @@ const MSN_RANGE: u32 = 256;
 /// Why a receive buffer was not posted: the first reason that holds.
 #[derive(Clone, Copy, Debug, PartialEq, Eq, Error)]
 pub enum BufferRefusal {
-    /// 256 buffers are posted.
-    #[error("256 buffers are posted")]
+    /// As many buffers are posted as may be: 256 to a queue, 1,024 to a pool. A queue that shares a pool has room for none.
+    #[error("as many buffers are posted as may be")]
     Full,
     /// There is no memory.
     #[error("no memory")]
     NoMemory,
 }
 
-/// The receive buffers of a stream, posted and not handed back, oldest first, and how much of the message that is due
-/// has had its turn.
+/// The receive buffers of a stream, and how much of the message that is due has had its turn. Message sequence numbers
+/// count modulo 2^32.
 ///
-/// The message that is due goes into the oldest buffer, each next message into the next buffer. Message sequence
-/// numbers count modulo 2^32.
+/// The buffers were posted to the queue, and each serves one message: the oldest the one that is due, and each next one the
+/// next. Or the queue shares a pool of buffers with others ([`RecvQueue::shared`]): the pool's oldest buffer is bound to a
+/// message when the first segment of that message is placed, whichever it is, and stays there until it is handed out.
 #[derive(Drop)]
 pub struct RecvQueue<A: Allocator = Global> {
-    buffers: VecDeque<Octets<A>, A>,
+    buffers: Buffers<A>,
     due: u32,
     turned: usize,
 }
@@ -47,32 +49,60 @@ impl<A: Allocator> Model for RecvQueue<A> {
 
     ghost Value = { Receiving };
 
-    ghost view = { λ q. record { buffers = q.buffers.items; due = q.due; turned = q.turned } };
+    ghost use Rattle.iw_untagged.specs.Store.{source_of};
 
-    ghost invariant = { λ q. HoldsLimits (record { buffers = q.buffers.items; due = q.due; turned = q.turned }) };
+    ghost view = { λ q. record { source = source_of q.buffers; due = q.due; turned = q.turned } };
+
+    ghost invariant = { λ q. HoldsLimits (record { source = source_of q.buffers; due = q.due; turned = q.turned }) };
 }
 
 impl<A: Allocator> RecvQueue<A> {
-    ghost use Rattle.iw_untagged.specs.Receiving.{nothing_received, receiving_from, ahead_of, oldest, HoldsLimits};
-    ghost use Rattle.iw_untagged.specs.Receiving.{full_refusal, with_buffer, buffer_fault, HasRoom, written};
-    ghost use Rattle.iw_untagged.specs.Receiving.{turn_fault, turned, received, finished, flushed};
+    ghost use Rattle.iw_untagged.specs.Receiving.{receiving_from, sharing, is_shared, ahead_of, buffer_in, HoldsLimits};
+    ghost use Rattle.iw_untagged.specs.Receiving.{full_refusal, with_buffer, lent, exchanged, buffer_fault, written};
+    ghost use Rattle.iw_untagged.specs.Receiving.{turn_fault, HasRoom, turned, due_buffer, received, finished};
+    ghost use Rattle.iw_untagged.specs.Receiving.{first_buffer, flushed, count_in};
 
-    /// A queue with no buffer. Its first message has the number 1.
+    /// A queue to which no buffer is posted. Its first message has the number 1.
     pub fn new(alloc: A) -> Result<RecvQueue<A>, AllocError>
-        ensures { IsOkAnd result (λ queue. queue ≡ nothing_received) }
+        ensures { IsOkAnd result (λ queue. queue ≡ receiving_from 1) }
     {
         RecvQueue::starting_at(alloc, 1)
     }
 
-    /// A queue with no buffer, whose first message has this number.
+    /// A queue to which no buffer is posted, whose first message has this number.
     pub fn starting_at(alloc: A, msn: u32) -> Result<RecvQueue<A>, AllocError>
         ensures { IsOkAnd result (λ queue. queue ≡ receiving_from msn) }
     {
         Ok(RecvQueue {
-            buffers: VecDeque::new(alloc),
+            buffers: Buffers::Own(VecDeque::new(alloc)),
             due: msn,
             turned: 0,
         })
+    }
+
+    /// A queue that shares a pool, with no buffer bound. Its first message has the number 1. It takes the memory of all
+    /// that it will keep at once, so that no placement takes any.
+    pub fn shared(alloc: A) -> Result<RecvQueue<A>, AllocError>
+    where
+        A: Copy,
+        ensures { IfOk result (λ queue. queue ≡ sharing) }
+    {
+        let buffers = Buffers::shared(alloc)?;
+        Ok(RecvQueue {
+            buffers,
+            due: 1,
+            turned: 0,
+        })
+    }
+
+    /// Whether the queue shares a pool.
+    pub fn is_shared(&self) -> bool
+        ensures { result ≡ is_shared self.now }
+    {
+        match &self.buffers {
+            Buffers::Own(_) => false,
+            Buffers::Shared(_) => true,
+        }
     }
 
     /// Posts a buffer after the others. An `Err` changes nothing, and has the buffer.
@@ -84,37 +114,47 @@ impl<A: Allocator> RecvQueue<A> {
         ensures err { OnErr result (self.new ≡ self.old) }
         ensures ok { OnOk result (self.new ≡ with_buffer self.old buffer.items) }
     {
-        if self.buffers.len() >= MAX_BUFFERS {
+        let Buffers::Own(buffers) = &mut self.buffers else {
+            return Err((BufferRefusal::Full, buffer));
+        };
+        if buffers.len() >= MAX_BUFFERS {
             return Err((BufferRefusal::Full, buffer));
         }
-        if self.buffers.reserve(1).is_err() {
+        if buffers.reserve(1).is_err() {
             return Err((BufferRefusal::NoMemory, buffer));
         }
-        self.buffers.push_back_reserved(Octets::from_vec(buffer));
+        buffers.push_back_reserved(Octets::from_vec(buffer));
         Ok(())
     }
 
-    /// How many buffers are posted.
+    /// How many buffers the queue has: posted to it, or bound to a message.
     pub fn len(&self) -> usize
-        ensures { result ≡ length self.now.buffers }
+        ensures { result ≡ count_in self.now.source }
     {
         self.buffers.len()
     }
 
-    /// Whether no buffer is posted.
+    /// Whether the queue has no buffer.
     pub fn is_empty(&self) -> bool
-        ensures { IsTrue result ↔ (self.now.buffers ≡ []) }
+        ensures { result ≡ (count_in self.now.source == 0) }
     {
-        self.buffers.is_empty()
+        self.buffers.len() == 0
     }
 
-    /// How many octets the message that is due may have: as many as the oldest buffer has, 0 where none is posted.
-    pub fn room(&self) -> usize
-        ensures { result ≡ length (oldest self.now) }
+    /// How many octets the buffer of the message that is due has; `None` where it has no buffer.
+    pub fn room(&self) -> Option<usize>
+        ensures { result ≡ option_map length (buffer_in self.now.source 0) }
     {
-        match self.buffers.front() {
+        self.buffers.due_len()
+    }
+
+    // How many octets the message that is due may have: 0 where it has no buffer.
+    fn due_len(&self) -> usize
+        ensures { result ≡ length (due_buffer self.now.source) }
+    {
+        match self.room() {
+            Some(len) => len,
             None => 0,
-            Some(buffer) => buffer.len(),
         }
     }
 
@@ -125,6 +165,16 @@ impl<A: Allocator> RecvQueue<A> {
         let _ = &self.buffers;
     }
 
+    /// Lends a pool to the queue, and takes back the one that was lent before: they are exchanged. A queue that shares none
+    /// takes none.
+    pub fn lend(&mut self, pool: &mut SharedQueue<A>)
+        ensures after { self.new ≡ lent self.old pool.old }
+        ensures pool { pool.new ≡ exchanged self.old.source pool.old }
+    {
+        self.buffers.lend(pool);
+    }
+
+    #[inline(always)]
     fn ahead(&self, msn: u32) -> u32
         ensures { result ≡ ahead_of self.now.due msn }
     {
@@ -134,8 +184,11 @@ impl<A: Allocator> RecvQueue<A> {
     /// Writes the payload of a segment, `n` octets in pieces, into the buffer of the message `msn`, from the message's
     /// octet `mo` on. Segments may be placed in any order, also before their turns, and those of a later message before
     /// those of the one that is due. It takes no memory. An `Err` changes nothing, and is the first that applies: the
-    /// number is out of range (256 or more ahead of the one that is due), no buffer is posted for it, or the octets would
+    /// number is out of range (256 or more ahead of the one that is due), there is no buffer for it, or the octets would
     /// not all lie in the buffer, also where there are none (RFC 5041 7.1).
+    ///
+    /// In a queue that shares a pool, where no buffer is bound to the message, the segment goes to the oldest of the pool that
+    /// is lent, and that is bound to the message from then on.
     pub fn place<'a, I: Iterator<Item = &'a [u8]>>(
         &mut self,
         msn: u32,
@@ -153,11 +206,37 @@ impl<A: Allocator> RecvQueue<A> {
     {
         self.check(msn, mo, n)?;
         let index = self.ahead(msn) as usize;
-        write_pieces(&mut self.buffers[index], mo as usize, n, pieces);
+        self.buffers.bind(index);
+        self.buffers.write(index, mo as usize, n, pieces);
         Ok(())
     }
 
-    // Whether the message's buffer is there, and has room for `n` octets from `mo` on.
+    /// The same out of this pool, which is lent to the queue for the call.
+    pub fn place_shared<'a, I: Iterator<Item = &'a [u8]>>(
+        &mut self,
+        pool: &mut SharedQueue<A>,
+        msn: u32,
+        mo: u32,
+        n: usize,
+        pieces: I,
+    ) -> Result<(), Fault>
+        requires can { I.can_next pieces }
+        requires ends { IsFinite (I.remaining pieces) }
+        requires fills { AddUpTo I.next_gives pieces n }
+        ensures refused { result_err result ≡ buffer_fault (lent self.old pool.old) msn mo n }
+        ensures ok { OnOk result ((octets : List ℕ) × JoinTo I.next_gives pieces octets
+            × (lent self.new pool.new ≡ written (lent self.old pool.old) msn mo octets)) }
+        ensures own { is_shared self.old ≡ false → pool.new ≡ pool.old }
+        ensures err { OnErr result ((self.new ≡ self.old) × (pool.new ≡ pool.old)) }
+    {
+        self.lend(pool);
+        let placed = self.place(msn, mo, n, pieces);
+        self.lend(pool);
+        placed
+    }
+
+    // Whether there is a buffer for the message, and it has room for `n` octets from `mo` on.
+    #[inline(always)]
     fn check(&self, msn: u32, mo: u32, n: usize) -> Result<(), Fault>
         ensures { result_err result ≡ buffer_fault self.now msn mo n }
     {
@@ -165,10 +244,10 @@ impl<A: Allocator> RecvQueue<A> {
         if ahead >= MSN_RANGE {
             return Err(Fault::UNTAGGED_MSN_RANGE);
         }
-        let Some(buffer) = self.buffers.get(ahead as usize) else {
+        let Some(len) = self.buffers.len_for(ahead as usize) else {
             return Err(Fault::UNTAGGED_NO_BUFFER);
         };
-        if !has_room(buffer.len(), mo as usize, n) {
+        if !has_room(len, mo as usize, n) {
             return Err(Fault::UNTAGGED_TOO_LONG);
         }
         Ok(())
@@ -190,21 +269,21 @@ impl<A: Allocator> RecvQueue<A> {
         if mo as usize != self.turned {
             return Err(Fault::UNTAGGED_INVALID_OFFSET);
         }
-        let left = self.room() - self.turned;
+        let left = self.due_len() - self.turned;
         prove!(n <= left);
         self.turned += n;
         Ok(())
     }
 
     /// Hands out the message that is due, all of whose segments had their turn, with its buffer. The next message is
-    /// due then. A buffer must be posted. It takes no memory.
+    /// due then. The message must have a buffer. It takes no memory.
     pub fn finish(&mut self) -> Received<Octets<A>>
-        requires { 0 < length self.old.buffers }
+        requires { IsSome (buffer_in self.old.source 0) }
         ensures message { result ≡ received self.old }
         ensures within { result.len ≤ length result.buffer }
         ensures after { self.new ≡ finished self.old }
     {
-        let buffer = self.buffers.pop_front().unwrap();
+        let buffer = self.buffers.take_due();
         let msn = self.due;
         let len = self.turned;
         self.due = msn.wrapping_add(1);
@@ -212,14 +291,14 @@ impl<A: Allocator> RecvQueue<A> {
         Received { msn, buffer, len }
     }
 
-    /// Hands back the oldest buffer, whole, without a message; `None` where none is posted. The number that is due
-    /// stays. It takes no memory.
+    /// Hands back the buffer of the first message that has one, whole, without a message; `None` where none has. The number
+    /// that is due stays. It takes no memory.
     pub fn flush(&mut self) -> Option<Vec<u8, A>>
-        ensures buffer { option_map (λ buffer. buffer.items) result ≡ slice_get self.old.buffers 0 }
+        ensures buffer { option_map (λ buffer. buffer.items) result ≡ first_buffer self.old.source }
         ensures after { self.new ≡ flushed self.old }
     {
         self.turned = 0;
-        let buffer = self.buffers.pop_front()?;
+        let buffer = self.buffers.take_first()?;
         Some(buffer.into_vec())
     }
 }
@@ -229,26 +308,4 @@ fn has_room(len: usize, at: usize, n: usize) -> bool
     ensures { result ≡ nat_le (at + n) len }
 {
     at <= len && n <= len - at
-}
-
-// Writes pieces, one after the other, over the octets that stand from a place on.
-fn write_pieces<'a, A: Allocator, I: Iterator<Item = &'a [u8]>>(
-    buffer: &mut Octets<A>,
-    at: usize,
-    n: usize,
-    pieces: I,
-)
-    requires can { I.can_next pieces }
-    requires ends { IsFinite (I.remaining pieces) }
-    requires fills { AddUpTo I.next_gives pieces n }
-    requires room { at + n ≤ length buffer.old }
-    ensures { (octets : List ℕ) × JoinTo I.next_gives pieces octets × (buffer.new ≡ splice buffer.old at octets) }
-{
-    let room = buffer.len() - at;
-    prove!(n <= room);
-    let mut end = at;
-    for piece in pieces {
-        buffer.write_at(end, piece);
-        end += piece.len();
-    }
 }

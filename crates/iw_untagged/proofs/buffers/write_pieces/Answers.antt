@@ -4,7 +4,7 @@ use Rattle.iw_octets.specs.Octets.{splice}
 use Rattle.iw_octets.specs.Pieces.{joined, AddUpTo}
 use Rattle.iw_octets.proofs.Runs.{next_fits, joined_push}
 use Rattle.iw_untagged.proofs.Splices.{splice-nothing, length-splice, splice-next}
-use Rattle.iw_untagged.proofs.queue.write_pieces.Goals as goal
+use Rattle.iw_untagged.proofs.buffers.write_pieces.Goals as goal
 
 -- where pieces were written one after the other, there is room for the next
 room_left : {S : Type 0} (steps : S → Option (Bor (List ℕ)) → S → Type 0) (pieces : S) (n : ℕ) (given : List (Bor (List ℕ))) (t : S) (piece : Bor (List ℕ)) (u : S) (old buffer : List ℕ) (at : ℕ)
