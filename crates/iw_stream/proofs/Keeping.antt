@@ -324,7 +324,7 @@ stays_by : {T E : Type 0} (r t : Receiving) (buffer : List ℕ) (result : Result
 stays_by r t buffer (Ok x) ok err = subst (StaysThere r) (sym ok) (stays_posted r buffer)
 stays_by r t buffer (Err e) ok err = stays_same r t err
 
-keeps_buffers : (s : StreamState) (r : Receiving) → StaysThere s.receiving r → Keeps s → Keeps (record s { receiving = r })
+pub keeps_buffers : (s : StreamState) (r : Receiving) → StaysThere s.receiving r → Keeps s → Keeps (record s { receiving = r })
 keeps_buffers s r w k = record {
   started = record {
     unopened = k.started.unopened;

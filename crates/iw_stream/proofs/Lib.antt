@@ -12,6 +12,7 @@ pub mod Started
 pub mod Tasks
 pub mod Dues
 pub mod Handing
+pub mod Sharing
 pub mod Origins
 pub mod Stags
 pub mod Releasing

@@ -1,6 +1,6 @@
 -- What a Terminate takes of the segment that had the fault is there.
 use Rattle.std.proofs.Common.{◌≡◌, ℕ, ◌+◌, Bool, true, false, nat_le, nat_lt, if◌then◌else◌, List, length, take, Option, Some, None, Ok, Err, refl, sym, ap, ◌∙◌, subst, arith}
-use Rattle.std.specs.Prelude.{Result, IfSome, ◌==◌, ◌&&◌}
+use Rattle.std.specs.Prelude.{Result, IfSome, ◌==◌, ◌&&◌, is_none, unwrap_or}
 use Rattle.std.proofs.lemmas.Bool.{true≢false}
 use Rattle.std.specs.Option.{option_map, option_map_or}
 use Rattle.std.proofs.lemmas.List.{length-take}
@@ -22,7 +22,7 @@ use Rattle.iw_reads.specs.Outstanding.{is_asked, sink_fault}
 use Rattle.iw_reads.specs.Requests.{Requested}
 use Rattle.iw_reads.specs.Source as source
 use Rattle.iw_tagged.specs.Placing as placing
-use Rattle.iw_untagged.specs.Receiving.{ahead_of, buffer_of}
+use Rattle.iw_untagged.specs.Receiving.{ahead_of, buffer_for, room_fault}
 use Rattle.iw_stream.specs.Frames.{Frame, frame_by, payload_of}
 use Rattle.iw_stream.specs.Judging.{Standing, mismatch_fault, or_else, fault_or, judged_head, place_verdict, head_verdict, segment_verdict, verdict}
 use Rattle.iw_stream.specs.Stream.{StreamState, ends_by}
@@ -68,6 +68,9 @@ fits_buffer false true over = record { layer = omega arith; kind = omega arith }
 fits_buffer false false true = record { layer = omega arith; kind = omega arith }
 fits_buffer false false false = tt
 
+fits_room : (ahead : ℕ) (len : Option ℕ) (end : ℕ) → Fits (room_fault ahead len end)
+fits_room ahead len end = fits_buffer (nat_le 256 ahead) (is_none len) (nat_lt (unwrap_or len 0) end)
+
 fits_err : {A : Type 0} (o : Option Fault) (x : A) (fault : Fault) → Fits o → fault_or o x ≡ Err fault → FitsFault fault
 fits_err None x fault f e = absurd (let no : ⊥ = cc in no)
 fits_err (Some other) x fault f e = subst FitsFault (let same : other ≡ fault = cc in same) f
@@ -76,7 +79,7 @@ fits_placing : (at : Standing) (head : Head) (n : ℕ) (fault : Fault) → place
 fits_placing at (heads.Write head) n fault e = fits_err _ _ fault (fits_tagged _) e
 fits_placing at (heads.Response head) n fault e = fits_err _ _ fault (fits_either (sink_fault at.reads head n) _ (fits_sink (is_asked at.reads head n)) (fits_tagged _)) e
 fits_placing at (heads.Send head) n fault e =
-    fits_err _ _ fault (fits_buffer (nat_le 256 (ahead_of at.receiving.due head.msn)) (nat_le (length at.receiving.buffers) (ahead_of at.receiving.due head.msn)) (nat_lt (length (buffer_of at.receiving head.msn)) (head.mo + n))) e
+    fits_err _ _ fault (fits_room (ahead_of at.receiving.due head.msn) (option_map length (buffer_for at.receiving.source (ahead_of at.receiving.due head.msn))) (head.mo + n)) e
 fits_placing at (heads.Request head request) n fault e = fits_err _ _ fault (fits_source _) e
 fits_placing at (heads.Terminate head word) n fault e = absurd (let no : ⊥ = cc in no)
 

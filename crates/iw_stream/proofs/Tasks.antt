@@ -1,12 +1,13 @@
 -- Which task is next, and what follows for a call to work.
 use Rattle.std.proofs.Common.{◌≡◌, ℕ, Bool, true, false, cond, List, Option, Some, None, refl, ap, ◌∙◌}
-use Rattle.std.specs.Prelude.{not, is_some, slice_get}
+use Rattle.std.specs.Prelude.{not, is_some}
 use Rattle.std.specs.Option.{option_map_or, option_or}
 use Rattle.iw_locate.specs.Free.{front_of}
 use Rattle.std.proofs.lemmas.Bool.{false≢true}
 use Rattle.iw_memory.specs.Table.{Table}
 use Rattle.iw_queues.specs.declared.completions.Done.{Done}
 use Rattle.iw_queues.specs.Queue.{done_in, oldest_in}
+use Rattle.iw_untagged.specs.Receiving.{first_buffer}
 use Rattle.iw_stream.specs.declared.answer.Step.{Step}
 use Rattle.iw_stream.specs.declared.judging.PlacedFrame.{PlacedFrame}
 use Rattle.iw_stream.specs.Frames.{Frame, placed_at}
@@ -52,7 +53,7 @@ pub record IsRunning (s : StreamState) : Type 0 where
 
 -- why there is nothing to do
 pub data IsResting (s : StreamState) : Type 0 where
-  Ended : ended s ≡ true → oldest_in s.queue ≡ None → slice_get s.receiving.buffers 0 ≡ None → IsResting s
+  Ended : ended s ≡ true → oldest_in s.queue ≡ None → first_buffer s.receiving.source ≡ None → IsResting s
   Unanswered : ended s ≡ false → awaits_frame s.start ≡ false → is_open s.start ≡ false → IsResting s
   Without : IsRunning s → waiting s ≡ None → next_frame s ≡ None → early_frame s ≡ None → IsResting s
 
@@ -63,7 +64,7 @@ OfTask P table s t = P (step_of table s t) (left_by table s t) (table_left table
 pub by_task : (P : Step (List ℕ) → StreamState → Table → Type 0) (table : Table) (s : StreamState)
     → ((done : Done) → done_in s.queue ≡ Some done → OfTask P table s (HandOut done))
     → ((done : Done) → done_in s.queue ≡ None → ended s ≡ true → oldest_in s.queue ≡ Some done → OfTask P table s (GiveUp done))
-    → ((buffer : List ℕ) → done_in s.queue ≡ None → ended s ≡ true → oldest_in s.queue ≡ None → slice_get s.receiving.buffers 0 ≡ Some buffer → OfTask P table s (GiveBack buffer))
+    → ((buffer : List ℕ) → done_in s.queue ≡ None → ended s ≡ true → oldest_in s.queue ≡ None → first_buffer s.receiving.source ≡ Some buffer → OfTask P table s (GiveBack buffer))
     → (done_in s.queue ≡ None → ended s ≡ false → awaits_frame s.start ≡ true → OfTask P table s Hear)
     → ((frame : PlacedFrame) → IsRunning s → waiting s ≡ Some frame → OfTask P table s (Turn frame))
     → ((frame : Frame) → IsRunning s → waiting s ≡ None → next_frame s ≡ Some frame → clashes s frame ≡ true → OfTask P table s (Clash frame))
@@ -89,12 +90,12 @@ by_task P table s hands gives returns hears turns clash judges tries rests = go 
     front r None e = frame r e (next_frame s) refl
     front r (Some f) e = turns f r e
 
-    given_back : done_in s.queue ≡ None → ended s ≡ true → oldest_in s.queue ≡ None → (o : Option (List ℕ)) → slice_get s.receiving.buffers 0 ≡ o → OfTask P table s (option_map_or GiveBack o Rest)
+    given_back : done_in s.queue ≡ None → ended s ≡ true → oldest_in s.queue ≡ None → (o : Option (List ℕ)) → first_buffer s.receiving.source ≡ o → OfTask P table s (option_map_or GiveBack o Rest)
     given_back none e old None is = rests none (Ended e old is)
     given_back none e old (Some buffer) is = returns buffer none e old is
 
-    given_up : done_in s.queue ≡ None → ended s ≡ true → (o : Option Done) → oldest_in s.queue ≡ o → OfTask P table s (option_map_or GiveUp o (option_map_or GiveBack (slice_get s.receiving.buffers 0) Rest))
-    given_up none e None is = given_back none e is (slice_get s.receiving.buffers 0) refl
+    given_up : done_in s.queue ≡ None → ended s ≡ true → (o : Option Done) → oldest_in s.queue ≡ o → OfTask P table s (option_map_or GiveUp o (option_map_or GiveBack (first_buffer s.receiving.source) Rest))
+    given_up none e None is = given_back none e is (first_buffer s.receiving.source) refl
     given_up none e (Some done) is = gives done none e is
 
     on : (over awaits started : Bool) → done_in s.queue ≡ None → ended s ≡ over → awaits_frame s.start ≡ awaits → is_open s.start ≡ started

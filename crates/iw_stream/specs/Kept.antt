@@ -1,5 +1,5 @@
 -- What a stream keeps of its fields, and the limits that callers may rely on.
-use Rattle.std.specs.Prelude.{◌≡◌, ◌≢◌, ◌⊎◌, ℕ, ◌+◌, ◌<◌, ◌≤◌, ◌%◌, ◌-◌, ◌^◌, true, false, List, [], ◌∷◌, length, Option, Some, None, IfSome}
+use Rattle.std.specs.Prelude.{◌≡◌, ◌≢◌, ◌⊎◌, ℕ, ◌+◌, ◌<◌, ◌≤◌, ◌%◌, ◌-◌, ◌^◌, true, false, List, [], ◌∷◌, length, Option, Some, None, IsSome, IfSome}
 use Rattle.iw_octets.specs.declared.segment.Segment.{Segment}
 use Rattle.iw_octets.specs.declared.segment.Segment.TheVariants.{Tagged, Untagged}
 use Rattle.iw_ranges.specs.Arrived.{IsWithinLimits, has_come, window}
@@ -13,7 +13,7 @@ use Rattle.iw_locate.specs.declared.judged.State.TheVariants as states
 use Rattle.iw_locate.specs.Records as records
 use Rattle.iw_locate.specs.Records.{from_of, max_records}
 use Rattle.iw_locate.specs.Free.{front_of, point_of}
-use Rattle.iw_untagged.specs.Receiving.{Receiving, HasRoom, HoldsLimits, ahead_of, buffer_of}
+use Rattle.iw_untagged.specs.Receiving.{Receiving, HasRoom, HasRoomAt, HoldsLimits, ahead_of, buffer_in}
 use Rattle.iw_queues.specs.Completions as completions
 use Rattle.iw_queues.specs.Completions.{IsAwaited}
 use Rattle.iw_queues.specs.Queue as queues
@@ -36,7 +36,7 @@ use Rattle.iw_stream.specs.Work.{scene, place_past}
 abbrev pub HasBuffer : Receiving → ℕ → Option (Segment (List ℕ)) → Type 0
 HasBuffer r n None = ⊥
 HasBuffer r n (Some (Tagged head payload)) = Unit {0}
-HasBuffer r n (Some (Untagged head payload)) = (ahead_of r.due head.msn < length r.buffers) × (head.mo + n ≤ length (buffer_of r head.msn))
+HasBuffer r n (Some (Untagged head payload)) = HasRoomAt r (ahead_of r.due head.msn) (head.mo + n)
 
 -- at its turn: where a Send's message is the one that is due, the oldest buffer has room for the segment
 abbrev pub HasRoomInTurn : Receiving → ℕ → Option (Segment (List ℕ)) → Type 0
@@ -54,7 +54,7 @@ WasHandedOut r point place (Some (Untagged head payload)) = 2 ^ 32 - ahead_of r.
 -- a Send that is complete has its buffer
 abbrev pub IsPosted : Turning → Receiving → Type 0
 IsPosted turnings.Passed r = Unit {0}
-IsPosted (turnings.Completed solicited invalidate) r = 0 < length r.buffers
+IsPosted (turnings.Completed solicited invalidate) r = IsSome (buffer_in r.source 0)
 IsPosted (turnings.Answered ticket) r = Unit {0}
 
 -- the frame at the in-order point: it came whole, and the next one begins where it ends

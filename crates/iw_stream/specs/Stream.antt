@@ -14,7 +14,7 @@ use Rattle.iw_ranges.specs.Nearest.{place_near, before_start}
 use Rattle.iw_fpdu.specs.Frame.{frame_octets}
 use Rattle.iw_untagged.specs.declared.queue.BufferRefusal.{BufferRefusal}
 use Rattle.iw_untagged.specs.declared.queue.BufferRefusal.TheVariants as buffer_refusals
-use Rattle.iw_untagged.specs.Receiving.{Receiving, nothing_received, full_refusal}
+use Rattle.iw_untagged.specs.Receiving.{Receiving, nothing_received, sharing, is_shared, lent, full_refusal}
 use Rattle.iw_untagged.specs.Receiving as receiving
 use Rattle.iw_queues.specs.declared.request.Refusal.{Refusal}
 use Rattle.iw_queues.specs.declared.request.Refusal.TheVariants as refusals
@@ -89,6 +89,17 @@ opened domain role config = record {
   early = [];
   ending = Runs;
 }
+
+-- one whose receive buffers come from a pool that other streams share
+abbrev pub opened_shared : ℕ → Role → Config → StreamState
+opened_shared domain role config = record (opened domain role config) { receiving = sharing }
+
+abbrev pub shares : StreamState → Bool
+shares s = is_shared s.receiving
+
+-- its pool is lent to it; one that shares none does not see it
+abbrev pub sees : StreamState → List (List ℕ) → StreamState
+sees s pool = record s { receiving = lent s.receiving pool }
 
 -- ---- the end
 
@@ -297,7 +308,10 @@ recv_refusal_of buffer_refusals.NoMemory = recv_refusals.NoMemory
 
 -- why a receive buffer is refused, if it is
 abbrev pub recv_refusal : StreamState → Option RecvRefusal
-recv_refusal s = if ended s then Some recv_refusals.Ended else option_map recv_refusal_of (full_refusal s.receiving)
+recv_refusal s =
+    if shares s then Some recv_refusals.Shared
+    else if ended s then Some recv_refusals.Ended
+    else option_map recv_refusal_of (full_refusal s.receiving)
 
 abbrev pub with_buffer : StreamState → List ℕ → StreamState
 with_buffer s buffer = record s { receiving = receiving.with_buffer s.receiving buffer }

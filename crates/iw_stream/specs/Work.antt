@@ -1,5 +1,5 @@
 -- What a call to work does: one task, by the state alone, and what it answers and leaves.
-use Rattle.std.specs.Prelude.{ℕ, ◌+◌, ◌-◌, not, Bool, List, length, slice_get, if◌then◌else◌, Option, Some, None, Result, Ok, Err}
+use Rattle.std.specs.Prelude.{ℕ, ◌+◌, ◌-◌, not, Bool, List, length, if◌then◌else◌, Option, Some, None, Result, Ok, Err}
 use Rattle.std.specs.Option.{option_map, option_map_or, option_or}
 use Rattle.arrayvec.specs.ArrayVec.{ArrayVec}
 use Rattle.iw_octets.specs.declared.fault.Fault.{Fault}
@@ -20,7 +20,7 @@ use Rattle.iw_queues.specs.Queue.{sent_with, done_in, oldest_in, handed_from}
 use Rattle.iw_reads.specs.Requests.{taken_up}
 use Rattle.iw_startup.specs.declared.progress.Progress.{Progress}
 use Rattle.iw_startup.specs.declared.progress.Progress.TheVariants as progress
-use Rattle.iw_untagged.specs.Receiving.{Receiving, finished, flushed, oldest}
+use Rattle.iw_untagged.specs.Receiving.{Receiving, exchanged, finished, first_buffer, flushed, oldest}
 use Rattle.iw_stream.specs.declared.answer.Step.{Step}
 use Rattle.iw_stream.specs.declared.answer.Step.TheVariants as steps
 use Rattle.iw_stream.specs.declared.judging.Landing.{Landing}
@@ -31,7 +31,7 @@ use Rattle.iw_stream.specs.declared.judging.Turning.TheVariants.{Passed, Complet
 use Rattle.iw_stream.specs.Frames.{Frame, frame_by, frame_at, segment_in, payload_of, placed, payload_len, record_tried, state_tried, placed_at, without}
 use Rattle.iw_stream.specs.Judging.{Standing, verdict, early_verdict, table_landed, receiving_landed, turn_of, table_turned, receiving_turned, reads_left, table_tried, receiving_tried}
 use Rattle.iw_stream.specs.Starting.{StartState, is_open, expecting, first_place_in, awaits_frame, progress_in, heard, agreement_in}
-use Rattle.iw_stream.specs.Stream.{StreamState, ended, ends, ends_by}
+use Rattle.iw_stream.specs.Stream.{StreamState, sees, ended, ends, ends_by}
 use Rattle.iw_stream.specs.Terminating.{terminate_judged, terminate_turned}
 
 -- the octets that came without a gap from the in-order point on
@@ -76,7 +76,7 @@ pub data Task : Type 0 where
 
 -- a stream that has ended hands back its messages, and after them its receive buffers
 abbrev pub handing_back : StreamState → Task
-handing_back s = option_map_or GiveUp (oldest_in s.queue) (option_map_or GiveBack (slice_get s.receiving.buffers 0) Rest)
+handing_back s = option_map_or GiveUp (oldest_in s.queue) (option_map_or GiveBack (first_buffer s.receiving.source) Rest)
 
 abbrev pub IsTry : Task → Type 0
 IsTry (HandOut done) = ⊥
@@ -253,3 +253,10 @@ worked table s = left_by table s (task s)
 
 abbrev pub table_worked : Table → StreamState → Table
 table_worked table s = table_left table s (task s)
+
+-- the same where a pool is lent to the stream for the call: what is left of the stream, and of the pool
+abbrev pub worked_with : Table → StreamState → List (List ℕ) → StreamState
+worked_with table s pool = sees (worked table (sees s pool)) (exchanged s.receiving.source pool)
+
+abbrev pub pool_left : Table → StreamState → List (List ℕ) → List (List ℕ)
+pool_left table s pool = exchanged (worked table (sees s pool)).receiving.source (exchanged s.receiving.source pool)

@@ -37,7 +37,8 @@ pub enum PostRefusal {
     NoMemory,
 }
 
-/// Why a receive buffer is not posted: the first reason that holds, in the order `Ended`, `Full`, `NoMemory`.
+/// Why a receive buffer is not posted: the first reason that holds, in the order `Shared`, `Ended`, `Full`,
+/// `NoMemory`.
 #[derive(Clone, Copy, Debug, PartialEq, Eq, Error)]
 pub enum RecvRefusal {
     /// 256 buffers are posted and not yet handed back.
@@ -47,6 +48,9 @@ pub enum RecvRefusal {
     NoMemory,
     #[error("the stream has ended")]
     Ended,
+    /// The stream's receive buffers come from a pool.
+    #[error("the stream shares a pool of receive buffers")]
+    Shared,
 }
 
 /// Why the sequence number of the peer's first octet is not set.

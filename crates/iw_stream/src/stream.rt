@@ -90,7 +90,7 @@ fn recv_refusal_of(refusal: BufferRefusal) -> RecvRefusal
 }
 
 impl<A: Allocator> Stream<A> {
-    ghost use Rattle.iw_stream.specs.Stream.{opened, ended, breaks, may_answer, accepted, rejected};
+    ghost use Rattle.iw_stream.specs.Stream.{opened, opened_shared, shares, ended, breaks, may_answer, accepted, rejected};
     ghost use Rattle.iw_stream.specs.Stream.{post_refusal, with_request, recv_refusal, with_buffer};
     ghost use Rattle.iw_stream.specs.Stream.{first_refusal, with_first, place_of, left_out};
     ghost use Rattle.iw_stream.specs.Stream.{delivery_of, after_deliver, size_refusal, with_mulpdu};
@@ -106,6 +106,39 @@ impl<A: Allocator> Stream<A> {
         ensures { IfOk result (λ stream. stream ≡ opened domain role config) }
     {
         let receiving = RecvQueue::new(alloc)?;
+        Stream::with_queue(alloc, domain, role, config, receiving)
+    }
+
+    /// The same, of a stream whose receive buffers come from a pool that it shares with others of its domain
+    /// ([`Stream::work_shared`]).
+    ///
+    /// An `Err` is want of memory.
+    pub fn new_shared(
+        alloc: A,
+        domain: u8,
+        role: Role,
+        config: Config,
+    ) -> Result<Stream<A>, AllocError>
+    where
+        A: Copy,
+        ensures { IfOk result (λ stream. stream ≡ opened_shared domain role config) }
+    {
+        let receiving = RecvQueue::shared(alloc)?;
+        Stream::with_queue(alloc, domain, role, config, receiving)
+    }
+
+    // A stream with this receive queue.
+    fn with_queue(
+        alloc: A,
+        domain: u8,
+        role: Role,
+        config: Config,
+        receiving: RecvQueue<A>,
+    ) -> Result<Stream<A>, AllocError>
+    where
+        A: Copy,
+        ensures { IfOk result (λ stream. stream ≡ record (opened domain role config) { receiving = receiving }) }
+    {
         let start = Start::new(role, config);
         let arrived = Incoming::new(alloc, start.expecting())?;
         Ok(Stream {
@@ -124,6 +157,20 @@ impl<A: Allocator> Stream<A> {
             answered: false,
             start,
         })
+    }
+
+    /// The stream's domain.
+    pub fn domain(&self) -> u8
+        ensures { result ≡ self.now.domain }
+    {
+        self.domain
+    }
+
+    /// Whether the stream shares a pool.
+    pub fn is_shared(&self) -> bool
+        ensures { result ≡ shares self.now }
+    {
+        self.receiving.is_shared()
     }
 
     /// The limits that a stream keeps: at most 1,024 islands of octets that came, within 262,144 octets from the in-order
@@ -225,6 +272,9 @@ impl<A: Allocator> Stream<A> {
         ensures err { OnErr result (self.new ≡ self.old) }
         ensures ok { OnOk result (self.new ≡ with_buffer self.old buffer.items) }
     {
+        if self.receiving.is_shared() {
+            return Err((RecvRefusal::Shared, buffer));
+        }
         if self.ending.has_ended() {
             return Err((RecvRefusal::Ended, buffer));
         }

@@ -10,12 +10,14 @@ use crate::starting::octets_in_order;
 use iw_memory::Memory;
 use iw_octets::Octets;
 use iw_startup::Progress;
+use iw_untagged::SharedQueue;
 use std::alloc::{AllocError, Allocator};
 
 impl<A: Allocator> Stream<A> {
-    ghost use Rattle.iw_stream.specs.Stream.{ended};
+    ghost use Rattle.iw_stream.specs.Stream.{ended, shares, sees};
+    ghost use Rattle.iw_untagged.specs.Receiving.{exchanged};
     ghost use Rattle.iw_stream.specs.Work.{Hear, IsTry, task, frame_task, handing_back};
-    ghost use Rattle.iw_stream.specs.Work.{step_of, left_by, table_left, work_step, worked, table_worked};
+    ghost use Rattle.iw_stream.specs.Work.{step_of, left_by, table_left, work_step, worked, table_worked, worked_with, pool_left};
     ghost use Rattle.iw_stream.specs.Kept.{IsWithinBuffer};
 
     /// Does one step: hands out a finished message, or reads the peer's start-up frame, or gives the frame at the in-order
@@ -58,6 +60,40 @@ impl<A: Allocator> Stream<A> {
             return Ok(self.hear());
         }
         Ok(Step::Idle)
+    }
+
+    /// The same, of a stream that shares a pool ([`Stream::new_shared`]). The first segment of a Send that is placed, whichever
+    /// it is, has the pool's oldest buffer bound to its message; nothing else takes one. A bound buffer is handed out with its
+    /// message or, where the stream has ended, handed back; the others stay in the pool. A stream that shares none leaves the
+    /// pool alone.
+    pub fn work_shared(
+        &mut self,
+        memory: &mut Memory<A>,
+        pool: &mut SharedQueue<A>,
+    ) -> Result<Step<Octets<A>>, AllocError>
+        requires { self.old.arrived.floor ≤ 2 ^ 62 }
+        ensures step { IfOk result (λ step. step ≡ work_step memory.old (sees self.old pool.old)) }
+        ensures after { OnOk result (self.new ≡ worked_with memory.old self.old pool.old) }
+        ensures pool { OnOk result (pool.new ≡ pool_left memory.old self.old pool.old) }
+        ensures memory { OnOk result (memory.new ≡ table_worked memory.old (sees self.old pool.old)) }
+        ensures err { OnErr result ((self.new ≡ self.old) × (memory.new ≡ memory.old) × (pool.new ≡ pool.old)) }
+        ensures own { shares self.old ≡ false → pool.new ≡ pool.old }
+        ensures want { OnErr result (IsTry (task (sees self.old pool.old))) }
+        ensures reach { self.new.arrived.floor ≤ self.old.arrived.floor + 2 ^ 18 }
+        ensures within { IfOk result IsWithinBuffer }
+    {
+        self.lend(pool);
+        let step = self.work(memory);
+        self.lend(pool);
+        step
+    }
+
+    // Exchanges the pool that is lent to the stream; one that shares none takes none.
+    fn lend(&mut self, pool: &mut SharedQueue<A>)
+        ensures after { self.new ≡ sees self.old pool.old }
+        ensures pool { pool.new ≡ exchanged self.old.receiving.source pool.old }
+    {
+        self.receiving.lend(pool);
     }
 
     // Does the step of an open stream that has to do with frames.
