@@ -5,8 +5,8 @@ use Rattle.std.specs.Option.{option_map}
 use Rattle.std.proofs.lemmas.Bool.Decides.{eqb_tells}
 use Rattle.iw_stream.specs.Stream.{StreamState}
 use Rattle.iw_endpoint.specs.Endpoint.{EndpointState, fresh, no_streams, stream_of}
-use Rattle.iw_endpoint.specs.Isolation.{Call, AddDomain, Register, Deregister, Invalidate, Store, Facts, Local, LocalMut, Open, AtStream, HasDomains, IsOwn, Concerns, Opens, OwnStep, OpensOwn, DomainsAreAlone, part_of, answer, after, owner, concerned, only, view, after_all, own_answer, own_answers, own_after_all}
-use Rattle.iw_endpoint.proofs.Parts.{empty_size}
+use Rattle.iw_endpoint.specs.Isolation.{Call, AddDomain, Register, Deregister, Invalidate, Store, Facts, Local, LocalMut, Open, Share, PostShared, TakeShared, OpenShared, AtStream, HasDomains, IsOwn, Concerns, Opens, OwnStep, OpensOwn, DomainsAreAlone, part_of, answer, after, owner, concerned, only, view, after_all, own_answer, own_answers, own_after_all}
+use Rattle.iw_endpoint.proofs.Parts.{fresh_domains}
 use Rattle.iw_endpoint.proofs.Steps.{concerns_one}
 
 -- each stream is in the domain whose its number is
@@ -23,6 +23,10 @@ concerns whose e (Facts stag) owned opens = refl
 concerns whose e (Local stag) owned opens = refl
 concerns whose e (LocalMut stag octets) owned opens = refl
 concerns whose e (Open n pd role config) owned opens = (refl, subst (λ d. IsOwn d (stream_of e n)) (opens n pd (refl, refl)) (owned n))
+concerns whose e (Share pd) owned opens = refl
+concerns whose e (PostShared pd buffer) owned opens = refl
+concerns whose e (TakeShared pd) owned opens = refl
+concerns whose e (OpenShared n pd role config) owned opens = (refl, subst (λ d. IsOwn d (stream_of e n)) (opens n pd (refl, refl)) (owned n))
 concerns whose e (AtStream n call) owned opens = owned n
 
 owned_by : (d x : ℕ) (o : Option StreamState) → option_map (λ s. s.domain) o ≡ Some x → IsOwn d o → x ≡ d
@@ -91,4 +95,4 @@ unfolding no_streams
 nothing_owned whose n = subst (λ o. IsOwn (whose n) o) (sym (nothing_in 64 n)) tt
 
 pub alone_all : DomainsAreAlone
-alone_all whose calls opens d = let run = runs whose calls fresh empty_size (nothing_owned whose) opens d in record { answers = run.answers; part = run.part }
+alone_all whose calls opens d = let run = runs whose calls fresh fresh_domains (nothing_owned whose) opens d in record { answers = run.answers; part = run.part }

@@ -1,17 +1,17 @@
 -- Endpoints that are alike in one domain's part stay so under its calls, and no other part changes.
-use Rattle.std.proofs.Common.{◌≡◌, ◌≢◌, ◌⊎◌, ℕ, zero, suc, ◌<◌, ◌≤◌, false, cond, List, [], ◌∷◌, length, map, set, get_or, Option, Some, None, refl, sym, ap, subst, ◌∙◌, inl, inr, eq-eqb}
-use Rattle.std.specs.Prelude.{◌==◌, IfSome, unwrap_or}
+use Rattle.std.proofs.Common.{◌≡◌, ◌≢◌, ◌⊎◌, ℕ, zero, suc, ◌<◌, ◌≤◌, Bool, false, cond, List, [], ◌∷◌, length, map, set, get_or, Option, Some, None, refl, sym, ap, subst, ◌∙◌, inl, inr, eq-eqb}
+use Rattle.std.specs.Prelude.{◌==◌, IfSome, is_some, unwrap_or}
 use Rattle.std.specs.Option.{option_map}
-use Rattle.std.proofs.lemmas.List.{get_or_past, map-set, set-get_or, length-replicate}
+use Rattle.std.proofs.lemmas.List.{get_or_past, get_or-set_same, get_or-set_other, map-set, set-get_or, length-replicate, length-set}
 use Rattle.std.proofs.lemmas.Bool.{cases_lt}
 use Rattle.std.proofs.lemmas.Bool.Decides.{eqb_tells}
 use Rattle.iw_memory.specs.Part as regions
 use Rattle.iw_memory.specs.Table as tables
-use Rattle.iw_memory.specs.Table.{Table, empty, with_part}
+use Rattle.iw_memory.specs.Table.{Table, empty, is_added, with_part}
 use Rattle.iw_memory.proofs.Callers.{length-with_part, part_of-with_part_same}
 use Rattle.iw_stream.specs.Stream.{StreamState}
 use Rattle.iw_endpoint.specs.declared.refusal.CallRefusal.TheVariants.{Refused}
-use Rattle.iw_endpoint.specs.Endpoint.{EndpointState, stream_of, stream_at, unopened, with_stream, with_table, refusal_at}
+use Rattle.iw_endpoint.specs.Endpoint.{EndpointState, Pool, fresh, no_pools, pool_of, with_pool, stream_of, stream_at, unopened, with_stream, with_table, refusal_at}
 use Rattle.iw_endpoint.specs.Isolation.{Call, HasDomains, IsOwn, Opens, OwnStep, own_stream, part_of, alone, answer, after, owner, unless, if_there}
 use Rattle.iw_endpoint.proofs.Tables.{AreAlike, alike-step, KeepsOthers, keeps-all, keeps-step}
 
@@ -56,6 +56,8 @@ own_twice d (x ∷ xs) = (λ i. own_own d x i ∷ own_twice d xs i)
 
 pub record AreSeenAlike (d : ℕ) (e f : EndpointState) : Type 0 where
   pub table : AreAlike d e.table f.table
+  pub places : length e.pools ≡ length f.pools
+  pub pool : pool_of e d ≡ pool_of f d
   pub streams : map (own_stream d) e.streams ≡ map (own_stream d) f.streams
 
 pub empty_size : length empty ≡ 256
@@ -71,9 +73,29 @@ alone_part t d all = elim (cases_lt d 256) [
   | inr past ↦ get_or_past t d None (subst (λ n. n ≤ d) (sym all) past) ∙ sym (get_or_past (with_part empty d (tables.part_of t d)) d None (subst (λ n. n ≤ d) (sym (alone_size d (tables.part_of t d))) past))
 ]
 
+no_pools_size : length no_pools ≡ 256
+unfolding no_pools
+no_pools_size = length-replicate {A = Option Pool} 256 None
+
+pub fresh_domains : HasDomains fresh
+fresh_domains = (empty_size, no_pools_size)
+
+-- a domain has a place among both or neither
+set_alike : (xs ys : List (Option Pool)) (d : ℕ) (o : Option Pool) → length xs ≡ length ys → get_or (set xs d o) d None ≡ get_or (set ys d o) d None
+set_alike xs ys d o size = elim (cases_lt d (length xs)) [
+  | inl within ↦ get_or-set_same xs d o None within ∙ sym (get_or-set_same ys d o None (subst (λ n. d < n) size within))
+  | inr past ↦ get_or_past (set xs d o) d None (subst (λ n. n ≤ d) (sym (length-set xs d o)) past) ∙ sym (get_or_past (set ys d o) d None (subst (λ n. n ≤ d) (size ∙ sym (length-set ys d o)) past))
+]
+
+alone_pool : (pools : List (Option Pool)) (d : ℕ) → length pools ≡ 256 → get_or pools d None ≡ get_or (set no_pools d (get_or pools d None)) d None
+alone_pool pools d all =
+    sym (ap (λ xs. get_or xs d None) (set-get_or pools d None)) ∙ set_alike pools no_pools d (get_or pools d None) (all ∙ sym no_pools_size)
+
 pub seen_alone : (d : ℕ) (e : EndpointState) → HasDomains e → AreSeenAlike d e (alone d (part_of d e))
 seen_alone d e all = record {
-  table = record { size = all ∙ sym (alone_size d (tables.part_of e.table d)); part = alone_part e.table d all };
+  table = record { size = all.0 ∙ sym (alone_size d (tables.part_of e.table d)); part = alone_part e.table d all.0 };
+  places = all.1 ∙ sym (length-set no_pools d (pool_of e d) ∙ no_pools_size);
+  pool = alone_pool e.pools d all.1;
   streams = sym (own_twice d e.streams);
 }
 
@@ -90,11 +112,21 @@ alone_own d e n = subst (λ o. IsOwn d o) (sym (own_index d e.streams n)) (own_i
 pub with_alike : (d : ℕ) (e f : EndpointState) (n : ℕ) (x y : StreamState) → x ≡ y → AreSeenAlike d e f → AreSeenAlike d (with_stream e n x) (with_stream f n y)
 with_alike d e f n x y same h = record {
   table = h.table;
+  places = h.places;
+  pool = h.pool;
   streams = map-set (own_stream d) e.streams n (Some x) ∙ (λ i. set (h.streams i) n (own_stream d (Some (same i)))) ∙ sym (map-set (own_stream d) f.streams n (Some y));
 }
 
 pub with_tables_alike : (d : ℕ) (e f : EndpointState) (t u : Table) → AreAlike d t u → AreSeenAlike d e f → AreSeenAlike d (with_table e t) (with_table f u)
-with_tables_alike d e f t u tables h = record { table = tables; streams = h.streams }
+with_tables_alike d e f t u tables h = record { table = tables; places = h.places; pool = h.pool; streams = h.streams }
+
+pub with_pool_alike : (d : ℕ) (e f : EndpointState) (x y : Option Pool) → x ≡ y → AreSeenAlike d e f → AreSeenAlike d (with_pool e d x) (with_pool f d y)
+with_pool_alike d e f x y same h = record {
+  table = h.table;
+  places = length-set e.pools d x ∙ h.places ∙ sym (length-set f.pools d y);
+  pool = set_alike e.pools f.pools d x h.places ∙ ap (λ o. get_or (set f.pools d o) d None) same;
+  streams = h.streams;
+}
 
 pub unless_alike : {R : Type 0} (d : ℕ) (e f a b : EndpointState) (q : Option R) → AreSeenAlike d e f → AreSeenAlike d a b → AreSeenAlike d (unless q e a) (unless q f b)
 unless_alike d e f a b None h after = after
@@ -126,11 +158,20 @@ region_alike refusal own d e f h =
     subst (λ part. AreSeenAlike d (unless (refusal (tables.part_of e.table d)) e (with_table e (with_part e.table d (own (tables.part_of e.table d))))) (unless (refusal part) f (with_table f (with_part f.table d (own (tables.part_of f.table d)))))) h.table.part
     (unless_alike d e f _ _ (refusal (tables.part_of e.table d)) h (with_tables_alike d e f _ _ (alike-step d e.table f.table own h.table) h))
 
+-- a call at the domain's pool
+pub pool_alike : {R : Type 0} (fault : Bool → Option Pool → Option R) (own : Option Pool → Option Pool) (d : ℕ) (e f : EndpointState) → AreSeenAlike d e f
+    → AreSeenAlike d (unless (fault (is_added e.table d) (pool_of e d)) e (with_pool e d (own (pool_of e d)))) (unless (fault (is_added f.table d) (pool_of f d)) f (with_pool f d (own (pool_of f d))))
+pool_alike fault own d e f h =
+    subst (λ q. AreSeenAlike d (unless (fault (is_added e.table d) (pool_of e d)) e (with_pool e d (own (pool_of e d)))) (unless q f (with_pool f d (own (pool_of f d))))) (λ i. fault (is_some (h.table.part i)) (h.pool i))
+    (unless_alike d e f _ _ (fault (is_added e.table d) (pool_of e d)) h (with_pool_alike d e f _ _ (ap own h.pool) h))
+
 -- ---- what is left of all else
 
 -- other domains' parts stay, and so do the domains of streams, but for what was opened
 pub record Leaves (d : ℕ) (e new : EndpointState) (IsNew : ℕ → ℕ → Type 0) : Type 0 where
   pub table : KeepsOthers d e.table new.table
+  pub places : length new.pools ≡ length e.pools
+  pub pools : (other : ℕ) → other ≢ d → pool_of new other ≡ pool_of e other
   pub streams : (other : ℕ) → other ≢ d → map (own_stream other) new.streams ≡ map (own_stream other) e.streams
   pub owners : (n : ℕ) → IfSome (stream_of new n) (λ s. (owner e n ≡ Some s.domain) ⊎ IsNew n s.domain)
 
@@ -139,10 +180,10 @@ owned IsNew None = tt
 owned IsNew (Some s) = inl refl
 
 pub leaves-all : (d : ℕ) (e : EndpointState) (IsNew : ℕ → ℕ → Type 0) → Leaves d e e IsNew
-leaves-all d e IsNew = record { table = keeps-all d e.table; streams = λ other ne. refl; owners = λ n. owned (IsNew n) (stream_of e n) }
+leaves-all d e IsNew = record { table = keeps-all d e.table; places = refl; pools = λ other ne. refl; streams = λ other ne. refl; owners = λ n. owned (IsNew n) (stream_of e n) }
 
 pub leaves-table : (d : ℕ) (e : EndpointState) (t : Table) (IsNew : ℕ → ℕ → Type 0) → KeepsOthers d e.table t → Leaves d e (with_table e t) IsNew
-leaves-table d e t IsNew keeps = record { table = keeps; streams = λ other ne. refl; owners = λ n. owned (IsNew n) (stream_of e n) }
+leaves-table d e t IsNew keeps = record { table = keeps; places = refl; pools = λ other ne. refl; streams = λ other ne. refl; owners = λ n. owned (IsNew n) (stream_of e n) }
 
 itself : (n m : ℕ) (x : StreamState) (o : Option StreamState) → IfSome o (λ s. (o ≡ Some s) ⊎ ((m ≡ n) × (s ≡ x)))
 itself n m x None = tt
@@ -166,6 +207,8 @@ pub leaves-with : (d : ℕ) (e : EndpointState) (n : ℕ) (x : StreamState) (IsN
     → (owner e n ≡ Some x.domain) ⊎ IsNew n x.domain → Leaves d e (with_stream e n x) IsNew
 leaves-with d e n x IsNew here own was = record {
   table = keeps-all d e.table;
+  places = refl;
+  pools = λ other ne. refl;
   streams = λ other ne.
       let nothing : get_or (map (own_stream other) e.streams) n None ≡ None = own_index other e.streams n ∙ own_other d other (stream_of e n) own ne in
       map-set (own_stream other) e.streams n (Some x)
@@ -215,6 +258,20 @@ pub region_leaves : {R : Type 0} (q : Option R) (d : ℕ) (e : EndpointState) (p
 region_leaves None d e part IsNew = leaves-table d e (with_part e.table d part) IsNew (keeps-step d e.table part)
 region_leaves (Some refusal) d e part IsNew = leaves-all d e IsNew
 
+-- another domain's pool stays
+pub pool_other : (d other : ℕ) (e : EndpointState) (o : Option Pool) → other ≢ d → pool_of (with_pool e d o) other ≡ pool_of e other
+pool_other d other e o ne = get_or-set_other e.pools d other o None ne
+
+pub pool_leaves : {R : Type 0} (q : Option R) (d : ℕ) (e : EndpointState) (o : Option Pool) (IsNew : ℕ → ℕ → Type 0) → Leaves d e (unless q e (with_pool e d o)) IsNew
+pool_leaves None d e o IsNew = record {
+  table = keeps-all d e.table;
+  places = length-set e.pools d o;
+  pools = λ other ne. pool_other d other e o ne;
+  streams = λ other ne. refl;
+  owners = λ n. owned (IsNew n) (stream_of e n);
+}
+pool_leaves (Some refusal) d e o IsNew = leaves-all d e IsNew
+
 -- ---- one step
 
 pub one_step : (d : ℕ) (e : EndpointState) (call : Call) → HasDomains e
@@ -224,8 +281,8 @@ pub one_step : (d : ℕ) (e : EndpointState) (call : Call) → HasDomains e
     → OwnStep d e call
 one_step d e call all answered alike leaves = record {
   answered = answered;
-  own = (λ i. record { slots = alike.table.part i; streams = alike.streams i });
-  others = λ other ne. (λ i. record { slots = leaves.table.parts other ne i; streams = leaves.streams other ne i });
+  own = (λ i. record { slots = alike.table.part i; pool = alike.pool i; streams = alike.streams i });
+  others = λ other ne. (λ i. record { slots = leaves.table.parts other ne i; pool = leaves.pools other ne i; streams = leaves.streams other ne i });
   owners = leaves.owners;
-  domains = leaves.table.size ∙ all;
+  domains = (leaves.table.size ∙ all.0, leaves.places ∙ all.1);
 }

@@ -1,32 +1,69 @@
 -- Each call is one step on the part of the domain that it concerns.
-use Rattle.std.proofs.Common.{◌≡◌, ℕ, List, length, Option, Some, None, Ok, refl, sym, ap, subst, ◌∙◌, inr}
+use Rattle.std.proofs.Common.{◌≡◌, ℕ, List, [], ◌∷◌, ◌++◌, length, drop, Option, Some, None, Ok, refl, sym, ap, subst, ◌∙◌, inr}
 use Rattle.std.specs.Prelude.{unwrap_or, is_some, nat_le, not, if◌then◌else◌}
-use Rattle.std.specs.Option.{option_map}
+use Rattle.std.specs.Option.{option_map, option_or}
+use Rattle.std.proofs.lemmas.List.{length-set}
 use Rattle.iw_memory.specs.declared.refusal.NoRegion.{NoRegion}
 use Rattle.iw_memory.specs.Part as regions
 use Rattle.iw_memory.specs.Region.{facts_of, new_region, overlay}
 use Rattle.iw_memory.specs.Table as tables
 use Rattle.iw_memory.specs.Table.{Table}
-use Rattle.iw_stream.specs.declared.answer.OpenRefusal.{OpenRefusal}
 use Rattle.iw_stream.specs.declared.answer.OpenRefusal.TheVariants.{NumberTaken, BadNumber, NoDomain}
 use Rattle.iw_ranges.specs.declared.Delivery.{Delivery}
 use Rattle.iw_ranges.specs.declared.Delivery.TheVariants.{Kept, Dropped}
 use Rattle.iw_stream.specs.Starting.{private_in, agreement_in}
 use Rattle.iw_stream.specs.Stream as stream
-use Rattle.iw_stream.specs.Stream.{StreamState, emission_of, emitted, delivery_of}
-use Rattle.iw_stream.specs.Work.{work_step, worked, table_worked}
-use Rattle.iw_endpoint.specs.Endpoint.{EndpointState, stream_of, unopened, with_stream, with_table, answer_at, refusal_at, unasked, open_refusal, stream_numbers}
-use Rattle.iw_endpoint.specs.Isolation.{StreamCall, Accept, Reject, Post, PostRecv, FirstNumber, Deliver, Work, Emit, BreakLink, SetMulpdu, Private, PeerFirst, Sent, DueLen, InOrderPoint, Limits, AddDomain, Register, Deregister, Invalidate, Store, Facts, Local, LocalMut, Open, AtStream}
-use Rattle.iw_endpoint.specs.Isolation.{Accepted, Rejected, Posted, Buffered, Numbered, Delivered, Worked, Emitted, Broke, Sized, Shown, Counted, Limited, Added, Registered, Octets, Invalidated, Found, Stored, Opened, OfStream}
+use Rattle.iw_untagged.specs.Receiving.{exchanged}
+use Rattle.iw_stream.specs.Stream.{StreamState, sees, emission_of, emitted, delivery_of}
+use Rattle.iw_stream.specs.Work.{work_step, table_worked}
+use Rattle.iw_endpoint.specs.Endpoint.{EndpointState, Pool, pool_of, with_pool, share_fault, share_refusal, pool_fault, pool_refusal, take_fault, take_refusal, taken, lent_to, left_of, pool_left, with_worked, stream_of, unopened, with_stream, with_table, answer_at, refusal_at, unasked, open_refusal, open_shared_refusal, open_shared_refusal_of, unshared, stream_numbers}
+use Rattle.iw_endpoint.specs.Isolation.{StreamCall, Accept, Reject, Post, PostRecv, Deliver, Work, Emit, BreakLink, SetMulpdu, Private, Sent, DueLen, InOrderPoint, Limits, AddDomain, Register, Deregister, Invalidate, Store, Facts, Local, LocalMut, Open, Share, PostShared, TakeShared, OpenShared, AtStream, FirstNumber, PeerFirst}
+use Rattle.iw_endpoint.specs.Isolation.{Accepted, Rejected, Posted, Buffered, Delivered, Worked, Emitted, Broke, Sized, Shown, Counted, Limited, Added, Registered, Octets, Invalidated, Found, Stored, Opened, Shared, Pooled, Taken, OpenedShared, OfStream, Numbered}
 use Rattle.iw_endpoint.specs.Isolation.{IsOwn, OwnStep, CallsConcernOneDomain, part_of, alone, stream_answer, after_stream, answer_or, unless}
 use Rattle.iw_endpoint.proofs.Tables.{AreAlike, KeepsOthers, step-alike, worked-alike, table_worked-alike, keeps-worked, emission-alike, emitted-alike, after_emit-alike, worked_domain, emit_domain}
-use Rattle.iw_endpoint.proofs.Parts.{AreSeenAlike, seen_alone, stream_alike, alone_own, with_alike, with_tables_alike, unless_alike, refusing_alike, changing_alike, region_alike, Leaves, leaves-all, leaves-with, leaves-changed, refusing_leaves, changing_leaves, region_leaves, one_step}
+use Rattle.iw_endpoint.proofs.Parts.{AreSeenAlike, seen_alone, stream_alike, alone_own, with_alike, with_tables_alike, with_pool_alike, pool_alike, pool_other, pool_leaves, unless_alike, refusing_alike, changing_alike, region_alike, Leaves, leaves-all, leaves-with, leaves-changed, refusing_leaves, changing_leaves, region_leaves, one_step}
 
 -- ---- calls at a stream
 
 -- a stream of the domain sees two endpoints alike
 pub at_own : (d : ℕ) (e f : EndpointState) (s : StreamState) → IsOwn d (Some s) → AreSeenAlike d e f → AreAlike s.domain e.table f.table
 at_own d e f s own h = subst (λ x. AreAlike x e.table f.table) (sym own) h.table
+
+-- and so does one whose domain is seen so
+seen_own : (d : ℕ) (e f : EndpointState) (s : StreamState) → IsOwn d (Some s) → AreSeenAlike d e f → AreSeenAlike s.domain e f
+seen_own d e f s own h = subst (λ x. AreSeenAlike x e f) (sym own) h
+
+-- its step, with the pool of its domain
+step_seen : (e f : EndpointState) (s : StreamState) → AreSeenAlike s.domain e f → work_step e.table (lent_to (pool_of e s.domain) s) ≡ work_step f.table (lent_to (pool_of f s.domain) s)
+step_seen e f s h = go (pool_of e s.domain) ∙ ap (λ o. work_step f.table (lent_to o s)) h.pool
+  where
+    go : (o : Option Pool) → work_step e.table (lent_to o s) ≡ work_step f.table (lent_to o s)
+    go None = step-alike s e.table f.table h.table
+    go (Some pool) = step-alike (sees s pool) e.table f.table h.table
+
+worked_alike : (e f : EndpointState) (n : ℕ) (s : StreamState) → AreSeenAlike s.domain e f → AreSeenAlike s.domain (with_worked e n s) (with_worked f n s)
+worked_alike e f n s h = subst (λ o. AreSeenAlike s.domain (with_worked e n s) (made f o)) h.pool (go (pool_of e s.domain))
+  where
+    made : EndpointState → Option Pool → EndpointState
+    made x o = with_table (with_pool (with_stream x n (left_of x.table o s)) s.domain (pool_left x.table o s)) (table_worked x.table (lent_to o s))
+
+    tables : (o : Option Pool) → AreAlike s.domain (table_worked e.table (lent_to o s)) (table_worked f.table (lent_to o s))
+    tables None = table_worked-alike s e.table f.table h.table
+    tables (Some pool) = table_worked-alike (sees s pool) e.table f.table h.table
+
+    left : (o : Option Pool) → left_of e.table o s ≡ left_of f.table o s
+    left None = worked-alike s e.table f.table h.table
+    left (Some pool) = ap (λ t. sees t (exchanged s.receiving.source pool)) (worked-alike (sees s pool) e.table f.table h.table)
+
+    pools : (o : Option Pool) → pool_left e.table o s ≡ pool_left f.table o s
+    pools None = refl
+    pools (Some pool) = ap (λ t. Some (exchanged t.receiving.source (exchanged s.receiving.source pool))) (worked-alike (sees s pool) e.table f.table h.table)
+
+    go : (o : Option Pool) → AreSeenAlike s.domain (made e o) (made f o)
+    go o =
+        with_tables_alike s.domain (with_pool (with_stream e n (left_of e.table o s)) s.domain (pool_left e.table o s)) (with_pool (with_stream f n (left_of f.table o s)) s.domain (pool_left f.table o s)) (table_worked e.table (lent_to o s)) (table_worked f.table (lent_to o s)) (tables o)
+        (with_pool_alike s.domain (with_stream e n (left_of e.table o s)) (with_stream f n (left_of f.table o s)) (pool_left e.table o s) (pool_left f.table o s) (pools o)
+        (with_alike s.domain e f n (left_of e.table o s) (left_of f.table o s) (left o) h))
 
 -- what is told of a stream that is the same at both
 told_at : {A : Type 0} (d : ℕ) (e f : EndpointState) (o : Option StreamState) (at_e at_f : StreamState → A) → IsOwn d o → ((s : StreamState) → IsOwn d (Some s) → at_e s ≡ at_f s) → answer_at o (λ s. at_e (unwrap_or o unopened)) ≡ answer_at o (λ s. at_f (unwrap_or o unopened))
@@ -40,11 +77,11 @@ stream_answers d e f n (Post request) own same h = ap (λ o. Posted (refusal_at 
 stream_answers d e f n (PostRecv buffer) own same h = ap (λ o. Buffered (refusal_at o stream.recv_refusal)) same
 stream_answers d e f n (FirstNumber first) own same h = ap (λ o. Numbered (refusal_at o stream.first_refusal)) same
 stream_answers d e f n (Deliver from octets) own same h = ap (λ o. Delivered (answer_at o (λ s. delivery_of (unwrap_or o unopened) from (length octets)))) same
-stream_answers d e f n Work own same h = go (stream_of e n) own ∙ ap (λ o. Worked (answer_at o (λ s. work_step f.table s))) same
+stream_answers d e f n Work own same h = go (stream_of e n) own ∙ ap (λ o. Worked (answer_at o (λ s. work_step f.table (lent_to (pool_of f s.domain) s)))) same
   where
-    go : (o : Option StreamState) → IsOwn d o → Worked (answer_at o (λ s. work_step e.table s)) ≡ Worked (answer_at o (λ s. work_step f.table s))
+    go : (o : Option StreamState) → IsOwn d o → Worked (answer_at o (λ s. work_step e.table (lent_to (pool_of e s.domain) s))) ≡ Worked (answer_at o (λ s. work_step f.table (lent_to (pool_of f s.domain) s)))
     go None own = refl
-    go (Some s) own = ap (λ x. Worked (Ok x)) (step-alike s e.table f.table (at_own d e f s own h))
+    go (Some s) own = ap (λ x. Worked (Ok x)) (step_seen e f s (seen_own d e f s own h))
 stream_answers d e f n Emit own same h =
     (λ i. Emitted (told_at d e f (stream_of e n) (emission_of e.table) (emission_of f.table) own (λ s own. emission-alike s e.table f.table (at_own d e f s own h)) i) (told_at d e f (stream_of e n) (emitted e.table) (emitted f.table) own (λ s own. emitted-alike s e.table f.table (at_own d e f s own h)) i))
     ∙ ap (λ o. Emitted (answer_at o (λ s. emission_of f.table (unwrap_or o unopened))) (answer_at o (λ s. emitted f.table (unwrap_or o unopened)))) same
@@ -63,9 +100,6 @@ stream_answers d e f n Limits own same h = ap (λ o. Limited (answer_at o (λ s.
 abbrev delivered : ℕ → List ℕ → StreamState → StreamState
 delivered from octets s = stream.after_deliver s from octets (delivery_of s from (length octets))
 
-abbrev with_worked : ℕ → StreamState → EndpointState → EndpointState
-with_worked n s e = with_table (with_stream e n (worked e.table s)) (table_worked e.table s)
-
 stream_alikes : (d : ℕ) (e f : EndpointState) (n : ℕ) (call : StreamCall) → IsOwn d (stream_of e n) → stream_of e n ≡ stream_of f n → AreSeenAlike d e f → AreSeenAlike d (after_stream e n call) (after_stream f n call)
 stream_alikes d e f n (Accept private) own same h = refusing_alike unasked (λ s. stream.accepted s private) d e f n same h
 stream_alikes d e f n (Reject private) own same h = refusing_alike unasked (λ s. stream.rejected s private) d e f n same h
@@ -74,12 +108,9 @@ stream_alikes d e f n (PostRecv buffer) own same h = refusing_alike stream.recv_
 stream_alikes d e f n (FirstNumber first) own same h = refusing_alike stream.first_refusal (λ s. stream.with_first s first) d e f n same h
 stream_alikes d e f n (Deliver from octets) own same h =
     changing_alike (λ s e. with_stream e n (delivered from octets s)) d e f n same h (λ s is. with_alike d e f n (delivered from octets s) (delivered from octets s) refl h)
-stream_alikes d e f n Work own same h = changing_alike (with_worked n) d e f n same h (λ s is.
-    let mine = at_own d e f s (subst (λ o. IsOwn d o) is own) h in
+stream_alikes d e f n Work own same h = changing_alike (λ s e. with_worked e n s) d e f n same h (λ s is.
     let here : s.domain ≡ d = subst (λ o. IsOwn d o) is own in
-    with_tables_alike d (with_stream e n (worked e.table s)) (with_stream f n (worked f.table s)) (table_worked e.table s) (table_worked f.table s)
-    (subst (λ x. AreAlike x (table_worked e.table s) (table_worked f.table s)) here (table_worked-alike s e.table f.table mine))
-    (with_alike d e f n (worked e.table s) (worked f.table s) (worked-alike s e.table f.table mine) h))
+    subst (λ x. AreSeenAlike x e f → AreSeenAlike x (with_worked e n s) (with_worked f n s)) here (worked_alike e f n s) h)
 stream_alikes d e f n Emit own same h = changing_alike (λ s e. with_stream e n (stream.after_emit e.table s)) d e f n same h (λ s is.
     with_alike d e f n (stream.after_emit e.table s) (stream.after_emit f.table s) (after_emit-alike s e.table f.table (at_own d e f s (subst (λ o. IsOwn d o) is own) h)) h)
 stream_alikes d e f n BreakLink own same h = changing_alike (λ s e. with_stream e n (stream.breaks s)) d e f n same h (λ s is. with_alike d e f n (stream.breaks s) (stream.breaks s) refl h)
@@ -95,10 +126,21 @@ delivered_domain : (s : StreamState) (from : ℕ) (octets : List ℕ) (x : Deliv
 delivered_domain s from octets Kept = refl
 delivered_domain s from octets Dropped = refl
 
-worked_leaves : (d : ℕ) (e : EndpointState) (n : ℕ) (IsNew : ℕ → ℕ → Type 0) (s : StreamState) → stream_of e n ≡ Some s → IsOwn d (Some s) → Leaves d e (with_worked n s e) IsNew
+left_domain : (t : Table) (o : Option Pool) (s : StreamState) → (left_of t o s).domain ≡ s.domain
+left_domain t None s = worked_domain t s
+left_domain t (Some pool) s = worked_domain t (sees s pool)
+
+keeps-lent : (o : Option Pool) (s : StreamState) (t : Table) → KeepsOthers s.domain t (table_worked t (lent_to o s))
+keeps-lent None s t = keeps-worked s t
+keeps-lent (Some pool) s t = keeps-worked (sees s pool) t
+
+worked_leaves : (d : ℕ) (e : EndpointState) (n : ℕ) (IsNew : ℕ → ℕ → Type 0) (s : StreamState) → stream_of e n ≡ Some s → IsOwn d (Some s) → Leaves d e (with_worked e n s) IsNew
 worked_leaves d e n IsNew s is own =
-    let put = leaves-changed d e n s (worked e.table s) IsNew is own (worked_domain e.table s) in record {
-      table = subst (λ x. KeepsOthers x e.table (table_worked e.table s)) own (keeps-worked s e.table);
+    let o = pool_of e s.domain in
+    let put = leaves-changed d e n s (left_of e.table o s) IsNew is own (left_domain e.table o s) in record {
+      table = subst (λ x. KeepsOthers x e.table (table_worked e.table (lent_to o s))) own (keeps-lent o s e.table);
+      places = length-set e.pools s.domain (pool_left e.table o s);
+      pools = λ other ne. pool_other s.domain other e (pool_left e.table o s) (λ same. ne (same ∙ own));
       streams = put.streams;
       owners = put.owners;
     }
@@ -111,7 +153,7 @@ stream_leaves d e n (PostRecv buffer) IsNew own = refusing_leaves stream.recv_re
 stream_leaves d e n (FirstNumber first) IsNew own = refusing_leaves stream.first_refusal (λ s. stream.with_first s first) d e n IsNew own (λ s. refl)
 stream_leaves d e n (Deliver from octets) IsNew own =
     changing_leaves (λ s. with_stream e n (delivered from octets s)) d e n IsNew own (λ s is own. leaves-changed d e n s (delivered from octets s) IsNew is own (delivered_domain s from octets (delivery_of s from (length octets))))
-stream_leaves d e n Work IsNew own = changing_leaves (λ s. with_worked n s e) d e n IsNew own (worked_leaves d e n IsNew)
+stream_leaves d e n Work IsNew own = changing_leaves (λ s. with_worked e n s) d e n IsNew own (worked_leaves d e n IsNew)
 stream_leaves d e n Emit IsNew own =
     changing_leaves (λ s. with_stream e n (stream.after_emit e.table s)) d e n IsNew own (λ s is own. leaves-changed d e n s (stream.after_emit e.table s) IsNew is own (emit_domain e.table s))
 stream_leaves d e n BreakLink IsNew own =
@@ -130,12 +172,12 @@ pub open_alike : (d : ℕ) (e f : EndpointState) (n : ℕ) → stream_of e n ≡
 open_alike d e f n same h =
     (λ i. if is_some (same i) then Some NumberTaken else if nat_le stream_numbers n then Some BadNumber else if not (is_some (h.table.part i)) then Some NoDomain else None)
 
-open_leaves : (d : ℕ) (e : EndpointState) (n : ℕ) (x : StreamState) (IsNew : ℕ → ℕ → Type 0) → x.domain ≡ d → IsOwn d (stream_of e n) → IsNew n x.domain → Leaves d e (unless (open_refusal e n d) e (with_stream e n x)) IsNew
-open_leaves d e n x IsNew here own is_new = go (open_refusal e n d)
-  where
-    go : (q : Option OpenRefusal) → Leaves d e (unless q e (with_stream e n x)) IsNew
-    go None = leaves-with d e n x IsNew here own (inr is_new)
-    go (Some refusal) = leaves-all d e IsNew
+open_shared_alike : (d : ℕ) (e f : EndpointState) (n : ℕ) → stream_of e n ≡ stream_of f n → AreSeenAlike d e f → open_shared_refusal e n d ≡ open_shared_refusal f n d
+open_shared_alike d e f n same h = λ i. option_or (option_map open_shared_refusal_of (open_alike d e f n same h i)) (unshared (h.pool i))
+
+open_leaves : {R : Type 0} (q : Option R) (d : ℕ) (e : EndpointState) (n : ℕ) (x : StreamState) (IsNew : ℕ → ℕ → Type 0) → x.domain ≡ d → IsOwn d (stream_of e n) → IsNew n x.domain → Leaves d e (unless q e (with_stream e n x)) IsNew
+open_leaves None d e n x IsNew here own is_new = leaves-with d e n x IsNew here own (inr is_new)
+open_leaves (Some refusal) d e n x IsNew here own is_new = leaves-all d e IsNew
 
 -- ---- any call
 
@@ -184,7 +226,31 @@ concerns_one d e (Open n pd role config) all here = subst (λ x. IsOwn x (stream
     one_step pd e (Open n pd role config) all (ap Opened (open_alike pd e f n same h))
     (subst (λ q. AreSeenAlike pd (unless (open_refusal e n pd) e (with_stream e n x)) (unless q f (with_stream f n x))) (open_alike pd e f n same h)
     (unless_alike pd e f (with_stream e n x) (with_stream f n x) (open_refusal e n pd) h (with_alike pd e f n x x refl h)))
-    (open_leaves pd e n x _ refl own (refl, refl))) here.1
+    (open_leaves (open_refusal e n pd) pd e n x _ refl own (refl, refl))) here.1
+concerns_one d e (Share pd) all here = subst (λ x. OwnStep x e (Share pd)) here
+    (let h = seen_alone pd e all in let f = alone pd (part_of pd e) in
+    one_step pd e (Share pd) all (λ i. Shared (share_fault (is_some (h.table.part i)) (h.pool i)))
+    (pool_alike share_fault (λ pool. Some []) pd e f h)
+    (pool_leaves (share_refusal e pd) pd e (Some []) _))
+concerns_one d e (PostShared pd buffer) all here = subst (λ x. OwnStep x e (PostShared pd buffer)) here
+    (let h = seen_alone pd e all in let f = alone pd (part_of pd e) in
+    one_step pd e (PostShared pd buffer) all (λ i. Pooled (pool_fault (is_some (h.table.part i)) (h.pool i)))
+    (pool_alike pool_fault (option_map (λ pool. pool ++ buffer ∷ [])) pd e f h)
+    (pool_leaves (pool_refusal e pd) pd e _ _))
+concerns_one d e (TakeShared pd) all here = subst (λ x. OwnStep x e (TakeShared pd)) here
+    (let h = seen_alone pd e all in let f = alone pd (part_of pd e) in
+    one_step pd e (TakeShared pd) all (λ i. Taken (answer_or (take_fault (is_some (h.table.part i)) (h.pool i)) (taken (h.pool i))))
+    (pool_alike take_fault (option_map (drop 1)) pd e f h)
+    (pool_leaves (take_refusal e pd) pd e _ _))
+concerns_one d e (OpenShared n pd role config) all here = subst (λ x. IsOwn x (stream_of e n) → OwnStep x e (OpenShared n pd role config)) here.0
+    (λ own.
+    let h = seen_alone pd e all in let f = alone pd (part_of pd e) in
+    let same = stream_alike pd e f n own (alone_own pd e n) h in
+    let x = stream.opened_shared pd role config in
+    one_step pd e (OpenShared n pd role config) all (ap OpenedShared (open_shared_alike pd e f n same h))
+    (subst (λ q. AreSeenAlike pd (unless (open_shared_refusal e n pd) e (with_stream e n x)) (unless q f (with_stream f n x))) (open_shared_alike pd e f n same h)
+    (unless_alike pd e f (with_stream e n x) (with_stream f n x) (open_shared_refusal e n pd) h (with_alike pd e f n x x refl h)))
+    (open_leaves (open_shared_refusal e n pd) pd e n x _ refl own (refl, refl))) here.1
 concerns_one d e (AtStream n call) all own =
     let h = seen_alone d e all in let f = alone d (part_of d e) in
     let same = stream_alike d e f n own (alone_own d e n) h in

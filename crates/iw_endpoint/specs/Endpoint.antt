@@ -1,6 +1,6 @@
 -- The state of an endpoint, and what each call answers and leaves of it.
-use Rattle.std.specs.Prelude.{◌≡◌, ℕ, List, [], length, replicate, slice_index_or, slice_set, Bool, false, not, nat_le, is_some, unwrap_or, if◌then◌else◌, Option, Some, None, Result, Ok, Err}
-use Rattle.std.specs.Option.{option_map}
+use Rattle.std.specs.Prelude.{◌≡◌, ℕ, List, [], ◌∷◌, ◌++◌, length, drop, replicate, slice_get, slice_index_or, slice_set, Bool, false, not, nat_le, is_some, unwrap_or, if◌then◌else◌, Option, Some, None, Result, Ok, Err}
+use Rattle.std.specs.Option.{option_map, option_map_or, option_or}
 use Rattle.arrayvec.specs.ArrayVec.{ArrayVec}
 use Rattle.iw_octets.specs.declared.stag.Stag.{Stag}
 use Rattle.iw_memory.specs.declared.refusal.DomainRefusal.{DomainRefusal}
@@ -16,10 +16,13 @@ use Rattle.iw_ranges.specs.declared.Delivery.{Delivery}
 use Rattle.iw_startup.specs.declared.config.Agreed.{Agreed}
 use Rattle.iw_startup.specs.declared.config.Config.{Config}
 use Rattle.iw_startup.specs.declared.startup.NotAsked.{NotAsked}
+use Rattle.iw_untagged.specs.declared.queue.BufferRefusal.{BufferRefusal}
+use Rattle.iw_untagged.specs.declared.queue.BufferRefusal.TheVariants as buffer_refusals
+use Rattle.iw_untagged.specs.Receiving as receiving
 use Rattle.iw_stream.specs.declared.answer.FirstRefusal.{FirstRefusal}
 use Rattle.iw_stream.specs.declared.answer.Emission.{Emission}
 use Rattle.iw_stream.specs.declared.answer.OpenRefusal.{OpenRefusal}
-use Rattle.iw_stream.specs.declared.answer.OpenRefusal.TheVariants.{NumberTaken, BadNumber, NoDomain}
+use Rattle.iw_stream.specs.declared.answer.OpenRefusal.TheVariants.{NumberTaken, BadNumber, NoDomain, NoMemory}
 use Rattle.iw_stream.specs.declared.answer.PostRefusal.{PostRefusal}
 use Rattle.iw_stream.specs.declared.answer.RecvRefusal.{RecvRefusal}
 use Rattle.iw_stream.specs.declared.answer.Role.{Role}
@@ -28,27 +31,49 @@ use Rattle.iw_stream.specs.declared.answer.SizeRefusal.{SizeRefusal}
 use Rattle.iw_stream.specs.declared.answer.Step.{Step}
 use Rattle.iw_stream.specs.Starting.{private_in, agreement_in}
 use Rattle.iw_stream.specs.Stream as stream
-use Rattle.iw_stream.specs.Stream.{StreamState, may_answer, emission_of, emitted, delivery_of}
-use Rattle.iw_stream.specs.Work.{work_step, worked, table_worked}
+use Rattle.iw_stream.specs.Stream.{StreamState, sees, may_answer, emission_of, emitted, delivery_of}
+use Rattle.iw_stream.specs.Work as work
+use Rattle.iw_stream.specs.Work.{work_step, worked, worked_with, table_worked}
 use Rattle.iw_endpoint.specs.declared.refusal.CallRefusal.{CallRefusal}
 use Rattle.iw_endpoint.specs.declared.refusal.CallRefusal.TheVariants.{NoSuchStream as NoStream, Refused}
 use Rattle.iw_endpoint.specs.declared.refusal.NoSuchStream.{NoSuchStream}
+use Rattle.iw_endpoint.specs.declared.refusal.OpenSharedRefusal.{OpenSharedRefusal}
+use Rattle.iw_endpoint.specs.declared.refusal.OpenSharedRefusal.TheVariants as open_shared_refusals
+use Rattle.iw_endpoint.specs.declared.refusal.PoolRefusal.{PoolRefusal}
+use Rattle.iw_endpoint.specs.declared.refusal.PoolRefusal.TheVariants as pool_refusals
+use Rattle.iw_endpoint.specs.declared.refusal.ShareRefusal.{ShareRefusal}
+use Rattle.iw_endpoint.specs.declared.refusal.ShareRefusal.TheVariants as share_refusals
+use Rattle.iw_endpoint.specs.declared.refusal.TakeRefusal.{TakeRefusal}
+use Rattle.iw_endpoint.specs.declared.refusal.TakeRefusal.TheVariants as take_refusals
 
 -- streams have the numbers from 0 to 63
 abbrev pub stream_numbers : ℕ
 stream_numbers = 64
 
+-- the buffers of a pool that were posted to it, and neither taken nor bound to a message, oldest first
+abbrev pub Pool : Type 0
+Pool = List (List ℕ)
+
+-- there is a place for each domain
+abbrev pub domain_numbers : ℕ
+domain_numbers = 256
+
 pub record EndpointState : Type 0 where
   pub table : Table  -- its regions, by domain
+  pub pools : List (Option Pool)  -- the pool that streams of a domain share, by domain
   pub streams : List (Option StreamState)  -- its streams, by number
 
 -- no stream was opened
 unfoldable pub no_streams : List (Option StreamState)
 no_streams = replicate stream_numbers None
 
+-- no domain has a pool
+unfoldable pub no_pools : List (Option Pool)
+no_pools = replicate domain_numbers None
+
 -- an endpoint to which nothing has happened
 abbrev pub fresh : EndpointState
-fresh = record { table = empty; streams = no_streams }
+fresh = record { table = empty; pools = no_pools; streams = no_streams }
 
 -- ---- the stream of a number
 
@@ -117,6 +142,59 @@ stored e stag to octets = with_table e (put e.table stag to octets)
 abbrev pub rewritten : EndpointState → Stag → List ℕ → EndpointState
 rewritten e stag octets = with_table e (overwritten e.table stag octets)
 
+-- ---- pools
+
+-- the domain's pool, if one was made
+abbrev pub pool_of : EndpointState → ℕ → Option Pool
+pool_of e pd = slice_index_or e.pools pd None
+
+abbrev pub with_pool : EndpointState → ℕ → Option Pool → EndpointState
+with_pool e pd pool = record e { pools = slice_set e.pools pd pool }
+
+-- the refusals at a domain that was added or wasn't, and has this pool, if it has one
+abbrev pub share_fault : Bool → Option Pool → Option ShareRefusal
+share_fault added pool = if not added then Some share_refusals.NoDomain else option_map (λ pool. share_refusals.AlreadyShared) pool
+
+abbrev pub pool_refusal_of : BufferRefusal → PoolRefusal
+pool_refusal_of buffer_refusals.Full = pool_refusals.Full
+pool_refusal_of buffer_refusals.NoMemory = pool_refusals.NoMemory
+
+abbrev pub pool_fault : Bool → Option Pool → Option PoolRefusal
+pool_fault added pool =
+    if not added then Some pool_refusals.NoDomain
+    else option_map_or (λ pool. option_map pool_refusal_of (receiving.pool_refusal pool)) pool (Some pool_refusals.NotShared)
+
+abbrev pub take_fault : Bool → Option Pool → Option TakeRefusal
+take_fault added pool =
+    if not added then Some take_refusals.NoDomain
+    else option_map_or (λ pool. None) pool (Some take_refusals.NotShared)
+
+abbrev pub share_refusal : EndpointState → ℕ → Option ShareRefusal
+share_refusal e pd = share_fault (is_added e.table pd) (pool_of e pd)
+
+abbrev pub shared : EndpointState → ℕ → EndpointState
+shared e pd = with_pool e pd (Some [])
+
+abbrev pub pool_refusal : EndpointState → ℕ → Option PoolRefusal
+pool_refusal e pd = pool_fault (is_added e.table pd) (pool_of e pd)
+
+-- the buffer stands after the others
+abbrev pub pooled : EndpointState → ℕ → List ℕ → EndpointState
+pooled e pd buffer = with_pool e pd (option_map (λ pool. pool ++ buffer ∷ []) (pool_of e pd))
+
+abbrev pub take_refusal : EndpointState → ℕ → Option TakeRefusal
+take_refusal e pd = take_fault (is_added e.table pd) (pool_of e pd)
+
+-- the oldest is taken, if there is one
+abbrev pub taken : Option Pool → Option (List ℕ)
+taken pool = option_map_or (λ pool. slice_get pool 0) pool None
+
+abbrev pub taken_at : EndpointState → ℕ → Option (List ℕ)
+taken_at e pd = taken (pool_of e pd)
+
+abbrev pub after_take : EndpointState → ℕ → EndpointState
+after_take e pd = with_pool e pd (option_map (drop 1) (pool_of e pd))
+
 -- ---- openings
 
 abbrev pub open_refusal : EndpointState → ℕ → ℕ → Option OpenRefusal
@@ -128,6 +206,24 @@ open_refusal e number pd =
 
 abbrev pub opened : EndpointState → ℕ → ℕ → Role → Config → EndpointState
 opened e number pd role config = with_stream e number (stream.opened pd role config)
+
+-- of a stream that shares the domain's pool
+abbrev pub open_shared_refusal_of : OpenRefusal → OpenSharedRefusal
+open_shared_refusal_of NumberTaken = open_shared_refusals.NumberTaken
+open_shared_refusal_of BadNumber = open_shared_refusals.BadNumber
+open_shared_refusal_of NoDomain = open_shared_refusals.NoDomain
+open_shared_refusal_of NoMemory = open_shared_refusals.NoMemory
+
+-- that the domain has no pool comes after all else
+abbrev pub unshared : Option Pool → Option OpenSharedRefusal
+unshared None = Some open_shared_refusals.NotShared
+unshared (Some pool) = None
+
+abbrev pub open_shared_refusal : EndpointState → ℕ → ℕ → Option OpenSharedRefusal
+open_shared_refusal e number pd = option_or (option_map open_shared_refusal_of (open_refusal e number pd)) (unshared (pool_of e pd))
+
+abbrev pub opened_shared : EndpointState → ℕ → ℕ → Role → Config → EndpointState
+opened_shared e number pd role config = with_stream e number (stream.opened_shared pd role config)
 
 -- ---- start-up
 
@@ -190,14 +286,33 @@ after_emit e number = with_stream e number (stream.after_emit e.table (stream_at
 
 -- ---- work
 
+-- a stream at its step: the pool of its domain, if there is one, is lent to it
+abbrev pub lent_to : Option Pool → StreamState → StreamState
+lent_to None s = s
+lent_to (Some pool) s = sees s pool
+
+-- what the step leaves of it, and of the pool
+abbrev pub left_of : Table → Option Pool → StreamState → StreamState
+left_of table None s = worked table s
+left_of table (Some pool) s = worked_with table s pool
+
+abbrev pub pool_left : Table → Option Pool → StreamState → Option Pool
+pool_left table None s = None
+pool_left table (Some pool) s = Some (work.pool_left table s pool)
+
 abbrev pub step_at : EndpointState → ℕ → Result (Step (List ℕ)) NoSuchStream
-step_at e number = answer_at (stream_of e number) (λ s. work_step e.table s)
+step_at e number = answer_at (stream_of e number) (λ s. work_step e.table (lent_to (pool_of e s.domain) s))
+
+-- what a step at this stream leaves
+abbrev pub with_worked : EndpointState → ℕ → StreamState → EndpointState
+with_worked e number s = record {
+  table = table_worked e.table (lent_to (pool_of e s.domain) s);
+  pools = slice_set e.pools s.domain (pool_left e.table (pool_of e s.domain) s);
+  streams = slice_set e.streams number (Some (left_of e.table (pool_of e s.domain) s));
+}
 
 abbrev pub after_work : EndpointState → ℕ → EndpointState
-after_work e number = record {
-  table = table_worked e.table (stream_at e number);
-  streams = slice_set e.streams number (Some (worked e.table (stream_at e number)));
-}
+after_work e number = with_worked e number (stream_at e number)
 
 -- ---- the end
 

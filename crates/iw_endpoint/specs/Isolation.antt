@@ -1,5 +1,5 @@
 -- What one domain has of an endpoint, and that no call lets it see or change what is another's.
-use Rattle.std.specs.Prelude.{◌≡◌, ◌≢◌, ◌⊎◌, ℕ, ◌==◌, List, [], ◌∷◌, length, map, filter, if◌then◌else◌, Bool, is_some, Option, Some, None, IfSome, Result, Ok, Err}
+use Rattle.std.specs.Prelude.{◌≡◌, ◌≢◌, ◌⊎◌, ℕ, ◌==◌, List, [], ◌∷◌, length, map, filter, slice_set, if◌then◌else◌, Bool, is_some, Option, Some, None, IfSome, Result, Ok, Err}
 use Rattle.std.specs.Option.{option_map}
 use Rattle.arrayvec.specs.ArrayVec.{ArrayVec}
 use Rattle.iw_octets.specs.declared.stag.Stag.{Stag}
@@ -27,7 +27,11 @@ use Rattle.iw_stream.specs.declared.answer.Step.{Step}
 use Rattle.iw_stream.specs.Stream.{StreamState}
 use Rattle.iw_endpoint.specs.declared.refusal.CallRefusal.{CallRefusal}
 use Rattle.iw_endpoint.specs.declared.refusal.NoSuchStream.{NoSuchStream}
-use Rattle.iw_endpoint.specs.Endpoint.{EndpointState, fresh, stream_of, answer_at, domain_refusal, added, registered, octets_of, deregistered, invalidated, facts_at, store_refusal, stored, rewritten, open_refusal, opened, answer_refusal, agreement, accepted, rejected, post_refusal, with_request, recv_refusal, with_buffer, first_refusal, with_first, delivery_at, after_deliver, emission_at, emitted_at, after_emit, step_at, after_work, broken, size_refusal, with_mulpdu, private_at, sent_at, first_at, point_at}
+use Rattle.iw_endpoint.specs.declared.refusal.OpenSharedRefusal.{OpenSharedRefusal}
+use Rattle.iw_endpoint.specs.declared.refusal.PoolRefusal.{PoolRefusal}
+use Rattle.iw_endpoint.specs.declared.refusal.ShareRefusal.{ShareRefusal}
+use Rattle.iw_endpoint.specs.declared.refusal.TakeRefusal.{TakeRefusal}
+use Rattle.iw_endpoint.specs.Endpoint.{EndpointState, Pool, domain_numbers, no_pools, fresh, pool_of, share_refusal, shared, pool_refusal, pooled, take_refusal, taken_at, after_take, open_shared_refusal, opened_shared, stream_of, answer_at, domain_refusal, added, registered, octets_of, deregistered, invalidated, facts_at, store_refusal, stored, rewritten, open_refusal, opened, answer_refusal, agreement, accepted, rejected, post_refusal, with_request, recv_refusal, with_buffer, delivery_at, after_deliver, emission_at, emitted_at, after_emit, step_at, after_work, broken, size_refusal, with_mulpdu, private_at, sent_at, point_at, first_refusal, with_first, first_at}
 
 -- ---- calls, as values
 
@@ -60,6 +64,10 @@ pub data Call : Type 0 where
   Local : Stag → Call
   LocalMut : Stag → List ℕ → Call  -- with what is written through the part that it lends
   Open : ℕ → ℕ → Role → Config → Call
+  Share : ℕ → Call
+  PostShared : ℕ → List ℕ → Call
+  TakeShared : ℕ → Call
+  OpenShared : ℕ → ℕ → Role → Config → Call
   AtStream : ℕ → StreamCall → Call
 
 -- ---- what is answered where memory is not wanting
@@ -87,6 +95,10 @@ pub data Answer : Type 0 where
   Found : Option facts.Facts → Answer
   Stored : Option StoreRefusal → Answer
   Opened : Option OpenRefusal → Answer
+  Shared : Option ShareRefusal → Answer
+  Pooled : Option PoolRefusal → Answer
+  Taken : Result (Option (List ℕ)) TakeRefusal → Answer
+  OpenedShared : Option OpenSharedRefusal → Answer
   OfStream : StreamAnswer → Answer
 
 abbrev pub answer_or : {A R : Type 0} → Option R → A → Result A R
@@ -131,6 +143,10 @@ answer e (Facts stag) = Found (facts_at e stag)
 answer e (Local stag) = Octets (octets_of e stag)
 answer e (LocalMut stag octets) = Octets (octets_of e stag)
 answer e (Open n pd role config) = Opened (open_refusal e n pd)
+answer e (Share pd) = Shared (share_refusal e pd)
+answer e (PostShared pd buffer) = Pooled (pool_refusal e pd)
+answer e (TakeShared pd) = Taken (answer_or (take_refusal e pd) (taken_at e pd))
+answer e (OpenShared n pd role config) = OpenedShared (open_shared_refusal e n pd)
 answer e (AtStream n call) = OfStream (stream_answer e n call)
 
 -- ---- what is left
@@ -163,13 +179,18 @@ after e (Facts stag) = e
 after e (Local stag) = e
 after e (LocalMut stag octets) = rewritten e stag octets
 after e (Open n pd role config) = unless (open_refusal e n pd) e (opened e n pd role config)
+after e (Share pd) = unless (share_refusal e pd) e (shared e pd)
+after e (PostShared pd buffer) = unless (pool_refusal e pd) e (pooled e pd buffer)
+after e (TakeShared pd) = unless (take_refusal e pd) e (after_take e pd)
+after e (OpenShared n pd role config) = unless (open_shared_refusal e n pd) e (opened_shared e n pd role config)
 after e (AtStream n call) = after_stream e n call
 
 -- ---- one domain's part
 
--- what a domain has of an endpoint: its slots, if it was added, and its streams by number
+-- what a domain has of an endpoint: its slots, if it was added, its pool, if it has one, and its streams by number
 pub record Part : Type 0 where
   pub slots : slots.Part
+  pub pool : Option Pool
   pub streams : List (Option StreamState)
 
 -- a stream, if it is the domain's
@@ -178,11 +199,11 @@ own_stream d None = None
 own_stream d (Some s) = if s.domain == d then Some s else None
 
 abbrev pub part_of : ℕ → EndpointState → Part
-part_of d e = record { slots = tables.part_of e.table d; streams = map (own_stream d) e.streams }
+part_of d e = record { slots = tables.part_of e.table d; pool = pool_of e d; streams = map (own_stream d) e.streams }
 
 -- an endpoint at which the domain has this, and no other domain has anything
 abbrev pub alone : ℕ → Part → EndpointState
-alone d part = record { table = with_part empty d part.slots; streams = part.streams }
+alone d part = record { table = with_part empty d part.slots; pools = slice_set no_pools d part.pool; streams = part.streams }
 
 -- one step on one domain's part: what is answered, and what is left of it
 abbrev pub own_answer : ℕ → Part → Call → Answer
@@ -208,15 +229,20 @@ Concerns d e (Facts stag) = stag.domain ≡ d
 Concerns d e (Local stag) = stag.domain ≡ d
 Concerns d e (LocalMut stag octets) = stag.domain ≡ d
 Concerns d e (Open n pd role config) = (pd ≡ d) × IsOwn d (stream_of e n)
+Concerns d e (Share pd) = pd ≡ d
+Concerns d e (PostShared pd buffer) = pd ≡ d
+Concerns d e (TakeShared pd) = pd ≡ d
+Concerns d e (OpenShared n pd role config) = (pd ≡ d) × IsOwn d (stream_of e n)
 Concerns d e (AtStream n call) = IsOwn d (stream_of e n)
 
 -- there is a place for each domain
 abbrev pub HasDomains : EndpointState → Type 0
-HasDomains e = length e.table ≡ 256
+HasDomains e = (length e.table ≡ domain_numbers) × (length e.pools ≡ domain_numbers)
 
 -- the call opens a stream of this number in this domain
 abbrev pub Opens : ℕ → ℕ → Call → Type 0
 Opens n d (Open m pd role config) = (m ≡ n) × (pd ≡ d)
+Opens n d (OpenShared m pd role config) = (m ≡ n) × (pd ≡ d)
 Opens n d (AddDomain pd) = ⊥
 Opens n d (Register pd base octets rights) = ⊥
 Opens n d (Deregister stag) = ⊥
@@ -225,6 +251,9 @@ Opens n d (Store stag to octets) = ⊥
 Opens n d (Facts stag) = ⊥
 Opens n d (Local stag) = ⊥
 Opens n d (LocalMut stag octets) = ⊥
+Opens n d (Share pd) = ⊥
+Opens n d (PostShared pd buffer) = ⊥
+Opens n d (TakeShared pd) = ⊥
 Opens n d (AtStream m call) = ⊥
 
 -- the domain of the stream of a number
@@ -256,6 +285,10 @@ concerned whose (Facts stag) = stag.domain
 concerned whose (Local stag) = stag.domain
 concerned whose (LocalMut stag octets) = stag.domain
 concerned whose (Open n pd role config) = pd
+concerned whose (Share pd) = pd
+concerned whose (PostShared pd buffer) = pd
+concerned whose (TakeShared pd) = pd
+concerned whose (OpenShared n pd role config) = pd
 concerned whose (AtStream n call) = whose n
 
 -- the domain's calls among these

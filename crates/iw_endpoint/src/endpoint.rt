@@ -1,4 +1,4 @@
-ghost use Rattle.std.specs.Prelude.{◌≡◌, ◌↔◌, ◌+◌, ◌-◌, ◌≤◌, ◌^◌, ◌++◌, true, false, length};
+ghost use Rattle.std.specs.Prelude.{◌≡◌, ◌↔◌, ◌+◌, ◌<◌, ◌≤◌, ◌^◌, ◌++◌, true, false, length, ◌-◌};
 ghost use Rattle.std.specs.Prelude.{Some, None, option_copied, is_some, IsSome, IfSome, IfNone};
 ghost use Rattle.std.specs.Prelude.{Ok, is_ok, IsErr, IfOk, IfErr, OnOk, OnErr, vec_len, vec_capacity};
 ghost use Rattle.std.specs.Result.{result_err, result_ok};
@@ -11,8 +11,12 @@ ghost use Rattle.iw_octets.specs.declared.fault.Fault.{Fault};
 ghost use Rattle.iw_stream.specs.Kept.{IsWithin, IsWithinBuffer};
 ghost use Rattle.iw_stream.specs.Stream.{BeginsReads, due, ended, place_of, left_out};
 ghost use Rattle.iw_stream.specs.Work.{IsTry, task};
+ghost use Rattle.iw_endpoint.specs.Endpoint.{stream_numbers, pool_refusal_of, open_shared_refusal_of};
 
-use crate::refusal::{CallRefusal, NoSuchStream};
+use crate::pools::Pools;
+use crate::refusal::{
+    CallRefusal, NoSuchStream, OpenSharedRefusal, PoolRefusal, ShareRefusal, TakeRefusal,
+};
 use crate::streams::{STREAM_NUMBERS, Streams};
 use bytes::Bytes;
 use iw_memory::{
@@ -23,13 +27,16 @@ use iw_stream::{
     Agreed, Config, Delivery, Emission, FirstRefusal, NotAsked, OpenRefusal, PostRefusal,
     PrivateData, RecvRefusal, Request, Role, SizeRefusal, Step, Stream,
 };
+use iw_untagged::{BufferRefusal, SharedQueue};
 use std::alloc::{AllocError, Allocator, Global};
 use std::marker::Model;
 
-/// An endpoint: its registered regions, and its streams by number.
+/// An endpoint: its registered regions, the pools of receive buffers that streams of a domain share, and its streams by
+/// number.
 #[derive(Drop)]
 pub struct Endpoint<A: Allocator = Global> {
     memory: Memory<A>,
+    pools: Pools<A>,
     streams: Streams<A>,
 }
 
@@ -38,13 +45,35 @@ impl<A: Allocator> Model for Endpoint<A> {
 
     ghost Value = { EndpointState };
 
-    ghost view = { λ e. record { table = e.memory; streams = e.streams } };
+    ghost view = { λ e. record { table = e.memory; pools = e.pools; streams = e.streams } };
+}
+
+fn pool_refusal_of(refusal: BufferRefusal) -> PoolRefusal
+    ensures { result ≡ pool_refusal_of refusal }
+{
+    match refusal {
+        BufferRefusal::Full => PoolRefusal::Full,
+        BufferRefusal::NoMemory => PoolRefusal::NoMemory,
+    }
+}
+
+fn open_shared_refusal_of(refusal: OpenRefusal) -> OpenSharedRefusal
+    ensures { result ≡ open_shared_refusal_of refusal }
+{
+    match refusal {
+        OpenRefusal::NumberTaken => OpenSharedRefusal::NumberTaken,
+        OpenRefusal::BadNumber => OpenSharedRefusal::BadNumber,
+        OpenRefusal::NoDomain => OpenSharedRefusal::NoDomain,
+        OpenRefusal::NoMemory => OpenSharedRefusal::NoMemory,
+    }
 }
 
 impl<A: Allocator> Endpoint<A> {
     ghost use Rattle.iw_endpoint.specs.Endpoint.{fresh, HasNumbers, has_stream, stream_at};
     ghost use Rattle.iw_endpoint.specs.Endpoint.{domain_refusal, added, registered, octets_of, deregistered};
     ghost use Rattle.iw_endpoint.specs.Endpoint.{invalidated, facts_at, store_refusal, stored};
+    ghost use Rattle.iw_endpoint.specs.Endpoint.{share_refusal, shared, pool_refusal, pooled, take_refusal, taken_at, after_take};
+    ghost use Rattle.iw_endpoint.specs.Endpoint.{pool_of, lent_to, open_shared_refusal, opened_shared};
     ghost use Rattle.iw_endpoint.specs.Endpoint.{open_refusal, opened, answer_refusal, agreement, accepted};
     ghost use Rattle.iw_endpoint.specs.Endpoint.{rejected, private_at, broken, size_refusal, with_mulpdu};
     ghost use Rattle.iw_endpoint.specs.Endpoint.{post_refusal, with_request, recv_refusal, with_buffer};
@@ -61,6 +90,7 @@ impl<A: Allocator> Endpoint<A> {
     {
         Ok(Endpoint {
             memory: Memory::new(alloc)?,
+            pools: Pools::new(alloc)?,
             streams: Streams::new(alloc)?,
         })
     }
@@ -157,6 +187,22 @@ impl<A: Allocator> Endpoint<A> {
         self.memory.store(stag, to, octets)
     }
 
+    // Why no stream is opened under this number in this domain, whether or not it shares a pool.
+    fn refusal_to_open(&self, number: u8, pd: u8) -> Option<OpenRefusal>
+        ensures refused { result ≡ open_refusal self.now number pd }
+        ensures within { IfNone result (number < stream_numbers) }
+    {
+        if self.streams.get(number).is_some() {
+            Some(OpenRefusal::NumberTaken)
+        } else if number as usize >= STREAM_NUMBERS {
+            Some(OpenRefusal::BadNumber)
+        } else if !self.memory.has_domain(pd) {
+            Some(OpenRefusal::NoDomain)
+        } else {
+            None
+        }
+    }
+
     /// Opens a stream in a domain under a number from 0 to 63, as [`iw_stream::Stream::new`] says. The number stays taken,
     /// also when the stream has ended. An `Err` opens nothing; `NoMemory` comes only where no other refusal applies.
     pub fn open(
@@ -174,14 +220,8 @@ impl<A: Allocator> Endpoint<A> {
         ensures ok { OnOk result (self.new ≡ opened self.old number pd role config) }
         ensures err { OnErr result (self.new ≡ self.old) }
     {
-        if self.streams.get(number).is_some() {
-            return Err(OpenRefusal::NumberTaken);
-        }
-        if number as usize >= STREAM_NUMBERS {
-            return Err(OpenRefusal::BadNumber);
-        }
-        if !self.memory.has_domain(pd) {
-            return Err(OpenRefusal::NoDomain);
+        if let Some(refusal) = self.refusal_to_open(number, pd) {
+            return Err(refusal);
         }
         match Stream::new(self.streams.allocator(), pd, role, config) {
             Ok(stream) => {
@@ -189,6 +229,107 @@ impl<A: Allocator> Endpoint<A> {
                 Ok(())
             }
             Err(_) => Err(OpenRefusal::NoMemory),
+        }
+    }
+
+    /// Makes the domain a pool of receive buffers, with none in it, that streams of the domain may share
+    /// ([`Endpoint::open_shared`]). An `Err` changes nothing; `NoMemory` comes only where no other refusal applies.
+    pub fn share(&mut self, pd: u8) -> Result<(), ShareRefusal>
+    where
+        A: Copy,
+        // The refusal, where one applies, and otherwise want of memory alone.
+        ensures refused { IfSome (share_refusal self.old pd) (λ refusal. result ≡ Err refusal) }
+        ensures memory { IfNone (share_refusal self.old pd) (IfErr result (λ e. e ≡ ShareRefusal.NoMemory)) }
+        ensures ok { OnOk result (self.new ≡ shared self.old pd) }
+        ensures err { OnErr result (self.new ≡ self.old) }
+    {
+        if !self.memory.has_domain(pd) {
+            return Err(ShareRefusal::NoDomain);
+        }
+        if self.pools.get(pd).is_some() {
+            return Err(ShareRefusal::AlreadyShared);
+        }
+        match SharedQueue::new(self.pools.allocator()) {
+            Ok(pool) => {
+                self.pools.put(pd, pool);
+                Ok(())
+            }
+            Err(_) => Err(ShareRefusal::NoMemory),
+        }
+    }
+
+    /// Posts a receive buffer to the domain's pool, after the others: at most 1,024. The oldest serves the next message of
+    /// which a segment is placed at one of the streams that share the pool; [`Step::Received`] gives it back. An `Err` changes
+    /// nothing, and has the vector; `NoMemory` comes only where no other refusal applies.
+    pub fn post_shared(
+        &mut self,
+        pd: u8,
+        buffer: Vec<u8, A>,
+    ) -> Result<(), (PoolRefusal, Vec<u8, A>)>
+        // The refusal, where one applies, and otherwise want of memory alone.
+        ensures refused { IfSome (pool_refusal self.old pd) (λ refusal. IfErr result (λ e. e.0 ≡ refusal) × IsErr result) }
+        ensures memory { IfNone (pool_refusal self.old pd) (IfErr result (λ e. e.0 ≡ PoolRefusal.NoMemory)) }
+        ensures back { IfErr result (λ e. e.1 ≡ buffer) }
+        ensures ok { OnOk result (self.new ≡ pooled self.old pd buffer.items) }
+        ensures err { OnErr result (self.new ≡ self.old) }
+    {
+        if !self.memory.has_domain(pd) {
+            return Err((PoolRefusal::NoDomain, buffer));
+        }
+        match self.pools.get_mut(pd) {
+            Some(pool) => match pool.post(buffer) {
+                Ok(()) => Ok(()),
+                Err((refusal, buffer)) => Err((pool_refusal_of(refusal), buffer)),
+            },
+            None => Err((PoolRefusal::NotShared, buffer)),
+        }
+    }
+
+    /// Takes the oldest buffer out of the domain's pool; `None` where the pool has none. An `Err` changes nothing.
+    pub fn take_shared(&mut self, pd: u8) -> Result<Option<Vec<u8, A>>, TakeRefusal>
+        ensures refused { result_err result ≡ take_refusal self.old pd }
+        ensures buffer { IfOk result (λ buffer. option_map (λ v. v.items) buffer ≡ taken_at self.old pd) }
+        ensures ok { OnOk result (self.new ≡ after_take self.old pd) }
+        ensures err { OnErr result (self.new ≡ self.old) }
+    {
+        if !self.memory.has_domain(pd) {
+            return Err(TakeRefusal::NoDomain);
+        }
+        match self.pools.get_mut(pd) {
+            Some(pool) => Ok(pool.take()),
+            None => Err(TakeRefusal::NotShared),
+        }
+    }
+
+    /// Opens a stream as [`Endpoint::open`] does, one that shares the domain's pool ([`iw_stream::Stream::new_shared`]):
+    /// [`Endpoint::post_recv`] is refused at it. An `Err` opens nothing; `NoMemory` comes only where no other refusal applies.
+    pub fn open_shared(
+        &mut self,
+        number: u8,
+        pd: u8,
+        role: Role,
+        config: Config,
+    ) -> Result<(), OpenSharedRefusal>
+    where
+        A: Copy,
+        // The refusal, where one applies, and otherwise want of memory alone.
+        ensures refused { IfSome (open_shared_refusal self.old number pd) (λ refusal. result ≡ Err refusal) }
+        ensures memory { IfNone (open_shared_refusal self.old number pd) (IfErr result (λ e. e ≡ OpenSharedRefusal.NoMemory)) }
+        ensures ok { OnOk result (self.new ≡ opened_shared self.old number pd role config) }
+        ensures err { OnErr result (self.new ≡ self.old) }
+    {
+        if let Some(refusal) = self.refusal_to_open(number, pd) {
+            return Err(open_shared_refusal_of(refusal));
+        }
+        if self.pools.get(pd).is_none() {
+            return Err(OpenSharedRefusal::NotShared);
+        }
+        match Stream::new_shared(self.streams.allocator(), pd, role, config) {
+            Ok(stream) => {
+                self.streams.put(number, stream);
+                Ok(())
+            }
+            Err(_) => Err(OpenSharedRefusal::NoMemory),
         }
     }
 
@@ -340,7 +481,7 @@ impl<A: Allocator> Endpoint<A> {
     /// after frames were emitted and after [`Endpoint::break_link`].
     ///
     /// Where the stream has ended, each posted message is handed out in posting order, as finished or as given up, and then
-    /// each receive buffer.
+    /// each receive buffer. A buffer that the stream has not taken from the pool of its domain stays there.
     ///
     /// It asks that the in-order point ([`Endpoint::in_order_point`]) is at most 2^62: it never is more than the number of
     /// octets that came. `Refused` is want of memory, and comes only where a frame is judged before its turn; an `Err`
@@ -351,13 +492,13 @@ impl<A: Allocator> Endpoint<A> {
         ensures step { IfOk result (λ step. Ok step ≡ step_at self.old number) }
         ensures after { OnOk result (self.new ≡ after_work self.old number) }
         ensures err { OnErr result (self.new ≡ self.old) }
-        ensures want { has_stream self.old number ≡ true → OnErr result (IsTry (task (stream_at self.old number))) }
+        ensures want { has_stream self.old number ≡ true → OnErr result (IsTry (task (lent_to (pool_of self.old (stream_at self.old number).domain) (stream_at self.old number)))) }
         // The in-order point moves on by no more than may have come, and a message lies in its buffer.
         ensures reach { point_at self.new number ≤ point_at self.old number + 2 ^ 18 }
         ensures within { IfOk result IsWithinBuffer }
     {
         match self.streams.get_mut(number) {
-            Some(stream) => match stream.work(&mut self.memory) {
+            Some(stream) => match self.pools.work(stream, &mut self.memory) {
                 Ok(step) => Ok(step),
                 Err(refusal) => Err(CallRefusal::Refused(refusal)),
             },

@@ -1,0 +1,102 @@
+ghost use Rattle.std.specs.Prelude.{◌≡◌, ◌+◌, ◌≤◌, ◌^◌, slice_index_or, slice_set, IfOk, OnOk, OnErr, None, Some};
+ghost use Rattle.std.specs.Option.{option_copied, option_copied_mut};
+ghost use Rattle.std.specs.Borrow.{sem};
+ghost use Rattle.iw_stream.specs.Kept.{IsWithinBuffer};
+ghost use Rattle.iw_stream.specs.Work.{IsTry, task, work_step, table_worked};
+
+use iw_memory::Memory;
+use iw_octets::Octets;
+use iw_stream::{Step, Stream};
+use iw_untagged::SharedQueue;
+use std::alloc::{AllocError, Allocator, Global};
+use std::marker::Model;
+
+// How many domains there may be.
+const DOMAINS: usize = 256;
+
+/// The pools of receive buffers by domain: a place for each domain, which is empty before a pool is made for it.
+#[derive(Drop)]
+pub(crate) struct Pools<A: Allocator = Global> {
+    places: Vec<Option<SharedQueue<A>>, A>,
+}
+
+impl<A: Allocator> Model for Pools<A> {
+    ghost use Rattle.std.specs.Prelude.{◌≡◌, List, Option, length};
+    ghost use Rattle.iw_endpoint.specs.Endpoint.{Pool};
+
+    ghost Value = { List (Option Pool) };
+
+    ghost view = { λ p. p.places.items };
+
+    ghost invariant = { λ p. length p.places.items ≡ 256 };
+}
+
+impl<A: Allocator> Pools<A> {
+    ghost use Rattle.iw_endpoint.specs.Endpoint.{no_pools, lent_to, left_of, pool_left};
+    ghost use Rattle.iw_endpoint.specs.Places.{LendsPool};
+
+    /// No domain has a pool. An `Err` is want of memory.
+    pub(crate) fn new(alloc: A) -> Result<Pools<A>, AllocError>
+    where
+        A: Copy,
+        ensures { IfOk result (λ pools. pools ≡ no_pools) }
+    {
+        let mut places = Vec::with_capacity(alloc, DOMAINS)?;
+        for _i in 0..256usize {
+            places.push(None)?;
+        }
+        Ok(Pools { places })
+    }
+
+    /// The allocator of all pools.
+    pub(crate) fn allocator(&self) -> A
+    where
+        A: Copy,
+    {
+        *self.places.allocator()
+    }
+
+    /// The domain's pool.
+    pub(crate) fn get(&self, pd: u8) -> Option<&SharedQueue<A>>
+        ensures { option_copied result ≡ slice_index_or self.now pd None }
+    {
+        self.places.get(pd as usize)?.as_ref()
+    }
+
+    /// The same, to be changed.
+    pub(crate) fn get_mut(&mut self, pd: u8) -> Option<&mut SharedQueue<A>>
+        ensures* lends { sem 𝓛 (LendsPool A.row A.Allocator self.entry pd result) }
+        ensures found { option_copied_mut result ≡ slice_index_or self.old pd None }
+    {
+        self.places.get_mut(pd as usize)?.as_mut()
+    }
+
+    /// Puts a pool at its domain.
+    pub(crate) fn put(&mut self, pd: u8, pool: SharedQueue<A>)
+        ensures { self.new ≡ slice_set self.old pd (Some pool) }
+    {
+        self.places[pd as usize] = Some(pool);
+    }
+
+    /// Does one step at a stream, to which the pool of its domain is lent, if there is one.
+    pub(crate) fn work(
+        &mut self,
+        stream: &mut Stream<A>,
+        memory: &mut Memory<A>,
+    ) -> Result<Step<Octets<A>>, AllocError>
+        requires { stream.old.arrived.floor ≤ 2 ^ 62 }
+        ensures step { IfOk result (λ step. step ≡ work_step memory.old (lent_to (slice_index_or self.old stream.old.domain None) stream.old)) }
+        ensures stream { OnOk result (stream.new ≡ left_of memory.old (slice_index_or self.old stream.old.domain None) stream.old) }
+        ensures pools { OnOk result (self.new ≡ slice_set self.old stream.old.domain (pool_left memory.old (slice_index_or self.old stream.old.domain None) stream.old)) }
+        ensures memory { OnOk result (memory.new ≡ table_worked memory.old (lent_to (slice_index_or self.old stream.old.domain None) stream.old)) }
+        ensures err { OnErr result ((self.new ≡ self.old) × (stream.new ≡ stream.old) × (memory.new ≡ memory.old)) }
+        ensures want { OnErr result (IsTry (task (lent_to (slice_index_or self.old stream.old.domain None) stream.old))) }
+        ensures reach { stream.new.arrived.floor ≤ stream.old.arrived.floor + 2 ^ 18 }
+        ensures within { IfOk result IsWithinBuffer }
+    {
+        match self.get_mut(stream.domain()) {
+            Some(pool) => stream.work_shared(memory, pool),
+            None => stream.work(memory),
+        }
+    }
+}
