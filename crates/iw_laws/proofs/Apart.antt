@@ -25,13 +25,13 @@ use Rattle.iw_stream.specs.declared.judging.PlacedFrame.{PlacedFrame}
 use Rattle.iw_stream.specs.Frames.{Frame}
 use Rattle.iw_stream.specs.Judging.{verdict, early_verdict, table_tried, turn_of, fault_or}
 use Rattle.iw_stream.specs.Starting.{first_place_in, private_in, progress_in}
-use Rattle.iw_stream.specs.Stream.{StreamState, Due, StartUp, LastWord, NextPart, NoneDue, Response as ResponseDue, due, frame_of, frame_fetched, emission_of, emitted, emission_due, octets_due, emission_fetched, octets_fetched}
+use Rattle.iw_stream.specs.Stream.{StreamState, sees, Due, StartUp, LastWord, NextPart, NoneDue, Response as ResponseDue, due, frame_of, frame_fetched, emission_of, emitted, emission_due, octets_due, emission_fetched, octets_fetched}
 use Rattle.iw_stream.specs.Work.{Task, HandOut, GiveUp, GiveBack, Hear, Turn, Clash, Judge, Try, Rest, task, inbox, standing, step_of, table_left, table_judged, table_passed, judged_step, tried_step, turned_step, heard_step, work_step, worked, table_worked}
-use Rattle.iw_endpoint.specs.Endpoint.{EndpointState, fresh, stream_of, unopened}
+use Rattle.iw_endpoint.specs.Endpoint.{EndpointState, Pool, pool_of, lent_to, fresh, stream_of, unopened}
 use Rattle.iw_endpoint.specs.Isolation.{HasDomains, IsOwn, Concerns, OwnStep, OpensOwn, part_of, alone, answer_or, after, concerned}
 use Rattle.iw_endpoint.proofs.Tables.{AreAlike, worked-alike, verdict-alike, early-alike, turn-alike, judged-alike, fetched-alike, octets-alike, region-alike, none_taken, undenied}
-use Rattle.iw_endpoint.proofs.Parts.{empty_size, seen_alone, stream_alike, alone_own}
-use Rattle.iw_endpoint.proofs.Steps.{at_own, open_alike, concerns_one}
+use Rattle.iw_endpoint.proofs.Parts.{AreSeenAlike, fresh_domains, seen_alone, stream_alike, alone_own}
+use Rattle.iw_endpoint.proofs.Steps.{open_alike, concerns_one}
 use Rattle.iw_endpoint.proofs.Alone.{AreOwned, concerns, stay_owned, nothing_owned}
 use Rattle.iw_events.specs.declared.call.End.{End}
 use Rattle.iw_events.specs.declared.call.End.TheVariants.{A, B}
@@ -42,7 +42,7 @@ use Rattle.iw_events.specs.declared.act.StreamAct.TheVariants.{Recv, Post, Emit,
 use Rattle.iw_events.specs.declared.act.Shown.TheVariants.{Fetched}
 use Rattle.iw_events.specs.declared.act.Seen.TheVariants as seen
 use Rattle.iw_events.specs.declared.act.Entry.{Entry}
-use Rattle.iw_laws.specs.Words.{Octets, acts, acts_if}
+use Rattle.iw_laws.specs.Words.{Octets, acts, acts_if, deed}
 use Rattle.iw_laws.specs.Rules.{State, start, end_of, with_end, shown_of, seen_of, StreamRule, EndRule, call_made, end_after, after_entry, Follows}
 use Rattle.iw_laws.specs.Isolated.{calls_made, only_acts, AreOwn, Isolated}
 use Rattle.iw_laws.proofs.Whole.{follows_split}
@@ -162,6 +162,27 @@ module _ (s : StreamState) (t u : Table) (h : AreAlike s.domain t u) where
 
 -- ---- a call is answered as where no other domain is
 
+-- the rule of an act at this stream
+abbrev RuleAt : EndpointState → Option StreamState → StreamAct Octets → Type 0
+RuleAt e o act = StreamRule e.table (option_map_or (λ step. lent_to (pool_of e (unwrap_or o unopened).domain) (unwrap_or o unopened)) (deed act).step (unwrap_or o unopened)) act
+
+own_act : (e f : EndpointState) (s : StreamState) (act : StreamAct Octets) → AreSeenAlike s.domain e f → RuleAt e (Some s) act → RuleAt f (Some s) act
+own_act e f s (Recv len refused) h rule = rule
+own_act e f s (Post request refused) h rule = rule
+own_act e f s (Emit shown) h rule = stream_rule s e.table f.table h.table (Emit shown) rule
+own_act e f s (Deliver from number octets delivery) h rule = rule
+own_act e f s (Raw number octets delivery) h rule = rule
+own_act e f s (First number refused) h rule = rule
+own_act e f s (Mulpdu size refused) h rule = rule
+own_act e f s (Accept private answer) h rule = rule
+own_act e f s (Reject private refused) h rule = rule
+own_act e f s (Work step) h rule = subst (λ o. StreamRule f.table (lent_to o s) (Work step)) h.pool (go (pool_of e s.domain) rule)
+  where
+    go : (o : Option Pool) → StreamRule e.table (lent_to o s) (Work step) → StreamRule f.table (lent_to o s) (Work step)
+    go None = stream_rule s e.table f.table h.table (Work step)
+    go (Some pool) = stream_rule (sees s pool) e.table f.table h.table (Work step)
+own_act e f s Break h rule = tt
+
 own_rule : (d : ℕ) (e : EndpointState) (act : Act Octets) → HasDomains e → Concerns d e (call_made act) → EndRule e act → EndRule (alone d (part_of d e)) act
 own_rule d e (Domain pd refused) all here rule =
     subst (λ x. EndRule (alone x (part_of x e)) (Domain pd refused)) here (rule ∙ ap (λ part. own_domain_refusal part pd) (seen_alone pd e all).table.part)
@@ -187,11 +208,11 @@ own_rule d e (Stream n act) all own rule =
     let h = seen_alone d e all in
     let f = alone d (part_of d e) in
     let same = stream_alike d e f n own (alone_own d e n) h in
-    (ap is_some (sym same) ∙ rule.0, subst (λ o. StreamRule f.table (unwrap_or o unopened) act) same (go (stream_of e n) own rule.0 rule.1))
+    (ap is_some (sym same) ∙ rule.0, subst (λ o. RuleAt f o act) same (go (stream_of e n) own rule.0 rule.1))
   where
-    go : (o : Option StreamState) → IsOwn d o → is_some o ≡ true → StreamRule e.table (unwrap_or o unopened) act → StreamRule (alone d (part_of d e)).table (unwrap_or o unopened) act
+    go : (o : Option StreamState) → IsOwn d o → is_some o ≡ true → RuleAt e o act → RuleAt (alone d (part_of d e)) o act
     go None own there rule = absurd (false≢true there)
-    go (Some s) own there rule = stream_rule s e.table (alone d (part_of d e)).table (at_own d e (alone d (part_of d e)) s own (seen_alone d e all)) act rule
+    go (Some s) own there rule = own_act e (alone d (part_of d e)) s act (subst (λ x. AreSeenAlike x e (alone d (part_of d e))) (sym own) (seen_alone d e all)) rule
 
 -- ---- lists of calls
 
@@ -240,4 +261,4 @@ from_start B done h = h
 pub isolated_all : (trace : List (Entry Octets)) → Follows start trace → Isolated trace
 isolated_all trace follows past future is x whose opens d =
     let before : Follows start past = (follows_split past future start (subst (Follows start) is follows)).0 in
-    own_from whose (acts x past) fresh empty_size (nothing_owned whose) opens (from_start x (acts x past) (answered_from x past start before)) d
+    own_from whose (acts x past) fresh fresh_domains (nothing_owned whose) opens (from_start x (acts x past) (answered_from x past start before)) d

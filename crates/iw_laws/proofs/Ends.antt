@@ -13,11 +13,11 @@ use Rattle.iw_events.specs.declared.act.Act.TheVariants.{Domain, Register, Dereg
 use Rattle.iw_events.specs.declared.act.StreamAct.{StreamAct}
 use Rattle.iw_events.specs.declared.act.StreamAct.TheVariants.{Recv, Post, Emit, First, Deliver, Raw, Mulpdu, Accept, Reject, Work, Break}
 use Rattle.iw_laws.specs.Words.{Octets, Opening, stream_acts, stream_acts_by, openings, openings_by, opening_in, was_opened, domain_of, table_after, table_by}
-use Rattle.iw_endpoint.specs.Endpoint.{EndpointState, stream_at, stream_numbers, unopened as no_stream, stream_of, has_stream, open_refusal}
+use Rattle.iw_endpoint.specs.Endpoint.{EndpointState, no_pools, stream_at, stream_numbers, unopened as no_stream, stream_of, has_stream, open_refusal}
 use Rattle.iw_endpoint.specs.Isolation.{after}
 use Rattle.iw_endpoint.proofs.Tables.{worked_domain, emit_domain}
-use Rattle.iw_laws.specs.Rules.{EndState, Rule, end_after, EndRule, call_made}
-use Rattle.iw_laws.proofs.States.{opening_by, connected, stream_after, streams_after, streams_left, table_left, length-wires}
+use Rattle.iw_laws.specs.Rules.{EndState, end_after, call_made}
+use Rattle.iw_laws.proofs.States.{opening_by, connected, stream_after, streams_after, streams_left, table_left, pools_left, PlainEnd, Plain, length-wires}
 use Rattle.iw_laws.proofs.Tales.{table-push, stream_acts-push, openings-push}
 
 pub there : {A : Type 0} (xs : List (Option A)) (i : ℕ) → is_some (slice_index_or xs i None) ≡ true → i < length xs
@@ -34,6 +34,7 @@ unopened (o ∷ os) h = absurd (false≢true (sym h))
 -- what the state of an end has in common with what was done there
 pub record EndSeen (s : EndState) (done : List (Act Octets)) : Type 0 where
   pub table : s.endpoint.table ≡ table_after done
+  pub pools : s.endpoint.pools ≡ no_pools
   pub numbers : length s.endpoint.streams ≡ 64
   pub wires : length s.wires ≡ 64
   pub opened : (n : ℕ) → has_stream s.endpoint n ≡ was_opened (openings n done)
@@ -81,8 +82,8 @@ same_domain table s Break = refl
 
 -- ---- the stream of a number, behind an act
 
-pub at_act : (e : EndpointState) (act : Act Octets) (n : ℕ) → EndRule e act → stream_of (after e (call_made act)) n ≡ slice_index_or (streams_after e.table e.streams act) n None
-at_act e act n rule = ap (λ xs. slice_index_or xs n None) (streams_left e act rule)
+pub at_act : (e : EndpointState) (act : Act Octets) (n : ℕ) → e.pools ≡ no_pools → PlainEnd e act → stream_of (after e (call_made act)) n ≡ slice_index_or (streams_after e.table e.streams act) n None
+at_act e act n none rule = ap (λ xs. slice_index_or xs n None) (streams_left e act none rule)
 
 pub at_same : (s : EndState) (n : ℕ) (c : StreamState) → n < length s.endpoint.streams → slice_index_or (slice_set s.endpoint.streams n (Some c)) n None ≡ Some c
 at_same s n c h = get_or-set_same s.endpoint.streams n (Some c) None h
@@ -102,10 +103,10 @@ pub record KeepsNumber (s : EndState) (done : List (Act Octets)) (act : Act Octe
   pub domain : has_stream (end_after s act).endpoint n ≡ true → (stream_at (end_after s act).endpoint n).domain ≡ domain_of n (done ++ act ∷ [])
   pub unused : has_stream (end_after s act).endpoint n ≡ false → stream_acts n (done ++ act ∷ []) ≡ []
 
-keeps_number : (s : EndState) (done : List (Act Octets)) (act : Act Octets) (n : ℕ) → EndSeen s done → EndRule s.endpoint act → slice_index_or (streams_after s.endpoint.table s.endpoint.streams act) n None ≡ slice_index_or s.endpoint.streams n None → openings_by n act ≡ []
+keeps_number : (s : EndState) (done : List (Act Octets)) (act : Act Octets) (n : ℕ) → EndSeen s done → PlainEnd s.endpoint act → slice_index_or (streams_after s.endpoint.table s.endpoint.streams act) n None ≡ slice_index_or s.endpoint.streams n None → openings_by n act ≡ []
     → stream_acts_by n act ≡ [] → KeepsNumber s done act n
 keeps_number s done act n k rule left none silent =
-    let same : stream_of (end_after s act).endpoint n ≡ stream_of s.endpoint n = at_act s.endpoint act n rule ∙ left in
+    let same : stream_of (end_after s act).endpoint n ≡ stream_of s.endpoint n = at_act s.endpoint act n k.pools rule ∙ left in
     let opened_same : openings n (done ++ act ∷ []) ≡ openings n done = opens_same n done act none in
     record {
       has = ap is_some same ∙ k.opened n ∙ ap was_opened (sym opened_same);
@@ -122,7 +123,7 @@ opening_one b o e = ap (λ z. cond z (o ∷ []) []) e
 silent_other : (m n : ℕ) (act : StreamAct Octets) → eqb m n ≡ false → stream_acts_by n (Stream m act) ≡ []
 silent_other m n act e = ap (λ b. cond b (act ∷ []) []) e
 
-number_after : (s peer : EndState) (done : List (Act Octets)) (act : Act Octets) (n : ℕ) → EndSeen s done → Rule s peer act → KeepsNumber s done act n
+number_after : (s peer : EndState) (done : List (Act Octets)) (act : Act Octets) (n : ℕ) → EndSeen s done → Plain s peer act → KeepsNumber s done act n
 number_after s peer done (Domain pd None) n k rule = keeps_number s done (Domain pd None) n k rule.0 refl refl refl
 number_after s peer done (Domain pd (Some refusal)) n k rule = keeps_number s done (Domain pd (Some refusal)) n k rule.0 refl refl refl
 number_after s peer done (Register pd base rights octets answer) n k rule = keeps_number s done (Register pd base rights octets answer) n k rule.0 refl refl refl
@@ -140,7 +141,7 @@ number_after s peer done (Open m pd role options private None) n k rule = go (eq
         let room : m < length s.endpoint.streams = omega (arith, o.number, k.numbers) in
         let x : StreamState = (connected (opening_by pd role options private)).stream in
         let here : stream_of (end_after s (Open m pd role options private None)).endpoint n ≡ Some x =
-        at_act s.endpoint (Open m pd role options private None) n rule.0 ∙ subst (λ j. slice_index_or (slice_set s.endpoint.streams m (Some x)) j None ≡ Some x) same (at_same s m x room) in
+        at_act s.endpoint (Open m pd role options private None) n k.pools rule.0 ∙ subst (λ j. slice_index_or (slice_set s.endpoint.streams m (Some x)) j None ≡ Some x) same (at_same s m x room) in
         let before : openings n done ≡ [] = unopened (openings n done) (sym (k.opened n) ∙ subst (λ j. has_stream s.endpoint j ≡ false) same o.fresh) in
         let now : openings n (done ++ Open m pd role options private None ∷ []) ≡ opening_by pd role options private ∷ [] =
         openings-push n done (Open m pd role options private None) ∙ (λ i. before i ++ opening_one (eqb m n) (opening_by pd role options private) e i) in
@@ -157,7 +158,7 @@ number_after s peer done (Stream m act) n k rule = go (eqb m n) refl
         let same : m ≡ n = eqb-true m n e in
         let x : StreamState = stream_after s.endpoint.table (stream_at s.endpoint m) act in
         let here : stream_of (end_after s (Stream m act)).endpoint n ≡ Some x =
-        at_act s.endpoint (Stream m act) n rule.0 ∙ subst (λ j. slice_index_or (slice_set s.endpoint.streams m (Some x)) j None ≡ Some x) same (at_same s m x (number_there s m rule.0.0)) in
+        at_act s.endpoint (Stream m act) n k.pools rule.0 ∙ subst (λ j. slice_index_or (slice_set s.endpoint.streams m (Some x)) j None ≡ Some x) same (at_same s m x (number_there s m rule.0.0)) in
         let has : has_stream s.endpoint n ≡ true = subst (λ j. has_stream s.endpoint j ≡ true) same rule.0.0 in
         let opened_same : openings n (done ++ Stream m act ∷ []) ≡ openings n done = opens_same n done (Stream m act) refl in
         record {
@@ -179,10 +180,11 @@ numbers_after s (Open m pd role options private (Some refusal)) = refl
 numbers_after s (Stream m act) = length-set s.endpoint.streams m (Some (stream_after s.endpoint.table (stream_at s.endpoint m) act))
 
 -- an act that the rules give keeps what the end has in common with what was done
-pub end_step : (s peer : EndState) (done : List (Act Octets)) (act : Act Octets) → EndSeen s done → Rule s peer act → EndSeen (end_after s act) (done ++ act ∷ [])
+pub end_step : (s peer : EndState) (done : List (Act Octets)) (act : Act Octets) → EndSeen s done → Plain s peer act → EndSeen (end_after s act) (done ++ act ∷ [])
 end_step s peer done act k rule = record {
-  table = table_left s.endpoint act rule.0 ∙ ap (λ z. table_by z act) k.table ∙ sym (table-push done act);
-  numbers = ap length (streams_left s.endpoint act rule.0) ∙ numbers_after s act ∙ k.numbers;
+  table = table_left s.endpoint act k.pools rule.0 ∙ ap (λ z. table_by z act) k.table ∙ sym (table-push done act);
+  pools = pools_left s.endpoint act k.pools ∙ k.pools;
+  numbers = ap length (streams_left s.endpoint act k.pools rule.0) ∙ numbers_after s act ∙ k.numbers;
   wires = length-wires s act ∙ k.wires;
   opened = λ n. (number_after s peer done act n k rule).has;
   domain = λ n. (number_after s peer done act n k rule).domain;

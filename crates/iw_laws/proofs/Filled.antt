@@ -1,16 +1,19 @@
 -- What the segments of Sends leave in the receive buffers that were placed in any order: those of each message stand in its buffer, side by side.
-use Rattle.std.proofs.Common.{◌≡◌, ◌⊎◌, inl, inr, ℕ, suc, ◌+◌, ◌-◌, ◌<◌, ◌≤◌, List, [], ◌∷◌, ◌++◌, length, take, drop, Bool, true, false, cond, refl, sym, ap, ◌∙◌, subst, arith, append_assoc, length-append}
-use Rattle.std.specs.Prelude.{nat_eq, slice_set, slice_index_or}
+use Rattle.std.proofs.Common.{◌≡◌, ◌⊎◌, inl, inr, ℕ, zero, suc, ◌+◌, ◌-◌, ◌<◌, ◌≤◌, List, [], ◌∷◌, ◌++◌, length, map, take, drop, Option, Some, None, Bool, true, false, cond, refl, sym, ap, ◌∙◌, subst, arith, append_assoc, length-append}
+use Rattle.std.specs.Prelude.{nat_eq, slice_get, slice_set, slice_index_or}
+use Rattle.std.specs.Option.{option_map_or, option_or}
 use Rattle.std.proofs.lemmas.Bool.{cases_lt}
 use Rattle.std.proofs.lemmas.Bool.Decides.{nat_tests}
 use Rattle.std.proofs.lemmas.List.{append-nil}
+use Rattle.std.proofs.lemmas.Option.{same_Some}
 use Rattle.iw_octets.specs.declared.head.UntaggedHead.{UntaggedHead}
 use Rattle.iw_octets.specs.declared.segment.Segment.{Segment}
 use Rattle.iw_octets.specs.declared.segment.Segment.TheVariants.{Tagged, Untagged}
 use Rattle.iw_octets.specs.Octets.{splice}
 use Rattle.iw_queues.specs.Joined.{joined, completed}
 use Rattle.iw_laws.specs.Words.{Octets}
-use Rattle.iw_laws.proofs.Checks.{HasBuffer}
+use Rattle.iw_untagged.specs.Receiving.{Source, Posted, Pooled, bound_to}
+use Rattle.iw_laws.proofs.Checks.{HasBuffer, octets_in, places_in}
 use Rattle.iw_laws.proofs.Joins.{begun, joined-append, begun-append, joined_next, begun_next}
 use Rattle.iw_laws.proofs.Buffers.{StandAt, stands_written, stands_beside, stands_elsewhere, stands_more, stands_next, reads_on}
 use Rattle.iw_laws.proofs.Numbered.{Segments, apart, same_there, before_there}
@@ -34,6 +37,28 @@ other_placed ss P Q n i bs more none k a b head payload is queue p due =
       | inl old ↦ k a b head payload is queue old due
       | inr here ↦ absurd (none a b head payload is queue here)
     ]
+
+-- where the buffer of a message that has none is bound
+stands_there : (bs : List (List ℕ)) (new octets : List ℕ) (at : ℕ) → StandAt ([] ∷ bs) 0 at octets → StandAt (new ∷ bs) 0 at octets
+stands_there bs new [] at k = let short : at ≤ 0 = omega (arith, k.fits, ap length (same_Some _ _ k.is)) in record { buffer = new; is = refl; fits = omega (arith, short); there = refl }
+stands_there bs new (x ∷ octets) at k = absurd (omega (arith, k.fits, ap length (same_Some _ _ k.is)))
+
+stands_bound : (ps : List (Option (List ℕ))) (ahead : ℕ) (o : Option (List ℕ)) (i at : ℕ) (octets : List ℕ) → StandAt (map octets_in ps) i at octets
+    → StandAt (map octets_in (slice_set ps ahead (option_map_or (λ place. option_or place o) (slice_get ps ahead) None))) i at octets
+stands_bound [] ahead o i at octets k = k
+stands_bound (None ∷ ps) zero o zero at octets k = stands_there (map octets_in ps) (octets_in o) octets at k
+stands_bound (Some b ∷ ps) zero o zero at octets k = k
+stands_bound (None ∷ ps) zero o (suc i) at octets k = record { buffer = k.buffer; is = k.is; fits = k.fits; there = k.there }
+stands_bound (Some b ∷ ps) zero o (suc i) at octets k = k
+stands_bound (p ∷ ps) (suc ahead) o zero at octets k = record { buffer = k.buffer; is = k.is; fits = k.fits; there = k.there }
+stands_bound (p ∷ ps) (suc ahead) o (suc i) at octets k =
+    let r = stands_bound ps ahead o i at octets (record { buffer = k.buffer; is = k.is; fits = k.fits; there = k.there }) in
+    record { buffer = r.buffer; is = r.is; fits = r.fits; there = r.there }
+
+pub bound_placed : (ss : Segments) (P : ℕ → Type 0) (n ahead : ℕ) (source : Source) → StandPlaced ss P n (places_in source) → StandPlaced ss P n (places_in (bound_to source ahead))
+bound_placed ss P n ahead (Posted bs) k a b head payload is queue p due = k a b head payload is queue p due
+bound_placed ss P n ahead (Pooled ps pool) k a b head payload is queue p due =
+    stands_bound ps ahead (slice_get pool 0) (length (joined [] a) - n) (length (begun [] a)) payload (k a b head payload is queue p due)
 
 -- one more is written into its buffer
 module _ (ss : Segments) (n : ℕ) (bs : List (List ℕ)) (a b : Segments) (head : UntaggedHead) (payload : Octets) (is : ss ≡ a ++ Untagged head payload ∷ b) (queue : head.queue ≡ 0) (due : n ≤ length (joined [] a))

@@ -1,6 +1,6 @@
 -- Where what came is what was sent, in frames whose Sends are numbered: what was received is what was sent, and of the messages that are not complete what was placed stands in their buffers; at each act.
 use Rattle.std.proofs.Common.{◌≡◌, ◌⊎◌, inl, inr, ℕ, suc, ◌+◌, ◌-◌, ◌%◌, ◌^◌, ◌<◌, ◌≤◌, List, [], ◌∷◌, ◌++◌, length, map, take, drop, replicate, Option, Some, None, Ok, Err, Bool, true, false, cond, refl, sym, ap, ◌∙◌, subst, arith, append_assoc, length-append}
-use Rattle.std.specs.Prelude.{All, is_some, nat_eq, slice_set, slice_index_or}
+use Rattle.std.specs.Prelude.{All, is_some, nat_eq, slice_index_or}
 use Rattle.std.specs.List.{Contains}
 use Rattle.std.proofs.lemmas.Bool.{cases_lt, true≢false, false≢true}
 use Rattle.std.proofs.lemmas.Bool.Decides.{nat_tests}
@@ -13,7 +13,6 @@ use Rattle.iw_octets.specs.declared.head.UntaggedHead.{UntaggedHead}
 use Rattle.iw_octets.specs.declared.head.TaggedHead.{TaggedHead}
 use Rattle.iw_octets.specs.declared.segment.Segment.{Segment}
 use Rattle.iw_octets.specs.declared.segment.Segment.TheVariants.{Tagged, Untagged}
-use Rattle.iw_octets.specs.Octets.{splice}
 use Rattle.iw_octets.specs.Segment.{read_segment}
 use Rattle.iw_memory.specs.Table.{Table}
 use Rattle.iw_ranges.specs.declared.Delivery.TheVariants.{Kept, Dropped}
@@ -35,7 +34,7 @@ use Rattle.iw_locate.proofs.Sequenced.{IsOneOf, start_low}
 use Rattle.iw_fpdu.proofs.Sequences.{between_past}
 use Rattle.iw_fpdu.proofs.Follows.{frames_follow}
 use Rattle.iw_queues.specs.Joined.{Whole, joined, completed}
-use Rattle.iw_untagged.specs.Receiving.{Receiving, ahead_of, buffer_fault, oldest, written}
+use Rattle.iw_untagged.specs.Receiving.{Receiving, ahead_of, bound_to, buffer_fault, oldest, written, written_in}
 use Rattle.iw_stream.specs.declared.judging.PlacedFrame.{PlacedFrame}
 use Rattle.iw_stream.specs.Frames.{Frame, EarlyRecord, placed, placed_at, record_of, payload_of}
 use Rattle.iw_stream.specs.Frames as frames
@@ -54,11 +53,11 @@ use Rattle.iw_events.specs.declared.act.Seen.{Seen}
 use Rattle.iw_events.specs.declared.act.Seen.TheVariants as seen
 use Rattle.iw_laws.specs.Words.{Octets, Sent, deed, ended_after, received_by}
 use Rattle.iw_laws.specs.Turns.{story_seen, in_order_point}
-use Rattle.iw_laws.proofs.Checks.{HasBuffer, checked_buffer}
+use Rattle.iw_laws.proofs.Checks.{GoesTo, checked_buffer, has_bound, places_in, places_more, places_next, places_oldest, places_written}
 use Rattle.iw_laws.proofs.Joins.{Waits, begun, told, joined-append, joined_next, completed_told}
 use Rattle.iw_laws.proofs.Buffers.{StandAt, reads_on}
 use Rattle.iw_laws.proofs.Numbered.{Segments, Numbered, more_joined, same_there, queue_in}
-use Rattle.iw_laws.proofs.Filled.{StandPlaced, fewer_placed, other_placed, one_placed, posted_placed, next_placed, reads_begun}
+use Rattle.iw_laws.proofs.Filled.{StandPlaced, fewer_placed, other_placed, one_placed, posted_placed, next_placed, reads_begun, bound_placed}
 use Rattle.iw_laws.proofs.Judged.{IsOpenAt}
 use Rattle.iw_laws.proofs.Judged.{open_at}
 use Rattle.iw_laws.proofs.EarlySent.{WasSent, scene_sent, free_sent}
@@ -86,7 +85,7 @@ WerePlaced s turns us n =
 
 pub record AreFilled (s : StreamState) (t : Tale) (us : List Octets) (ss : Segments) : Type 0 where
   pub received_are : t.received ≡ map told (joined [] (take t.story.turns ss))
-  pub stand : ended s ≡ false → StandPlaced ss (WerePlaced s t.story.turns us) (length t.received) s.receiving.buffers
+  pub stand : ended s ≡ false → StandPlaced ss (WerePlaced s t.story.turns us) (length t.received) (places_in s.receiving.source)
 
 abbrev pub Fills : StreamState → Tale → Type 0
 Fills s t =
@@ -104,7 +103,7 @@ pub record StaysFilled (s s' : StreamState) (t t' : Tale) : Type 0 where
   pub turns : t'.story.turns ≡ t.story.turns
   pub received : t'.received ≡ t.received
   pub running : ended s' ≡ false → ended s ≡ false
-  pub buffers : ended s' ≡ false → (more : List (List ℕ)) × (s'.receiving.buffers ≡ s.receiving.buffers ++ more)
+  pub buffers : ended s' ≡ false → (more : List (List ℕ)) × ((places_in s'.receiving.source) ≡ (places_in s.receiving.source) ++ more)
 
 stays_filled : (s s' : StreamState) (t t' : Tale) → StaysFilled s s' t t' → Fills s t → Fills s' t'
 stays_filled s s' t t' w k us ss short reads numbered of =
@@ -113,10 +112,10 @@ stays_filled s s' t t' w k us ss short reads numbered of =
       received_are = w.received ∙ o.received_are ∙ ap (λ n. map told (joined [] (take n ss))) (sym w.turns);
       stand = λ runs.
           let more = w.buffers runs in
-          subst (λ z. StandPlaced ss (WerePlaced s' t'.story.turns us) z s'.receiving.buffers) (ap length (sym w.received))
+          subst (λ z. StandPlaced ss (WerePlaced s' t'.story.turns us) z (places_in s'.receiving.source)) (ap length (sym w.received))
           (subst (λ z. StandPlaced ss (WerePlaced s' t'.story.turns us) (length t.received) z) (sym more.1)
-          (posted_placed ss (WerePlaced s' t'.story.turns us) (length t.received) s.receiving.buffers more.0
-          (fewer_placed ss (WerePlaced s t.story.turns us) (WerePlaced s' t'.story.turns us) (length t.received) s.receiving.buffers same (o.stand (w.running runs)))));
+          (posted_placed ss (WerePlaced s' t'.story.turns us) (length t.received) (places_in s.receiving.source) more.0
+          (fewer_placed ss (WerePlaced s t.story.turns us) (WerePlaced s' t'.story.turns us) (length t.received) (places_in s.receiving.source) same (o.stand (w.running runs)))));
     }
   where
     same : (j : ℕ) → WerePlaced s' t'.story.turns us j → WerePlaced s t.story.turns us j
@@ -148,17 +147,18 @@ ahead_is d msn n c due number low near = omega arith
 -- the segment of a Send is written into the buffer that its number names
 written_placed : (ss : Segments) (P Q : ℕ → Type 0) (r : Receiving) (n : ℕ) (a b : Segments) (head : UntaggedHead) (payload octets : Octets) (msn mo : ℕ) → Numbered ss → ss ≡ a ++ Untagged head payload ∷ b → head.queue ≡ 0
     → r.due ≡ (1 + n) % 2 ^ 32 → n ≤ length (joined [] a) → length (joined [] a) < n + 2 ^ 32 → buffer_fault r head.msn head.mo (length payload) ≡ None → msn ≡ head.msn → mo ≡ head.mo → octets ≡ payload
-    → ((j : ℕ) → Q j → P j ⊎ (j ≡ length a)) → StandPlaced ss P n r.buffers → StandPlaced ss Q n (written r msn mo octets).buffers
+    → ((j : ℕ) → Q j → P j ⊎ (j ≡ length a)) → StandPlaced ss P n (places_in r.source) → StandPlaced ss Q n (places_in (written r msn mo octets).source)
 written_placed ss P Q r n a b head payload octets msn mo numbered is queue due_is due near checked msn_is mo_is same more k =
     let number = numbered a b head payload is queue in
     let i : ℕ = length (joined [] a) - n in
     let at : ahead_of r.due head.msn ≡ i = ahead_is r.due head.msn n (length (joined [] a)) due_is number.0 due near in
-    let there : HasBuffer r.buffers i (length (begun [] a) + length payload) =
-    subst (λ m. HasBuffer r.buffers m (length (begun [] a) + length payload)) at
-    (subst (λ m. HasBuffer r.buffers (ahead_of r.due head.msn) (m + length payload)) number.1 (checked_buffer r head (length payload) checked)) in
-    subst (λ z. StandPlaced ss Q n z) (λ j. (written r (sym msn_is j) (sym mo_is j) (sym same j)).buffers)
-    (subst (λ z. StandPlaced ss Q n z) (λ j. slice_set r.buffers (sym at j) (splice (slice_index_or r.buffers (sym at j) []) (sym number.1 j) payload))
-    (one_placed ss n r.buffers a b head payload is queue due there P Q more k))
+    let goes : GoesTo r.source i (length (begun [] a) + length payload) =
+    subst (λ m. GoesTo r.source m (length (begun [] a) + length payload)) at
+    (subst (λ m. GoesTo r.source (ahead_of r.due head.msn) (m + length payload)) number.1 (checked_buffer r head (length payload) checked)) in
+    subst (λ z. StandPlaced ss Q n z) (λ j. places_in (written r (sym msn_is j) (sym mo_is j) (sym same j)).source)
+    (subst (λ z. StandPlaced ss Q n z) (λ j. places_in (written_in (bound_to r.source (sym at j)) (sym at j) (sym number.1 j) payload))
+    (subst (λ z. StandPlaced ss Q n z) (sym (places_written r.source i (length (begun [] a) + length payload) (length (begun [] a)) payload goes))
+    (one_placed ss n (places_in (bound_to r.source i)) a b head payload is queue due (has_bound r.source i (length (begun [] a) + length payload) goes) P Q more (bound_placed ss P n i r.source k))))
 
 -- one segment completes one message at most
 few_joined : (sofar : List ℕ) (ss : Segments) → length (joined sofar ss) ≤ length ss
@@ -341,10 +341,10 @@ module _ (s : StreamState) (t : Tale) (k : Track s t) (us : List Octets) (ss : S
     other_early s' t' state head payload tagged start front early receiving turns received running = record {
       received_are = received ∙ o.received_are ∙ ap (λ m. map told (joined [] (take m ss))) (sym turns);
       stand = λ runs.
-          subst (λ m. StandPlaced ss (WerePlaced s' m us) (length t'.received) s'.receiving.buffers) (sym turns)
-          (subst (λ z. StandPlaced ss (WerePlaced s' t.story.turns us) (length z) s'.receiving.buffers) (sym received)
-          (subst (λ (r : Receiving). StandPlaced ss (WerePlaced s' t.story.turns us) (length t.received) r.buffers) (sym receiving)
-          (other_placed ss (WerePlaced s t.story.turns us) (WerePlaced s' t.story.turns us) (length t.received) (length carries.before) s.receiving.buffers (early_more s' state start front early)
+          subst (λ m. StandPlaced ss (WerePlaced s' m us) (length t'.received) (places_in s'.receiving.source)) (sym turns)
+          (subst (λ z. StandPlaced ss (WerePlaced s' t.story.turns us) (length z) (places_in s'.receiving.source)) (sym received)
+          (subst (λ (r : Receiving). StandPlaced ss (WerePlaced s' t.story.turns us) (length t.received) (places_in r.source)) (sym receiving)
+          (other_placed ss (WerePlaced s t.story.turns us) (WerePlaced s' t.story.turns us) (length t.received) (length carries.before) (places_in s.receiving.source) (early_more s' state start front early)
           (λ a b other octets is queue here.
           let w = same_there a b carries.before carries.later (Untagged other octets) carries.segment (sym is ∙ carries.is) here in
           let same : Some (Untagged other octets) ≡ Some (Tagged head payload) = ap Some w.1 ∙ sym carries_it ∙ tagged in
@@ -358,10 +358,10 @@ module _ (s : StreamState) (t : Tale) (k : Track s t) (us : List Octets) (ss : S
     tried_early s' t' start front early receiving turns received running = record {
       received_are = received ∙ o.received_are ∙ ap (λ m. map told (joined [] (take m ss))) (sym turns);
       stand = λ runs.
-          subst (λ m. StandPlaced ss (WerePlaced s' m us) (length t'.received) s'.receiving.buffers) (sym turns)
-          (subst (λ z. StandPlaced ss (WerePlaced s' t.story.turns us) (length z) s'.receiving.buffers) (sym received)
-          (subst (λ (r : Receiving). StandPlaced ss (WerePlaced s' t.story.turns us) (length t.received) r.buffers) (sym receiving)
-          (fewer_placed ss (WerePlaced s t.story.turns us) (WerePlaced s' t.story.turns us) (length t.received) s.receiving.buffers same (o.stand (running runs)))));
+          subst (λ m. StandPlaced ss (WerePlaced s' m us) (length t'.received) (places_in s'.receiving.source)) (sym turns)
+          (subst (λ z. StandPlaced ss (WerePlaced s' t.story.turns us) (length z) (places_in s'.receiving.source)) (sym received)
+          (subst (λ (r : Receiving). StandPlaced ss (WerePlaced s' t.story.turns us) (length t.received) (places_in r.source)) (sym receiving)
+          (fewer_placed ss (WerePlaced s t.story.turns us) (WerePlaced s' t.story.turns us) (length t.received) (places_in s.receiving.source) same (o.stand (running runs)))));
     }
       where
         same : (j : ℕ) → WerePlaced s' t.story.turns us j → WerePlaced s t.story.turns us j
@@ -383,9 +383,9 @@ module _ (s : StreamState) (t : Tale) (k : Track s t) (us : List Octets) (ss : S
       stand = λ runs.
           let segment_is : carries.segment ≡ Untagged head payload = same_Some _ _ (sym carries_it ∙ untagged) in
           let there : ss ≡ carries.before ++ Untagged head payload ∷ carries.later = carries.is ∙ ap (λ z. carries.before ++ z ∷ carries.later) segment_is in
-          subst (λ m. StandPlaced ss (WerePlaced s' m us) (length t'.received) s'.receiving.buffers) (sym turns)
-          (subst (λ z. StandPlaced ss (WerePlaced s' t.story.turns us) (length z) s'.receiving.buffers) (sym received)
-          (subst (λ (r : Receiving). StandPlaced ss (WerePlaced s' t.story.turns us) (length t.received) r.buffers) (sym receiving)
+          subst (λ m. StandPlaced ss (WerePlaced s' m us) (length t'.received) (places_in s'.receiving.source)) (sym turns)
+          (subst (λ z. StandPlaced ss (WerePlaced s' t.story.turns us) (length z) (places_in s'.receiving.source)) (sym received)
+          (subst (λ (r : Receiving). StandPlaced ss (WerePlaced s' t.story.turns us) (length t.received) (places_in r.source)) (sym receiving)
           (written_placed ss (WerePlaced s t.story.turns us) (WerePlaced s' t.story.turns us) s.receiving (length t.received) carries.before carries.later head payload octets msn mo numbered there queue due due_early near_early checked msn_is mo_is same
           (early_more s' state start front early) (o.stand (running runs)))));
     }
@@ -399,10 +399,10 @@ module _ (s : StreamState) (t : Tale) (k : Track s t) (us : List Octets) (ss : S
     received_are = received ∙ o.received_are ∙ ap (λ m. map told (joined [] (take m ss))) (sym turns);
     stand = λ runs.
         let x = next segment false w in
-        subst (λ m. StandPlaced ss (WerePlaced s' m us) (length t'.received) s'.receiving.buffers) (sym turns)
-        (subst (λ z. StandPlaced ss (WerePlaced s' t.story.turns us) (length z) s'.receiving.buffers) (sym received)
-        (subst (λ (r : Receiving). StandPlaced ss (WerePlaced s' t.story.turns us) (length t.received) r.buffers) (sym receiving)
-        (other_placed ss (WerePlaced s t.story.turns us) (WerePlaced s' t.story.turns us) (length t.received) t.story.turns s.receiving.buffers (there_more s' start early) (none_there segment x.0 x.1 other) (o.stand (running runs)))));
+        subst (λ m. StandPlaced ss (WerePlaced s' m us) (length t'.received) (places_in s'.receiving.source)) (sym turns)
+        (subst (λ z. StandPlaced ss (WerePlaced s' t.story.turns us) (length z) (places_in s'.receiving.source)) (sym received)
+        (subst (λ (r : Receiving). StandPlaced ss (WerePlaced s' t.story.turns us) (length t.received) (places_in r.source)) (sym receiving)
+        (other_placed ss (WerePlaced s t.story.turns us) (WerePlaced s' t.story.turns us) (length t.received) t.story.turns (places_in s.receiving.source) (there_more s' start early) (none_there segment x.0 x.1 other) (o.stand (running runs)))));
   }
 
   -- it is a Send's, and is written into the buffer that its number names
@@ -415,9 +415,9 @@ module _ (s : StreamState) (t : Tale) (k : Track s t) (us : List Octets) (ss : S
         let x = next (Untagged head payload) false w in
         let more : (j : ℕ) → WerePlaced s' t.story.turns us j → WerePlaced s t.story.turns us j ⊎ (j ≡ length k.segments) =
         λ j p. elim (there_more s' start early j p) [ inl old ↦ inl old | inr here ↦ inr (here ∙ sym first.as_many) ] in
-        subst (λ m. StandPlaced ss (WerePlaced s' m us) (length t'.received) s'.receiving.buffers) (sym turns)
-        (subst (λ z. StandPlaced ss (WerePlaced s' t.story.turns us) (length z) s'.receiving.buffers) (sym received)
-        (subst (λ (r : Receiving). StandPlaced ss (WerePlaced s' t.story.turns us) (length t.received) r.buffers) (sym receiving)
+        subst (λ m. StandPlaced ss (WerePlaced s' m us) (length t'.received) (places_in s'.receiving.source)) (sym turns)
+        (subst (λ z. StandPlaced ss (WerePlaced s' t.story.turns us) (length z) (places_in s'.receiving.source)) (sym received)
+        (subst (λ (r : Receiving). StandPlaced ss (WerePlaced s' t.story.turns us) (length t.received) (places_in r.source)) (sym receiving)
         (written_placed ss (WerePlaced s t.story.turns us) (WerePlaced s' t.story.turns us) s.receiving (length t.received) k.segments x.0 head payload octets msn mo numbered x.1 queue due
         (omega (arith, complete)) (omega (arith, complete)) checked msn_is mo_is same more (o.stand (running runs)))));
   }
@@ -446,10 +446,10 @@ module _ (s : StreamState) (t : Tale) (k : Track s t) (us : List Octets) (ss : S
       record {
         received_are = received ∙ received_so ∙ ap (map told) (sym same) ∙ ap (λ z. map told (joined [] z)) (sym (turn_are (Untagged head payload) x.0 x.1)) ∙ ap (λ m. map told (joined [] (take m ss))) (sym turns);
         stand = λ runs.
-            subst (λ m. StandPlaced ss (WerePlaced s' m us) (length t'.received) s'.receiving.buffers) (sym turns)
-            (subst (λ z. StandPlaced ss (WerePlaced s' (t.story.turns + 1) us) (length z) s'.receiving.buffers) (sym received)
-            (subst (λ (r : Receiving). StandPlaced ss (WerePlaced s' (t.story.turns + 1) us) (length t.received) r.buffers) (sym receiving)
-            (other_placed ss (WerePlaced s t.story.turns us) (WerePlaced s' (t.story.turns + 1) us) (length t.received) t.story.turns s.receiving.buffers (turn_more s' start front early)
+            subst (λ m. StandPlaced ss (WerePlaced s' m us) (length t'.received) (places_in s'.receiving.source)) (sym turns)
+            (subst (λ z. StandPlaced ss (WerePlaced s' (t.story.turns + 1) us) (length z) (places_in s'.receiving.source)) (sym received)
+            (subst (λ (r : Receiving). StandPlaced ss (WerePlaced s' (t.story.turns + 1) us) (length t.received) (places_in r.source)) (sym receiving)
+            (other_placed ss (WerePlaced s t.story.turns us) (WerePlaced s' (t.story.turns + 1) us) (length t.received) t.story.turns (places_in s.receiving.source) (turn_more s' start front early)
             (none_there (Untagged head payload) x.0 x.1 other) (o.stand (running runs)))));
       }
     where
@@ -467,45 +467,46 @@ module _ (s : StreamState) (t : Tale) (k : Track s t) (us : List Octets) (ss : S
 
     -- it completes nothing
     passed_turn : (s' : StreamState) (t' : Tale) (segment : Segment Octets) → Fronts s true segment → joined [] (k.segments ++ segment ∷ []) ≡ joined [] k.segments → s'.start ≡ s.start → s'.front ≡ None → s'.early ≡ early_left s
-        → s'.receiving.buffers ≡ s.receiving.buffers → t'.story.turns ≡ t.story.turns + 1 → t'.received ≡ t.received → (ended s' ≡ false → ended s ≡ false) → AreFilled s' t' us ss
+        → (places_in s'.receiving.source) ≡ (places_in s.receiving.source) → t'.story.turns ≡ t.story.turns + 1 → t'.received ≡ t.received → (ended s' ≡ false → ended s ≡ false) → AreFilled s' t' us ss
     passed_turn s' t' segment w same start front early buffers turns received running =
         let x = next segment true w in
         record {
           received_are = received ∙ received_so ∙ ap (map told) (sym same) ∙ ap (λ z. map told (joined [] z)) (sym (turn_are segment x.0 x.1)) ∙ ap (λ m. map told (joined [] (take m ss))) (sym turns);
           stand = λ runs.
-              subst (λ m. StandPlaced ss (WerePlaced s' m us) (length t'.received) s'.receiving.buffers) (sym turns)
-              (subst (λ z. StandPlaced ss (WerePlaced s' (t.story.turns + 1) us) (length z) s'.receiving.buffers) (sym received)
+              subst (λ m. StandPlaced ss (WerePlaced s' m us) (length t'.received) (places_in s'.receiving.source)) (sym turns)
+              (subst (λ z. StandPlaced ss (WerePlaced s' (t.story.turns + 1) us) (length z) (places_in s'.receiving.source)) (sym received)
               (subst (StandPlaced ss (WerePlaced s' (t.story.turns + 1) us) (length t.received)) (sym buffers)
-              (fewer_placed ss (WerePlaced s t.story.turns us) (WerePlaced s' (t.story.turns + 1) us) (length t.received) s.receiving.buffers (turn_fewer s' start front early) (o.stand (running runs)))));
+              (fewer_placed ss (WerePlaced s t.story.turns us) (WerePlaced s' (t.story.turns + 1) us) (length t.received) (places_in s.receiving.source) (turn_fewer s' start front early) (o.stand (running runs)))));
         }
 
     -- it completes its Send, whose octets stand in the oldest buffer
     last_turn : (s' : StreamState) (t' : Tale) (head : UntaggedHead) (payload : Octets) (new : Sent) → Fronts s true (Untagged head payload) → head.queue ≡ 0 → head.last ≡ true
         → new ≡ record { octets = take (s.receiving.turned + length payload) (oldest s.receiving); solicited = judging.is_solicited (untagged_operation (opcode_of head.control)); invalidate = judging.stag_to_invalidate head }
-        → s'.start ≡ s.start → s'.front ≡ None → s'.early ≡ early_left s → s'.receiving.buffers ≡ drop 1 s.receiving.buffers → t'.story.turns ≡ t.story.turns + 1 → t'.received ≡ t.received ++ new ∷ [] → AreFilled s' t' us ss
+        → s'.start ≡ s.start → s'.front ≡ None → s'.early ≡ early_left s → (more : List (List ℕ)) × (places_in s'.receiving.source ≡ drop 1 (places_in s.receiving.source) ++ more) → t'.story.turns ≡ t.story.turns + 1 → t'.received ≡ t.received ++ new ∷ [] → AreFilled s' t' us ss
     last_turn s' t' head payload new w queue last is start front early buffers turns received =
         let x = next (Untagged head payload) true w in
         let stands = o.stand w.running in
         let placed_here = front_placed f waits in
         let one : List Whole = completed head (begun [] k.segments ++ payload) ∷ [] in
         let all : joined [] (k.segments ++ Untagged head payload ∷ []) ≡ joined [] k.segments ++ one = joined_next k.segments head payload queue ∙ ap (λ b. joined [] k.segments ++ cond b one []) last in
-        let read : take (length (begun [] k.segments)) (oldest s.receiving) ≡ begun [] k.segments =
-        reads_begun ss (WerePlaced s t.story.turns us) (length t.received) s.receiving.buffers stands k.segments first.later first.segments (λ j less. inl (omega (arith, less, first.as_many))) (sym complete) in
-        let there : StandAt s.receiving.buffers 0 (length (begun [] k.segments)) payload =
-        subst (λ i. StandAt s.receiving.buffers i (length (begun [] k.segments)) payload) (omega (arith, complete))
+        let read : take (length (begun [] k.segments)) (slice_index_or (places_in s.receiving.source) 0 []) ≡ begun [] k.segments =
+        reads_begun ss (WerePlaced s t.story.turns us) (length t.received) (places_in s.receiving.source) stands k.segments first.later first.segments (λ j less. inl (omega (arith, less, first.as_many))) (sym complete) in
+        let there : StandAt (places_in s.receiving.source) 0 (length (begun [] k.segments)) payload =
+        subst (λ i. StandAt (places_in s.receiving.source) i (length (begun [] k.segments)) payload) (omega (arith, complete))
         (stands k.segments x.0 head payload x.1 queue (subst (WerePlaced s t.story.turns us) (sym first.as_many) placed_here) (omega (arith, complete))) in
         let octets : take (s.receiving.turned + length payload) (oldest s.receiving) ≡ begun [] k.segments ++ payload =
-        ap (λ m. take (m + length payload) (oldest s.receiving)) (k.joins.begun_are w.running) ∙ reads_on s.receiving.buffers (begun [] k.segments) payload read there in
+        (λ i. take (k.joins.begun_are w.running i + length payload) (places_oldest s.receiving.source i)) ∙ reads_on (places_in s.receiving.source) (begun [] k.segments) payload read there in
         let told_is : new ≡ told (completed head (begun [] k.segments ++ payload)) =
         is ∙ (λ i. record { octets = octets i; solicited = judging.is_solicited (untagged_operation (opcode_of head.control)); invalidate = judging.stag_to_invalidate head }) ∙ completed_told head (begun [] k.segments ++ payload) in
         record {
           received_are = received ∙ (λ i. received_so i ++ told_is i ∷ []) ∙ sym (map-append told (joined [] k.segments) one) ∙ ap (map told) (sym all)
               ∙ ap (λ z. map told (joined [] z)) (sym (turn_are (Untagged head payload) x.0 x.1)) ∙ ap (λ m. map told (joined [] (take m ss))) (sym turns);
           stand = λ runs.
-              subst (λ m. StandPlaced ss (WerePlaced s' m us) (length t'.received) s'.receiving.buffers) (sym turns)
-              (subst (StandPlaced ss (WerePlaced s' (t.story.turns + 1) us) (length t'.received)) (sym buffers)
-              (next_placed ss (WerePlaced s' (t.story.turns + 1) us) (length t.received) (length t'.received) s.receiving.buffers (omega (arith, ap length received, length-append t.received (new ∷ [])))
-              (fewer_placed ss (WerePlaced s t.story.turns us) (WerePlaced s' (t.story.turns + 1) us) (length t.received) s.receiving.buffers (turn_fewer s' start front early) stands)));
+              subst (λ m. StandPlaced ss (WerePlaced s' m us) (length t'.received) (places_in s'.receiving.source)) (sym turns)
+              (subst (StandPlaced ss (WerePlaced s' (t.story.turns + 1) us) (length t'.received)) (sym buffers.1)
+              (posted_placed ss (WerePlaced s' (t.story.turns + 1) us) (length t'.received) (drop 1 (places_in s.receiving.source)) buffers.0
+              (next_placed ss (WerePlaced s' (t.story.turns + 1) us) (length t.received) (length t'.received) (places_in s.receiving.source) (omega (arith, ap length received, length-append t.received (new ∷ [])))
+              (fewer_placed ss (WerePlaced s t.story.turns us) (WerePlaced s' (t.story.turns + 1) us) (length t.received) (places_in s.receiving.source) (turn_fewer s' start front early) stands))));
         }
 
 -- ---- each act
@@ -551,7 +552,7 @@ leaves s s' t shown start front early receiving runs k =
       turns = w.turns;
       received = append-nil t.received;
       running = runs;
-      buffers = λ h. ([], ap (λ (r : Receiving). r.buffers) receiving ∙ sym (append-nil s.receiving.buffers));
+      buffers = λ h. ([], ap (λ (r : Receiving). places_in r.source) receiving ∙ sym (append-nil (places_in s.receiving.source)));
     }) k
 
 shown_filled : (s : StreamState) (t : Tale) (shown : Shown Octets) → (ended (after_shown s shown) ≡ false → ended s ≡ false) → Fills s t → Fills (after_shown s shown) (tale_after t (Emit shown))
@@ -567,7 +568,7 @@ shown_filled s t (shows.Fetched from frame stag to octets) runs k = leaves s (af
 shown_filled s t (shows.Fault fault) runs k = leaves s (after_shown s (shows.Fault fault)) t (shows.Fault fault) refl refl refl refl runs k
 shown_filled s t shows.Nothing runs k = leaves s s t shows.Nothing refl refl refl refl runs k
 
-turned_buffers : (r : Receiving) (o : Option (Segment Octets)) → (turned_by r o).buffers ≡ r.buffers
+turned_buffers : (r : Receiving) (o : Option (Segment Octets)) → places_in (turned_by r o).source ≡ places_in r.source
 turned_buffers r None = refl
 turned_buffers r (Some (Tagged head payload)) = refl
 turned_buffers r (Some (Untagged head payload)) = refl
@@ -580,7 +581,7 @@ passing_joined s firsts (Untagged head payload) passing queue =
 
 -- what stays of a step that speaks of no frame
 steps : (s s' : StreamState) (t : Tale) (step : Seen Octets) → s'.start ≡ s.start → s'.front ≡ s.front → s'.early ≡ s.early → (story_seen t.story step).came ≡ t.story.came → (story_seen t.story step).turns ≡ t.story.turns
-    → t.received ++ received_by (Work step) ≡ t.received → (ended s' ≡ false → ended s ≡ false) → (ended s' ≡ false → (more : List (List ℕ)) × (s'.receiving.buffers ≡ s.receiving.buffers ++ more)) → Fills s t → Fills s' (tale_after t (Work step))
+    → t.received ++ received_by (Work step) ≡ t.received → (ended s' ≡ false → ended s ≡ false) → (ended s' ≡ false → (more : List (List ℕ)) × ((places_in s'.receiving.source) ≡ (places_in s.receiving.source) ++ more)) → Fills s t → Fills s' (tale_after t (Work step))
 steps s s' t step start front early came turns received runs buffers k =
     stays_filled s s' t (tale_after t (Work step))
     (record { start = start; front = front; early = early; came = λ octets of. subst (λ a. IsOf a octets) came of; turns = turns; received = received; running = runs; buffers = buffers }) k
@@ -591,12 +592,12 @@ fill_after table s t act rule due_is over k f = by act rule (λ h. ran (ended s)
   where
     -- nothing but what came, or the buffers
     calls : (s' : StreamState) (act : StreamAct Octets) → s'.start ≡ s.start → s'.front ≡ s.front → s'.early ≡ s.early → ((octets : Octets) → IsOf (tale_after t act).story.came octets → IsOf t.story.came octets)
-        → (tale_after t act).story.turns ≡ t.story.turns → t.received ++ received_by act ≡ t.received → (ended s' ≡ false → ended s ≡ false) → (more : List (List ℕ)) → s'.receiving.buffers ≡ s.receiving.buffers ++ more → Fills s' (tale_after t act)
+        → (tale_after t act).story.turns ≡ t.story.turns → t.received ++ received_by act ≡ t.received → (ended s' ≡ false → ended s ≡ false) → (more : List (List ℕ)) → (places_in s'.receiving.source) ≡ (places_in s.receiving.source) ++ more → Fills s' (tale_after t act)
     calls s' act start front early came turns received runs more buffers =
         stays_filled s s' t (tale_after t act) (record { start = start; front = front; early = early; came = came; turns = turns; received = received; running = runs; buffers = λ h. (more, buffers) }) f
 
-    none : s.receiving.buffers ≡ s.receiving.buffers ++ []
-    none = sym (append-nil s.receiving.buffers)
+    none : (places_in s.receiving.source) ≡ (places_in s.receiving.source) ++ []
+    none = sym (append-nil (places_in s.receiving.source))
 
     by : (act : StreamAct Octets) → Told table s act → (ended (after_act s act) ≡ false → ended s ≡ false) → Fills (after_act s act) (tale_after t act)
     by (Deliver from number octets Kept) rule runs = calls (after_act s (Deliver from number octets Kept)) (Deliver from number octets Kept) refl refl refl (λ all of. of_earlier t.story.came (place_near number t.story.first (in_order_point t.story)) (drop (before_start number t.story.first (in_order_point t.story)) octets) all of) refl (append-nil t.received) runs [] none
@@ -611,7 +612,7 @@ fill_after table s t act rule due_is over k f = by act rule (λ h. ran (ended s)
     by (Accept private (Err refusal)) rule runs = calls s (Accept private (Err refusal)) refl refl refl (λ all of. of) refl (append-nil t.received) runs [] none
     by (Reject private None) rule runs = shut_filled s (after_act s (Reject private None)) t (tale_after t (Reject private None)) (not_answered s (refusing s rule)) refl refl refl (append-nil t.received) k
     by (Reject private (Some refusal)) rule runs = calls s (Reject private (Some refusal)) refl refl refl (λ all of. of) refl (append-nil t.received) runs [] none
-    by (Recv len None) rule runs = calls (after_act s (Recv len None)) (Recv len None) refl refl refl (λ all of. of) refl (append-nil t.received) runs (replicate len 0 ∷ []) refl
+    by (Recv len None) rule runs = calls (after_act s (Recv len None)) (Recv len None) refl refl refl (λ all of. of) refl (append-nil t.received) runs (places_more s.receiving.source (replicate len 0)).0 (places_more s.receiving.source (replicate len 0)).1
     by (Recv len (Some refusal)) rule runs = calls s (Recv len (Some refusal)) refl refl refl (λ all of. of) refl (append-nil t.received) runs [] none
     by (Post m None) rule runs = calls (after_act s (Post m None)) (Post m None) refl refl refl (λ all of. of) refl (append-nil t.received) runs [] none
     by (Post m (Some refusal)) rule runs = calls s (Post m (Some refusal)) refl refl refl (λ all of. of) refl (append-nil t.received) runs [] none
@@ -662,4 +663,4 @@ fill_after table s t act rule due_is over k f = by act rule (λ h. ran (ended s)
         let w = rule.1 in
         last_turn s t k us ss short reads numbered of (f us ss short reads numbered of) due_is (placed (standing s rule.0.frame)) rule.0.kept (after_act s (Work (seen.Received octets solicited invalidate)))
         (tale_after t (Work (seen.Received octets solicited invalidate))) w.head w.payload (record { octets = octets; solicited = solicited; invalidate = invalidate }) w.fronts ((turning s t k (Untagged w.head w.payload) w.fronts).joins.waits refl refl)
-        w.last (λ i. record { octets = w.is i; solicited = w.solicited_is i; invalidate = w.invalidate_is i }) refl refl refl refl refl refl
+        w.last (λ i. record { octets = w.is i; solicited = w.solicited_is i; invalidate = w.invalidate_is i }) refl refl refl (places_next s.receiving.source) refl refl

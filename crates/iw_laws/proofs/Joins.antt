@@ -20,7 +20,7 @@ use Rattle.iw_stream.specs.Judging.{has_stag, stag_to_invalidate}
 use Rattle.iw_stream.specs.Judging as judging
 use Rattle.iw_queues.specs.Joined.{Whole, Cell, joined, completed, is_solicited, is_invalidating, count_in, count_writes, count_segments}
 use Rattle.iw_octets.specs.Operation.{opcode_of, untagged_operation}
-use Rattle.iw_untagged.specs.Receiving.{Receiving, ahead_of, buffer_of, oldest, with_buffer, turned, finished, turn_fault}
+use Rattle.iw_untagged.specs.Receiving.{Receiving, ahead_of, oldest, with_buffer, turned, finished, turn_fault}
 use Rattle.std.proofs.lemmas.List.Concat.{flat_map-append}
 use Rattle.iw_memory.specs.declared.rights.Right.TheVariants as rights
 use Rattle.iw_laws.specs.Words.{Octets, Sent, Placing, written_by, written, sunk_by, sunk, as_write}

@@ -90,14 +90,14 @@ use Rattle.iw_laws.specs.Calls.{deregister_answer, invalidate_refusal, IsNew, op
 use Rattle.iw_laws.specs.Words.{OnSome, OnStream, AtEach}
 use Rattle.iw_endpoint.specs.Endpoint.{stream_numbers, has_stream, open_refusal, unasked}
 use Rattle.iw_endpoint.specs.Isolation.{answer_or}
-use Rattle.iw_laws.specs.Rules.{EndState, State, end_of, start, Rule, EndRule, PeerRule, WireRule, StreamRule, needs_peer, state_after, Follows, wire_at}
+use Rattle.iw_laws.specs.Rules.{EndState, State, end_of, start, PeerRule, WireRule, StreamRule, needs_peer, state_after, Follows, wire_at}
 use Rattle.iw_events.specs.Events.{stream_call_of}
-use Rattle.iw_laws.proofs.States.{Connected, connected_at}
+use Rattle.iw_laws.proofs.States.{Plain, PlainEnd, plain, Connected, connected_at}
 use Rattle.iw_laws.specs.Bounds.{LacksStream, AsksTooMuch, AsksOver}
 use Rattle.iw_laws.specs.Stops.{NamesNoStream, AsksNotSent, IsUnopened}
 use Rattle.iw_stream.proofs.Tasks.{IsResting, Ended as HasEnded, Unanswered, Without}
 use Rattle.iw_startup.specs.declared.progress.Progress.TheVariants as progresses
-use Rattle.iw_untagged.specs.Receiving.{Receiving}
+use Rattle.iw_untagged.specs.Receiving.{Receiving, first_buffer, is_full, is_shared}
 use Rattle.iw_laws.proofs.Told.{told, Hears, Sees, sees}
 use Rattle.iw_laws.proofs.Tracks.{Track, sound, silent_is, point_is, accepting, refusing}
 use Rattle.iw_laws.proofs.Answers.{answers, idles, idle_unfinished}
@@ -185,7 +185,7 @@ within_stream : (done : List (Act Octets)) (n domain : ℕ) (table : Table) (act
 within_stream done n domain table act d t h = subst (λ z. WithinTale z (domain_of n done) (tale n done) act) t (subst (λ z. WithinTale table z (tale n done) act) d h)
 
 -- what holds of the acts of a stream holds of those of an end
-on_stream : (P : List (Act Octets) → ℕ → StreamAct Octets → Type 0) (done : List (Act Octets)) (s : EndState) (act : Act Octets) → EndRule s.endpoint act
+on_stream : (P : List (Act Octets) → ℕ → StreamAct Octets → Type 0) (done : List (Act Octets)) (s : EndState) (act : Act Octets) → PlainEnd s.endpoint act
     → ((n : ℕ) (a : StreamAct Octets) → has_stream s.endpoint n ≡ true → StreamRule s.endpoint.table (connected_at s n).stream a → P done n a) → OnStream P done act
 on_stream P done s (Stream n act) rule h = h n act rule.0 rule.1
 on_stream P done s (Domain pd refused) rule h = tt
@@ -197,11 +197,13 @@ on_stream P done s (Open n pd role options private refused) rule h = tt
 
 -- an entry, in the state that those before it leave
 abbrev Moment : List (Entry Octets) → Entry Octets → Type 0
-Moment past e = BothSeen past (state_after start past) × Rule (end_of e.end (state_after start past)) (end_of (other e.end) (state_after start past)) e.act
+Moment past e = BothSeen past (state_after start past) × Plain (end_of e.end (state_after start past)) (end_of (other e.end) (state_after start past)) e.act
 
 moment : (past : List (Entry Octets)) (e : Entry Octets) (future trace : List (Entry Octets)) → Follows start trace → trace ≡ past ++ e ∷ future → Moment past e
 moment past e future trace follows is =
-    (seen_at past (e ∷ future) trace follows is, (follows_split past (e ∷ future) start (subst (Follows start) is follows)).1.0)
+    let k = seen_at past (e ∷ future) trace follows is in
+    let w : State = state_after start past in
+    (k, plain (end_of e.end w) (end_of (other e.end) w) e.act (k.ends e.end).pools (follows_split past (e ∷ future) start (subst (Follows start) is follows)).1.0)
 
 -- a law of each entry of a stream, by the state before it
 each_stream : (P : List (Act Octets) → ℕ → StreamAct Octets → Type 0) (trace : List (Entry Octets)) → Follows start trace
@@ -723,16 +725,12 @@ end_seen o c done table step rule own = told step (sees table c.stream (sound c.
         let all : map kind_of (posted done) ≡ handed_kinds done = own.emits.handing.order ∙ ap (λ z. handed_kinds done ++ z) (no_kinds h) ∙ append-nil (handed_kinds done) in
         omega (arith, ap length all, length-map (posted done) kind_of)
 
-    no_buffers : (bs : List Octets) → slice_get bs 0 ≡ None → bs ≡ []
-    no_buffers [] h = refl
-    no_buffers (b ∷ bs) h = absurd (none-some _ (sym h))
-
     runs : ended c.stream ≡ false → has_ended_by done ≡ false
     runs h = sym own.ended ∙ h
 
     rests : Hears c.stream progresses.More ⊎ IsResting c.stream → has_ended_by done ≡ true → HoldsNothing (story o done) done
     rests (inl h) over = absurd (false≢true (sym (runs h.running) ∙ over))
-    rests (inr (HasEnded e old none)) over = record { messages = none_held old; buffers = ap (λ (r : Receiving). r.buffers) own.track.receiving ∙ no_buffers c.stream.receiving.buffers none }
+    rests (inr (HasEnded e old none)) over = record { messages = none_held old; buffers = ap (λ (r : Receiving). first_buffer r.source) own.track.receiving ∙ none }
     rests (inr (Unanswered running a b)) over = absurd (false≢true (sym (runs running) ∙ over))
     rests (inr (Without r a b e)) over = absurd (false≢true (sym (runs r.running) ∙ over))
 
@@ -747,7 +745,7 @@ end_seen o c done table step rule own = told step (sees table c.stream (sound c.
           kind_is = h.kind_is ∙ m.2;
           unfinished = λ other. cannot_finish c.stream t own.track own.emits h.unfinished other;
         }
-    told (seen.FlushedRecv octets) h = record { over_so = sym own.ended ∙ h.over; messages = none_held h.none; is = ap (λ (r : Receiving). slice_get r.buffers 0) own.track.receiving ∙ h.is }
+    told (seen.FlushedRecv octets) h = record { over_so = sym own.ended ∙ h.over; messages = none_held h.none; is = ap (λ (r : Receiving). first_buffer r.source) own.track.receiving ∙ h.is }
     told seen.Idle h = rests h.1
     told (seen.Asked private) h = runs h.0.running
     told (seen.Opened agreed private) h = runs h.0.running
@@ -827,7 +825,7 @@ registers table pd base len region answer e = subst (λ z. (result_err z ≡ reg
     go None is = (sym is, record { domain = refl; fresh = next_free table pd base len region is })
     go (Some refusal) is = (sym is, tt)
 
-end_answered : (done : List (Act Octets)) (s : EndState) (act : Act Octets) → EndKept s done → EndRule s.endpoint act → EndAnswered done act
+end_answered : (done : List (Act Octets)) (s : EndState) (act : Act Octets) → EndKept s done → PlainEnd s.endpoint act → EndAnswered done act
 end_answered done s (Domain pd refused) k rule = subst (λ t. refused ≡ domain_refusal t pd) k.table rule
 end_answered done s (Register pd base rights octets answer) k rule =
     subst (λ t. (result_err answer ≡ register_refusal t pd base (length octets)) × IfOk answer (IsNew t pd)) k.table (registers s.endpoint.table pd base (length octets) (record { base = base; octets = octets; rights = rights; valid = true }) answer rule)
@@ -845,13 +843,19 @@ shows_memory trace follows past e future is =
 
 -- the buffers and the messages that count for a refusal
 recv_refused : (o : Opening) (c : Connected) (done : List (StreamAct Octets)) → Own o c (tale_of o done) → recv_refusal c.stream ≡ recv_refusal_by (story o done) done
-recv_refused o c done own = go (ended c.stream) (nat_le 256 (length c.stream.receiving.buffers)) own.ended (ap (λ (r : Receiving). nat_le 256 (length r.buffers)) (sym own.track.receiving))
+recv_refused o c done own =
+    go (is_shared c.stream.receiving) (ended c.stream) (is_full c.stream.receiving.source) (ap is_shared (sym own.track.receiving)) own.ended (ap (λ (r : Receiving). is_full r.source) (sym own.track.receiving))
   where
-    go : (over full : Bool) → over ≡ has_ended_by done → full ≡ nat_le 256 (length (story o done).receiving.buffers)
-        → cond over (Some recv_refusals.Ended) (option_map recv_refusal_of (cond full (Some buffer_refusals.Full) None)) ≡ cond (has_ended_by done) (Some recv_refusals.Ended) (cond (nat_le 256 (length (story o done).receiving.buffers)) (Some recv_refusals.Full) None)
-    go true full a b = ap (λ z. cond z (Some recv_refusals.Ended) (cond (nat_le 256 (length (story o done).receiving.buffers)) (Some recv_refusals.Full) None)) a
-    go false true a b = (λ i. cond (a i) (Some recv_refusals.Ended) (cond (b i) (Some recv_refusals.Full) None))
-    go false false a b = (λ i. cond (a i) (Some recv_refusals.Ended) (cond (b i) (Some recv_refusals.Full) None))
+    r : Receiving
+    r = (story o done).receiving
+
+    go : (shared over full : Bool) → shared ≡ is_shared r → over ≡ has_ended_by done → full ≡ is_full r.source
+        → cond shared (Some recv_refusals.Shared) (cond over (Some recv_refusals.Ended) (option_map recv_refusal_of (cond full (Some buffer_refusals.Full) None)))
+        ≡ cond (is_shared r) (Some recv_refusals.Shared) (cond (has_ended_by done) (Some recv_refusals.Ended) (cond (is_full r.source) (Some recv_refusals.Full) None))
+    go true over full a b c = ap (λ z. cond z (Some recv_refusals.Shared) (cond (has_ended_by done) (Some recv_refusals.Ended) (cond (is_full r.source) (Some recv_refusals.Full) None))) a
+    go false true full a b c = (λ i. cond (a i) (Some recv_refusals.Shared) (cond (b i) (Some recv_refusals.Ended) (cond (is_full r.source) (Some recv_refusals.Full) None)))
+    go false false true a b c = (λ i. cond (a i) (Some recv_refusals.Shared) (cond (b i) (Some recv_refusals.Ended) (cond (c i) (Some recv_refusals.Full) None)))
+    go false false false a b c = (λ i. cond (a i) (Some recv_refusals.Shared) (cond (b i) (Some recv_refusals.Ended) (cond (c i) (Some recv_refusals.Full) None)))
 
 post_refused : (o : Opening) (c : Connected) (done : List (StreamAct Octets)) (m : Request Octets) → Own o c (tale_of o done) → post_refusal c.stream m ≡ post_refusal_by (story o done) done m
 post_refused o c done m own =
@@ -970,7 +974,7 @@ carried o c done table wire Break rule there own = tt
 wire_of : (peer : EndState) (others : List (Act Octets)) (n : ℕ) (act : StreamAct Octets) → wire_at peer n ≡ sent (stream_acts n others) → PeerRule peer (Stream n act) → WireRule (sent (stream_acts n others)) act
 wire_of peer others n act wire rule = subst (λ z. WireRule z act) wire rule.1
 
-carries : (P : List (Act Octets) → ℕ → StreamAct Octets → Type 0) (done : List (Act Octets)) (s peer : EndState) (act : Act Octets) → Rule s peer act
+carries : (P : List (Act Octets) → ℕ → StreamAct Octets → Type 0) (done : List (Act Octets)) (s peer : EndState) (act : Act Octets) → Plain s peer act
     → ((n : ℕ) (a : StreamAct Octets) → has_stream s.endpoint n ≡ true → StreamRule s.endpoint.table (connected_at s n).stream a → PeerRule peer (Stream n a) → P done n a) → OnStream P done act
 carries P done s peer (Stream n act) rule h = h n act rule.0.0 rule.0.1 rule.1
 carries P done s peer (Domain pd refused) rule h = tt
@@ -995,7 +999,7 @@ carries_octets trace follows past e future is =
 -- ---- streams that are there
 
 -- the stream of an act is there, at the other end too where octets of it are delivered
-stream_opened : (s peer : EndState) (own others : List (Act Octets)) (act : Act Octets) → EndKept s own → EndKept peer others → Rule s peer act → OnStream (OpenedStream others) own act
+stream_opened : (s peer : EndState) (own others : List (Act Octets)) (act : Act Octets) → EndKept s own → EndKept peer others → Plain s peer act → OnStream (OpenedStream others) own act
 stream_opened s peer own others (Stream n act) k j rule = (sym (k.opened n) ∙ rule.0.0, go act rule.1.0)
   where
     go : (act : StreamAct Octets) → (needs_peer (stream_call_of act) ≡ true → has_stream peer.endpoint n ≡ true) → OnSome (λ c. OnSome (λ from. was_opened (openings n others) ≡ true) c.from) (deed act).coming

@@ -61,7 +61,7 @@ use Rattle.iw_fpdu.specs.Frame.{frame_octets}
 use Rattle.iw_fpdu.specs.Sequence.{sequence, place_past}
 use Rattle.iw_fpdu.proofs.Sequences.{sequences_join, place_is}
 use Rattle.iw_fpdu.proofs.Follows.{frames_follow}
-use Rattle.iw_untagged.specs.Receiving.{Receiving, ahead_of, buffer_fault}
+use Rattle.iw_untagged.specs.Receiving.{Receiving, ahead_of, buffer_fault, buffer_for}
 use Rattle.iw_queues.specs.declared.request.Kind.{Kind}
 use Rattle.iw_queues.specs.declared.request.Request.{Request}
 use Rattle.iw_queues.specs.declared.completions.Done.{Done}
@@ -1838,7 +1838,7 @@ in_buffer opening c t head payload msn mo len checked msn_is mo_is len_is o =
       tt,
       record {
         buffer = b.buffer;
-        is = (λ k. slice_get (o.track.receiving k).buffers (ahead_of (o.track.receiving k).due (msn_is k))) ∙ b.is;
+        is = (λ k. buffer_for (o.track.receiving k).source (ahead_of (o.track.receiving k).due (msn_is k))) ∙ b.is;
         lie = omega (arith, b.room, mo_is, len_is);
       },
     )

@@ -1,15 +1,14 @@
 -- Each wrong run of sequence numbers that wrap breaks its law.
-use Rattle.std.proofs.Common.{◌≡◌, ℕ, ◌+◌, [], ◌∷◌, ◌++◌, take, drop, Some, None, true, false, refl, sym, ap, ◌∙◌, arith}
+use Rattle.std.proofs.Common.{◌≡◌, [], take, refl, sym, ◌∙◌, arith}
 use Rattle.std.proofs.lemmas.Bool.{false≢true, true≢false}
-use Rattle.std.proofs.lemmas.List.{append-nil}
 use Rattle.std.proofs.lemmas.Option.{none-some}
 use Rattle.iw_ranges.specs.Nearest.{numbers_ahead, place_near, before_start}
 use Rattle.iw_ranges.specs.declared.Delivery.TheVariants.{Kept, Dropped}
-use Rattle.iw_ranges.specs.Arrived.{in_order, taken_in, nothing, is_dropped, island_count, advanced}
+use Rattle.iw_ranges.specs.Arrived.{is_dropped, island_count, advanced}
 use Rattle.iw_events.specs.declared.call.End.TheVariants.{B}
 use Rattle.iw_events.specs.declared.act.Seen.TheVariants as seen
-use Rattle.iw_laws.specs.Words.{acts, stream_acts, openings, ended, sent}
-use Rattle.iw_laws.specs.Turns.{Story, story, story_of}
+use Rattle.iw_laws.specs.Words.{acts, stream_acts, openings, ended}
+use Rattle.iw_laws.specs.Turns.{story, story_of}
 use Rattle.iw_laws.specs.Rest.{Over, AwaitsFrame, AwaitsAnswer, NoFrame}
 use Rattle.iw_laws.specs.WrongRuns.{b, works, numbers_high, delivers_misnumbered, misnumbers, drops_wrapped, drops_past_wrap, rests_past_wrap, numbers_late}
 use Rattle.iw_laws.specs.WrongRuns.{RefusesMisnumbered, RefusesDroppedPastWrap, RefusesRestPastWrap, RefusesLateNumber}

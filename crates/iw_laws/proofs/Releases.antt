@@ -1,6 +1,6 @@
 -- A call to work at a stream at which octets of placed frames were given up is answered as at one at which all that came is held, and leaves what that leaves.
 use Rattle.std.proofs.Common.{◌≡◌, inl, inr, ℕ, ◌+◌, ◌-◌, ◌<◌, ◌≤◌, List, [], length, take, drop, Option, Some, None, Ok, Err, Result, Bool, true, false, not, cond, Contains, refl, sym, ap, ◌∙◌, subst, arith}
-use Rattle.std.specs.Prelude.{nat_eq, slice_get, ◌&&◌, ◌||◌}
+use Rattle.std.specs.Prelude.{nat_eq, ◌&&◌, ◌||◌}
 use Rattle.std.specs.Option.{option_map_or}
 use Rattle.std.proofs.lemmas.Bool.{true≢false, false≢true}
 use Rattle.iw_octets.specs.declared.fault.Fault.{Fault}
@@ -40,6 +40,7 @@ use Rattle.iw_stream.specs.Stream.{StreamState, ended, ends_by, Due, StartUp, La
 use Rattle.iw_stream.specs.Terminating.{terminate_judged, is_request_of}
 use Rattle.iw_stream.specs.Work.{Task, HandOut, GiveUp, GiveBack, Hear, Turn, Clash, Judge, Try, Rest, task, frame_task, front_task, handing_back, next_frame, waiting, clashes, clash_fault, early_frame, scene, inbox, standing, step_of, left_by, table_left, heard_step, after_hearing, after_turn, after_judging, after_trying, work_step, worked, table_worked}
 use Rattle.iw_stream.specs.Work as work
+use Rattle.iw_untagged.specs.Receiving.{first_buffer}
 use Rattle.iw_stream.proofs.Fronts.{carried_by}
 use Rattle.iw_stream.proofs.Tasks.{IsRunning, IsResting, Ended, Unanswered, Without, by_task, task_hands_back, task_hears, task_frame}
 use Rattle.iw_events.specs.declared.act.StreamAct.{StreamAct}
@@ -70,7 +71,7 @@ left_releases left came from to is = record {
 data Cases (w : StreamState) : Type 0 where
   Hands : (done : Done) → done_in w.queue ≡ Some done → Cases w
   Gives : (done : Done) → done_in w.queue ≡ None → ended w ≡ true → oldest_in w.queue ≡ Some done → Cases w
-  Returns : (buffer : List ℕ) → done_in w.queue ≡ None → ended w ≡ true → oldest_in w.queue ≡ None → slice_get w.receiving.buffers 0 ≡ Some buffer → Cases w
+  Returns : (buffer : List ℕ) → done_in w.queue ≡ None → ended w ≡ true → oldest_in w.queue ≡ None → first_buffer w.receiving.source ≡ Some buffer → Cases w
   Hearing : done_in w.queue ≡ None → ended w ≡ false → awaits_frame w.start ≡ true → Cases w
   Turns : (frame : PlacedFrame) → IsRunning w → waiting w ≡ Some frame → Cases w
   Clashing : (frame : Frame) → IsRunning w → waiting w ≡ None → next_frame w ≡ Some frame → clashes w frame ≡ true → Cases w
@@ -251,7 +252,7 @@ module _ (table : Table) (s : StreamState) (came : Arrived) (left : IsLeftOf s.a
       go : Cases w → WorksAlike table s w
       go (Hands done e) = works_by table s w (HandOut done) (HandOut done) (done_task s done e) (done_task w done e) refl refl (record { same = λ x. refl; left = left; only = only })
       go (Gives done none over e) =
-          let back : handing_back s ≡ GiveUp done = ap (λ o. option_map_or GiveUp o (option_map_or GiveBack (slice_get s.receiving.buffers 0) Rest)) e in
+          let back : handing_back s ≡ GiveUp done = ap (λ o. option_map_or GiveUp o (option_map_or GiveBack (first_buffer s.receiving.source) Rest)) e in
           works_by table s w (GiveUp done) (GiveUp done) (task_hands_back s none over ∙ back) (task_hands_back w none over ∙ back) refl refl (record { same = λ x. refl; left = left; only = only })
       go (Returns buffer none over old e) =
           let back : handing_back s ≡ GiveBack buffer = λ i. option_map_or GiveUp (old i) (option_map_or GiveBack (e i) Rest) in

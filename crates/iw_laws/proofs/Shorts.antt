@@ -10,7 +10,7 @@ use Rattle.iw_events.specs.declared.act.StreamAct.{StreamAct}
 use Rattle.iw_events.specs.declared.act.Entry.{Entry}
 use Rattle.iw_laws.specs.Words.{Octets, other, acts, stream_acts, stream_acts_by, opening_of, sent, sent_by}
 use Rattle.iw_laws.specs.Rules.{EndState, State, end_of, start, Rule, after_entry, state_after, Follows}
-use Rattle.iw_laws.proofs.States.{connected_at}
+use Rattle.iw_laws.proofs.States.{Plain, plain, connected_at}
 use Rattle.iw_laws.specs.Bounds.{IsShortEnd, IsShortState}
 use Rattle.iw_laws.proofs.Tales.{Tale, stream_acts-push, acts_mine, acts_other}
 use Rattle.iw_stream.specs.Stream.{StreamState}
@@ -29,7 +29,7 @@ silent n done act none = stream_acts-push n done act ∙ ap (λ z. stream_acts n
 same_sent : (n : ℕ) (done : List (Act Octets)) (act : Act Octets) → stream_acts_by n act ≡ [] → sent_on n (done ++ act ∷ []) ≤ sent_on n done + 2 ^ 17
 same_sent n done act none = let same : sent_on n (done ++ act ∷ []) ≡ sent_on n done = ap (λ z. length (sent z)) (silent n done act none) in omega arith
 
-one_frame : (s peer : EndState) (done : List (Act Octets)) (act : Act Octets) (n : ℕ) → ((n : ℕ) → Holds (opening_of n done) (connected_at s n) (tale n done)) → Rule s peer act
+one_frame : (s peer : EndState) (done : List (Act Octets)) (act : Act Octets) (n : ℕ) → ((n : ℕ) → Holds (opening_of n done) (connected_at s n) (tale n done)) → Plain s peer act
     → sent_on n (done ++ act ∷ []) ≤ sent_on n done + 2 ^ 17
 one_frame s peer done (Domain pd None) n p rule = same_sent n done (Domain pd None) refl
 one_frame s peer done (Domain pd (Some refusal)) n p rule = same_sent n done (Domain pd (Some refusal)) refl
@@ -109,7 +109,7 @@ few_step trace w e k few rule =
     let F : End → Type 0 = λ v. (n : ℕ) → sent_on n (acts v (trace ++ e ∷ [])) ≤ 2 ^ 17 * length (trace ++ e ∷ []) in
     let mine : F x = λ n.
     let one : sent_on n (acts x trace ++ e.act ∷ []) ≤ sent_on n (acts x trace) + 2 ^ 17 =
-    one_frame (end_of x w) (end_of y w) (acts x trace) e.act n (λ j. (k.pairs x j).own) rule in
+    one_frame (end_of x w) (end_of y w) (acts x trace) e.act n (λ j. (k.pairs x j).own) (plain (end_of x w) (end_of y w) e.act (k.ends x).pools rule) in
     let before : sent_on n (acts x trace) ≤ 2 ^ 17 * length trace = few x n in
     let same : sent_on n (acts x (trace ++ e ∷ [])) ≡ sent_on n (acts x trace ++ e.act ∷ []) = ap (sent_on n) (acts_mine trace e) in
     omega (arith, longer, one, before, same) in

@@ -2,7 +2,7 @@
 use Rattle.std.proofs.Common.{◌≡◌, ◌⊎◌, ℕ, ◌+◌, ◌-◌, List, [], length, take, Option, Some, None, Result, Ok, Err, Bool, true, false, cond, refl, sym, ap, ◌∙◌, subst, inl, inr, arith}
 use Rattle.std.specs.Option.{option_map, option_map_or, option_or}
 use Rattle.iw_locate.specs.Free.{front_of}
-use Rattle.std.specs.Prelude.{is_some, replicate, slice_get}
+use Rattle.std.specs.Prelude.{is_some, replicate}
 use Rattle.std.proofs.lemmas.Bool.{false≢true, true≢false}
 use Rattle.iw_octets.specs.declared.fault.Fault.{Fault}
 use Rattle.iw_octets.specs.declared.head.TaggedHead.{TaggedHead}
@@ -35,7 +35,7 @@ use Rattle.iw_tagged.specs.declared.placing.Placed.{Placed}
 use Rattle.iw_startup.specs.declared.progress.Progress.{Progress}
 use Rattle.iw_startup.specs.declared.progress.Progress.TheVariants as progress
 use Rattle.iw_startup.specs.State.{StartupState}
-use Rattle.iw_untagged.specs.Receiving.{written, finished, flushed, oldest, turn_fault, buffer_fault}
+use Rattle.iw_untagged.specs.Receiving.{written, finished, first_buffer, flushed, oldest, turn_fault, buffer_fault}
 use Rattle.iw_ranges.specs.Arrived.{advanced}
 use Rattle.iw_stream.specs.declared.answer.Step.{Step}
 use Rattle.iw_stream.specs.declared.judging.Landing.{Landing}
@@ -294,7 +294,7 @@ pub record GivesBack (s : StreamState) (octets : Octets) : Type 0 where
   pub over : ended s ≡ true
   pub unfinished : done_in s.queue ≡ None
   pub none : oldest_in s.queue ≡ None
-  pub is : slice_get s.receiving.buffers 0 ≡ Some octets
+  pub is : first_buffer s.receiving.source ≡ Some octets
 
 -- a Send's segment that was placed
 pub record SeesSend (s : StreamState) (msn mo len : ℕ) : Type 0 where

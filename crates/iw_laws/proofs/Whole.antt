@@ -51,8 +51,8 @@ use Rattle.iw_laws.specs.Sends.{terminate_segment}
 use Rattle.std.specs.Prelude.{nat_lt}
 use Rattle.iw_laws.specs.Words.{Octets, other, acts, stream_acts, stream_acts_by, Opening, no_opening, opening_in, opening_of, openings, openings_by, posted, finished_kinds, handed_kinds, size_set, received, ended, sent, sent_by, placings, table_after, OnSome, deed}
 use Rattle.iw_endpoint.specs.Endpoint.{stream_of, stream_at, unopened as no_stream, has_stream, no_streams}
-use Rattle.iw_laws.specs.Rules.{EndState, State, end_of, with_end, at_first, start, Rule, WireRule, StreamRule, end_after, after_entry, state_after, Follows, EndRule, wire_at, no_wires}
-use Rattle.iw_laws.proofs.States.{opening_by, Connected, connected, unconnected, connected_at, connected_after, streams_after, stream_after, wire_still, wire_more}
+use Rattle.iw_laws.specs.Rules.{EndState, State, end_of, with_end, at_first, start, Rule, WireRule, StreamRule, end_after, after_entry, state_after, Follows, wire_at, no_wires}
+use Rattle.iw_laws.proofs.States.{Plain, PlainEnd, plain, opening_by, Connected, connected, unconnected, connected_at, connected_after, streams_after, stream_after, wire_still, wire_more}
 use Rattle.iw_stream.specs.Work.{scene}
 use Rattle.iw_laws.proofs.Judged.{none_judged}
 use Rattle.iw_laws.proofs.EarlySent.{none_sent}
@@ -338,12 +338,12 @@ reopened o l m c done d u small none p = record {
 }
 
 -- an act that neither opens the stream nor is one of it
-same_stream : (s : EndState) (act : Act Octets) (n : ℕ) (done : List (Act Octets)) (m : Opening) (d : Connected) (u : Tale) → EndRule s.endpoint act → slice_index_or (streams_after s.endpoint.table s.endpoint.streams act) n None ≡ slice_index_or s.endpoint.streams n None → openings_by n act ≡ []
+same_stream : (s : EndState) (act : Act Octets) (n : ℕ) (done : List (Act Octets)) (m : Opening) (d : Connected) (u : Tale) → EndSeen s done → PlainEnd s.endpoint act → slice_index_or (streams_after s.endpoint.table s.endpoint.streams act) n None ≡ slice_index_or s.endpoint.streams n None → openings_by n act ≡ []
     → stream_acts_by n act ≡ [] → Pair (opening_of n done) (connected_at s n) (tale n done) m d u → Pair (opening_of n (done ++ act ∷ [])) (connected_at (end_after s act) n) (tale n (done ++ act ∷ [])) m d u
-same_stream s act n done m d u rule same closed none p =
+same_stream s act n done m d u k rule same closed none p =
     let same_opening : opening_of n (done ++ act ∷ []) ≡ opening_of n done = ap opening_in (opens_same n done act closed) in
     let acts_are : stream_acts n (done ++ act ∷ []) ≡ stream_acts n done = stream_acts-push n done act ∙ ap (λ z. stream_acts n done ++ z) none ∙ append-nil (stream_acts n done) in
-    let left : stream_of s.endpoint n ≡ stream_of (end_after s act).endpoint n = sym same ∙ sym (at_act s.endpoint act n rule) in
+    let left : stream_of s.endpoint n ≡ stream_of (end_after s act).endpoint n = sym same ∙ sym (at_act s.endpoint act n k.pools rule) in
     moved m d u (sym same_opening) (λ i. record { stream = unwrap_or (left i) no_stream; wire = sym (wire_still s act n none) i }) (λ i. tale_of (sym same_opening i) (sym acts_are i)) p
 
 pub acts_none : (m n : ℕ) (act : StreamAct Octets) → eqb m n ≡ false → stream_acts_by n (Stream m act) ≡ []
@@ -363,29 +363,29 @@ unfolding sent
 nothing_sent = refl
 
 -- an act of an end, as each of its streams sees it
-acted : (s peer : EndState) (done : List (Act Octets)) (act : Act Octets) (n : ℕ) (l : Opening) (u : Tale) → EndSeen s done → Rule s peer act → Pair (opening_of n done) (connected_at s n) (tale n done) l (connected_at peer n) u
+acted : (s peer : EndState) (done : List (Act Octets)) (act : Act Octets) (n : ℕ) (l : Opening) (u : Tale) → EndSeen s done → Plain s peer act → Pair (opening_of n done) (connected_at s n) (tale n done) l (connected_at peer n) u
     → Pair (opening_of n (done ++ act ∷ [])) (connected_at (end_after s act) n) (tale n (done ++ act ∷ [])) l (connected_at peer n) u
-acted s peer done (Domain pd None) n l u k rule p = same_stream s (Domain pd None) n done l (connected_at peer n) u rule.0 refl refl refl p
-acted s peer done (Domain pd (Some refusal)) n l u k rule p = same_stream s (Domain pd (Some refusal)) n done l (connected_at peer n) u rule.0 refl refl refl p
-acted s peer done (Register pd base rights octets answer) n l u k rule p = same_stream s (Register pd base rights octets answer) n done l (connected_at peer n) u rule.0 refl refl refl p
-acted s peer done (Deregister stag answer) n l u k rule p = same_stream s (Deregister stag answer) n done l (connected_at peer n) u rule.0 refl refl refl p
-acted s peer done (Invalidate stag refused) n l u k rule p = same_stream s (Invalidate stag refused) n done l (connected_at peer n) u rule.0 refl refl refl p
-acted s peer done (Store stag to octets refused) n l u k rule p = same_stream s (Store stag to octets refused) n done l (connected_at peer n) u rule.0 refl refl refl p
-acted s peer done (Open m pd role options private (Some refusal)) n l u k rule p = same_stream s (Open m pd role options private (Some refusal)) n done l (connected_at peer n) u rule.0 refl refl refl p
+acted s peer done (Domain pd None) n l u k rule p = same_stream s (Domain pd None) n done l (connected_at peer n) u k rule.0 refl refl refl p
+acted s peer done (Domain pd (Some refusal)) n l u k rule p = same_stream s (Domain pd (Some refusal)) n done l (connected_at peer n) u k rule.0 refl refl refl p
+acted s peer done (Register pd base rights octets answer) n l u k rule p = same_stream s (Register pd base rights octets answer) n done l (connected_at peer n) u k rule.0 refl refl refl p
+acted s peer done (Deregister stag answer) n l u k rule p = same_stream s (Deregister stag answer) n done l (connected_at peer n) u k rule.0 refl refl refl p
+acted s peer done (Invalidate stag refused) n l u k rule p = same_stream s (Invalidate stag refused) n done l (connected_at peer n) u k rule.0 refl refl refl p
+acted s peer done (Store stag to octets refused) n l u k rule p = same_stream s (Store stag to octets refused) n done l (connected_at peer n) u k rule.0 refl refl refl p
+acted s peer done (Open m pd role options private (Some refusal)) n l u k rule p = same_stream s (Open m pd role options private (Some refusal)) n done l (connected_at peer n) u k rule.0 refl refl refl p
 acted s peer done (Open m pd role options private None) n l u k rule p = go (eqb m n) refl
   where
     act : Act Octets
     act = Open m pd role options private None
 
     go : (b : Bool) → eqb m n ≡ b → Pair (opening_of n (done ++ act ∷ [])) (connected_at (end_after s act) n) (tale n (done ++ act ∷ [])) l (connected_at peer n) u
-    go false e = same_stream s act n done l (connected_at peer n) u rule.0 (at_other s m n (Some (connected (opening_by pd role options private)).stream) e) (opening_none (eqb m n) (opening_by pd role options private) e) refl p
+    go false e = same_stream s act n done l (connected_at peer n) u k rule.0 (at_other s m n (Some (connected (opening_by pd role options private)).stream) e) (opening_none (eqb m n) (opening_by pd role options private) e) refl p
     go true e =
         let o = opens s m pd rule.0 in
         let same : m ≡ n = eqb-true m n e in
         let c : Connected = connected (opening_by pd role options private) in
         let room : m < length s.endpoint.streams = omega (arith, o.number, k.numbers) in
         let here : stream_of (end_after s act).endpoint n ≡ Some c.stream =
-        at_act s.endpoint act n rule.0 ∙ subst (λ j. slice_index_or (streams_after s.endpoint.table s.endpoint.streams act) j None ≡ Some c.stream) same (at_same s m c.stream room) in
+        at_act s.endpoint act n k.pools rule.0 ∙ subst (λ j. slice_index_or (streams_after s.endpoint.table s.endpoint.streams act) j None ≡ Some c.stream) same (at_same s m c.stream room) in
         let closed : has_stream s.endpoint n ≡ false = subst (λ j. has_stream s.endpoint j ≡ false) same o.fresh in
         let before : openings n done ≡ [] = unopened (openings n done) (sym (k.opened n) ∙ closed) in
         let now : opening_of n (done ++ act ∷ []) ≡ opening_by pd role options private =
@@ -397,13 +397,13 @@ acted s peer done (Open m pd role options private None) n l u k rule p = go (eqb
 acted s peer done (Stream m act) n l u k rule p = go (eqb m n) refl
   where
     go : (b : Bool) → eqb m n ≡ b → Pair (opening_of n (done ++ Stream m act ∷ [])) (connected_at (end_after s (Stream m act)) n) (tale n (done ++ Stream m act ∷ [])) l (connected_at peer n) u
-    go false e = same_stream s (Stream m act) n done l (connected_at peer n) u rule.0 (at_other s m n (Some (stream_after s.endpoint.table (stream_at s.endpoint m) act)) e) refl (acts_none m n act e) p
+    go false e = same_stream s (Stream m act) n done l (connected_at peer n) u k rule.0 (at_other s m n (Some (stream_after s.endpoint.table (stream_at s.endpoint m) act)) e) refl (acts_none m n act e) p
     go true e =
         let same : m ≡ n = eqb-true m n e in
         let x : StreamState = stream_after s.endpoint.table (stream_at s.endpoint m) act in
         let there : m < length s.endpoint.streams = number_there s m rule.0.0 in
         let here : stream_of (end_after s (Stream m act)).endpoint n ≡ Some x =
-        at_act s.endpoint (Stream m act) n rule.0 ∙ subst (λ j. slice_index_or (streams_after s.endpoint.table s.endpoint.streams (Stream m act)) j None ≡ Some x) same (at_same s m x there) in
+        at_act s.endpoint (Stream m act) n k.pools rule.0 ∙ subst (λ j. slice_index_or (streams_after s.endpoint.table s.endpoint.streams (Stream m act)) j None ≡ Some x) same (at_same s m x there) in
         let stream_is : stream_after s.endpoint.table (stream_at s.endpoint n) act ≡ stream_at (end_after s (Stream m act)).endpoint n =
         ap (λ j. stream_after s.endpoint.table (stream_at s.endpoint j) act) (sym same) ∙ ap (λ z. unwrap_or z no_stream) (sym here) in
         let room : n < length s.wires = omega (arith, there, same, k.numbers, k.wires) in
@@ -504,6 +504,7 @@ both P B here there B = here
 pub one_more : (trace : List (Entry Octets)) (w : State) (e : Entry Octets) → Seen trace w → Rule (end_of e.end w) (end_of (other e.end) w) e.act → Seen (trace ++ e ∷ []) (after_entry w e)
 one_more trace w e k rule =
     let x : End = e.end in
+    let follows : Plain (end_of x w) (end_of (other x) w) e.act = plain (end_of x w) (end_of (other x) w) e.act (k.ends x).pools rule in
     let y : End = other e.end in
     let s : EndState = end_of x w in
     let s' : EndState = end_after s e.act in
@@ -513,13 +514,13 @@ one_more trace w e k rule =
     let mine : acts x (trace ++ e ∷ []) ≡ acts x trace ++ e.act ∷ [] = acts_mine trace e in
     let others : acts y (trace ++ e ∷ []) ≡ acts y trace = acts_other trace e in
     let E : End → Type 0 = λ v. EndSeen (end_of v w') (acts v (trace ++ e ∷ [])) in
-    let end_mine : E x = subst (λ z. EndSeen z (acts x (trace ++ e ∷ []))) (sym here) (subst (EndSeen s') (sym mine) (end_step s (end_of y w) (acts x trace) e.act (k.ends x) rule)) in
+    let end_mine : E x = subst (λ z. EndSeen z (acts x (trace ++ e ∷ []))) (sym here) (subst (EndSeen s') (sym mine) (end_step s (end_of y w) (acts x trace) e.act (k.ends x) follows)) in
     let end_other : E y = subst (λ z. EndSeen z (acts y (trace ++ e ∷ []))) (sym there) (subst (EndSeen (end_of y w)) (sym others) (k.ends y)) in
     let D : End → List (Act Octets) = λ v. acts v (trace ++ e ∷ []) in
     let P : End → Type 0 = λ v. (n : ℕ) → PairAt (end_of v w') (D v) (end_of (other v) w') (D (other v)) n in
     let pair_mine : P x = λ n.
     let next : PairAt s' (acts x trace ++ e.act ∷ []) (end_of y w) (acts y trace) n =
-    acted s (end_of y w) (acts x trace) e.act n (opening_of n (acts y trace)) (tale n (acts y trace)) (k.ends x) rule (k.pairs x n) in
+    acted s (end_of y w) (acts x trace) e.act n (opening_of n (acts y trace)) (tale n (acts y trace)) (k.ends x) follows (k.pairs x n) in
     subst (λ z. PairAt z (D x) (end_of y w') (D y) n) (sym here)
     (subst (λ z. PairAt s' z (end_of y w') (D y) n) (sym mine)
     (subst (λ z. PairAt s' (acts x trace ++ e.act ∷ []) z (D y) n) (sym there)
@@ -579,6 +580,7 @@ fresh_end : (x : End) → EndSeen at_first (acts x [])
 unfolding acts openings stream_acts table_after no_streams no_wires
 fresh_end x = record {
   table = refl;
+  pools = refl;
   numbers = refl;
   wires = refl;
   opened = λ n. ap is_some (none_at n);

@@ -22,6 +22,7 @@ use Rattle.iw_stream.specs.declared.answer.OpenRefusal.{OpenRefusal}
 use Rattle.iw_stream.specs.declared.answer.OpenRefusal.TheVariants.{NumberTaken, BadNumber, NoDomain}
 use Rattle.iw_stream.specs.Starting.{is_open, is_asked, agreement_in}
 use Rattle.iw_stream.specs.Stream.{size_refusal}
+use Rattle.iw_untagged.specs.Receiving.{is_full, is_shared}
 use Rattle.iw_endpoint.specs.Endpoint.{stream_numbers}
 use Rattle.iw_events.specs.declared.act.Act.{Act}
 use Rattle.iw_events.specs.declared.act.Act.TheVariants.{Domain, Register, Deregister, Invalidate, Store, Open, Stream}
@@ -72,7 +73,10 @@ ShowsMemory = AtEach EndAnswered
 
 abbrev pub recv_refusal_by : Story → List (StreamAct Octets) → Option RecvRefusal
 recv_refusal_by t before =
-    if ended before then Some receiving.Ended else if nat_le 256 (length t.receiving.buffers) then Some receiving.Full else None
+    if is_shared t.receiving then Some receiving.Shared
+    else if ended before then Some receiving.Ended
+    else if is_full t.receiving.source then Some receiving.Full
+    else None
 
 abbrev pub post_refusal_by : Story → List (StreamAct Octets) → Request Octets → Option PostRefusal
 post_refusal_by t before request =

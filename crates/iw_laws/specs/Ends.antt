@@ -1,5 +1,5 @@
 -- What becomes of a stream that has ended.
-use Rattle.std.specs.Prelude.{◌≡◌, ◌⊎◌, Bool, true, false, ℕ, ◌≤◌, List, [], length, slice_get, Some}
+use Rattle.std.specs.Prelude.{◌≡◌, ◌⊎◌, Bool, true, false, ℕ, ◌≤◌, List, length, slice_get, Some, None}
 use Rattle.iw_queues.specs.declared.request.Kind.{Kind}
 use Rattle.iw_queues.specs.declared.request.Request.{Request}
 use Rattle.iw_queues.specs.Request.{kind_of}
@@ -10,6 +10,7 @@ use Rattle.iw_events.specs.declared.act.Shown.TheVariants.{Frame, Fetched, Fault
 use Rattle.iw_events.specs.declared.act.Seen.{Seen}
 use Rattle.iw_events.specs.declared.act.Seen.TheVariants as seen
 use Rattle.iw_events.specs.declared.act.Entry.{Entry}
+use Rattle.iw_untagged.specs.Receiving.{first_buffer}
 use Rattle.iw_stream.specs.Ending.{is_broken}
 use Rattle.iw_laws.specs.Words.{Octets, deed, stream_acts, posted, handed_kinds, ended, sent}
 use Rattle.iw_laws.specs.Turns.{Story, story_of}
@@ -23,7 +24,7 @@ HoldsNoMessage before = length (posted before) ≤ length (handed_kinds before)
 -- and every receive buffer
 pub record HoldsNothing (t : Story) (before : List (StreamAct Octets)) : Type 0 where
   pub messages : HoldsNoMessage before
-  pub buffers : t.receiving.buffers ≡ []
+  pub buffers : first_buffer t.receiving.source ≡ None
 
 -- the stream has ended; the oldest message that was not handed back has this kind, and cannot be finished
 pub record IsGivenUp (over : Bool) (t : Story) (before : List (StreamAct Octets)) (kind : Kind) : Type 0 where
@@ -37,7 +38,7 @@ pub record IsGivenUp (over : Bool) (t : Story) (before : List (StreamAct Octets)
 pub record IsReturned (over : Bool) (t : Story) (before : List (StreamAct Octets)) (octets : Octets) : Type 0 where
   pub over_so : over ≡ true
   pub messages : HoldsNoMessage before
-  pub is : slice_get t.receiving.buffers 0 ≡ Some octets
+  pub is : first_buffer t.receiving.source ≡ Some octets
 
 abbrev pub EndSeen : Bool → Story → List (StreamAct Octets) → Seen Octets → Type 0
 EndSeen over t before (seen.Done kind) = Unit {0}

@@ -29,7 +29,7 @@ use Rattle.iw_events.specs.declared.act.Shown.TheVariants.{Frame, Fetched, Fault
 use Rattle.iw_events.specs.declared.act.Seen.{Seen}
 use Rattle.iw_events.specs.declared.act.Seen.TheVariants as seen
 use Rattle.iw_events.specs.declared.act.Entry.{Entry}
-use Rattle.iw_endpoint.specs.Endpoint.{EndpointState, fresh, has_stream, stream_at, stream_numbers, domain_refusal, store_refusal, open_refusal, unasked}
+use Rattle.iw_endpoint.specs.Endpoint.{EndpointState, fresh, has_stream, stream_at, stream_numbers, pool_of, lent_to, domain_refusal, store_refusal, open_refusal, unasked}
 use Rattle.iw_endpoint.specs.Isolation as calls
 use Rattle.iw_endpoint.specs.Isolation.{answer_or, after}
 use Rattle.iw_laws.specs.Words.{Octets, other, deed, octets_shown, config_for, private_data}
@@ -141,6 +141,14 @@ needs_peer stream_calls.Emit = false
 needs_peer stream_calls.Work = false
 needs_peer stream_calls.Break = false
 
+-- the stream of this number with the pool of its domain, if there is one, lent to it
+abbrev pub seen_at : EndpointState → ℕ → StreamState
+seen_at e n = lent_to (pool_of e (stream_at e n).domain) (stream_at e n)
+
+-- as it stands at an act: the pool is lent to each step of work
+abbrev pub stream_for : EndpointState → ℕ → StreamAct Octets → StreamState
+stream_for e n act = option_map_or (λ step. seen_at e n) (deed act).step (stream_at e n)
+
 -- the right answer at an end, whatever is done at the other
 abbrev pub EndRule : EndpointState → Act Octets → Type 0
 EndRule e (Domain pd refused) = refused ≡ domain_refusal e pd
@@ -149,7 +157,7 @@ EndRule e (Deregister stag answer) = answer ≡ deregister_answer e.table stag
 EndRule e (Invalidate stag refused) = refused ≡ invalidate_refusal e.table stag
 EndRule e (Store stag to octets refused) = refused ≡ store_refusal e stag to (length octets)
 EndRule e (Open n pd role options private refused) = refused ≡ open_refusal e n pd
-EndRule e (Stream n act) = (has_stream e n ≡ true) × StreamRule e.table (stream_at e n) act
+EndRule e (Stream n act) = (has_stream e n ≡ true) × StreamRule e.table (stream_for e n act) act
 
 -- what the other end has to do with it
 abbrev pub PeerRule : EndState → Act Octets → Type 0

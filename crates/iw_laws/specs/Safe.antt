@@ -1,7 +1,7 @@
 -- What holds of every trace of two ends, in words of the trace alone.
-use Rattle.std.specs.Prelude.{◌≡◌, ◌⊎◌, false, ℕ, ◌+◌, ◌<◌, ◌≤◌, List, [], ◌∷◌, ◌++◌, length, slice_get, Some}
+use Rattle.std.specs.Prelude.{◌≡◌, ◌⊎◌, false, ℕ, ◌+◌, ◌<◌, ◌≤◌, List, [], ◌∷◌, ◌++◌, length, Some}
 use Rattle.iw_memory.specs.Laws.{Allows}
-use Rattle.iw_untagged.specs.Receiving.{Receiving, ahead_of}
+use Rattle.iw_untagged.specs.Receiving.{Receiving, ahead_of, buffer_for}
 use Rattle.iw_queues.specs.declared.request.Request.{Request}
 use Rattle.iw_queues.specs.Joined.{IsPrefixOf, Cell, count_writes, count_before}
 use Rattle.iw_events.specs.declared.call.End.{End}
@@ -47,10 +47,10 @@ Covered trace = (past future : List (Entry Octets)) → trace ≡ past ++ future
 
 -- ---- octets that change
 
--- the message sequence number names a buffer that is posted, and the octets lie within it
+-- the message sequence number names a buffer: one that is posted, or that is bound to it, or else the pool's oldest; and the octets lie within it
 pub record InBuffer (r : Receiving) (b : Buffering) : Type 0 where
   pub buffer : Octets
-  pub is : slice_get r.buffers (ahead_of r.due b.msn) ≡ Some buffer
+  pub is : buffer_for r.source (ahead_of r.due b.msn) ≡ Some buffer
   pub lie : b.mo + b.len ≤ length buffer
 
 -- what an act changed lay in a region that then allowed it, or in a receive buffer that was then posted

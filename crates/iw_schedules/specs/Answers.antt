@@ -88,6 +88,7 @@ abbrev pub recv_refusal : RecvRefusal → Numbered
 recv_refusal recvs.Full = (1, codes "Full")
 recv_refusal recvs.NoMemory = (2, codes "NoMemory")
 recv_refusal recvs.Ended = (3, codes "Ended")
+recv_refusal recvs.Shared = (4, codes "Shared")
 
 abbrev pub post_refusal : PostRefusal → Numbered
 post_refusal posts.Full = (1, codes "Full")

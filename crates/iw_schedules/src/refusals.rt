@@ -81,6 +81,7 @@ pub(crate) fn of_recv(refusal: RecvRefusal) -> Refusal
         RecvRefusal::Full => Refusal::new(1, "Full"),
         RecvRefusal::NoMemory => Refusal::new(2, "NoMemory"),
         RecvRefusal::Ended => Refusal::new(3, "Ended"),
+        RecvRefusal::Shared => Refusal::new(4, "Shared"),
     }
 }
 

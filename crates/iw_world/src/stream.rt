@@ -7,6 +7,7 @@ ghost use Rattle.iw_endpoint.specs.Isolation as calls;
 ghost use Rattle.iw_stream.specs.Starting.{agreement_in};
 ghost use Rattle.iw_stream.specs.Work.{work_step};
 ghost use Rattle.iw_laws.specs.Bounds.{IsShort};
+ghost use Rattle.iw_laws.specs.Rules.{seen_at};
 ghost use Rattle.iw_stream.specs.Stream.{post_refusal, recv_refusal, size_refusal, first_refusal, delivery_of};
 
 use crate::fault::Failure;
@@ -166,7 +167,7 @@ pub(crate) fn work<A: Allocator>(
 ) -> Result<Step<Octets<A>>, Failure>
     requires there { has_stream endpoint.old number ≡ true }
     requires short { IsShort (stream_at endpoint.old number) }
-    ensures step { IfOk result (λ step. step ≡ work_step endpoint.old.table (stream_at endpoint.old number)) }
+    ensures step { IfOk result (λ step. step ≡ work_step endpoint.old.table (seen_at endpoint.old number)) }
     ensures state { OnOk result (endpoint.new ≡ after_work endpoint.old number) }
     ensures failure { IfErr result (λ failure. failure ≡ Failure.NoMemory) }
 {
