@@ -142,9 +142,18 @@ static const struct refusal refusals[] = {
     {IWARP_NUMBER_TAKEN, "open", "1 NumberTaken"},
     {IWARP_BAD_NUMBER, "open", "2 BadNumber"},
     {IWARP_NO_DOMAIN, "open", "3 NoDomain"},
+    {IWARP_NO_DOMAIN, "share pool unpool", "1 NoDomain"},
+    {IWARP_ALREADY_SHARED, "share", "2 AlreadyShared"},
+    {IWARP_NOT_SHARED, "pool unpool", "2 NotShared"},
+    {IWARP_POOL_FULL, "pool", "3 Full"},
+    {IWARP_NUMBER_TAKEN, "openshared", "1 NumberTaken"},
+    {IWARP_BAD_NUMBER, "openshared", "2 BadNumber"},
+    {IWARP_NO_DOMAIN, "openshared", "3 NoDomain"},
+    {IWARP_NOT_SHARED, "openshared", "4 NotShared"},
     {IWARP_NOT_ASKED, "accept reject", "1 NotAsked"},
     {IWARP_BUFFERS_FULL, "recv", "1 Full"},
     {IWARP_ENDED, "recv", "3 Ended"},
+    {IWARP_SHARED, "recv", "4 Shared"},
     {IWARP_MESSAGES_FULL, "send write read", "1 Full"},
     {IWARP_MESSAGE_TOO_LONG, "send write read", "2 TooLong"},
     {IWARP_NOT_OPEN, "send write read", "3 NotOpen"},
@@ -329,6 +338,19 @@ static void do_deregister(struct end *end) {
     printf("\n");
 }
 
+static void do_unpool(struct end *end) {
+    uint32_t found;
+    size_t n;
+    if (!ended(iwarp_take_shared(&end->handle, (uint8_t)number(words[2]), &found, &n))) return;
+    if (found) {
+        printf("ok ");
+        print_fetched(end, n);
+    } else {
+        printf("empty");
+    }
+    printf("\n");
+}
+
 /* What needs no stream. Tells whether this was one. */
 static int at_memory(struct end *end) {
     const char *word = words[1];
@@ -340,6 +362,12 @@ static int at_memory(struct end *end) {
     printf("%s ", words[2]);
     if (strcmp(word, "domain") == 0) {
         ok(iwarp_add_domain(&end->handle, (uint8_t)number(words[2])));
+    } else if (strcmp(word, "share") == 0) {
+        ok(iwarp_share(&end->handle, (uint8_t)number(words[2])));
+    } else if (strcmp(word, "pool") == 0) {
+        ok(iwarp_post_shared(&end->handle, (uint8_t)number(words[2]), (size_t)number(words[3])));
+    } else if (strcmp(word, "unpool") == 0) {
+        do_unpool(end);
     } else if (strcmp(word, "deregister") == 0) {
         do_deregister(end);
     } else if (strcmp(word, "invalidate") == 0) {
@@ -358,8 +386,12 @@ static const char *const roles[] = {"preset", "initiator", "responder", 0};
 static void do_open(struct end *end, uint8_t stream) {
     uint32_t role = (uint32_t)one_of(words[4], roles);
     struct octets *private_data = octets(words[6]);
-    int32_t code = iwarp_open(&end->handle, stream, (uint8_t)number(words[3]), role, letters(words[5], "mc"), private_data->at,
-                              role == IWARP_INITIATOR ? private_data->n : 0);
+    size_t n = role == IWARP_INITIATOR ? private_data->n : 0;
+    uint8_t pd = (uint8_t)number(words[3]);
+    uint32_t options = letters(words[5], "mc");
+    int32_t code = strcmp(words[1], "open") == 0
+                       ? iwarp_open(&end->handle, stream, pd, role, options, private_data->at, n)
+                       : iwarp_open_shared(&end->handle, stream, pd, role, options, private_data->at, n);
     if (code == IWARP_OK) end->opened[stream] = 1;
     ok(code);
 }
@@ -391,7 +423,7 @@ static void do_post(struct end *end, uint8_t stream) {
 
 static void at_stream(struct end *end, struct end *other, uint8_t stream) {
     const char *word = words[1];
-    if (strcmp(word, "open") == 0) {
+    if (stands_in(word, "open openshared")) {
         do_open(end, stream);
         return;
     }
@@ -426,7 +458,7 @@ static void at_stream(struct end *end, struct end *other, uint8_t stream) {
 /* One event; some lines stand for as many as they say. */
 static void event(void) {
     struct end *end = &ends[words[0][0] == 'b'], *other = &ends[words[0][0] != 'b'];
-    static const char without_stream[] = "domain register deregister invalidate store";
+    static const char without_stream[] = "domain register deregister invalidate store share pool unpool";
     if (count < 3) fail();
     if (stands_in(words[1], without_stream)) {
         at_memory(end);

@@ -1,10 +1,11 @@
 /* A storage target: peers write into a region that is theirs alone and tell by a Send how much of it they filled; the target
  * sends that much back. It serves COUNT connections, several at a time, from one poll loop:
  *
- *     target COUNT [OPTIONS [PORT]]
+ *     target COUNT [OPTIONS [PORT [BUFFERS]]]
  *
  * prints `port Q`, and a line for each Send that it received. OPTIONS is a sum of IWARP_MARKERS and IWARP_CRC; PORT is 0 for
- * any free port. Its status is 1 where a connection failed. `iwarp connect --port Q` is its peer. */
+ * any free port. With BUFFERS, 1 to 1024, all connections take their receive buffers from one pool of so many. Its status is 1
+ * where a connection failed. `iwarp connect --port Q` is its peer. */
 #include "host.h"
 
 enum { DOMAIN = 1, MOST = 64, REGION = 65536, BUFFER = 4096, READ = 65536, FRAME = 66000 };
@@ -19,6 +20,7 @@ struct connection {
 };
 
 static struct iwarp end = IWARP_CLOSED;
+static int pooled; /* the buffers of the pool; 0 where there is none */
 static struct connection connections[MOST];
 static uint8_t octets[READ], frame[FRAME], zeroes[REGION];
 
@@ -34,13 +36,33 @@ static void print_octets(const uint8_t *from, size_t n) {
     for (size_t i = 0; i < n; i++) printf("%02x", from[i]);
 }
 
-/* Begins a connection: its region, its stream, and a buffer for one Send. */
+/* Begins a connection: its region, its stream, and, where there is no pool, a buffer for one Send. */
 static void begin(uint8_t number, int fd, uint32_t options) {
     struct connection *connection = &connections[number];
     connection->fd = fd;
     must(iwarp_register(&end, DOMAIN, 0, zeroes, REGION, IWARP_WRITE, &connection->stag), "register");
-    must(iwarp_open(&end, number, DOMAIN, IWARP_RESPONDER, options, zeroes, 0), "open");
-    must(iwarp_post_recv(&end, number, BUFFER), "post_recv");
+    if (pooled) {
+        must(iwarp_open_shared(&end, number, DOMAIN, IWARP_RESPONDER, options, zeroes, 0), "open_shared");
+    } else {
+        must(iwarp_open(&end, number, DOMAIN, IWARP_RESPONDER, options, zeroes, 0), "open");
+        must(iwarp_post_recv(&end, number, BUFFER), "post_recv");
+    }
+}
+
+/* Makes the pool, with its buffers. */
+static void share(void) {
+    must(iwarp_share(&end, DOMAIN), "share");
+    for (int i = 0; i < pooled; i++) must(iwarp_post_shared(&end, DOMAIN, BUFFER), "post_shared");
+}
+
+/* Takes back what is left in the pool, and tells how many buffers that are. */
+static int unshare(void) {
+    uint32_t found;
+    size_t len;
+    for (int left = 0;; left++) {
+        must(iwarp_take_shared(&end, DOMAIN, &found, &len), "take_shared");
+        if (!found) return left;
+    }
 }
 
 /* Writes out all that is due. Tells whether there was anything. */
@@ -72,12 +94,13 @@ static void answer(uint8_t number) {
     must(iwarp_accept(&end, number, name, 4, &agreed), "accept");
 }
 
-/* A Send of n octets came: as many octets of the region go back. */
+/* A Send of n octets came: as many octets of the region go back. The pool gets another buffer for the one that the Send took. */
 static void echo(uint8_t number, size_t n) {
     struct connection *connection = &connections[number];
     static uint8_t message[BUFFER];
     size_t len;
     must(iwarp_fetch(&end, message, sizeof message, &len), "fetch");
+    if (pooled) must(iwarp_post_shared(&end, DOMAIN, BUFFER), "post_shared");
     printf("stream %d received ", number);
     print_octets(message, len);
     printf("\n");
@@ -100,6 +123,9 @@ static void work(uint8_t number) {
             break;
         case IWARP_RECEIVED:
             echo(number, (size_t)event.len);
+            break;
+        case IWARP_FLUSHED_RECV:
+            if (pooled) must(iwarp_post_shared(&end, DOMAIN, BUFFER), "post_shared");
             break;
         case IWARP_FAULT:
         case IWARP_TERMINATED:
@@ -186,12 +212,15 @@ int main(int n, char **words) {
     int count = n > 1 ? (int)strtol(words[1], 0, 10) : 1, failed = 0;
     uint32_t options = n > 2 ? (uint32_t)strtol(words[2], 0, 10) : 0;
     unsigned short port = n > 3 ? (unsigned short)strtol(words[3], 0, 10) : 0;
-    if (count < 1 || count > MOST) return 2;
+    pooled = n > 4 ? (int)strtol(words[4], 0, 10) : 0;
+    if (count < 1 || count > MOST || pooled < 0 || pooled > 1024) return 2;
     must(iwarp_new(&end), "new");
     must(iwarp_add_domain(&end, DOMAIN), "add_domain");
+    if (pooled) share();
     int listener = bound(port);
     serve(listener, count, options);
     close(listener);
+    if (pooled && unshare() != pooled) failed = 1;
     iwarp_free(&end);
     for (int i = 0; i < count; i++) failed |= connections[i].failed;
     return failed;

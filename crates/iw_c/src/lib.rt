@@ -6,6 +6,7 @@
 #![tactic(auto)]
 
 mod octets;
+mod pools;
 mod posting;
 mod regions;
 mod streams;
@@ -20,6 +21,7 @@ use iw_handle::{Handle, code};
 pub use octets::{
     iwarp_deliver, iwarp_emit, iwarp_fetch, iwarp_first_number, iwarp_work, iwarp_work_on,
 };
+pub use pools::{iwarp_open_shared, iwarp_post_shared, iwarp_share, iwarp_take_shared};
 pub use posting::{iwarp_post_read, iwarp_post_recv, iwarp_post_send, iwarp_post_write};
 pub use regions::{
     iwarp_deregister, iwarp_facts, iwarp_invalidate, iwarp_load, iwarp_register, iwarp_store,

@@ -4,5 +4,6 @@ pub mod State
 pub mod Words
 pub mod Regions
 pub mod Streams
+pub mod Pools
 pub mod Events
 pub mod Steps

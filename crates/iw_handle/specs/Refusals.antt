@@ -19,6 +19,14 @@ use Rattle.iw_stream.specs.declared.answer.SizeRefusal.{SizeRefusal}
 use Rattle.iw_stream.specs.declared.answer.SizeRefusal.TheVariants as size
 use Rattle.iw_endpoint.specs.declared.refusal.CallRefusal.{CallRefusal}
 use Rattle.iw_endpoint.specs.declared.refusal.CallRefusal.TheVariants as call
+use Rattle.iw_endpoint.specs.declared.refusal.ShareRefusal.{ShareRefusal}
+use Rattle.iw_endpoint.specs.declared.refusal.ShareRefusal.TheVariants as share
+use Rattle.iw_endpoint.specs.declared.refusal.PoolRefusal.{PoolRefusal}
+use Rattle.iw_endpoint.specs.declared.refusal.PoolRefusal.TheVariants as pool
+use Rattle.iw_endpoint.specs.declared.refusal.TakeRefusal.{TakeRefusal}
+use Rattle.iw_endpoint.specs.declared.refusal.TakeRefusal.TheVariants as taking
+use Rattle.iw_endpoint.specs.declared.refusal.OpenSharedRefusal.{OpenSharedRefusal}
+use Rattle.iw_endpoint.specs.declared.refusal.OpenSharedRefusal.TheVariants as shared_opening
 use Rattle.iw_handle.specs.declared.refusal.Refusal.{Refusal}
 use Rattle.iw_handle.specs.declared.refusal.Refusal.TheVariants.{Closed, AlreadyOpen, NoMemory, NoRoom, NoSuchStream}
 use Rattle.iw_handle.specs.declared.refusal.Refusal.TheVariants.{NoRegion, Outside, BadDomain, DomainTaken, NoDomain}
@@ -26,6 +34,7 @@ use Rattle.iw_handle.specs.declared.refusal.Refusal.TheVariants.{DomainFull, Reg
 use Rattle.iw_handle.specs.declared.refusal.Refusal.TheVariants.{BadNumber, BadRole, PrivateTooLong, NotAsked, NotOpen}
 use Rattle.iw_handle.specs.declared.refusal.Refusal.TheVariants.{MessagesFull, MessageTooLong, BuffersFull, Ended}
 use Rattle.iw_handle.specs.declared.refusal.Refusal.TheVariants.{BadSize, TooFar, Late}
+use Rattle.iw_handle.specs.declared.refusal.Refusal.TheVariants.{AlreadyShared, NotShared, PoolFull, Shared}
 
 -- ---- the endpoint's refusals
 
@@ -67,6 +76,7 @@ recv_reason call.NoSuchStream = NoSuchStream
 recv_reason (call.Refused recv.Full) = BuffersFull
 recv_reason (call.Refused recv.Ended) = Ended
 recv_reason (call.Refused recv.NoMemory) = NoMemory
+recv_reason (call.Refused recv.Shared) = Shared
 
 abbrev pub first_reason : CallRefusal FirstRefusal → Refusal
 first_reason call.NoSuchStream = NoSuchStream
@@ -75,6 +85,28 @@ first_reason (call.Refused first.Late) = Late
 abbrev pub size_reason : CallRefusal SizeRefusal → Refusal
 size_reason call.NoSuchStream = NoSuchStream
 size_reason (call.Refused size.BadSize) = BadSize
+
+abbrev pub share_reason : ShareRefusal → Refusal
+share_reason share.NoDomain = NoDomain
+share_reason share.AlreadyShared = AlreadyShared
+share_reason share.NoMemory = NoMemory
+
+abbrev pub pool_reason : PoolRefusal → Refusal
+pool_reason pool.NoDomain = NoDomain
+pool_reason pool.NotShared = NotShared
+pool_reason pool.Full = PoolFull
+pool_reason pool.NoMemory = NoMemory
+
+abbrev pub take_reason : TakeRefusal → Refusal
+take_reason taking.NoDomain = NoDomain
+take_reason taking.NotShared = NotShared
+
+abbrev pub open_shared_reason : OpenSharedRefusal → Refusal
+open_shared_reason shared_opening.NumberTaken = NumberTaken
+open_shared_reason shared_opening.BadNumber = BadNumber
+open_shared_reason shared_opening.NoDomain = NoDomain
+open_shared_reason shared_opening.NotShared = NotShared
+open_shared_reason shared_opening.NoMemory = NoMemory
 
 -- ---- codes
 
@@ -105,6 +137,10 @@ refusal_code Ended = 23
 refusal_code BadSize = 24
 refusal_code TooFar = 25
 refusal_code Late = 26
+refusal_code AlreadyShared = 27
+refusal_code NotShared = 28
+refusal_code PoolFull = 29
+refusal_code Shared = 30
 
 -- 0 where nothing was refused
 abbrev pub code_of : Option Refusal → ℕ

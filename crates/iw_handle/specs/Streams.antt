@@ -17,7 +17,7 @@ use Rattle.iw_stream.specs.declared.answer.Step.TheVariants.{Fault, Idle}
 use Rattle.iw_endpoint.specs.declared.refusal.NoSuchStream.{NoSuchStream}
 use Rattle.iw_endpoint.specs.Endpoint as endpoint
 use Rattle.iw_endpoint.specs.Endpoint.{EndpointState, has_stream, stream_at, private_at, sent_at, point_at}
-use Rattle.iw_endpoint.specs.Endpoint.{step_at, after_work, emitted_at}
+use Rattle.iw_endpoint.specs.Endpoint.{step_at, after_work, emitted_at, pool_of, lent_to}
 use Rattle.iw_handle.specs.declared.held.Held.{Held}
 use Rattle.iw_handle.specs.declared.refusal.Refusal.{Refusal}
 use Rattle.iw_handle.specs.declared.refusal.Refusal.TheVariants as refusals
@@ -139,7 +139,7 @@ zeroes n = replicate n 0
 
 -- a frame is judged before its turn
 abbrev pub TriesAt : EndpointState → ℕ → Type 0
-TriesAt e number = IsTry (task (stream_at e number))
+TriesAt e number = let s = stream_at e number in IsTry (task (lent_to (pool_of e s.domain) s))
 
 -- octets are kept, and one of them is new
 abbrev pub BringsAt : EndpointState → ℕ → ℕ → ℕ → Type 0

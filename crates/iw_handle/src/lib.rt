@@ -9,6 +9,7 @@ mod held;
 mod laws;
 mod opening;
 mod parts;
+mod pools;
 mod posting;
 mod refusal;
 mod regions;
@@ -22,6 +23,7 @@ pub use event::{
 pub use handle::Handle;
 pub use held::Held;
 pub use laws::codes_are_distinct;
+pub use pools::taken_number;
 pub use refusal::{Refusal, code};
 pub use words::{has_bit, invalidated_by, read_request, rights_of, stag_of};
 pub use working::QUIET_STEPS;

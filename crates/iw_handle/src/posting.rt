@@ -23,7 +23,8 @@ fn post(endpoint: &mut Endpoint, number: u8, request: Request<Bytes>) -> Result<
     }
 }
 
-fn zeroes(alloc: Global, n: usize) -> Result<Vec<u8>, AllocError>
+// A buffer of so many octets.
+pub(crate) fn zeroes(alloc: Global, n: usize) -> Result<Vec<u8>, AllocError>
     ensures { IfOk result (λ octets. octets.items ≡ zeroes n) }
 {
     let octets = vec![in alloc; 0u8; n]?;

@@ -2,10 +2,12 @@
 ghost use Rattle.std.specs.Prelude.{◌≡◌, ◌↔◌, None, pos};
 ghost use Rattle.iw_handle.specs.Refusals.{domain_reason, register_reason, store_reason, code_of};
 ghost use Rattle.iw_handle.specs.Refusals.{open_reason, answer_reason, post_reason, recv_reason, first_reason, size_reason};
+ghost use Rattle.iw_handle.specs.Refusals.{share_reason, pool_reason, take_reason, open_shared_reason};
 
 use iw_endpoint::{
-    CallRefusal, DomainRefusal, FirstRefusal, NotAsked, OpenRefusal, PostRefusal, RecvRefusal,
-    RegisterRefusal, SizeRefusal, StoreRefusal,
+    CallRefusal, DomainRefusal, FirstRefusal, NotAsked, OpenRefusal, OpenSharedRefusal,
+    PoolRefusal, PostRefusal, RecvRefusal, RegisterRefusal, ShareRefusal, SizeRefusal,
+    StoreRefusal, TakeRefusal,
 };
 use thiserror::Error;
 
@@ -89,6 +91,18 @@ pub enum Refusal {
     /// Octets were delivered on the stream before.
     #[error("octets were delivered before")]
     Late,
+    /// The domain has a pool of receive buffers already.
+    #[error("the domain has a pool already")]
+    AlreadyShared,
+    /// The domain has no pool of receive buffers.
+    #[error("the domain has no pool")]
+    NotShared,
+    /// The domain's pool has 1,024 buffers.
+    #[error("the pool has 1,024 buffers")]
+    PoolFull,
+    /// The stream takes its receive buffers from its domain's pool.
+    #[error("the stream shares its domain's pool")]
+    Shared,
 }
 
 pub(crate) fn domain_reason(refusal: DomainRefusal) -> Refusal
@@ -162,6 +176,7 @@ pub(crate) fn recv_reason(refusal: CallRefusal<RecvRefusal>) -> Refusal
         CallRefusal::Refused(RecvRefusal::Full) => Refusal::BuffersFull,
         CallRefusal::Refused(RecvRefusal::Ended) => Refusal::Ended,
         CallRefusal::Refused(RecvRefusal::NoMemory) => Refusal::NoMemory,
+        CallRefusal::Refused(RecvRefusal::Shared) => Refusal::Shared,
     }
 }
 
@@ -180,6 +195,48 @@ pub(crate) fn size_reason(refusal: CallRefusal<SizeRefusal>) -> Refusal
     match refusal {
         CallRefusal::NoSuchStream => Refusal::NoSuchStream,
         CallRefusal::Refused(SizeRefusal::BadSize) => Refusal::BadSize,
+    }
+}
+
+pub(crate) fn share_reason(refusal: ShareRefusal) -> Refusal
+    ensures { result ≡ share_reason refusal }
+{
+    match refusal {
+        ShareRefusal::NoDomain => Refusal::NoDomain,
+        ShareRefusal::AlreadyShared => Refusal::AlreadyShared,
+        ShareRefusal::NoMemory => Refusal::NoMemory,
+    }
+}
+
+pub(crate) fn pool_reason(refusal: PoolRefusal) -> Refusal
+    ensures { result ≡ pool_reason refusal }
+{
+    match refusal {
+        PoolRefusal::NoDomain => Refusal::NoDomain,
+        PoolRefusal::NotShared => Refusal::NotShared,
+        PoolRefusal::Full => Refusal::PoolFull,
+        PoolRefusal::NoMemory => Refusal::NoMemory,
+    }
+}
+
+pub(crate) fn take_reason(refusal: TakeRefusal) -> Refusal
+    ensures { result ≡ take_reason refusal }
+{
+    match refusal {
+        TakeRefusal::NoDomain => Refusal::NoDomain,
+        TakeRefusal::NotShared => Refusal::NotShared,
+    }
+}
+
+pub(crate) fn open_shared_reason(refusal: OpenSharedRefusal) -> Refusal
+    ensures { result ≡ open_shared_reason refusal }
+{
+    match refusal {
+        OpenSharedRefusal::NumberTaken => Refusal::NumberTaken,
+        OpenSharedRefusal::BadNumber => Refusal::BadNumber,
+        OpenSharedRefusal::NoDomain => Refusal::NoDomain,
+        OpenSharedRefusal::NotShared => Refusal::NotShared,
+        OpenSharedRefusal::NoMemory => Refusal::NoMemory,
     }
 }
 
@@ -216,5 +273,9 @@ pub fn code(refusal: Option<Refusal>) -> i32
         Some(Refusal::BadSize) => 24,
         Some(Refusal::TooFar) => 25,
         Some(Refusal::Late) => 26,
+        Some(Refusal::AlreadyShared) => 27,
+        Some(Refusal::NotShared) => 28,
+        Some(Refusal::PoolFull) => 29,
+        Some(Refusal::Shared) => 30,
     }
 }

@@ -10,8 +10,8 @@ ghost use Rattle.iw_handle.specs.Words.{role_in, config_of, private_of};
 use crate::copying::copy_out;
 use crate::handle::Handle;
 use crate::refusal::{Refusal, answer_reason, open_reason, size_reason};
-use crate::words::{has_bit, private_of, role_of};
-use iw_endpoint::{Agreed, Config, Endpoint};
+use crate::words::{config_of, private_of, role_of};
+use iw_endpoint::{Agreed, Endpoint};
 use std::alloc::Global;
 
 // Opens a stream, as numbers say.
@@ -32,11 +32,7 @@ fn open_stream(
     ensures err { OnErr result (endpoint.new ≡ endpoint.old) }
 {
     let role = role_of(role)?;
-    let config = Config {
-        markers: has_bit(options, 1),
-        crc: has_bit(options, 2),
-        private: private_of(private)?,
-    };
+    let config = config_of(options, private)?;
     match endpoint.open(number, pd, role, config) {
         Ok(()) => Ok(()),
         Err(refusal) => Err(open_reason(refusal)),

@@ -4,10 +4,10 @@ ghost use Rattle.std.specs.Option.{option_map};
 ghost use Rattle.std.specs.Result.{result_err};
 ghost use Rattle.iw_octets.specs.Stag.{stag_of};
 ghost use Rattle.iw_handle.specs.Words.{has_bit, rights_of, role_of, role_refusal, role_in};
-ghost use Rattle.iw_handle.specs.Words.{private_of, private_refusal, invalidated_by, read_request};
+ghost use Rattle.iw_handle.specs.Words.{private_of, private_refusal, config_of, invalidated_by, read_request};
 
 use crate::refusal::Refusal;
-use iw_endpoint::{PrivateData, ReadRequest, Rights, Role, Stag};
+use iw_endpoint::{Config, PrivateData, ReadRequest, Rights, Role, Stag};
 
 /// The STag with this number.
 pub fn stag_of(n: u32) -> Stag
@@ -63,6 +63,18 @@ pub(crate) fn private_of(octets: &[u8]) -> Result<PrivateData, Refusal>
         Ok(()) => Ok(private),
         Err(_) => Err(Refusal::PrivateTooLong),
     }
+}
+
+/// What is asked of a stream by a sum of 1 (the peer is to send markers) and 2 (CRCs), with octets as private data.
+pub(crate) fn config_of(options: u32, private: &[u8]) -> Result<Config, Refusal>
+    ensures refused { result_err result ≡ private_refusal (length private.now) }
+    ensures config { IfOk result (λ config. config ≡ config_of options private.now) }
+{
+    Ok(Config {
+        markers: has_bit(options, 1),
+        crc: has_bit(options, 2),
+        private: private_of(private)?,
+    })
 }
 
 /// The STag that a Send takes away, where its flags say so.

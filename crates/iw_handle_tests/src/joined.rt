@@ -1,9 +1,11 @@
-//! Two handles joined in memory: start-up, a Write, a Send, a Read, and an end.
+//! Two handles joined in memory: start-up, a Write, a Send, a Read, a pool, and an end.
 use iw_handle::{Handle, IDLE, Refusal, read_request, rights_of, stag_of};
 use std::alloc::Global;
 use std::test::Fail;
 
 const STREAM: u8 = 0;
+
+const PRESET: u32 = 0;
 
 const INITIATOR: u32 = 1;
 
@@ -33,6 +35,20 @@ impl End {
         handle.open(alloc)?;
         handle.add_domain(alloc, 1)?;
         handle.open_stream(alloc, STREAM, 1, role, OPTIONS, private)?;
+        handle.first_number(alloc, STREAM, FIRST)?;
+        Ok(End {
+            handle,
+            next: FIRST,
+        })
+    }
+
+    // One with a stream that is open at once, and takes its buffers from a pool.
+    fn sharing(alloc: Global) -> Result<End, Fail> {
+        let mut handle = Handle::closed(alloc);
+        handle.open(alloc)?;
+        handle.add_domain(alloc, 1)?;
+        handle.share(alloc, 1)?;
+        handle.open_shared(alloc, STREAM, 1, PRESET, OPTIONS, b"")?;
         handle.first_number(alloc, STREAM, FIRST)?;
         Ok(End {
             handle,
@@ -188,6 +204,34 @@ fn read_back(rt: HostRuntime) -> Result<(), Fail> {
     let mut len = 0usize;
     a.handle.deregister(alloc, sink, &mut out, &mut len)?;
     assert_eq!(rt; out, *b"read");
+    Ok(())
+}
+
+// The second end takes its buffers from a pool.
+#[test]
+fn from_a_pool(rt: HostRuntime) -> Result<(), Fail> {
+    let alloc = rt.alloc();
+    let mut a = End::open(alloc, PRESET, b"")?;
+    let mut b = End::sharing(alloc)?;
+    b.handle.post_shared(alloc, 1, 2)?;
+    b.handle.post_shared(alloc, 1, 3)?;
+    a.handle.post_send(alloc, STREAM, b"hi", false, None)?;
+    carry(alloc, &mut a, &mut b)?;
+    // Buffered, received.
+    assert_eq!(rt; b.work(alloc)?.as_slice(), [8, 11, 0].as_slice());
+    let mut out = [b'_'; 4];
+    let mut len = 0usize;
+    b.handle.fetch(alloc, &mut out, &mut len)?;
+    assert_eq!(rt; out, *b"hi__");
+    // What is left in the pool can be taken out and fetched.
+    assert_eq!(rt; b.handle.take_shared(alloc, 1), Ok(Some(3)));
+    b.handle.fetch(alloc, &mut out, &mut len)?;
+    assert_eq!(rt; out, *b"\0\0\0_");
+    assert_eq!(rt; b.handle.take_shared(alloc, 1), Ok(None));
+    // No buffer is left: the Send is at fault.
+    a.handle.post_send(alloc, STREAM, b"hi", false, None)?;
+    carry(alloc, &mut a, &mut b)?;
+    assert_eq!(rt; b.work(alloc)?.as_slice(), [13, 0].as_slice());
     Ok(())
 }
 

@@ -75,6 +75,43 @@ fn streams(rt: HostRuntime) -> Result<(), Fail> {
     Ok(())
 }
 
+// A pool that streams share: what is refused where there is none, and where there is one.
+#[test]
+fn pools(rt: HostRuntime) -> Result<(), Fail> {
+    let alloc = rt.alloc();
+    let mut handle = ready(alloc)?;
+    assert_eq!(rt; handle.post_shared(alloc, 1, 8), Err(Refusal::NotShared));
+    assert_eq!(rt; handle.take_shared(alloc, 1), Err(Refusal::NotShared));
+    assert_eq!(rt;
+        handle.open_shared(alloc, 1, 1, 0, 0, b""),
+        Err(Refusal::NotShared)
+    );
+    assert_eq!(rt; handle.share(alloc, 2), Err(Refusal::NoDomain));
+    assert_eq!(rt; handle.share(alloc, 1), Ok(()));
+    assert_eq!(rt; handle.share(alloc, 1), Err(Refusal::AlreadyShared));
+    assert_eq!(rt; handle.open_shared(alloc, 1, 1, 0, 0, b""), Ok(()));
+    assert_eq!(rt; handle.post_recv(alloc, 1, 8), Err(Refusal::Shared));
+    assert_eq!(rt; code(Some(Refusal::Shared)), 30);
+    Ok(())
+}
+
+// A pool has room for 1,024 buffers, and gives back the oldest first.
+#[test]
+fn pool_full(rt: HostRuntime) -> Result<(), Fail> {
+    let alloc = rt.alloc();
+    let mut handle = ready(alloc)?;
+    handle.share(alloc, 1)?;
+    assert_eq!(rt; handle.take_shared(alloc, 1), Ok(None));
+    for n in 0..1024usize {
+        handle.post_shared(alloc, 1, n)?;
+    }
+    assert_eq!(rt; handle.post_shared(alloc, 1, 0), Err(Refusal::PoolFull));
+    assert_eq!(rt; handle.take_shared(alloc, 1), Ok(Some(0)));
+    assert_eq!(rt; handle.take_shared(alloc, 1), Ok(Some(1)));
+    assert_eq!(rt; handle.post_shared(alloc, 1, 0), Ok(()));
+    Ok(())
+}
+
 #[test]
 fn regions(rt: HostRuntime) -> Result<(), Fail> {
     let alloc = rt.alloc();

@@ -1,0 +1,181 @@
+// Pools of receive buffers that streams of a domain share.
+ghost use Rattle.std.specs.Prelude.{◌≡◌, ◌⊎◌, None, Some, length, IfSome, IfNone, IfOk, IfErr, IsErr, OnOk, OnErr};
+ghost use Rattle.std.specs.Result.{result_err};
+ghost use Rattle.iw_endpoint.specs.Endpoint.{shared, pooled, opened_shared};
+ghost use Rattle.iw_handle.specs.Pools.{refusal_to_share, refusal_to_pool, refusal_to_take, refusal_to_open_shared};
+ghost use Rattle.iw_handle.specs.Pools.{taken_len, taken_number, held_taken, taken};
+ghost use Rattle.iw_handle.specs.State.{refusal_in, changed, told_in};
+ghost use Rattle.iw_handle.specs.Streams.{zeroes};
+ghost use Rattle.iw_handle.specs.Words.{role_in, config_of};
+
+use crate::handle::Handle;
+use crate::held::Held;
+use crate::posting::zeroes;
+use crate::refusal::{Refusal, open_shared_reason, pool_reason, share_reason, take_reason};
+use crate::words::{config_of, role_of};
+use iw_endpoint::{Endpoint, Octets};
+use std::alloc::Global;
+
+/// 1 where a buffer of some length was taken out of a pool, and 0 where the pool had none.
+pub fn taken_number(len: Option<usize>) -> u32
+    ensures { result ≡ taken_number len }
+{
+    match len {
+        Some(_) => 1,
+        None => 0,
+    }
+}
+
+fn share(endpoint: &mut Endpoint, pd: u8) -> Result<(), Refusal>
+    // The refusal, where one applies, and otherwise want of memory alone.
+    ensures refused { IfSome (refusal_to_share endpoint.old pd) (λ r. result ≡ Err r) }
+    ensures memory { IfNone (refusal_to_share endpoint.old pd) (IfErr result (λ e. e ≡ Refusal.NoMemory)) }
+    ensures ok { OnOk result (endpoint.new ≡ shared endpoint.old pd) }
+    ensures err { OnErr result (endpoint.new ≡ endpoint.old) }
+{
+    match endpoint.share(pd) {
+        Ok(()) => Ok(()),
+        Err(refusal) => Err(share_reason(refusal)),
+    }
+}
+
+fn post_shared(endpoint: &mut Endpoint, alloc: Global, pd: u8, n: usize) -> Result<(), Refusal>
+    // The refusal, where one applies, or want of memory.
+    ensures refused { IfSome (refusal_to_pool endpoint.old pd) (λ _. IsErr result) }
+    ensures why { IfErr result (λ e. (e ≡ Refusal.NoMemory) ⊎ (refusal_to_pool endpoint.old pd ≡ Some e)) }
+    ensures ok { OnOk result (endpoint.new ≡ pooled endpoint.old pd (zeroes n)) }
+    ensures err { OnErr result (endpoint.new ≡ endpoint.old) }
+{
+    let Ok(buffer) = zeroes(alloc, n) else {
+        return Err(Refusal::NoMemory);
+    };
+    match endpoint.post_shared(pd, buffer) {
+        Ok(()) => Ok(()),
+        Err((refusal, _)) => Err(pool_reason(refusal)),
+    }
+}
+
+// Takes the oldest buffer out, and keeps it to be fetched. It tells how many octets it has.
+fn take_shared(held: &mut Held, pd: u8) -> Result<Option<usize>, Refusal>
+    ensures refused { result_err result ≡ refusal_to_take held.old.endpoint pd }
+    ensures len { IfOk result (λ len. len ≡ taken_len held.old.endpoint pd) }
+    ensures ok { OnOk result (held.new ≡ held_taken held.old pd) }
+    ensures err { OnErr result (held.new ≡ held.old) }
+{
+    match held.endpoint.take_shared(pd) {
+        Ok(Some(buffer)) => {
+            let len = buffer.len();
+            held.handed = Octets::from_vec(buffer);
+            Ok(Some(len))
+        }
+        Ok(None) => Ok(None),
+        Err(refusal) => Err(take_reason(refusal)),
+    }
+}
+
+// Opens a stream that shares the domain's pool, as numbers say.
+fn open_shared(
+    endpoint: &mut Endpoint,
+    number: u8,
+    pd: u8,
+    role: u32,
+    options: u32,
+    private: &[u8],
+) -> Result<(), Refusal>
+    // The refusal, where one applies, and otherwise want of memory alone.
+    ensures refused { IfSome (refusal_to_open_shared endpoint.old number pd role (length private.now))
+        (λ r. result ≡ Err r) }
+    ensures memory { IfNone (refusal_to_open_shared endpoint.old number pd role (length private.now))
+        (IfErr result (λ e. e ≡ Refusal.NoMemory)) }
+    ensures ok { OnOk result
+        (endpoint.new ≡ opened_shared endpoint.old number pd (role_in role) (config_of options private.now)) }
+    ensures err { OnErr result (endpoint.new ≡ endpoint.old) }
+{
+    let role = role_of(role)?;
+    let config = config_of(options, private)?;
+    match endpoint.open_shared(number, pd, role, config) {
+        Ok(()) => Ok(()),
+        Err(refusal) => Err(open_shared_reason(refusal)),
+    }
+}
+
+impl Handle {
+    /// Makes the domain a pool of receive buffers, with none in it, that streams of the domain may share, as
+    /// [`Endpoint::share`] says. An `Err` changes nothing; `NoMemory` comes only where no other refusal applies.
+    pub fn share(&mut self, alloc: Global, pd: u8) -> Result<(), Refusal>
+        ensures refused { IfSome (refusal_in self.old.state (λ e. refusal_to_share e pd)) (λ r. result ≡ Err r) }
+        ensures memory { IfNone (refusal_in self.old.state (λ e. refusal_to_share e pd))
+            (IfErr result (λ e. e ≡ Refusal.NoMemory)) }
+        ensures ok { OnOk result (self.new.state ≡ changed self.old.state (λ e. shared e pd)) }
+        ensures err { OnErr result (self.new.state ≡ self.old.state) }
+    {
+        let Some(mut held) = self.take(alloc) else {
+            return Err(Refusal::Closed);
+        };
+        let done = share(&mut held.endpoint, pd);
+        self.put(held);
+        done
+    }
+
+    /// Posts a receive buffer of `n` zero octets to the domain's pool, after the others. `NoMemory` may come before another
+    /// refusal, since the buffer is made first. An `Err` changes nothing.
+    pub fn post_shared(&mut self, alloc: Global, pd: u8, n: usize) -> Result<(), Refusal>
+        ensures refused { IfSome (refusal_in self.old.state (λ e. refusal_to_pool e pd)) (λ _. IsErr result) }
+        ensures why { IfErr result
+            (λ e. (e ≡ Refusal.NoMemory) ⊎ (refusal_in self.old.state (λ e. refusal_to_pool e pd) ≡ Some e)) }
+        ensures ok { OnOk result (self.new.state ≡ changed self.old.state (λ e. pooled e pd (zeroes n))) }
+        ensures err { OnErr result (self.new.state ≡ self.old.state) }
+    {
+        let Some(mut held) = self.take(alloc) else {
+            return Err(Refusal::Closed);
+        };
+        let done = post_shared(&mut held.endpoint, alloc, pd, n);
+        self.put(held);
+        done
+    }
+
+    /// Takes the oldest buffer out of the domain's pool, and tells how many octets it has; `None` where the pool has none. The
+    /// buffer stays for [`Handle::fetch`], as one does that `work` hands back. An `Err` changes nothing.
+    pub fn take_shared(&mut self, alloc: Global, pd: u8) -> Result<Option<usize>, Refusal>
+        ensures refused { result_err result ≡ refusal_in self.old.state (λ e. refusal_to_take e pd) }
+        ensures len { IfOk result (λ len. Some len ≡ told_in self.old.state (λ e. taken_len e pd)) }
+        ensures ok { OnOk result (self.new.state ≡ taken self.old.state pd) }
+        ensures err { OnErr result (self.new.state ≡ self.old.state) }
+    {
+        let Some(mut held) = self.take(alloc) else {
+            return Err(Refusal::Closed);
+        };
+        let done = take_shared(&mut held, pd);
+        self.put(held);
+        done
+    }
+
+    /// Opens a stream as [`Handle::open_stream`] does, one that takes its receive buffers from its domain's pool, as
+    /// [`Endpoint::open_shared`] says. An `Err` changes nothing; `NoMemory` comes only where no other refusal applies.
+    pub fn open_shared(
+        &mut self,
+        alloc: Global,
+        number: u8,
+        pd: u8,
+        role: u32,
+        options: u32,
+        private: &[u8],
+    ) -> Result<(), Refusal>
+        ensures refused { IfSome
+            (refusal_in self.old.state (λ e. refusal_to_open_shared e number pd role (length private.now)))
+            (λ r. result ≡ Err r) }
+        ensures memory { IfNone
+            (refusal_in self.old.state (λ e. refusal_to_open_shared e number pd role (length private.now)))
+            (IfErr result (λ e. e ≡ Refusal.NoMemory)) }
+        ensures ok { OnOk result (self.new.state ≡ changed self.old.state
+            (λ e. opened_shared e number pd (role_in role) (config_of options private.now))) }
+        ensures err { OnErr result (self.new.state ≡ self.old.state) }
+    {
+        let Some(mut held) = self.take(alloc) else {
+            return Err(Refusal::Closed);
+        };
+        let done = open_shared(&mut held.endpoint, number, pd, role, options, private);
+        self.put(held);
+        done
+    }
+}
