@@ -6,7 +6,7 @@ use Rattle.iw_events.specs.declared.call.StreamCall.{StreamCall}
 use Rattle.iw_events.specs.declared.call.StreamCall.TheVariants as stream_calls
 use Rattle.iw_events.specs.declared.call.Event.{Event}
 use Rattle.iw_events.specs.declared.act.Act.{Act}
-use Rattle.iw_events.specs.declared.act.Act.TheVariants.{Domain, Register, Deregister, Invalidate, Store, Open, Stream}
+use Rattle.iw_events.specs.declared.act.Act.TheVariants.{Domain, Register, Deregister, Invalidate, Store, Open, Share, Pool, Unpool, OpenShared, Stream}
 use Rattle.iw_events.specs.declared.act.StreamAct.{StreamAct}
 use Rattle.iw_events.specs.declared.act.StreamAct.TheVariants.{Recv, Post, Emit, First, Deliver, Raw, Mulpdu, Accept, Reject, Work, Break}
 use Rattle.iw_events.specs.declared.act.Entry.{Entry}
@@ -33,6 +33,10 @@ call_of (Deregister stag answer) = calls.Deregister stag
 call_of (Invalidate stag refused) = calls.Invalidate stag
 call_of (Store stag to octets refused) = calls.Store stag to octets
 call_of (Open stream pd role options private refused) = calls.Open stream pd role options private
+call_of (Share pd refused) = calls.Share pd
+call_of (Pool pd len refused) = calls.Pool pd len
+call_of (Unpool pd answer) = calls.Unpool pd
+call_of (OpenShared stream pd role options private refused) = calls.OpenShared stream pd role options private
 call_of (Stream stream act) = calls.Stream stream (stream_call_of act)
 
 abbrev pub event_of : Entry (List ℕ) → Event (List ℕ)

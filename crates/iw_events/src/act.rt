@@ -1,4 +1,5 @@
 use crate::call::{End, Options};
+use iw_endpoint::{OpenSharedRefusal, PoolRefusal, ShareRefusal, TakeRefusal};
 use iw_memory::{DomainRefusal, NoRegion, RegisterRefusal, Right, Rights, StoreRefusal};
 use iw_octets::{Fault, Stag};
 use iw_queues::Request;
@@ -169,6 +170,28 @@ pub enum Act<O> {
         options: Options,
         private: O,
         refused: Option<OpenRefusal>,
+    },
+    Share {
+        pd: u8,
+        refused: Option<ShareRefusal>,
+    },
+    Pool {
+        pd: u8,
+        len: u32,
+        refused: Option<PoolRefusal>,
+    },
+    /// The buffer that was taken, or `None` where the pool has none.
+    Unpool {
+        pd: u8,
+        answer: Result<Option<O>, TakeRefusal>,
+    },
+    OpenShared {
+        stream: u8,
+        pd: u8,
+        role: Role,
+        options: Options,
+        private: O,
+        refused: Option<OpenSharedRefusal>,
     },
     Stream {
         stream: u8,

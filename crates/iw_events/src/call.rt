@@ -46,7 +46,7 @@ pub enum StreamCall<O> {
     Break,
 }
 
-/// A call at an end: of its memory, an opening, or a call of one of its streams.
+/// A call at an end: of its memory or its pools, an opening, or a call of one of its streams.
 #[derive(Drop)]
 pub enum Call<O> {
     /// Adds a protection domain.
@@ -76,6 +76,27 @@ pub enum Call<O> {
     },
     /// Opens a stream in a domain. The private data is that of the Request, and is used for the role `Initiator` alone.
     Open {
+        stream: u8,
+        pd: u8,
+        role: Role,
+        options: Options,
+        private: O,
+    },
+    /// Makes a pool of receive buffers for a domain.
+    Share {
+        pd: u8,
+    },
+    /// Posts a buffer of `len` zero octets to the pool of a domain.
+    Pool {
+        pd: u8,
+        len: u32,
+    },
+    /// Takes the oldest buffer out of the pool of a domain.
+    Unpool {
+        pd: u8,
+    },
+    /// Opens a stream that shares the pool of its domain; otherwise as `Open`.
+    OpenShared {
         stream: u8,
         pd: u8,
         role: Role,
