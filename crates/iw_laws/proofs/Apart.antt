@@ -1,7 +1,7 @@
 -- What follows the rules is answered, domain by domain, as where no other domain is.
 use Rattle.std.proofs.Common.{◌≡◌, ◌⊎◌, ℕ, ◌+◌, List, [], ◌∷◌, ◌++◌, length, cond, Option, Some, None, Ok, Err, true, refl, sym, ap, subst, ◌∙◌, inl, inr}
 use Rattle.std.specs.Prelude.{is_some, unwrap_or, Result}
-use Rattle.std.specs.Option.{option_map_or}
+use Rattle.std.specs.Option.{option_map, option_map_or, option_or}
 use Rattle.std.proofs.lemmas.Bool.{false≢true}
 use Rattle.std.proofs.lemmas.Bool.Decides.{eqb_tells}
 use Rattle.iw_octets.specs.declared.fault.Fault.{Fault}
@@ -27,7 +27,7 @@ use Rattle.iw_stream.specs.Judging.{verdict, early_verdict, table_tried, turn_of
 use Rattle.iw_stream.specs.Starting.{first_place_in, private_in, progress_in}
 use Rattle.iw_stream.specs.Stream.{StreamState, sees, Due, StartUp, LastWord, NextPart, NoneDue, Response as ResponseDue, due, frame_of, frame_fetched, emission_of, emitted, emission_due, octets_due, emission_fetched, octets_fetched}
 use Rattle.iw_stream.specs.Work.{Task, HandOut, GiveUp, GiveBack, Hear, Turn, Clash, Judge, Try, Rest, task, inbox, standing, step_of, table_left, table_judged, table_passed, judged_step, tried_step, turned_step, heard_step, work_step, worked, table_worked}
-use Rattle.iw_endpoint.specs.Endpoint.{EndpointState, Pool, pool_of, lent_to, fresh, stream_of, unopened}
+use Rattle.iw_endpoint.specs.Endpoint.{EndpointState, Pool as PoolOf, pool_of, lent_to, share_fault, pool_fault, take_fault, taken, open_shared_refusal_of, unshared, fresh, stream_of, unopened}
 use Rattle.iw_endpoint.specs.Isolation.{HasDomains, IsOwn, Concerns, OwnStep, OpensOwn, part_of, alone, answer_or, after, concerned}
 use Rattle.iw_endpoint.proofs.Tables.{AreAlike, worked-alike, verdict-alike, early-alike, turn-alike, judged-alike, fetched-alike, octets-alike, region-alike, none_taken, undenied}
 use Rattle.iw_endpoint.proofs.Parts.{AreSeenAlike, fresh_domains, seen_alone, stream_alike, alone_own}
@@ -36,7 +36,7 @@ use Rattle.iw_endpoint.proofs.Alone.{AreOwned, concerns, stay_owned, nothing_own
 use Rattle.iw_events.specs.declared.call.End.{End}
 use Rattle.iw_events.specs.declared.call.End.TheVariants.{A, B}
 use Rattle.iw_events.specs.declared.act.Act.{Act}
-use Rattle.iw_events.specs.declared.act.Act.TheVariants.{Domain, Register, Deregister, Invalidate, Store, Open, Stream}
+use Rattle.iw_events.specs.declared.act.Act.TheVariants.{Domain, Register, Deregister, Invalidate, Store, Open, Share, Pool, Unpool, OpenShared, Stream}
 use Rattle.iw_events.specs.declared.act.StreamAct.{StreamAct}
 use Rattle.iw_events.specs.declared.act.StreamAct.TheVariants.{Recv, Post, Emit, First, Deliver, Raw, Mulpdu, Accept, Reject, Work, Break}
 use Rattle.iw_events.specs.declared.act.Shown.TheVariants.{Fetched}
@@ -178,7 +178,7 @@ own_act e f s (Accept private answer) h rule = rule
 own_act e f s (Reject private refused) h rule = rule
 own_act e f s (Work step) h rule = subst (λ o. StreamRule f.table (lent_to o s) (Work step)) h.pool (go (pool_of e s.domain) rule)
   where
-    go : (o : Option Pool) → StreamRule e.table (lent_to o s) (Work step) → StreamRule f.table (lent_to o s) (Work step)
+    go : (o : Option PoolOf) → StreamRule e.table (lent_to o s) (Work step) → StreamRule f.table (lent_to o s) (Work step)
     go None = stream_rule s e.table f.table h.table (Work step)
     go (Some pool) = stream_rule (sees s pool) e.table f.table h.table (Work step)
 own_act e f s Break h rule = tt
@@ -204,6 +204,22 @@ own_rule d e (Open n pd role options private refused) all here rule =
     let h = seen_alone pd e all in
     let f = alone pd (part_of pd e) in
     rule ∙ open_alike pd e f n (stream_alike pd e f n own (alone_own pd e n) h) h) here.1
+own_rule d e (Share pd refused) all here rule =
+    let h = seen_alone pd e all in
+    subst (λ x. EndRule (alone x (part_of x e)) (Share pd refused)) here (rule ∙ (λ i. share_fault (is_some (h.table.part i)) (h.pool i)))
+own_rule d e (Pool pd len refused) all here rule =
+    let h = seen_alone pd e all in
+    subst (λ x. EndRule (alone x (part_of x e)) (Pool pd len refused)) here (rule ∙ (λ i. pool_fault (is_some (h.table.part i)) (h.pool i)))
+own_rule d e (Unpool pd answer) all here rule =
+    let h = seen_alone pd e all in
+    subst (λ x. EndRule (alone x (part_of x e)) (Unpool pd answer)) here (rule ∙ (λ i. answer_or (take_fault (is_some (h.table.part i)) (h.pool i)) (taken (h.pool i))))
+own_rule d e (OpenShared n pd role options private refused) all here rule =
+    subst (λ x. IsOwn x (stream_of e n) → EndRule (alone x (part_of x e)) (OpenShared n pd role options private refused)) here.0
+    (λ own.
+    let h = seen_alone pd e all in
+    let f = alone pd (part_of pd e) in
+    let open_so = open_alike pd e f n (stream_alike pd e f n own (alone_own pd e n) h) h in
+    rule ∙ (λ i. option_or (option_map open_shared_refusal_of (open_so i)) (unshared (h.pool i)))) here.1
 own_rule d e (Stream n act) all own rule =
     let h = seen_alone d e all in
     let f = alone d (part_of d e) in

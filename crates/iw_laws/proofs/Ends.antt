@@ -1,23 +1,34 @@
 -- What one more act does to the streams of an end, and to what its acts say of them.
-use Rattle.std.proofs.Common.{◌≡◌, ◌≢◌, ℕ, zero, suc, ◌<◌, List, [], ◌∷◌, ◌++◌, length, Option, Some, None, Ok, Err, Bool, true, false, cond, eqb, refl, sym, ap, ◌∙◌, subst, arith, eqb-true}
-use Rattle.std.specs.Prelude.{slice_set, slice_index_or, unwrap_or, is_some, not, nat_le}
+use Rattle.std.proofs.Common.{◌≡◌, ◌≢◌, ℕ, zero, suc, ◌<◌, List, [], ◌∷◌, ◌++◌, length, replicate, Option, Some, None, Ok, Err, Bool, true, false, cond, eqb, refl, sym, ap, ◌∙◌, subst, arith, eqb-true}
+use Rattle.std.specs.Prelude.{slice_set, slice_index_or, unwrap_or, is_some, not, nat_le, Result}
+use Rattle.std.specs.Option.{option_map, option_or}
+use Rattle.std.proofs.lemmas.Option.{none-some}
 use Rattle.std.proofs.lemmas.Bool.Decides.{nat_tests}
 use Rattle.std.proofs.lemmas.List.{append-nil, get_or-set_same, get_or-set_other, length-set}
 use Rattle.std.proofs.lemmas.Bool.{eq-eqb, false≢true, true≢false}
 use Rattle.iw_memory.specs.Table.{Table, is_added}
 use Rattle.iw_ranges.specs.declared.Delivery.TheVariants.{Kept, Dropped}
-use Rattle.iw_stream.specs.Stream.{StreamState}
+use Rattle.iw_octets.specs.declared.fault.Fault.{Fault}
+use Rattle.iw_reads.specs.declared.response.ResponsePart.{ResponsePart}
+use Rattle.iw_untagged.specs.Receiving.{Source, Posted, Pooled, exchanged, nothing_received, sharing, shares_pool, with_last}
+use Rattle.iw_laws.proofs.Shares.{work_shares}
+use Rattle.iw_stream.specs.Work.{worked}
+use Rattle.iw_stream.specs.Stream.{StreamState, shares, sees, after_emit, left_fetched, left_due, frame_fetched, Due, StartUp, LastWord, Response as ResponseDue, NextPart, NoneDue, due}
+use Rattle.iw_stream.specs.declared.answer.OpenRefusal.{OpenRefusal}
 use Rattle.iw_stream.specs.declared.answer.OpenRefusal.TheVariants.{NumberTaken, BadNumber, NoDomain}
 use Rattle.iw_events.specs.declared.act.Act.{Act}
-use Rattle.iw_events.specs.declared.act.Act.TheVariants.{Domain, Register, Deregister, Invalidate, Store, Open, Stream}
+use Rattle.iw_events.specs.declared.act.Act.TheVariants.{Domain, Register, Deregister, Invalidate, Store, Open, Share, Pool, Unpool, OpenShared, Stream}
 use Rattle.iw_events.specs.declared.act.StreamAct.{StreamAct}
 use Rattle.iw_events.specs.declared.act.StreamAct.TheVariants.{Recv, Post, Emit, First, Deliver, Raw, Mulpdu, Accept, Reject, Work, Break}
-use Rattle.iw_laws.specs.Words.{Octets, Opening, stream_acts, stream_acts_by, openings, openings_by, opening_in, was_opened, domain_of, table_after, table_by}
-use Rattle.iw_endpoint.specs.Endpoint.{EndpointState, no_pools, stream_at, stream_numbers, unopened as no_stream, stream_of, has_stream, open_refusal}
-use Rattle.iw_endpoint.specs.Isolation.{after}
+use Rattle.iw_laws.specs.Words.{Octets, Opening, stream_acts, stream_acts_by, openings, openings_by, opening_in, opening_of, config_for, was_opened, domain_of, table_after, table_by}
+use Rattle.iw_endpoint.specs.declared.refusal.OpenSharedRefusal.{OpenSharedRefusal}
+use Rattle.iw_endpoint.specs.Endpoint as endpoint
+use Rattle.iw_endpoint.specs.Endpoint.{EndpointState, pool_of, left_of, open_shared_refusal, open_shared_refusal_of, unshared, stream_at, stream_numbers, unopened as no_stream, stream_of, has_stream, open_refusal}
+use Rattle.iw_endpoint.specs.Isolation.{HasDomains, IsOwn, after, unless}
+use Rattle.iw_endpoint.proofs.Steps.{concerns_one}
 use Rattle.iw_endpoint.proofs.Tables.{worked_domain, emit_domain}
-use Rattle.iw_laws.specs.Rules.{EndState, end_after, call_made}
-use Rattle.iw_laws.proofs.States.{opening_by, connected, stream_after, streams_after, streams_left, table_left, pools_left, PlainEnd, Plain, length-wires}
+use Rattle.iw_laws.specs.Rules.{EndState, Rule, EndRule, end_after, call_made}
+use Rattle.iw_laws.proofs.States.{opening_by, connected, left_at, streams_after, streams_left, table_left, length-wires, shares_lent}
 use Rattle.iw_laws.proofs.Tales.{table-push, stream_acts-push, openings-push}
 
 pub there : {A : Type 0} (xs : List (Option A)) (i : ℕ) → is_some (slice_index_or xs i None) ≡ true → i < length xs
@@ -34,11 +45,12 @@ unopened (o ∷ os) h = absurd (false≢true (sym h))
 -- what the state of an end has in common with what was done there
 pub record EndSeen (s : EndState) (done : List (Act Octets)) : Type 0 where
   pub table : s.endpoint.table ≡ table_after done
-  pub pools : s.endpoint.pools ≡ no_pools
+  pub domains : HasDomains s.endpoint
   pub numbers : length s.endpoint.streams ≡ 64
   pub wires : length s.wires ≡ 64
   pub opened : (n : ℕ) → has_stream s.endpoint n ≡ was_opened (openings n done)
   pub domain : (n : ℕ) → has_stream s.endpoint n ≡ true → (stream_at s.endpoint n).domain ≡ domain_of n done
+  pub pooled : (n : ℕ) → has_stream s.endpoint n ≡ true → shares (stream_at s.endpoint n) ≡ (opening_of n done).shared
   pub unused : (n : ℕ) → has_stream s.endpoint n ≡ false → stream_acts n done ≡ []
 
 -- an act that opens nothing
@@ -59,31 +71,72 @@ opens s n pd e = go (has_stream s.endpoint n) (nat_le stream_numbers n) refl ref
     go false true h z added e' = cc
     go false false h z added e' = record { fresh = h; number = grind (arith, nat_tests) }
 
-pub same_domain : (table : Table) (s : StreamState) (act : StreamAct Octets) → (stream_after table s act).domain ≡ s.domain
-same_domain table s (Recv len None) = refl
-same_domain table s (Recv len (Some refusal)) = refl
-same_domain table s (Post m None) = refl
-same_domain table s (Post m (Some refusal)) = refl
-same_domain table s (Emit shown) = emit_domain table s
-same_domain table s (Accept private (Ok agreed)) = refl
-same_domain table s (Accept private (Err refusal)) = refl
-same_domain table s (Reject private None) = refl
-same_domain table s (Reject private (Some refusal)) = refl
-same_domain table s (Deliver from number octets Kept) = refl
-same_domain table s (Raw number octets Kept) = refl
-same_domain table s (Deliver from number octets Dropped) = refl
-same_domain table s (Raw number octets Dropped) = refl
-same_domain table s (First number None) = refl
-same_domain table s (Mulpdu size None) = refl
-same_domain table s (First number (Some refusal)) = refl
-same_domain table s (Mulpdu size (Some refusal)) = refl
-same_domain table s (Work step) = worked_domain table s
-same_domain table s Break = refl
+-- of a stream that shares a pool
+pub opens_shared : (s : EndState) (n pd : ℕ) → None ≡ open_shared_refusal s.endpoint n pd → Opens s n
+opens_shared s n pd e = opens s n pd (go (open_refusal s.endpoint n pd) e)
+  where
+    go : (o : Option OpenRefusal) → None ≡ option_or (option_map open_shared_refusal_of o) (unshared (pool_of s.endpoint pd)) → None ≡ o
+    go None h = refl
+    go (Some r) h = absurd (none-some _ h)
+
+left_domain : (table : Table) (o : Option (List Octets)) (s : StreamState) → (left_of table o s).domain ≡ s.domain
+left_domain table None s = worked_domain table s
+left_domain table (Some pool) s = worked_domain table (sees s pool)
+
+-- whether it shares a pool stays
+emit_shares : (table : Table) (s : StreamState) → shares (after_emit table s) ≡ shares s
+emit_shares table s = go (due s)
+  where
+    fetched : (part : ResponsePart) (r : Result (List ℕ) Fault) → shares (left_fetched s part r) ≡ shares s
+    fetched part (Ok frame) = refl
+    fetched part (Err fault) = refl
+
+    go : (k : Due) → shares (left_due table s k) ≡ shares s
+    go StartUp = refl
+    go (LastWord payload) = refl
+    go (ResponseDue part) = fetched part (frame_fetched table s part)
+    go (NextPart part) = refl
+    go NoneDue = refl
+
+posted_shares : (x : Source) (buffer : List ℕ) → shares_pool (with_last x buffer) ≡ shares_pool x
+posted_shares (Posted bs) buffer = refl
+posted_shares (Pooled ps pool) buffer = refl
+
+left_shares : (table : Table) (o : Option (List Octets)) (s : StreamState) → shares (left_of table o s) ≡ shares s
+left_shares table None s = work_shares table s
+left_shares table (Some pool) s = shares_lent (worked table (sees s pool)).receiving.source (exchanged s.receiving.source pool) ∙ work_shares table (sees s pool) ∙ shares_lent s.receiving.source pool
+
+pub record KeepsStream (s s' : StreamState) : Type 0 where
+  pub domain : s'.domain ≡ s.domain
+  pub pooled : shares s' ≡ shares s
+
+keeps_stream : (e : EndpointState) (n : ℕ) (act : StreamAct Octets) → KeepsStream (stream_at e n) (left_at e n act)
+keeps_stream e n (Recv len None) = record { domain = refl; pooled = posted_shares (stream_at e n).receiving.source (replicate len 0) }
+keeps_stream e n (Recv len (Some refusal)) = record { domain = refl; pooled = refl }
+keeps_stream e n (Post m None) = record { domain = refl; pooled = refl }
+keeps_stream e n (Post m (Some refusal)) = record { domain = refl; pooled = refl }
+keeps_stream e n (Emit shown) = record { domain = emit_domain e.table (stream_at e n); pooled = emit_shares e.table (stream_at e n) }
+keeps_stream e n (Accept private (Ok agreed)) = record { domain = refl; pooled = refl }
+keeps_stream e n (Accept private (Err refusal)) = record { domain = refl; pooled = refl }
+keeps_stream e n (Reject private None) = record { domain = refl; pooled = refl }
+keeps_stream e n (Reject private (Some refusal)) = record { domain = refl; pooled = refl }
+keeps_stream e n (Deliver from number octets Kept) = record { domain = refl; pooled = refl }
+keeps_stream e n (Deliver from number octets Dropped) = record { domain = refl; pooled = refl }
+keeps_stream e n (Raw number octets Kept) = record { domain = refl; pooled = refl }
+keeps_stream e n (Raw number octets Dropped) = record { domain = refl; pooled = refl }
+keeps_stream e n (First number None) = record { domain = refl; pooled = refl }
+keeps_stream e n (First number (Some refusal)) = record { domain = refl; pooled = refl }
+keeps_stream e n (Mulpdu size None) = record { domain = refl; pooled = refl }
+keeps_stream e n (Mulpdu size (Some refusal)) = record { domain = refl; pooled = refl }
+keeps_stream e n (Work step) =
+    let s : StreamState = stream_at e n in
+    record { domain = left_domain e.table (pool_of e s.domain) s; pooled = left_shares e.table (pool_of e s.domain) s }
+keeps_stream e n Break = record { domain = refl; pooled = refl }
 
 -- ---- the stream of a number, behind an act
 
-pub at_act : (e : EndpointState) (act : Act Octets) (n : ℕ) → e.pools ≡ no_pools → PlainEnd e act → stream_of (after e (call_made act)) n ≡ slice_index_or (streams_after e.table e.streams act) n None
-at_act e act n none rule = ap (λ xs. slice_index_or xs n None) (streams_left e act none rule)
+pub at_act : (e : EndpointState) (act : Act Octets) (n : ℕ) → EndRule e act → stream_of (after e (call_made act)) n ≡ slice_index_or (streams_after e act) n None
+at_act e act n rule = ap (λ xs. slice_index_or xs n None) (streams_left e act rule)
 
 pub at_same : (s : EndState) (n : ℕ) (c : StreamState) → n < length s.endpoint.streams → slice_index_or (slice_set s.endpoint.streams n (Some c)) n None ≡ Some c
 at_same s n c h = get_or-set_same s.endpoint.streams n (Some c) None h
@@ -101,16 +154,18 @@ number_there s n h = there s.endpoint.streams n h
 pub record KeepsNumber (s : EndState) (done : List (Act Octets)) (act : Act Octets) (n : ℕ) : Type 0 where
   pub has : has_stream (end_after s act).endpoint n ≡ was_opened (openings n (done ++ act ∷ []))
   pub domain : has_stream (end_after s act).endpoint n ≡ true → (stream_at (end_after s act).endpoint n).domain ≡ domain_of n (done ++ act ∷ [])
+  pub pooled : has_stream (end_after s act).endpoint n ≡ true → shares (stream_at (end_after s act).endpoint n) ≡ (opening_of n (done ++ act ∷ [])).shared
   pub unused : has_stream (end_after s act).endpoint n ≡ false → stream_acts n (done ++ act ∷ []) ≡ []
 
-keeps_number : (s : EndState) (done : List (Act Octets)) (act : Act Octets) (n : ℕ) → EndSeen s done → PlainEnd s.endpoint act → slice_index_or (streams_after s.endpoint.table s.endpoint.streams act) n None ≡ slice_index_or s.endpoint.streams n None → openings_by n act ≡ []
+keeps_number : (s : EndState) (done : List (Act Octets)) (act : Act Octets) (n : ℕ) → EndSeen s done → EndRule s.endpoint act → slice_index_or (streams_after s.endpoint act) n None ≡ slice_index_or s.endpoint.streams n None → openings_by n act ≡ []
     → stream_acts_by n act ≡ [] → KeepsNumber s done act n
 keeps_number s done act n k rule left none silent =
-    let same : stream_of (end_after s act).endpoint n ≡ stream_of s.endpoint n = at_act s.endpoint act n k.pools rule ∙ left in
+    let same : stream_of (end_after s act).endpoint n ≡ stream_of s.endpoint n = at_act s.endpoint act n rule ∙ left in
     let opened_same : openings n (done ++ act ∷ []) ≡ openings n done = opens_same n done act none in
     record {
       has = ap is_some same ∙ k.opened n ∙ ap was_opened (sym opened_same);
       domain = λ h. ap (λ o. (unwrap_or o no_stream).domain) same ∙ k.domain n (ap is_some (sym same) ∙ h) ∙ ap (λ os. (opening_in os).domain) (sym opened_same);
+      pooled = λ h. ap (λ o. shares (unwrap_or o no_stream)) same ∙ k.pooled n (ap is_some (sym same) ∙ h) ∙ ap (λ os. (opening_in os).shared) (sym opened_same);
       unused = λ h. stream_acts-push n done act ∙ (λ i. k.unused n (ap is_some (sym same) ∙ h) i ++ silent i);
     }
 
@@ -123,70 +178,115 @@ opening_one b o e = ap (λ z. cond z (o ∷ []) []) e
 silent_other : (m n : ℕ) (act : StreamAct Octets) → eqb m n ≡ false → stream_acts_by n (Stream m act) ≡ []
 silent_other m n act e = ap (λ b. cond b (act ∷ []) []) e
 
-number_after : (s peer : EndState) (done : List (Act Octets)) (act : Act Octets) (n : ℕ) → EndSeen s done → Plain s peer act → KeepsNumber s done act n
-number_after s peer done (Domain pd None) n k rule = keeps_number s done (Domain pd None) n k rule.0 refl refl refl
-number_after s peer done (Domain pd (Some refusal)) n k rule = keeps_number s done (Domain pd (Some refusal)) n k rule.0 refl refl refl
+first_shares : (shared : Bool) → shares_pool (cond shared sharing.source nothing_received.source) ≡ shared
+first_shares true = refl
+first_shares false = refl
+
+-- a stream is opened
+number_opened : (s : EndState) (done : List (Act Octets)) (act : Act Octets) (m n : ℕ) (o : Opening) → EndSeen s done → EndRule s.endpoint act → Opens s m → openings_by n act ≡ cond (eqb m n) (o ∷ []) []
+    → streams_after s.endpoint act ≡ slice_set s.endpoint.streams m (Some (connected o).stream) → stream_acts_by n act ≡ [] → KeepsNumber s done act n
+number_opened s done act m n o k rule new one left silent = go (eqb m n) refl
+  where
+    go : (b : Bool) → eqb m n ≡ b → KeepsNumber s done act n
+    go false e = keeps_number s done act n k rule (ap (λ xs. slice_index_or xs n None) left ∙ at_other s m n (Some (connected o).stream) e) (one ∙ opening_none (eqb m n) o e) silent
+    go true e =
+        let same : m ≡ n = eqb-true m n e in
+        let room : m < length s.endpoint.streams = omega (arith, new.number, k.numbers) in
+        let here : stream_of (end_after s act).endpoint n ≡ Some (connected o).stream =
+        at_act s.endpoint act n rule ∙ ap (λ xs. slice_index_or xs n None) left ∙ subst (λ j. slice_index_or (slice_set s.endpoint.streams m (Some (connected o).stream)) j None ≡ Some (connected o).stream) same (at_same s m (connected o).stream room) in
+        let before : openings n done ≡ [] = unopened (openings n done) (sym (k.opened n) ∙ subst (λ j. has_stream s.endpoint j ≡ false) same new.fresh) in
+        let now : openings n (done ++ act ∷ []) ≡ o ∷ [] = openings-push n done act ∙ (λ i. before i ++ (one ∙ opening_one (eqb m n) o e) i) in
+        record {
+          has = ap is_some here ∙ ap was_opened (sym now);
+          domain = λ h. ap (λ z. (unwrap_or z no_stream).domain) here ∙ ap (λ os. (opening_in os).domain) (sym now);
+          pooled = λ h. ap (λ z. shares (unwrap_or z no_stream)) here ∙ first_shares o.shared ∙ ap (λ os. (opening_in os).shared) (sym now);
+          unused = λ h. absurd (true≢false (sym (ap is_some here) ∙ h));
+        }
+
+number_after : (s peer : EndState) (done : List (Act Octets)) (act : Act Octets) (n : ℕ) → EndSeen s done → Rule s peer act → KeepsNumber s done act n
+number_after s peer done (Domain pd refused) n k rule = keeps_number s done (Domain pd refused) n k rule.0 refl refl refl
 number_after s peer done (Register pd base rights octets answer) n k rule = keeps_number s done (Register pd base rights octets answer) n k rule.0 refl refl refl
 number_after s peer done (Deregister stag answer) n k rule = keeps_number s done (Deregister stag answer) n k rule.0 refl refl refl
 number_after s peer done (Invalidate stag refused) n k rule = keeps_number s done (Invalidate stag refused) n k rule.0 refl refl refl
 number_after s peer done (Store stag to octets refused) n k rule = keeps_number s done (Store stag to octets refused) n k rule.0 refl refl refl
+number_after s peer done (Share pd refused) n k rule = keeps_number s done (Share pd refused) n k rule.0 refl refl refl
+number_after s peer done (Pool pd len refused) n k rule = keeps_number s done (Pool pd len refused) n k rule.0 refl refl refl
+number_after s peer done (Unpool pd answer) n k rule = keeps_number s done (Unpool pd answer) n k rule.0 refl refl refl
 number_after s peer done (Open m pd role options private (Some refusal)) n k rule = keeps_number s done (Open m pd role options private (Some refusal)) n k rule.0 refl refl refl
-number_after s peer done (Open m pd role options private None) n k rule = go (eqb m n) refl
-  where
-    go : (b : Bool) → eqb m n ≡ b → KeepsNumber s done (Open m pd role options private None) n
-    go false e = keeps_number s done (Open m pd role options private None) n k rule.0 (at_other s m n (Some (connected (opening_by pd role options private)).stream) e) (opening_none (eqb m n) (opening_by pd role options private) e) refl
-    go true e =
-        let o = opens s m pd rule.0 in
-        let same : m ≡ n = eqb-true m n e in
-        let room : m < length s.endpoint.streams = omega (arith, o.number, k.numbers) in
-        let x : StreamState = (connected (opening_by pd role options private)).stream in
-        let here : stream_of (end_after s (Open m pd role options private None)).endpoint n ≡ Some x =
-        at_act s.endpoint (Open m pd role options private None) n k.pools rule.0 ∙ subst (λ j. slice_index_or (slice_set s.endpoint.streams m (Some x)) j None ≡ Some x) same (at_same s m x room) in
-        let before : openings n done ≡ [] = unopened (openings n done) (sym (k.opened n) ∙ subst (λ j. has_stream s.endpoint j ≡ false) same o.fresh) in
-        let now : openings n (done ++ Open m pd role options private None ∷ []) ≡ opening_by pd role options private ∷ [] =
-        openings-push n done (Open m pd role options private None) ∙ (λ i. before i ++ opening_one (eqb m n) (opening_by pd role options private) e i) in
-        record {
-          has = ap is_some here ∙ ap was_opened (sym now);
-          domain = λ h. ap (λ z. (unwrap_or z no_stream).domain) here ∙ ap (λ os. (opening_in os).domain) (sym now);
-          unused = λ h. absurd (true≢false (sym (ap is_some here) ∙ h));
-        }
+number_after s peer done (OpenShared m pd role options private (Some refusal)) n k rule = keeps_number s done (OpenShared m pd role options private (Some refusal)) n k rule.0 refl refl refl
+number_after s peer done (Open m pd role options private None) n k rule =
+    number_opened s done (Open m pd role options private None) m n (opening_by false pd role options private) k rule.0 (opens s m pd rule.0) refl refl refl
+number_after s peer done (OpenShared m pd role options private None) n k rule =
+    number_opened s done (OpenShared m pd role options private None) m n (opening_by true pd role options private) k rule.0 (opens_shared s m pd rule.0) refl refl refl
 number_after s peer done (Stream m act) n k rule = go (eqb m n) refl
   where
     go : (b : Bool) → eqb m n ≡ b → KeepsNumber s done (Stream m act) n
-    go false e = keeps_number s done (Stream m act) n k rule.0 (at_other s m n (Some (stream_after s.endpoint.table (stream_at s.endpoint m) act)) e) refl (silent_other m n act e)
+    go false e = keeps_number s done (Stream m act) n k rule.0 (at_other s m n (Some (left_at s.endpoint m act)) e) refl (silent_other m n act e)
     go true e =
         let same : m ≡ n = eqb-true m n e in
-        let x : StreamState = stream_after s.endpoint.table (stream_at s.endpoint m) act in
+        let x : StreamState = left_at s.endpoint m act in
+        let keeps : KeepsStream (stream_at s.endpoint m) x = keeps_stream s.endpoint m act in
         let here : stream_of (end_after s (Stream m act)).endpoint n ≡ Some x =
-        at_act s.endpoint (Stream m act) n k.pools rule.0 ∙ subst (λ j. slice_index_or (slice_set s.endpoint.streams m (Some x)) j None ≡ Some x) same (at_same s m x (number_there s m rule.0.0)) in
+        at_act s.endpoint (Stream m act) n rule.0 ∙ subst (λ j. slice_index_or (streams_after s.endpoint (Stream m act)) j None ≡ Some x) same (at_same s m x (number_there s m rule.0.0)) in
         let has : has_stream s.endpoint n ≡ true = subst (λ j. has_stream s.endpoint j ≡ true) same rule.0.0 in
         let opened_same : openings n (done ++ Stream m act ∷ []) ≡ openings n done = opens_same n done (Stream m act) refl in
         record {
           has = ap is_some here ∙ sym has ∙ k.opened n ∙ ap was_opened (sym opened_same);
-          domain = λ h. ap (λ z. (unwrap_or z no_stream).domain) here ∙ same_domain s.endpoint.table (stream_at s.endpoint m) act
-              ∙ ap (λ j. (stream_at s.endpoint j).domain) same ∙ k.domain n has ∙ ap (λ os. (opening_in os).domain) (sym opened_same);
+          domain = λ h. ap (λ z. (unwrap_or z no_stream).domain) here ∙ keeps.domain ∙ ap (λ j. (stream_at s.endpoint j).domain) same ∙ k.domain n has ∙ ap (λ os. (opening_in os).domain) (sym opened_same);
+          pooled = λ h. ap (λ z. shares (unwrap_or z no_stream)) here ∙ keeps.pooled ∙ ap (λ j. shares (stream_at s.endpoint j)) same ∙ k.pooled n has ∙ ap (λ os. (opening_in os).shared) (sym opened_same);
           unused = λ h. absurd (true≢false (sym (ap is_some here) ∙ h));
         }
 
-numbers_after : (s : EndState) (act : Act Octets) → length (streams_after s.endpoint.table s.endpoint.streams act) ≡ length s.endpoint.streams
-numbers_after s (Domain pd None) = refl
-numbers_after s (Domain pd (Some refusal)) = refl
+numbers_after : (s : EndState) (act : Act Octets) → length (streams_after s.endpoint act) ≡ length s.endpoint.streams
+numbers_after s (Domain pd refused) = refl
 numbers_after s (Register pd base rights octets answer) = refl
 numbers_after s (Deregister stag answer) = refl
 numbers_after s (Invalidate stag refused) = refl
 numbers_after s (Store stag to octets refused) = refl
-numbers_after s (Open m pd role options private None) = length-set s.endpoint.streams m (Some (connected (opening_by pd role options private)).stream)
+numbers_after s (Share pd refused) = refl
+numbers_after s (Pool pd len refused) = refl
+numbers_after s (Unpool pd answer) = refl
 numbers_after s (Open m pd role options private (Some refusal)) = refl
-numbers_after s (Stream m act) = length-set s.endpoint.streams m (Some (stream_after s.endpoint.table (stream_at s.endpoint m) act))
+numbers_after s (OpenShared m pd role options private (Some refusal)) = refl
+numbers_after s (Open m pd role options private None) = length-set s.endpoint.streams m (Some (connected (opening_by false pd role options private)).stream)
+numbers_after s (OpenShared m pd role options private None) = length-set s.endpoint.streams m (Some (connected (opening_by true pd role options private)).stream)
+numbers_after s (Stream m act) = length-set s.endpoint.streams m (Some (left_at s.endpoint m act))
+
+-- there is a place for each domain
+domains_after : (e : EndpointState) (act : Act Octets) → EndRule e act → HasDomains e → HasDomains (after e (call_made act))
+domains_after e (Domain pd refused) rule all = (concerns_one pd e (call_made (Domain pd refused)) all refl).domains
+domains_after e (Register pd base rights octets answer) rule all = (concerns_one pd e (call_made (Register pd base rights octets answer)) all refl).domains
+domains_after e (Deregister stag answer) rule all = (concerns_one stag.domain e (call_made (Deregister stag answer)) all refl).domains
+domains_after e (Invalidate stag refused) rule all = (concerns_one stag.domain e (call_made (Invalidate stag refused)) all refl).domains
+domains_after e (Store stag to octets refused) rule all = (concerns_one stag.domain e (call_made (Store stag to octets refused)) all refl).domains
+domains_after e (Share pd refused) rule all = (concerns_one pd e (call_made (Share pd refused)) all refl).domains
+domains_after e (Pool pd len refused) rule all = (concerns_one pd e (call_made (Pool pd len refused)) all refl).domains
+domains_after e (Unpool pd answer) rule all = (concerns_one pd e (call_made (Unpool pd answer)) all refl).domains
+domains_after e (Open n pd role options private refused) rule all = go (endpoint.open_refusal e n pd)
+  where
+    go : (o : Option OpenRefusal) → HasDomains (unless o e (endpoint.opened e n pd role (config_for options private)))
+    go None = all
+    go (Some r) = all
+domains_after e (OpenShared n pd role options private refused) rule all = go (endpoint.open_shared_refusal e n pd)
+  where
+    go : (o : Option OpenSharedRefusal) → HasDomains (unless o e (endpoint.opened_shared e n pd role (config_for options private)))
+    go None = all
+    go (Some r) = all
+domains_after e (Stream n act) rule all = go (stream_of e n) refl rule.0
+  where
+    go : (o : Option StreamState) → stream_of e n ≡ o → is_some o ≡ true → HasDomains (after e (call_made (Stream n act)))
+    go None is there = absurd (false≢true there)
+    go (Some x) is there = (concerns_one x.domain e (call_made (Stream n act)) all (subst (IsOwn x.domain) (sym is) refl)).domains
 
 -- an act that the rules give keeps what the end has in common with what was done
-pub end_step : (s peer : EndState) (done : List (Act Octets)) (act : Act Octets) → EndSeen s done → Plain s peer act → EndSeen (end_after s act) (done ++ act ∷ [])
+pub end_step : (s peer : EndState) (done : List (Act Octets)) (act : Act Octets) → EndSeen s done → Rule s peer act → EndSeen (end_after s act) (done ++ act ∷ [])
 end_step s peer done act k rule = record {
-  table = table_left s.endpoint act k.pools rule.0 ∙ ap (λ z. table_by z act) k.table ∙ sym (table-push done act);
-  pools = pools_left s.endpoint act k.pools ∙ k.pools;
-  numbers = ap length (streams_left s.endpoint act k.pools rule.0) ∙ numbers_after s act ∙ k.numbers;
+  table = table_left s.endpoint act rule.0 ∙ ap (λ z. table_by z act) k.table ∙ sym (table-push done act);
+  domains = domains_after s.endpoint act rule.0 k.domains;
+  numbers = ap length (streams_left s.endpoint act rule.0) ∙ numbers_after s act ∙ k.numbers;
   wires = length-wires s act ∙ k.wires;
   opened = λ n. (number_after s peer done act n k rule).has;
   domain = λ n. (number_after s peer done act n k rule).domain;
+  pooled = λ n. (number_after s peer done act n k rule).pooled;
   unused = λ n. (number_after s peer done act n k rule).unused;
 }

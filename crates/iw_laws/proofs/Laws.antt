@@ -6,7 +6,7 @@ use Rattle.std.proofs.Common.{◌≡◌, ◌⊎◌, ℕ, zero, suc, ◌+◌, ◌
 use Rattle.std.proofs.lemmas.List.{append-nil, length-map}
 use Rattle.std.specs.Prelude.{option_map, is_some, not, nat_le, nat_lt, min, Bool, ◌&&◌, ◌||◌, Result, IfOk}
 use Rattle.std.specs.Result.{result_err}
-use Rattle.std.specs.Option.{option_map_or}
+use Rattle.std.specs.Option.{option_map, option_map_or, option_or}
 use Rattle.std.proofs.lemmas.Bool.{false≢true}
 use Rattle.iw_octets.specs.Segment.{segment_octets}
 use Rattle.iw_memory.specs.declared.refusal.RegisterRefusal.{RegisterRefusal}
@@ -69,7 +69,7 @@ use Rattle.iw_events.specs.declared.call.End.{End}
 use Rattle.iw_events.specs.declared.call.Call.{Call}
 use Rattle.iw_events.specs.declared.call.Call.TheVariants as calls
 use Rattle.iw_events.specs.declared.act.Act.{Act}
-use Rattle.iw_events.specs.declared.act.Act.TheVariants.{Domain, Register, Deregister, Invalidate, Store, Open, Stream}
+use Rattle.iw_events.specs.declared.act.Act.TheVariants.{Domain, Register, Deregister, Invalidate, Store, Open, Share, Pool, Unpool, OpenShared, Stream}
 use Rattle.iw_events.specs.declared.act.StreamAct.{StreamAct}
 use Rattle.iw_events.specs.declared.act.StreamAct.TheVariants.{Recv, Post, Emit, First, Deliver, Raw, Mulpdu, Accept, Reject, Work, Break}
 use Rattle.iw_events.specs.declared.act.Shown.TheVariants.{Frame, Fetched, Fault as Denied, Nothing}
@@ -83,16 +83,17 @@ use Rattle.iw_laws.specs.Merged.{AreMerged, posts_in, response_segment}
 use Rattle.iw_laws.specs.Faithful.{FetchShown, FetchStream, count_done, AnswersReads, Answering}
 use Rattle.iw_laws.specs.Sends.{farewells, terminate_segment, IsStartFrame, IsLastWord, AreFirstFrames, Emission, AreAllFrames, HasNothing, Over, Closed, AllSent, ReadWaits, MaySend, FewReads, NothingShown, NothingStream, NothingOnlyAtRest, FrameSized, SizedStream, Sized, FrameAllowed, SpeaksStream, Speaks, CanFinish, FinishedStream, Finished}
 use Rattle.iw_laws.specs.Sends.{Silent as Muted}
-use Rattle.iw_laws.specs.Turns.{Answer, is_last, story, story_of, standing, TurnsSeen, TurnsStream, Turns, in_order_point}
+use Rattle.iw_laws.specs.Turns.{Answer, Story, is_last, story, story_of, receiving_of, standing, TurnsSeen, TurnsStream, Turns, in_order_point}
 use Rattle.iw_laws.specs.Rest.{IdleStream, IdleOnlyAtRest}
 use Rattle.iw_laws.specs.Ends.{HoldsNoMessage, HoldsNothing, EndSeen, IsStartDue, EndShown, EndsStream, Ends}
 use Rattle.iw_laws.specs.Calls.{deregister_answer, invalidate_refusal, IsNew, open_refusal_by, EndAnswered, ShowsMemory, recv_refusal_by, post_refusal_by, may_answer_by, Accepted, Rejected, StreamAnswered, AnsweredStream, Answered, delivery_by, KeptStream, KeepsOctets, IsCarried, CarriedStream, CarriesOctets, OpenedStream, OpensFirst}
 use Rattle.iw_laws.specs.Words.{OnSome, OnStream, AtEach}
-use Rattle.iw_endpoint.specs.Endpoint.{stream_numbers, has_stream, open_refusal, unasked}
+use Rattle.iw_endpoint.specs.Endpoint.{stream_numbers, pool_of, stream_at, share_fault, pool_fault, take_fault, taken, open_shared_refusal_of, unshared, has_stream, open_refusal, unasked}
 use Rattle.iw_endpoint.specs.Isolation.{answer_or}
-use Rattle.iw_laws.specs.Rules.{EndState, State, end_of, start, PeerRule, WireRule, StreamRule, needs_peer, state_after, Follows, wire_at}
+use Rattle.iw_laws.specs.Rules.{EndState, State, end_of, start, Rule, EndRule, PeerRule, WireRule, StreamRule, needs_peer, state_after, Follows, wire_at}
 use Rattle.iw_events.specs.Events.{stream_call_of}
-use Rattle.iw_laws.proofs.States.{Plain, PlainEnd, plain, Connected, connected_at}
+use Rattle.iw_laws.proofs.States.{Connected, connected_seen as connected_at, lent_rule, lent_domain}
+use Rattle.iw_laws.proofs.Pools.{PoolsSeen, held, tale_seen as tale}
 use Rattle.iw_laws.specs.Bounds.{LacksStream, AsksTooMuch, AsksOver}
 use Rattle.iw_laws.specs.Stops.{NamesNoStream, AsksNotSent, IsUnopened}
 use Rattle.iw_stream.proofs.Tasks.{IsResting, Ended as HasEnded, Unanswered, Without}
@@ -117,7 +118,7 @@ use Rattle.iw_laws.proofs.EarlyLaws.{judges_early, checks_once}
 use Rattle.iw_laws.proofs.Onces.{are_once}
 use Rattle.iw_laws.proofs.Placements.{placements}
 use Rattle.iw_laws.proofs.Releases.{left_acts}
-use Rattle.iw_laws.proofs.Whole.{held, tale, Seen as BothSeen, seen_at, follows_split}
+use Rattle.iw_laws.proofs.Whole.{Seen as BothSeen, seen_at, follows_split}
 
 -- ---- honest streams
 
@@ -184,26 +185,35 @@ within_stream : (done : List (Act Octets)) (n domain : ℕ) (table : Table) (act
     → WithinTale table domain (tale n done) act → WithinStream done n act
 within_stream done n domain table act d t h = subst (λ z. WithinTale z (domain_of n done) (tale n done) act) t (subst (λ z. WithinTale table z (tale n done) act) d h)
 
+-- with these receive buffers
+abbrev story_with : Opening → List (StreamAct Octets) → Receiving → Story
+story_with o done queue = record (story o done) { receiving = queue }
+
+abbrev tale_with : Opening → List (StreamAct Octets) → Receiving → Tale
+tale_with o done queue = record (tale_of o done) { story = record (story o done) { receiving = queue } }
+
 -- what holds of the acts of a stream holds of those of an end
-on_stream : (P : List (Act Octets) → ℕ → StreamAct Octets → Type 0) (done : List (Act Octets)) (s : EndState) (act : Act Octets) → PlainEnd s.endpoint act
+on_stream : (P : List (Act Octets) → ℕ → StreamAct Octets → Type 0) (done : List (Act Octets)) (s : EndState) (act : Act Octets) → EndRule s.endpoint act
     → ((n : ℕ) (a : StreamAct Octets) → has_stream s.endpoint n ≡ true → StreamRule s.endpoint.table (connected_at s n).stream a → P done n a) → OnStream P done act
-on_stream P done s (Stream n act) rule h = h n act rule.0 rule.1
+on_stream P done s (Stream n act) rule h = h n act rule.0 (lent_rule s.endpoint n act rule.1)
 on_stream P done s (Domain pd refused) rule h = tt
 on_stream P done s (Register pd base rights octets answer) rule h = tt
 on_stream P done s (Deregister stag answer) rule h = tt
 on_stream P done s (Invalidate stag refused) rule h = tt
 on_stream P done s (Store stag to octets refused) rule h = tt
 on_stream P done s (Open n pd role options private refused) rule h = tt
+on_stream P done s (Share pd refused) rule h = tt
+on_stream P done s (Pool pd len refused) rule h = tt
+on_stream P done s (Unpool pd answer) rule h = tt
+on_stream P done s (OpenShared n pd role options private refused) rule h = tt
 
 -- an entry, in the state that those before it leave
 abbrev Moment : List (Entry Octets) → Entry Octets → Type 0
-Moment past e = BothSeen past (state_after start past) × Plain (end_of e.end (state_after start past)) (end_of (other e.end) (state_after start past)) e.act
+Moment past e = BothSeen past (state_after start past) × Rule (end_of e.end (state_after start past)) (end_of (other e.end) (state_after start past)) e.act
 
 moment : (past : List (Entry Octets)) (e : Entry Octets) (future trace : List (Entry Octets)) → Follows start trace → trace ≡ past ++ e ∷ future → Moment past e
 moment past e future trace follows is =
-    let k = seen_at past (e ∷ future) trace follows is in
-    let w : State = state_after start past in
-    (k, plain (end_of e.end w) (end_of (other e.end) w) e.act (k.ends e.end).pools (follows_split past (e ∷ future) start (subst (Follows start) is follows)).1.0)
+    (seen_at past (e ∷ future) trace follows is, (follows_split past (e ∷ future) start (subst (Follows start) is follows)).1.0)
 
 -- a law of each entry of a stream, by the state before it
 each_stream : (P : List (Act Octets) → ℕ → StreamAct Octets → Type 0) (trace : List (Entry Octets)) → Follows start trace
@@ -216,7 +226,7 @@ each_stream P trace follows one past e future is =
     on_stream P (acts e.end past) s e.act m.1.0 (λ n act opened rule.
     let h = (m.0.pairs e.end n).own in
     let there = left_acts s.endpoint.table (connected_at s n).stream h.stream (tale n (acts e.end past)) act h.is_left h.own.track rule in
-    one (acts e.end past) s n (held h) act (m.0.ends e.end) (sym (ap (λ (z : StreamState). z.domain) h.is_left.has.same) ∙ (m.0.ends e.end).domain n opened) there.0 h.own)
+    one (acts e.end past) s n (held h) act (m.0.ends e.end) (sym (ap (λ (z : StreamState). z.domain) h.is_left.has.same) ∙ lent_domain (pool_of s.endpoint (stream_at s.endpoint n).domain) (stream_at s.endpoint n) ∙ (m.0.ends e.end).domain n opened) there.0 h.own)
 
 pub within_all : (trace : List (Entry Octets)) → Follows start trace → Within trace
 within_all trace follows = each_stream WithinStream trace follows (λ done s n c act k domain rule own.
@@ -312,31 +322,31 @@ part_waits s e = go (next_part s.queue s.mulpdu) refl e
         by false b h m ms is same = absurd (none-some _ (sym h))
         by true b h m ms is same = read_of m ms is (ap (λ z. is_read z && nat_le most_reads (length s.reads)) (sym same) ∙ b)
 
-nothing_stream : (o : Opening) (c : Connected) (done : List (StreamAct Octets)) (table : Table) (act : StreamAct Octets) → StreamRule table c.stream act → Own o c (tale_of o done) → OnSome (NothingShown (story o done) done) (deed act).shown
-nothing_stream o c done table (Emit Nothing) rule own =
+nothing_stream : (o : Opening) (c : Connected) (done : List (StreamAct Octets)) (queue : Receiving) (table : Table) (act : StreamAct Octets) → StreamRule table c.stream act → Own o c (tale_with o done queue) → OnSome (NothingShown (story_with o done queue) done) (deed act).shown
+nothing_stream o c done queue table (Emit Nothing) rule own =
     let r = emits_as table c.stream Nothing rule in
     let ending = own.emits.parts.ending in
     ((λ unbroken. frame_sent r.spoken (sym (ap is_broken ending) ∙ unbroken)), ap last_word ending ∙ r.silent, go r.spoken r.reason)
   where
     t : Tale
-    t = tale_of o done
+    t = tale_with o done queue
 
-    frame_sent : owes_frame c.stream ≡ false → is_broken c.stream.ending ≡ false → IsPrefixOf (own_frame (story o done).start) (sent done)
+    frame_sent : owes_frame c.stream ≡ false → is_broken c.stream.ending ≡ false → IsPrefixOf (own_frame (story_with o done queue).start) (sent done)
     frame_sent owes unbroken =
-        let frames : List ℕ = sequence (sending c.stream.start) 0 (map segment_octets (out_of c.stream (tale_of o done) own.emits)) in
-        (frames, ap (λ z. z ++ frames) (start_frame_is c.stream (tale_of o done) own.track) ∙ sym (past_start c.stream (tale_of o done) own.emits own.sent (all_spoken c.stream owes unbroken)))
+        let frames : List ℕ = sequence (sending c.stream.start) 0 (map segment_octets (out_of c.stream (tale_with o done queue) own.emits)) in
+        (frames, ap (λ z. z ++ frames) (start_frame_is c.stream (tale_with o done queue) own.track) ∙ sym (past_start c.stream (tale_with o done queue) own.emits own.sent (all_spoken c.stream owes unbroken)))
 
-    all : ended c.stream ≡ false → owes_frame c.stream ≡ false → response_due c.stream ≡ None → (c.stream.queue.unsent ≡ []) ⊎ WaitsFor c.stream → HasNothing (has_ended_by done) (story o done) (sent done) (posted done)
+    all : ended c.stream ≡ false → owes_frame c.stream ≡ false → response_due c.stream ≡ None → (c.stream.queue.unsent ≡ []) ⊎ WaitsFor c.stream → HasNothing (has_ended_by done) (story_with o done queue) (sent done) (posted done)
     all running owes quiet (inl left) =
         let e = own.emits in
-        let l = lives c.stream (tale_of o done) e running in
+        let l = lives c.stream (tale_with o done queue) e running in
         let unbegun : c.stream.queue.offset ≡ 0 = subst (λ z. IsBegun z c.stream.queue.offset) left l.limits.begun in
         let none : e.kept.unsent ≡ [] = ap (λ (q : Queue). q.unsent) (sym (e.live running).queue) ∙ left in
         let whole : posts_in e.merges.items ≡ posted done = sym (append-nil (posts_in e.merges.items)) ∙ ap (λ z. posts_in e.merges.items ++ z) (sym none) ∙ e.merges.posts in
-        AllSent (subst (AreAllFrames (story o done) (sent done)) whole (all_frames o c (tale_of o done) own running owes unbegun (none_waits c.stream unbegun quiet)))
+        AllSent (subst (AreAllFrames (story_with o done queue) (sent done)) whole (all_frames o c (tale_with o done queue) own running owes unbegun (none_waits c.stream unbegun quiet)))
     all running owes quiet (inr w) =
         let e = own.emits in
-        let l = lives c.stream (tale_of o done) e running in
+        let l = lives c.stream (tale_with o done queue) e running in
         let unbegun : c.stream.queue.offset ≡ 0 = zero_of c.stream.queue.offset (subst (λ z. IsBegun z c.stream.queue.offset) w.unsent l.limits.begun) in
         let items : List (Request Octets) = posts_in e.merges.items in
         let unsent : e.kept.unsent ≡ Read w.request ∷ w.messages = ap (λ (q : Queue). q.unsent) (sym (e.live running).queue) ∙ w.unsent in
@@ -344,7 +354,7 @@ nothing_stream o c done table (Emit Nothing) rule own =
         let here : slice_get (posted done) (length items) ≡ Some (Read w.request) = ap (λ z. slice_get z (length items)) split ∙ get_after items (Read w.request) w.messages in
         let firsts : items ≡ take (length items) (posted done) = sym (take-append_seam items (Read w.request ∷ w.messages)) ∙ ap (take (length items)) (sym split) in
         ReadWaits (length items) w.request here (omega (arith, w.full, ap length e.asks.reads))
-        (subst (AreAllFrames (story o done) (sent done)) firsts (all_frames o c (tale_of o done) own running owes unbegun (none_waits c.stream unbegun quiet)))
+        (subst (AreAllFrames (story_with o done queue) (sent done)) firsts (all_frames o c (tale_with o done queue) own running owes unbegun (none_waits c.stream unbegun quiet)))
       where
         zero_of : (n : ℕ) → (0 < n → n < 0) → n ≡ 0
         zero_of zero h = refl
@@ -354,31 +364,31 @@ nothing_stream o c done table (Emit Nothing) rule own =
         get_after [] m ms = refl
         get_after (x ∷ xs) m ms = get_after xs m ms
 
-    runs_or : (b : Bool) → ended c.stream ≡ b → owes_frame c.stream ≡ false → response_due c.stream ≡ None → part_due c.stream ≡ None → HasNothing (has_ended_by done) (story o done) (sent done) (posted done)
+    runs_or : (b : Bool) → ended c.stream ≡ b → owes_frame c.stream ≡ false → response_due c.stream ≡ None → part_due c.stream ≡ None → HasNothing (has_ended_by done) (story_with o done queue) (sent done) (posted done)
     runs_or true over owes quiet none = Over (sym own.ended ∙ over)
     runs_or false running owes quiet none = all running owes quiet (part_waits c.stream none)
 
-    go : owes_frame c.stream ≡ false → Rests c.stream → HasNothing (has_ended_by done) (story o done) (sent done) (posted done)
+    go : owes_frame c.stream ≡ false → Rests c.stream → HasNothing (has_ended_by done) (story_with o done queue) (sent done) (posted done)
     go owes (Ended over) = Over (sym own.ended ∙ over)
-    go owes (Shut closed) = Closed (open_is c.stream (tale_of o done) own.track ∙ closed)
-    go owes (Silent silent) = Muted (sym (silent_is c.stream (tale_of o done) own.track) ∙ silent)
+    go owes (Shut closed) = Closed (open_is c.stream (tale_with o done queue) own.track ∙ closed)
+    go owes (Silent silent) = Muted (sym (silent_is c.stream (tale_with o done queue) own.track) ∙ silent)
     go owes (Sent quiet none) = runs_or (ended c.stream) refl owes quiet none
-nothing_stream o c done table (Emit (Frame from octets)) rule own = tt
-nothing_stream o c done table (Emit (Fetched from frame stag to octets)) rule own = tt
-nothing_stream o c done table (Emit (Denied fault)) rule own = tt
-nothing_stream o c done table (Post m refused) rule own = tt
-nothing_stream o c done table (Recv len refused) rule own = tt
-nothing_stream o c done table (Deliver from number octets delivery) rule own = tt
-nothing_stream o c done table (Raw number octets delivery) rule own = tt
-nothing_stream o c done table (First number refused) rule own = tt
-nothing_stream o c done table (Mulpdu size refused) rule own = tt
-nothing_stream o c done table (Accept private answer) rule own = tt
-nothing_stream o c done table (Reject private refused) rule own = tt
-nothing_stream o c done table (Work step) rule own = tt
-nothing_stream o c done table Break rule own = tt
+nothing_stream o c done queue table (Emit (Frame from octets)) rule own = tt
+nothing_stream o c done queue table (Emit (Fetched from frame stag to octets)) rule own = tt
+nothing_stream o c done queue table (Emit (Denied fault)) rule own = tt
+nothing_stream o c done queue table (Post m refused) rule own = tt
+nothing_stream o c done queue table (Recv len refused) rule own = tt
+nothing_stream o c done queue table (Deliver from number octets delivery) rule own = tt
+nothing_stream o c done queue table (Raw number octets delivery) rule own = tt
+nothing_stream o c done queue table (First number refused) rule own = tt
+nothing_stream o c done queue table (Mulpdu size refused) rule own = tt
+nothing_stream o c done queue table (Accept private answer) rule own = tt
+nothing_stream o c done queue table (Reject private refused) rule own = tt
+nothing_stream o c done queue table (Work step) rule own = tt
+nothing_stream o c done queue table Break rule own = tt
 
 pub nothing_at_rest : (trace : List (Entry Octets)) → Follows start trace → NothingOnlyAtRest trace
-nothing_at_rest trace follows = each_stream NothingStream trace follows (λ done s n c act k domain rule own. nothing_stream (opening_of n done) c (stream_acts n done) s.endpoint.table act rule own)
+nothing_at_rest trace follows = each_stream NothingStream trace follows (λ done s n c act k domain rule own. nothing_stream (opening_of n done) c (stream_acts n done) (receiving_of n done) s.endpoint.table act rule own)
 
 -- a frame stands behind what was sent, and is the start-up frame or that of a part, as large as was set
 -- how large the frame of a part is
@@ -409,18 +419,18 @@ part_within q max part limits e =
     reach (suc k) len room begun = let more : suc k < len = begun (omega arith) in omega (arith, more)
 
 -- the start-up frame goes out first
-start_frame : (o : Opening) (c : Connected) (done : List (StreamAct Octets)) (from : ℕ) (octets : Octets) → EmitsStart c.stream from octets → Own o c (tale_of o done) → IsStartFrame (story o done) (sent done) octets
-start_frame o c done from octets p own =
-    let t : Tale = tale_of o done in
+start_frame : (o : Opening) (c : Connected) (done : List (StreamAct Octets)) (queue : Receiving) (from : ℕ) (octets : Octets) → EmitsStart c.stream from octets → Own o c (tale_with o done queue) → IsStartFrame (story_with o done queue) (sent done) octets
+start_frame o c done queue from octets p own =
+    let t : Tale = tale_with o done queue in
     let some : c.stream.sent < length (own_frame c.stream.start) = below c.stream.sent (length (own_frame c.stream.start)) (owes_some c.stream p.owes).1 in
     ((owes_start c.stream t own.emits own.sent p.owes).0, p.octets_are ∙ sym (start_frame_is c.stream t own.track), λ none. omega (arith, some, ap length p.octets_are, ap length none))
 
-frame_sized : (o : Opening) (c : Connected) (done : List (StreamAct Octets)) (from : ℕ) (octets : Octets) → Own o c (tale_of o done) → EmitsStart c.stream from octets ⊎ (EmitsLast c.stream from octets ⊎ EmitsPart c.stream from octets)
-    → FrameSized (story o done) (size_set done) (sent done) (Frame from octets)
-frame_sized o c done from octets own (inl p) = (p.from_is ∙ own.sent, inl (start_frame o c done from octets p own))
-frame_sized o c done from octets own (inr (inl p)) =
+frame_sized : (o : Opening) (c : Connected) (done : List (StreamAct Octets)) (queue : Receiving) (from : ℕ) (octets : Octets) → Own o c (tale_with o done queue) → EmitsStart c.stream from octets ⊎ (EmitsLast c.stream from octets ⊎ EmitsPart c.stream from octets)
+    → FrameSized (story_with o done queue) (size_set done) (sent done) (Frame from octets)
+frame_sized o c done queue from octets own (inl p) = (p.from_is ∙ own.sent, inl (start_frame o c done queue from octets p own))
+frame_sized o c done queue from octets own (inr (inl p)) =
     let s : StreamState = c.stream in
-    let t : Tale = tale_of o done in
+    let t : Tale = tale_with o done queue in
     let e = own.emits in
     let few : length p.payload ≤ 52 = e.parts.short p.payload p.is_due in (
       p.from_is ∙ own.sent,
@@ -432,9 +442,9 @@ frame_sized o c done from octets own (inr (inl p)) =
         full = λ h. absurd (false≢true (sym h));
       }),
     )
-frame_sized o c done from octets own (inr (inr p)) =
+frame_sized o c done queue from octets own (inr (inr p)) =
     let s : StreamState = c.stream in
-    let t : Tale = tale_of o done in
+    let t : Tale = tale_with o done queue in
     let e = own.emits in
     let l = lives s t e p.is_loud.running in
     let filled : IsFilled s.mulpdu p.part = fills s.queue s.mulpdu p.part e.enough l.limits p.is_loud.part_is in
@@ -450,13 +460,13 @@ frame_sized o c done from octets own (inr (inr p)) =
     )
 
 -- the frame of part of a response
-response_sized : (o : Opening) (c : Connected) (done : List (StreamAct Octets)) (table : Table) (from : ℕ) (frame : Octets) (stag : Stag) (to : ℕ) (octets : Octets) → EmitsResponse table c.stream from frame stag to octets → Own o c (tale_of o done)
-    → FrameSized (story o done) (size_set done) (sent done) (Fetched from frame stag to octets)
-response_sized o c done table from frame stag to octets p own =
+response_sized : (o : Opening) (c : Connected) (done : List (StreamAct Octets)) (queue : Receiving) (table : Table) (from : ℕ) (frame : Octets) (stag : Stag) (to : ℕ) (octets : Octets) → EmitsResponse table c.stream from frame stag to octets → Own o c (tale_with o done queue)
+    → FrameSized (story_with o done queue) (size_set done) (sent done) (Fetched from frame stag to octets)
+response_sized o c done queue table from frame stag to octets p own =
     let s : StreamState = c.stream in
     let e = own.emits in
-    let w = answers_part table s (tale_of o done) from frame stag to octets p e.asks in
-    let waits : (story o done).asked.unanswered ≡ w.oldest ∷ w.others = ap (λ (z : Requested). z.unanswered) e.asks.asked ∙ w.waiting in (
+    let w = answers_part table s (tale_with o done queue) from frame stag to octets p e.asks in
+    let waits : (story_with o done queue).asked.unanswered ≡ w.oldest ∷ w.others = ap (λ (z : Requested). z.unanswered) e.asks.asked ∙ w.waiting in (
       p.from_is ∙ own.sent,
       record {
         fits = omega (arith, w.many, e.size, e.enough);
@@ -470,67 +480,67 @@ response_sized o c done table from frame stag to octets p own =
     below_size : {a b : ℕ} → a ≢ b → a ≤ b → a < b
     below_size {a} {b} h le = elim (cases_lt a b) [ inl lt ↦ lt | inr ge ↦ absurd (h (omega (arith, le, ge))) ]
 
-shown_sized : (o : Opening) (c : Connected) (done : List (StreamAct Octets)) (table : Table) (act : StreamAct Octets) → StreamRule table c.stream act → Own o c (tale_of o done)
-    → OnSome (FrameSized (story o done) (size_set done) (sent done)) (deed act).shown
-shown_sized o c done table (Emit (Frame from octets)) rule own = frame_sized o c done from octets own (emits_as table c.stream (Frame from octets) rule)
-shown_sized o c done table (Emit (Fetched from frame stag to octets)) rule own = response_sized o c done table from frame stag to octets (emits_as table c.stream (Fetched from frame stag to octets) rule) own
-shown_sized o c done table (Emit (Denied fault)) rule own = tt
-shown_sized o c done table (Emit Nothing) rule own = tt
-shown_sized o c done table (Post m refused) rule own = tt
-shown_sized o c done table (Recv len refused) rule own = tt
-shown_sized o c done table (Deliver from number octets delivery) rule own = tt
-shown_sized o c done table (Raw number octets delivery) rule own = tt
-shown_sized o c done table (First number refused) rule own = tt
-shown_sized o c done table (Mulpdu size refused) rule own = tt
-shown_sized o c done table (Accept private answer) rule own = tt
-shown_sized o c done table (Reject private refused) rule own = tt
-shown_sized o c done table (Work step) rule own = tt
-shown_sized o c done table Break rule own = tt
+shown_sized : (o : Opening) (c : Connected) (done : List (StreamAct Octets)) (queue : Receiving) (table : Table) (act : StreamAct Octets) → StreamRule table c.stream act → Own o c (tale_with o done queue)
+    → OnSome (FrameSized (story_with o done queue) (size_set done) (sent done)) (deed act).shown
+shown_sized o c done queue table (Emit (Frame from octets)) rule own = frame_sized o c done queue from octets own (emits_as table c.stream (Frame from octets) rule)
+shown_sized o c done queue table (Emit (Fetched from frame stag to octets)) rule own = response_sized o c done queue table from frame stag to octets (emits_as table c.stream (Fetched from frame stag to octets) rule) own
+shown_sized o c done queue table (Emit (Denied fault)) rule own = tt
+shown_sized o c done queue table (Emit Nothing) rule own = tt
+shown_sized o c done queue table (Post m refused) rule own = tt
+shown_sized o c done queue table (Recv len refused) rule own = tt
+shown_sized o c done queue table (Deliver from number octets delivery) rule own = tt
+shown_sized o c done queue table (Raw number octets delivery) rule own = tt
+shown_sized o c done queue table (First number refused) rule own = tt
+shown_sized o c done queue table (Mulpdu size refused) rule own = tt
+shown_sized o c done queue table (Accept private answer) rule own = tt
+shown_sized o c done queue table (Reject private refused) rule own = tt
+shown_sized o c done queue table (Work step) rule own = tt
+shown_sized o c done queue table Break rule own = tt
 
 pub sized_all : (trace : List (Entry Octets)) → Follows start trace → Sized trace
-sized_all trace follows = each_stream SizedStream trace follows (λ done s n c act k domain rule own. shown_sized (opening_of n done) c (stream_acts n done) s.endpoint.table act rule own)
+sized_all trace follows = each_stream SizedStream trace follows (λ done s n c act k domain rule own. shown_sized (opening_of n done) c (stream_acts n done) (receiving_of n done) s.endpoint.table act rule own)
 
-may_send : (o : Opening) (c : Connected) (done : List (StreamAct Octets)) → MaySpeak c.stream → Own o c (tale_of o done) → MaySend (has_ended_by done) (story o done)
-may_send o c done m own =
-    let t : Tale = tale_of o done in
+may_send : (o : Opening) (c : Connected) (done : List (StreamAct Octets)) (queue : Receiving) → MaySpeak c.stream → Own o c (tale_with o done queue) → MaySend (has_ended_by done) (story_with o done queue)
+may_send o c done queue m own =
+    let t : Tale = tale_with o done queue in
     record { running = sym own.ended ∙ m.running; open_now = open_is c.stream t own.track ∙ m.started; loud = sym (silent_is c.stream t own.track) ∙ m.loud }
 
 -- the Terminate that is due
-last_word_of : (o : Opening) (c : Connected) (done : List (StreamAct Octets)) (from : ℕ) (octets : Octets) → EmitsLast c.stream from octets → Own o c (tale_of o done) → IsLastWord (story o done) (sent done) octets
-last_word_of o c done from octets p own = record {
+last_word_of : (o : Opening) (c : Connected) (done : List (StreamAct Octets)) (queue : Receiving) (from : ℕ) (octets : Octets) → EmitsLast c.stream from octets → Own o c (tale_with o done queue) → IsLastWord (story_with o done queue) (sent done) octets
+last_word_of o c done queue from octets p own = record {
   payload = p.payload;
   is_due = ap last_word own.emits.parts.ending ∙ p.is_due;
   is = p.octets_are ∙ (λ i. frame_octets (sending (sym own.track.begins.start i)) (own.sent i - length (own_frame (sym own.track.begins.start i))) (segment_octets (terminate_segment p.payload)));
 }
 
 -- and goes out where one may
-shown_allowed : (o : Opening) (c : Connected) (done : List (StreamAct Octets)) (table : Table) (act : StreamAct Octets) → StreamRule table c.stream act → Own o c (tale_of o done)
-    → OnSome (FrameAllowed (has_ended_by done) (story o done) (sent done)) (deed act).shown
-shown_allowed o c done table (Emit (Frame from octets)) rule own = go (emits_as table c.stream (Frame from octets) rule)
+shown_allowed : (o : Opening) (c : Connected) (done : List (StreamAct Octets)) (queue : Receiving) (table : Table) (act : StreamAct Octets) → StreamRule table c.stream act → Own o c (tale_with o done queue)
+    → OnSome (FrameAllowed (has_ended_by done) (story_with o done queue) (sent done)) (deed act).shown
+shown_allowed o c done queue table (Emit (Frame from octets)) rule own = go (emits_as table c.stream (Frame from octets) rule)
   where
     t : Tale
-    t = tale_of o done
+    t = tale_with o done queue
 
-    go : EmitsStart c.stream from octets ⊎ (EmitsLast c.stream from octets ⊎ EmitsPart c.stream from octets) → FrameAllowed (has_ended_by done) (story o done) (sent done) (Frame from octets)
-    go (inl p) = inl (start_frame o c done from octets p own)
-    go (inr (inl p)) = inr (inl (last_word_of o c done from octets p own))
+    go : EmitsStart c.stream from octets ⊎ (EmitsLast c.stream from octets ⊎ EmitsPart c.stream from octets) → FrameAllowed (has_ended_by done) (story_with o done queue) (sent done) (Frame from octets)
+    go (inl p) = inl (start_frame o c done queue from octets p own)
+    go (inr (inl p)) = inr (inl (last_word_of o c done queue from octets p own))
     go (inr (inr p)) = inr (inr (record { running = sym own.ended ∙ p.is_loud.running; open_now = open_is c.stream t own.track ∙ p.is_loud.started; loud = sym (silent_is c.stream t own.track) ∙ p.is_loud.loud }))
-shown_allowed o c done table (Emit (Fetched from frame stag to octets)) rule own = may_send o c done (emits_as table c.stream (Fetched from frame stag to octets) rule).speaks own
-shown_allowed o c done table (Emit (Denied fault)) rule own = may_send o c done (emits_as table c.stream (Denied fault) rule).speaks own
-shown_allowed o c done table (Emit Nothing) rule own = tt
-shown_allowed o c done table (Post m refused) rule own = tt
-shown_allowed o c done table (Recv len refused) rule own = tt
-shown_allowed o c done table (Deliver from number octets delivery) rule own = tt
-shown_allowed o c done table (Raw number octets delivery) rule own = tt
-shown_allowed o c done table (First number refused) rule own = tt
-shown_allowed o c done table (Mulpdu size refused) rule own = tt
-shown_allowed o c done table (Accept private answer) rule own = tt
-shown_allowed o c done table (Reject private refused) rule own = tt
-shown_allowed o c done table (Work step) rule own = tt
-shown_allowed o c done table Break rule own = tt
+shown_allowed o c done queue table (Emit (Fetched from frame stag to octets)) rule own = may_send o c done queue (emits_as table c.stream (Fetched from frame stag to octets) rule).speaks own
+shown_allowed o c done queue table (Emit (Denied fault)) rule own = may_send o c done queue (emits_as table c.stream (Denied fault) rule).speaks own
+shown_allowed o c done queue table (Emit Nothing) rule own = tt
+shown_allowed o c done queue table (Post m refused) rule own = tt
+shown_allowed o c done queue table (Recv len refused) rule own = tt
+shown_allowed o c done queue table (Deliver from number octets delivery) rule own = tt
+shown_allowed o c done queue table (Raw number octets delivery) rule own = tt
+shown_allowed o c done queue table (First number refused) rule own = tt
+shown_allowed o c done queue table (Mulpdu size refused) rule own = tt
+shown_allowed o c done queue table (Accept private answer) rule own = tt
+shown_allowed o c done queue table (Reject private refused) rule own = tt
+shown_allowed o c done queue table (Work step) rule own = tt
+shown_allowed o c done queue table Break rule own = tt
 
 pub speaks_all : (trace : List (Entry Octets)) → Follows start trace → Speaks trace
-speaks_all trace follows = each_stream SpeaksStream trace follows (λ done s n c act k domain rule own. shown_allowed (opening_of n done) c (stream_acts n done) s.endpoint.table act rule own)
+speaks_all trace follows = each_stream SpeaksStream trace follows (λ done s n c act k domain rule own. shown_allowed (opening_of n done) c (stream_acts n done) (receiving_of n done) s.endpoint.table act rule own)
 
 -- ---- the turns of frames
 
@@ -703,11 +713,11 @@ once_all trace follows = record { placements = placements trace (turns_all trace
 -- ---- the end
 
 -- what is handed back, and what is seen of a stream that has not ended
-end_seen : (o : Opening) (c : Connected) (done : List (StreamAct Octets)) (table : Table) (step : Seen Octets) → StreamRule table c.stream (Work step) → Own o c (tale_of o done) → EndSeen (has_ended_by done) (story o done) done step
-end_seen o c done table step rule own = told step (sees table c.stream (sound c.stream t own.track) step rule).0
+end_seen : (o : Opening) (c : Connected) (done : List (StreamAct Octets)) (queue : Receiving) (table : Table) (step : Seen Octets) → StreamRule table c.stream (Work step) → Own o c (tale_with o done queue) → EndSeen (has_ended_by done) (story_with o done queue) done step
+end_seen o c done queue table step rule own = told step (sees table c.stream (sound c.stream t own.track) step rule).0
   where
     t : Tale
-    t = tale_of o done
+    t = tale_with o done queue
 
     q : Queue
     q = c.stream.queue
@@ -728,13 +738,13 @@ end_seen o c done table step rule own = told step (sees table c.stream (sound c.
     runs : ended c.stream ≡ false → has_ended_by done ≡ false
     runs h = sym own.ended ∙ h
 
-    rests : Hears c.stream progresses.More ⊎ IsResting c.stream → has_ended_by done ≡ true → HoldsNothing (story o done) done
+    rests : Hears c.stream progresses.More ⊎ IsResting c.stream → has_ended_by done ≡ true → HoldsNothing (story_with o done queue) done
     rests (inl h) over = absurd (false≢true (sym (runs h.running) ∙ over))
     rests (inr (HasEnded e old none)) over = record { messages = none_held old; buffers = ap (λ (r : Receiving). first_buffer r.source) own.track.receiving ∙ none }
     rests (inr (Unanswered running a b)) over = absurd (false≢true (sym (runs running) ∙ over))
     rests (inr (Without r a b e)) over = absurd (false≢true (sym (runs r.running) ∙ over))
 
-    told : (step : Seen Octets) → Sees table c.stream step → EndSeen (has_ended_by done) (story o done) done step
+    told : (step : Seen Octets) → Sees table c.stream step → EndSeen (has_ended_by done) (story_with o done queue) done step
     told (seen.Done kind) h = tt
     told (seen.Flushed kind) h =
         let m = message_at (posted done) (handed_kinds done) h.oldest.kind (kinds_in (handed_from q (Some h.oldest))) (own.emits.handing.order ∙ ap (λ z. handed_kinds done ++ z) (keeps_order.given_up q h.oldest h.is).kind) in
@@ -763,26 +773,26 @@ end_seen o c done table step rule own = told step (sees table c.stream (sound c.
     told (seen.Fault fault) (inr h) = runs h.runs.running
 
 -- what goes out of a stream that has ended
-end_shown : (o : Opening) (c : Connected) (done : List (StreamAct Octets)) (table : Table) (shown : Shown Octets) → StreamRule table c.stream (Emit shown) → Own o c (tale_of o done) → EndShown (has_ended_by done) (story o done) (sent done) shown
-end_shown o c done table (Frame from octets) rule own = λ over. go over (emits_as table c.stream (Frame from octets) rule)
+end_shown : (o : Opening) (c : Connected) (done : List (StreamAct Octets)) (queue : Receiving) (table : Table) (shown : Shown Octets) → StreamRule table c.stream (Emit shown) → Own o c (tale_with o done queue) → EndShown (has_ended_by done) (story_with o done queue) (sent done) shown
+end_shown o c done queue table (Frame from octets) rule own = λ over. go over (emits_as table c.stream (Frame from octets) rule)
   where
     t : Tale
-    t = tale_of o done
+    t = tale_with o done queue
 
-    go : has_ended_by done ≡ true → EmitsStart c.stream from octets ⊎ (EmitsLast c.stream from octets ⊎ EmitsPart c.stream from octets) → IsStartDue (story o done) (sent done) octets ⊎ IsLastWord (story o done) (sent done) octets
+    go : has_ended_by done ≡ true → EmitsStart c.stream from octets ⊎ (EmitsLast c.stream from octets ⊎ EmitsPart c.stream from octets) → IsStartDue (story_with o done queue) (sent done) octets ⊎ IsLastWord (story_with o done queue) (sent done) octets
     go over (inl p) = inl (record {
       unbroken = ap is_broken own.emits.parts.ending ∙ (owes_some c.stream p.owes).0;
-      is = start_frame o c done from octets p own;
+      is = start_frame o c done queue from octets p own;
     })
-    go over (inr (inl p)) = inr (last_word_of o c done from octets p own)
+    go over (inr (inl p)) = inr (last_word_of o c done queue from octets p own)
     go over (inr (inr p)) = absurd (false≢true (sym p.is_loud.running ∙ own.ended ∙ over))
-end_shown o c done table (Fetched from frame stag to octets) rule own = sym own.ended ∙ (emits_as table c.stream (Fetched from frame stag to octets) rule).speaks.running
-end_shown o c done table (Denied fault) rule own = sym own.ended ∙ (emits_as table c.stream (Denied fault) rule).speaks.running
-end_shown o c done table Nothing rule own = tt
+end_shown o c done queue table (Fetched from frame stag to octets) rule own = sym own.ended ∙ (emits_as table c.stream (Fetched from frame stag to octets) rule).speaks.running
+end_shown o c done queue table (Denied fault) rule own = sym own.ended ∙ (emits_as table c.stream (Denied fault) rule).speaks.running
+end_shown o c done queue table Nothing rule own = tt
 
 ends_stream : (done : List (Act Octets)) (n : ℕ) (s : EndState) (c : Connected) (act : StreamAct Octets) → StreamRule s.endpoint.table c.stream act → Own (opening_of n done) c (tale n done) → EndsStream done n act
-ends_stream done n s c (Work step) rule own = (end_seen (opening_of n done) c (stream_acts n done) s.endpoint.table step rule own, tt)
-ends_stream done n s c (Emit shown) rule own = (tt, end_shown (opening_of n done) c (stream_acts n done) s.endpoint.table shown rule own)
+ends_stream done n s c (Work step) rule own = (end_seen (opening_of n done) c (stream_acts n done) (receiving_of n done) s.endpoint.table step rule own, tt)
+ends_stream done n s c (Emit shown) rule own = (tt, end_shown (opening_of n done) c (stream_acts n done) (receiving_of n done) s.endpoint.table shown rule own)
 ends_stream done n s c (Post m refused) rule own = (tt, tt)
 ends_stream done n s c (Recv len refused) rule own = (tt, tt)
 ends_stream done n s c (Deliver from number octets delivery) rule own = (tt, tt)
@@ -825,29 +835,33 @@ registers table pd base len region answer e = subst (λ z. (result_err z ≡ reg
     go None is = (sym is, record { domain = refl; fresh = next_free table pd base len region is })
     go (Some refusal) is = (sym is, tt)
 
-end_answered : (done : List (Act Octets)) (s : EndState) (act : Act Octets) → EndKept s done → PlainEnd s.endpoint act → EndAnswered done act
-end_answered done s (Domain pd refused) k rule = subst (λ t. refused ≡ domain_refusal t pd) k.table rule
-end_answered done s (Register pd base rights octets answer) k rule =
+end_answered : (done : List (Act Octets)) (s : EndState) (act : Act Octets) → EndKept s done → PoolsSeen s done → EndRule s.endpoint act → EndAnswered done act
+end_answered done s (Domain pd refused) k pools rule = subst (λ t. refused ≡ domain_refusal t pd) k.table rule
+end_answered done s (Register pd base rights octets answer) k pools rule =
     subst (λ t. (result_err answer ≡ register_refusal t pd base (length octets)) × IfOk answer (IsNew t pd)) k.table (registers s.endpoint.table pd base (length octets) (record { base = base; octets = octets; rights = rights; valid = true }) answer rule)
-end_answered done s (Deregister stag answer) k rule = subst (λ t. answer ≡ deregister_answer t stag) k.table rule
-end_answered done s (Invalidate stag refused) k rule = subst (λ t. refused ≡ invalidate_refusal t stag) k.table rule
-end_answered done s (Store stag to octets refused) k rule = subst (λ t. refused ≡ store_refusal t stag to (length octets)) k.table rule
-end_answered done s (Open n pd role options private refused) k rule = rule ∙ open_refused s done n pd k
-end_answered done s (Stream n act) k rule = tt
+end_answered done s (Deregister stag answer) k pools rule = subst (λ t. answer ≡ deregister_answer t stag) k.table rule
+end_answered done s (Invalidate stag refused) k pools rule = subst (λ t. refused ≡ invalidate_refusal t stag) k.table rule
+end_answered done s (Store stag to octets refused) k pools rule = subst (λ t. refused ≡ store_refusal t stag to (length octets)) k.table rule
+end_answered done s (Open n pd role options private refused) k pools rule = rule ∙ open_refused s done n pd k
+end_answered done s (Share pd refused) k pools rule = rule ∙ (λ i. share_fault (is_added (k.table i) pd) (pools pd i))
+end_answered done s (Pool pd len refused) k pools rule = rule ∙ (λ i. pool_fault (is_added (k.table i) pd) (pools pd i))
+end_answered done s (Unpool pd answer) k pools rule = rule ∙ (λ i. answer_or (take_fault (is_added (k.table i) pd) (pools pd i)) (taken (pools pd i)))
+end_answered done s (OpenShared n pd role options private refused) k pools rule = rule ∙ (λ i. option_or (option_map open_shared_refusal_of (open_refused s done n pd k i)) (unshared (pools pd i)))
+end_answered done s (Stream n act) k pools rule = tt
 
 pub shows_memory : (trace : List (Entry Octets)) → Follows start trace → ShowsMemory trace
 shows_memory trace follows past e future is =
     let m = moment past e future trace follows is in
     let w : State = state_after start past in
-    end_answered (acts e.end past) (end_of e.end w) e.act (m.0.ends e.end) m.1.0
+    end_answered (acts e.end past) (end_of e.end w) e.act (m.0.ends e.end) (m.0.pools e.end) m.1.0
 
 -- the buffers and the messages that count for a refusal
-recv_refused : (o : Opening) (c : Connected) (done : List (StreamAct Octets)) → Own o c (tale_of o done) → recv_refusal c.stream ≡ recv_refusal_by (story o done) done
-recv_refused o c done own =
+recv_refused : (o : Opening) (c : Connected) (done : List (StreamAct Octets)) (queue : Receiving) → Own o c (tale_with o done queue) → recv_refusal c.stream ≡ recv_refusal_by (story_with o done queue) done
+recv_refused o c done queue own =
     go (is_shared c.stream.receiving) (ended c.stream) (is_full c.stream.receiving.source) (ap is_shared (sym own.track.receiving)) own.ended (ap (λ (r : Receiving). is_full r.source) (sym own.track.receiving))
   where
     r : Receiving
-    r = (story o done).receiving
+    r = queue
 
     go : (shared over full : Bool) → shared ≡ is_shared r → over ≡ has_ended_by done → full ≡ is_full r.source
         → cond shared (Some recv_refusals.Shared) (cond over (Some recv_refusals.Ended) (option_map recv_refusal_of (cond full (Some buffer_refusals.Full) None)))
@@ -857,9 +871,9 @@ recv_refused o c done own =
     go false false true a b c = (λ i. cond (a i) (Some recv_refusals.Shared) (cond (b i) (Some recv_refusals.Ended) (cond (c i) (Some recv_refusals.Full) None)))
     go false false false a b c = (λ i. cond (a i) (Some recv_refusals.Shared) (cond (b i) (Some recv_refusals.Ended) (cond (c i) (Some recv_refusals.Full) None)))
 
-post_refused : (o : Opening) (c : Connected) (done : List (StreamAct Octets)) (m : Request Octets) → Own o c (tale_of o done) → post_refusal c.stream m ≡ post_refusal_by (story o done) done m
-post_refused o c done m own =
-    (λ i. cond (own.ended i || not (sym (open_is c.stream (tale_of o done) own.track) i)) (Some post_refusals.NotOpen) (of_queue (nat_le 256 (held i)) (nat_lt 16777216 (size_of m)) i))
+post_refused : (o : Opening) (c : Connected) (done : List (StreamAct Octets)) (queue : Receiving) (m : Request Octets) → Own o c (tale_with o done queue) → post_refusal c.stream m ≡ post_refusal_by (story_with o done queue) done m
+post_refused o c done queue m own =
+    (λ i. cond (own.ended i || not (sym (open_is c.stream (tale_with o done queue) own.track) i)) (Some post_refusals.NotOpen) (of_queue (nat_le 256 (held i)) (nat_lt 16777216 (size_of m)) i))
   where
     q : Queue
     q = c.stream.queue
@@ -885,104 +899,108 @@ post_refused o c done m own =
     of_queue false false = refl
 
 -- whether the user may answer
-asked_is : (o : Opening) (c : Connected) (done : List (StreamAct Octets)) → Own o c (tale_of o done) → may_answer c.stream ≡ may_answer_by (story o done) done
-asked_is o c done own = λ i. not (own.ended i) && is_asked (sym own.track.begins.start i)
+asked_is : (o : Opening) (c : Connected) (done : List (StreamAct Octets)) (queue : Receiving) → Own o c (tale_with o done queue) → may_answer c.stream ≡ may_answer_by (story_with o done queue) done
+asked_is o c done queue own = λ i. not (own.ended i) && is_asked (sym own.track.begins.start i)
 
-accepts_asked : (o : Opening) (c : Connected) (done : List (StreamAct Octets)) (answer : Result Agreed NotAsked) → answer ≡ answer_or (unasked c.stream) (agreement_in c.stream.start) → Own o c (tale_of o done) → Accepted (story o done) done answer
-accepts_asked o c done (Ok agreed) rule own =
+accepts_asked : (o : Opening) (c : Connected) (done : List (StreamAct Octets)) (queue : Receiving) (answer : Result Agreed NotAsked) → answer ≡ answer_or (unasked c.stream) (agreement_in c.stream.start) → Own o c (tale_with o done queue) → Accepted (story_with o done queue) done answer
+accepts_asked o c done queue (Ok agreed) rule own =
     let e = accepting c.stream agreed rule in
     let same : Ok agreed ≡ Ok (agreement_in c.stream.start) = rule ∙ ap (λ b. answer_or (cond {A = Option NotAsked} b None (Some (record {}))) (agreement_in c.stream.start)) e in
     let is : agreed ≡ agreement_in c.stream.start = cc in
-    (sym (asked_is o c done own) ∙ e, is ∙ ap agreement_in (sym own.track.begins.start))
-accepts_asked o c done (Err refusal) rule own = sym (asked_is o c done own) ∙ go (may_answer c.stream) rule
+    (sym (asked_is o c done queue own) ∙ e, is ∙ ap agreement_in (sym own.track.begins.start))
+accepts_asked o c done queue (Err refusal) rule own = sym (asked_is o c done queue own) ∙ go (may_answer c.stream) rule
   where
     go : (b : Bool) → Err refusal ≡ answer_or (cond {A = Option NotAsked} b None (Some (record {}))) (agreement_in c.stream.start) → b ≡ false
     go true h = cc
     go false h = refl
 
-rejects_asked : (o : Opening) (c : Connected) (done : List (StreamAct Octets)) (refused : Option NotAsked) → refused ≡ unasked c.stream → Own o c (tale_of o done) → Rejected (story o done) done refused
-rejects_asked o c done None rule own = sym (asked_is o c done own) ∙ refusing c.stream rule
-rejects_asked o c done (Some refusal) rule own = sym (asked_is o c done own) ∙ go (may_answer c.stream) rule
+rejects_asked : (o : Opening) (c : Connected) (done : List (StreamAct Octets)) (queue : Receiving) (refused : Option NotAsked) → refused ≡ unasked c.stream → Own o c (tale_with o done queue) → Rejected (story_with o done queue) done refused
+rejects_asked o c done queue None rule own = sym (asked_is o c done queue own) ∙ refusing c.stream rule
+rejects_asked o c done queue (Some refusal) rule own = sym (asked_is o c done queue own) ∙ go (may_answer c.stream) rule
   where
     go : (b : Bool) → Some refusal ≡ cond {A = Option NotAsked} b None (Some (record {})) → b ≡ false
     go true h = cc
     go false h = refl
 
-stream_answered : (o : Opening) (c : Connected) (done : List (StreamAct Octets)) (table : Table) (act : StreamAct Octets) → StreamRule table c.stream act → Own o c (tale_of o done) → StreamAnswered (story o done) done act
-stream_answered o c done table (Recv len refused) rule own = rule ∙ recv_refused o c done own
-stream_answered o c done table (Post m refused) rule own = rule.1 ∙ post_refused o c done m own
-stream_answered o c done table (First number refused) rule own = rule ∙ (λ i. cond (sym own.numbered.delivered i) (Some Late) None)
-stream_answered o c done table (Mulpdu size refused) rule own = rule
-stream_answered o c done table (Accept private answer) rule own = accepts_asked o c done answer rule own
-stream_answered o c done table (Reject private refused) rule own = rejects_asked o c done refused rule own
-stream_answered o c done table (Emit shown) rule own = tt
-stream_answered o c done table (Deliver from number octets delivery) rule own = tt
-stream_answered o c done table (Raw number octets delivery) rule own = tt
-stream_answered o c done table (Work step) rule own = tt
-stream_answered o c done table Break rule own = tt
+stream_answered : (o : Opening) (c : Connected) (done : List (StreamAct Octets)) (queue : Receiving) (table : Table) (act : StreamAct Octets) → StreamRule table c.stream act → Own o c (tale_with o done queue) → StreamAnswered (story_with o done queue) done act
+stream_answered o c done queue table (Recv len refused) rule own = rule ∙ recv_refused o c done queue own
+stream_answered o c done queue table (Post m refused) rule own = rule.1 ∙ post_refused o c done queue m own
+stream_answered o c done queue table (First number refused) rule own = rule ∙ (λ i. cond (sym own.numbered.delivered i) (Some Late) None)
+stream_answered o c done queue table (Mulpdu size refused) rule own = rule
+stream_answered o c done queue table (Accept private answer) rule own = accepts_asked o c done queue answer rule own
+stream_answered o c done queue table (Reject private refused) rule own = rejects_asked o c done queue refused rule own
+stream_answered o c done queue table (Emit shown) rule own = tt
+stream_answered o c done queue table (Deliver from number octets delivery) rule own = tt
+stream_answered o c done queue table (Raw number octets delivery) rule own = tt
+stream_answered o c done queue table (Work step) rule own = tt
+stream_answered o c done queue table Break rule own = tt
 
 pub answered_all : (trace : List (Entry Octets)) → Follows start trace → Answered trace
-answered_all trace follows = each_stream AnsweredStream trace follows (λ done s n c act k domain rule own. stream_answered (opening_of n done) c (stream_acts n done) s.endpoint.table act rule own)
+answered_all trace follows = each_stream AnsweredStream trace follows (λ done s n c act k domain rule own. stream_answered (opening_of n done) c (stream_acts n done) (receiving_of n done) s.endpoint.table act rule own)
 
 -- ---- octets that come
 
-delivery_is : (o : Opening) (c : Connected) (done : List (StreamAct Octets)) (from : Option ℕ) (number : ℕ) (octets : Octets) (x : Delivery) → Own o c (tale_of o done)
-    → delivery_of c.stream number (length octets) ≡ delivery_by (story o done) done (record { from = from; number = number; octets = octets; delivery = x })
-delivery_is o c done from number octets x own =
+delivery_is : (o : Opening) (c : Connected) (done : List (StreamAct Octets)) (queue : Receiving) (from : Option ℕ) (number : ℕ) (octets : Octets) (x : Delivery) → Own o c (tale_with o done queue)
+    → delivery_of c.stream number (length octets) ≡ delivery_by (story_with o done queue) done (record { from = from; number = number; octets = octets; delivery = x })
+delivery_is o c done queue from number octets x own =
     let s : StreamState = c.stream in
     let k = own.track in
-    let point : in_order_point (story o done) ≡ s.arrived.floor = point_is s (tale_of o done) k ∙ sym k.point in
+    let point : in_order_point (story_with o done queue) ≡ s.arrived.floor = point_is s (tale_with o done queue) k ∙ sym k.point in
     ap (λ n. cond (ended s) Dropped (delivery s.arrived (place_of s number) n)) (sym (length-drop (left_out s number) octets))
-    ∙ (λ i. cond (own.ended i) Dropped (delivery ((k.arrived ∙ ap (advanced (story o done).came) (sym (point_is s (tale_of o done) k))) i)
+    ∙ (λ i. cond (own.ended i) Dropped (delivery ((k.arrived ∙ ap (advanced (story_with o done queue).came) (sym (point_is s (tale_with o done queue) k))) i)
     (place_near number (sym own.numbered.first i) (sym point i))
     (length (drop (before_start number (sym own.numbered.first i) (sym point i)) octets))))
 
-octets_kept : (o : Opening) (c : Connected) (done : List (StreamAct Octets)) (table : Table) (act : StreamAct Octets) → StreamRule table c.stream act → Own o c (tale_of o done)
-    → OnSome (λ z. z.delivery ≡ delivery_by (story o done) done z) (deed act).coming
-octets_kept o c done table (Deliver from number octets delivery) rule own = rule.1 ∙ delivery_is o c done (Some from) number octets delivery own
-octets_kept o c done table (Raw number octets delivery) rule own = rule ∙ delivery_is o c done None number octets delivery own
-octets_kept o c done table (Recv len refused) rule own = tt
-octets_kept o c done table (Post m refused) rule own = tt
-octets_kept o c done table (First number refused) rule own = tt
-octets_kept o c done table (Mulpdu size refused) rule own = tt
-octets_kept o c done table (Accept private answer) rule own = tt
-octets_kept o c done table (Reject private refused) rule own = tt
-octets_kept o c done table (Emit shown) rule own = tt
-octets_kept o c done table (Work step) rule own = tt
-octets_kept o c done table Break rule own = tt
+octets_kept : (o : Opening) (c : Connected) (done : List (StreamAct Octets)) (queue : Receiving) (table : Table) (act : StreamAct Octets) → StreamRule table c.stream act → Own o c (tale_with o done queue)
+    → OnSome (λ z. z.delivery ≡ delivery_by (story_with o done queue) done z) (deed act).coming
+octets_kept o c done queue table (Deliver from number octets delivery) rule own = rule.1 ∙ delivery_is o c done queue (Some from) number octets delivery own
+octets_kept o c done queue table (Raw number octets delivery) rule own = rule ∙ delivery_is o c done queue None number octets delivery own
+octets_kept o c done queue table (Recv len refused) rule own = tt
+octets_kept o c done queue table (Post m refused) rule own = tt
+octets_kept o c done queue table (First number refused) rule own = tt
+octets_kept o c done queue table (Mulpdu size refused) rule own = tt
+octets_kept o c done queue table (Accept private answer) rule own = tt
+octets_kept o c done queue table (Reject private refused) rule own = tt
+octets_kept o c done queue table (Emit shown) rule own = tt
+octets_kept o c done queue table (Work step) rule own = tt
+octets_kept o c done queue table Break rule own = tt
 
 pub keeps_octets : (trace : List (Entry Octets)) → Follows start trace → KeepsOctets trace
-keeps_octets trace follows = each_stream KeptStream trace follows (λ done s n c act k domain rule own. octets_kept (opening_of n done) c (stream_acts n done) s.endpoint.table act rule own)
+keeps_octets trace follows = each_stream KeptStream trace follows (λ done s n c act k domain rule own. octets_kept (opening_of n done) c (stream_acts n done) (receiving_of n done) s.endpoint.table act rule own)
 
 -- octets that are delivered are the other end's, and have the numbers of their places
-carried : (o : Opening) (c : Connected) (done : List (StreamAct Octets)) (table : Table) (wire : Octets) (act : StreamAct Octets) → StreamRule table c.stream act → WireRule wire act → Own o c (tale_of o done)
-    → OnSome (λ z. OnSome (IsCarried wire (story o done).first z) z.from) (deed act).coming
-carried o c done table wire (Deliver from number octets delivery) rule there own =
+carried : (o : Opening) (c : Connected) (done : List (StreamAct Octets)) (queue : Receiving) (table : Table) (wire : Octets) (act : StreamAct Octets) → StreamRule table c.stream act → WireRule wire act → Own o c (tale_with o done queue)
+    → OnSome (λ z. OnSome (IsCarried wire (story_with o done queue).first z) z.from) (deed act).coming
+carried o c done queue table wire (Deliver from number octets delivery) rule there own =
     record { stand = there; numbered = rule.0 ∙ ap (λ n. (n + from) % 2 ^ 32) (sym own.numbered.first) }
-carried o c done table wire (Raw number octets delivery) rule there own = tt
-carried o c done table wire (First number refused) rule there own = tt
-carried o c done table wire (Recv len refused) rule there own = tt
-carried o c done table wire (Post m refused) rule there own = tt
-carried o c done table wire (Emit shown) rule there own = tt
-carried o c done table wire (Mulpdu size refused) rule there own = tt
-carried o c done table wire (Accept private answer) rule there own = tt
-carried o c done table wire (Reject private refused) rule there own = tt
-carried o c done table wire (Work step) rule there own = tt
-carried o c done table wire Break rule there own = tt
+carried o c done queue table wire (Raw number octets delivery) rule there own = tt
+carried o c done queue table wire (First number refused) rule there own = tt
+carried o c done queue table wire (Recv len refused) rule there own = tt
+carried o c done queue table wire (Post m refused) rule there own = tt
+carried o c done queue table wire (Emit shown) rule there own = tt
+carried o c done queue table wire (Mulpdu size refused) rule there own = tt
+carried o c done queue table wire (Accept private answer) rule there own = tt
+carried o c done queue table wire (Reject private refused) rule there own = tt
+carried o c done queue table wire (Work step) rule there own = tt
+carried o c done queue table wire Break rule there own = tt
 
 -- of the stream that an act is of
 wire_of : (peer : EndState) (others : List (Act Octets)) (n : ℕ) (act : StreamAct Octets) → wire_at peer n ≡ sent (stream_acts n others) → PeerRule peer (Stream n act) → WireRule (sent (stream_acts n others)) act
 wire_of peer others n act wire rule = subst (λ z. WireRule z act) wire rule.1
 
-carries : (P : List (Act Octets) → ℕ → StreamAct Octets → Type 0) (done : List (Act Octets)) (s peer : EndState) (act : Act Octets) → Plain s peer act
+carries : (P : List (Act Octets) → ℕ → StreamAct Octets → Type 0) (done : List (Act Octets)) (s peer : EndState) (act : Act Octets) → Rule s peer act
     → ((n : ℕ) (a : StreamAct Octets) → has_stream s.endpoint n ≡ true → StreamRule s.endpoint.table (connected_at s n).stream a → PeerRule peer (Stream n a) → P done n a) → OnStream P done act
-carries P done s peer (Stream n act) rule h = h n act rule.0.0 rule.0.1 rule.1
+carries P done s peer (Stream n act) rule h = h n act rule.0.0 (lent_rule s.endpoint n act rule.0.1) rule.1
 carries P done s peer (Domain pd refused) rule h = tt
 carries P done s peer (Register pd base rights octets answer) rule h = tt
 carries P done s peer (Deregister stag answer) rule h = tt
 carries P done s peer (Invalidate stag refused) rule h = tt
 carries P done s peer (Store stag to octets refused) rule h = tt
 carries P done s peer (Open n pd role options private refused) rule h = tt
+carries P done s peer (Share pd refused) rule h = tt
+carries P done s peer (Pool pd len refused) rule h = tt
+carries P done s peer (Unpool pd answer) rule h = tt
+carries P done s peer (OpenShared n pd role options private refused) rule h = tt
 
 pub carries_octets : (trace : List (Entry Octets)) → Follows start trace → CarriesOctets trace
 carries_octets trace follows past e future is =
@@ -994,12 +1012,12 @@ carries_octets trace follows past e future is =
     carries (CarriedStream others) done s (end_of (other e.end) w) e.act m.1 (λ n act opened rule there.
     let h = (m.0.pairs e.end n).own in
     let mine = left_acts s.endpoint.table (connected_at s n).stream h.stream (tale n done) act h.is_left h.own.track rule in
-    carried (opening_of n done) (held h) (stream_acts n done) s.endpoint.table (sent (stream_acts n others)) act mine.0 (wire_of (end_of (other e.end) w) others n act (m.0.pairs e.end n).own_peer.own.wire there) h.own)
+    carried (opening_of n done) (held h) (stream_acts n done) (receiving_of n done) s.endpoint.table (sent (stream_acts n others)) act mine.0 (wire_of (end_of (other e.end) w) others n act (m.0.pairs e.end n).own_peer.own.wire there) h.own)
 
 -- ---- streams that are there
 
 -- the stream of an act is there, at the other end too where octets of it are delivered
-stream_opened : (s peer : EndState) (own others : List (Act Octets)) (act : Act Octets) → EndKept s own → EndKept peer others → Plain s peer act → OnStream (OpenedStream others) own act
+stream_opened : (s peer : EndState) (own others : List (Act Octets)) (act : Act Octets) → EndKept s own → EndKept peer others → Rule s peer act → OnStream (OpenedStream others) own act
 stream_opened s peer own others (Stream n act) k j rule = (sym (k.opened n) ∙ rule.0.0, go act rule.1.0)
   where
     go : (act : StreamAct Octets) → (needs_peer (stream_call_of act) ≡ true → has_stream peer.endpoint n ≡ true) → OnSome (λ c. OnSome (λ from. was_opened (openings n others) ≡ true) c.from) (deed act).coming
@@ -1020,6 +1038,10 @@ stream_opened s peer own others (Deregister stag answer) k j rule = tt
 stream_opened s peer own others (Invalidate stag refused) k j rule = tt
 stream_opened s peer own others (Store stag to octets refused) k j rule = tt
 stream_opened s peer own others (Open n pd role options private refused) k j rule = tt
+stream_opened s peer own others (Share pd refused) k j rule = tt
+stream_opened s peer own others (Pool pd len refused) k j rule = tt
+stream_opened s peer own others (Unpool pd answer) k j rule = tt
+stream_opened s peer own others (OpenShared n pd role options private refused) k j rule = tt
 
 pub opens_first : (trace : List (Entry Octets)) → Follows start trace → OpensFirst trace
 opens_first trace follows past e future is =
@@ -1046,6 +1068,10 @@ names_no_stream s peer own others (calls.Deregister stag) k j h = h
 names_no_stream s peer own others (calls.Invalidate stag) k j h = h
 names_no_stream s peer own others (calls.Store stag to octets) k j h = h
 names_no_stream s peer own others (calls.Open n pd role options private) k j h = h
+names_no_stream s peer own others (calls.Share pd) k j h = h
+names_no_stream s peer own others (calls.Pool pd len) k j h = h
+names_no_stream s peer own others (calls.Unpool pd) k j h = h
+names_no_stream s peer own others (calls.OpenShared n pd role options private) k j h = h
 
 pub names_streams : (s peer : EndState) (own others : List (Act Octets)) (call : Call Octets) → EndKept s own → EndKept peer others → AsksTooMuch s peer call → ¬ NamesNoStream own others call
 names_streams s peer own others (calls.Stream n call) k j h names = elim names [
@@ -1058,6 +1084,10 @@ names_streams s peer own others (calls.Deregister stag) k j h names = h
 names_streams s peer own others (calls.Invalidate stag) k j h names = h
 names_streams s peer own others (calls.Store stag to octets) k j h names = h
 names_streams s peer own others (calls.Open n pd role options private) k j h names = h
+names_streams s peer own others (calls.Share pd) k j h names = h
+names_streams s peer own others (calls.Pool pd len) k j h names = h
+names_streams s peer own others (calls.Unpool pd) k j h names = h
+names_streams s peer own others (calls.OpenShared n pd role options private) k j h names = h
 
 pub asks_not_sent : (s peer : EndState) (own others : List (Act Octets)) (call : Call Octets) → EndKept s own → EndKept peer others → ((n : ℕ) → wire_at peer n ≡ sent (stream_acts n others)) → AsksTooMuch s peer call → AsksNotSent own others call
 asks_not_sent s peer own others (calls.Stream n call) k j wires h = (names_streams s peer own others (calls.Stream n call) k j h, subst (λ z. AsksOver z call) (wires n) h.2)
@@ -1067,3 +1097,7 @@ asks_not_sent s peer own others (calls.Deregister stag) k j wires h = absurd h
 asks_not_sent s peer own others (calls.Invalidate stag) k j wires h = absurd h
 asks_not_sent s peer own others (calls.Store stag to octets) k j wires h = absurd h
 asks_not_sent s peer own others (calls.Open n pd role options private) k j wires h = absurd h
+asks_not_sent s peer own others (calls.Share pd) k j wires h = absurd h
+asks_not_sent s peer own others (calls.Pool pd len) k j wires h = absurd h
+asks_not_sent s peer own others (calls.Unpool pd) k j wires h = absurd h
+asks_not_sent s peer own others (calls.OpenShared n pd role options private) k j wires h = absurd h

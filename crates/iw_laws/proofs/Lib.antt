@@ -1,6 +1,7 @@
 pub mod Nexts
 pub mod Tales
 pub mod Seeing
+pub mod Shares
 pub mod States
 pub mod Told
 pub mod Judged
@@ -26,6 +27,7 @@ pub mod Releases
 pub mod Fills
 pub mod Answers
 pub mod Owns
+pub mod Lent
 pub mod Messages
 pub mod Refused
 pub mod RefusedReads
@@ -38,6 +40,7 @@ pub mod Responded
 pub mod Delivered
 pub mod Placed
 pub mod Ends
+pub mod Pools
 pub mod Nearby
 pub mod Whole
 pub mod Apart

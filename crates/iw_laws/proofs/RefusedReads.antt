@@ -401,7 +401,7 @@ refuses_done_by_write h =
 -- ---- Reads of an honest stream
 
 unfoldable pub opened_at_once : Opening
-opened_at_once = record { domain = 1; role = Preset; config = record { markers = false; crc = false; private = record { items = [] } } }
+opened_at_once = record { domain = 1; role = Preset; config = record { markers = false; crc = false; private = record { items = [] } }; shared = false }
 
 pub honest : (run : Run) → ((x : End) → openings 0 (acts x run) ≡ opened_at_once ∷ []) → ((x : End) → (story_of 0 (acts x run)).strays ≡ false) → IsHonest 0 run
 unfolding opened_at_once

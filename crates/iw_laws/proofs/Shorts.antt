@@ -5,17 +5,19 @@ use Rattle.iw_laws.proofs.Paid.{last_one}
 use Rattle.std.proofs.lemmas.List.{append-nil, length_push}
 use Rattle.iw_events.specs.declared.call.End.{End}
 use Rattle.iw_events.specs.declared.act.Act.{Act}
-use Rattle.iw_events.specs.declared.act.Act.TheVariants.{Domain, Register, Deregister, Invalidate, Store, Open, Stream}
+use Rattle.iw_events.specs.declared.act.Act.TheVariants.{Domain, Register, Deregister, Invalidate, Store, Open, Share, Pool, Unpool, OpenShared, Stream}
 use Rattle.iw_events.specs.declared.act.StreamAct.{StreamAct}
+use Rattle.iw_events.specs.declared.act.StreamAct.TheVariants.{Recv, Post, Emit, First, Deliver, Raw, Mulpdu, Accept, Reject, Work, Break}
 use Rattle.iw_events.specs.declared.act.Entry.{Entry}
 use Rattle.iw_laws.specs.Words.{Octets, other, acts, stream_acts, stream_acts_by, opening_of, sent, sent_by}
-use Rattle.iw_laws.specs.Rules.{EndState, State, end_of, start, Rule, after_entry, state_after, Follows}
-use Rattle.iw_laws.proofs.States.{Plain, plain, connected_at}
+use Rattle.iw_laws.specs.Rules.{EndState, State, end_of, start, Rule, StreamRule, stream_for, after_entry, state_after, Follows}
+use Rattle.iw_laws.proofs.States.{connected_at}
+use Rattle.iw_laws.proofs.Pools.{Holds, held, tale}
 use Rattle.iw_laws.specs.Bounds.{IsShortEnd, IsShortState}
-use Rattle.iw_laws.proofs.Tales.{Tale, stream_acts-push, acts_mine, acts_other}
+use Rattle.iw_laws.proofs.Tales.{stream_acts-push, acts_mine, acts_other}
 use Rattle.iw_stream.specs.Stream.{StreamState}
 use Rattle.iw_laws.proofs.Releases.{left_acts}
-use Rattle.iw_laws.proofs.Whole.{Holds, held, tale, tale_next, Seen, emits_few, one_more, unsaid, seen_after, both, acts_none}
+use Rattle.iw_laws.proofs.Whole.{Keeps, acts_next, sent_next, emits_few, one_more, unsaid, keeps_after, both, acts_none}
 
 -- the octets emitted on a stream
 abbrev sent_on : ℕ → List (Act Octets) → ℕ
@@ -29,7 +31,22 @@ silent n done act none = stream_acts-push n done act ∙ ap (λ z. stream_acts n
 same_sent : (n : ℕ) (done : List (Act Octets)) (act : Act Octets) → stream_acts_by n act ≡ [] → sent_on n (done ++ act ∷ []) ≤ sent_on n done + 2 ^ 17
 same_sent n done act none = let same : sent_on n (done ++ act ∷ []) ≡ sent_on n done = ap (λ z. length (sent z)) (silent n done act none) in omega arith
 
-one_frame : (s peer : EndState) (done : List (Act Octets)) (act : Act Octets) (n : ℕ) → ((n : ℕ) → Holds (opening_of n done) (connected_at s n) (tale n done)) → Plain s peer act
+few_sent : (s : EndState) (done : List (Act Octets)) (m : ℕ) (act : StreamAct Octets) → Holds (opening_of m done) (connected_at s m) (tale m done) → StreamRule s.endpoint.table (stream_for s.endpoint m act) act → length (sent_by act) ≤ 2 ^ 17
+few_sent s done m (Emit shown) h rule =
+    let there = left_acts s.endpoint.table (connected_at s m).stream h.stream (tale m done) (Emit shown) h.is_left h.own.track rule in
+    emits_few (opening_of m done) s.endpoint.table (held h) (tale m done) (Emit shown) there.0 h.own
+few_sent s done m (Recv len refused) h rule = omega arith
+few_sent s done m (Post message refused) h rule = omega arith
+few_sent s done m (Deliver from number octets delivery) h rule = omega arith
+few_sent s done m (Raw number octets delivery) h rule = omega arith
+few_sent s done m (First number refused) h rule = omega arith
+few_sent s done m (Mulpdu size refused) h rule = omega arith
+few_sent s done m (Accept private answer) h rule = omega arith
+few_sent s done m (Reject private refused) h rule = omega arith
+few_sent s done m (Work step) h rule = omega arith
+few_sent s done m Break h rule = omega arith
+
+one_frame : (s peer : EndState) (done : List (Act Octets)) (act : Act Octets) (n : ℕ) → ((n : ℕ) → Holds (opening_of n done) (connected_at s n) (tale n done)) → Rule s peer act
     → sent_on n (done ++ act ∷ []) ≤ sent_on n done + 2 ^ 17
 one_frame s peer done (Domain pd None) n p rule = same_sent n done (Domain pd None) refl
 one_frame s peer done (Domain pd (Some refusal)) n p rule = same_sent n done (Domain pd (Some refusal)) refl
@@ -38,16 +55,17 @@ one_frame s peer done (Deregister stag answer) n p rule = same_sent n done (Dere
 one_frame s peer done (Invalidate stag refused) n p rule = same_sent n done (Invalidate stag refused) refl
 one_frame s peer done (Store stag to octets refused) n p rule = same_sent n done (Store stag to octets refused) refl
 one_frame s peer done (Open m pd role options private refused) n p rule = same_sent n done (Open m pd role options private refused) refl
+one_frame s peer done (Share pd refused) n p rule = same_sent n done (Share pd refused) refl
+one_frame s peer done (Pool pd len refused) n p rule = same_sent n done (Pool pd len refused) refl
+one_frame s peer done (Unpool pd answer) n p rule = same_sent n done (Unpool pd answer) refl
+one_frame s peer done (OpenShared m pd role options private refused) n p rule = same_sent n done (OpenShared m pd role options private refused) refl
 one_frame s peer done (Stream m act) n p rule = go (eqb m n) refl
   where
     go : (b : Bool) → eqb m n ≡ b → sent_on n (done ++ Stream m act ∷ []) ≤ sent_on n done + 2 ^ 17
     go false e = same_sent n done (Stream m act) (acts_none m n act e)
     go true e =
-        let h = p m in
-        let there = left_acts s.endpoint.table (connected_at s m).stream h.stream (tale m done) act h.is_left h.own.track rule.0.1 in
-        let few : length (sent_by act) ≤ 2 ^ 17 = emits_few (opening_of m done) s.endpoint.table (held h) (tale m done) act there.0 h.own in
-        let more : sent_on n (done ++ Stream m act ∷ []) ≡ length (sent (stream_acts n done) ++ sent_by act) =
-        ap (λ (t : Tale). length t.sent) (tale_next n done m act e) in
+        let few : length (sent_by act) ≤ 2 ^ 17 = few_sent s done m act (p m) rule.0.1 in
+        let more : sent_on n (done ++ Stream m act ∷ []) ≡ length (sent (stream_acts n done) ++ sent_by act) = ap (λ xs. length (sent xs)) (acts_next n done m act e) ∙ ap length (sent_next (stream_acts n done) act) in
         omega (arith, more, length-append (sent (stream_acts n done)) (sent_by act), few)
 
 -- ---- how many acts there are
@@ -67,6 +85,10 @@ acts_more n done act = omega (arith, ap length (stream_acts-push n done act), le
     one (Invalidate stag refused) = omega arith
     one (Store stag to octets refused) = omega arith
     one (Open m pd role options private refused) = omega arith
+    one (Share pd refused) = omega arith
+    one (Pool pd len refused) = omega arith
+    one (Unpool pd answer) = omega arith
+    one (OpenShared m pd role options private refused) = omega arith
     one (Stream m x) = own m x (eqb m n)
 
 abbrev FewActs : List (Entry Octets) → Type 0
@@ -101,7 +123,7 @@ last_few false = omega arith
 abbrev Few : List (Entry Octets) → Type 0
 Few trace = (x : End) (n : ℕ) → sent_on n (acts x trace) ≤ 2 ^ 17 * length trace
 
-few_step : (trace : List (Entry Octets)) (w : State) (e : Entry Octets) → Seen trace w → Few trace → Rule (end_of e.end w) (end_of (other e.end) w) e.act → Few (trace ++ e ∷ [])
+few_step : (trace : List (Entry Octets)) (w : State) (e : Entry Octets) → Keeps trace w → Few trace → Rule (end_of e.end w) (end_of (other e.end) w) e.act → Few (trace ++ e ∷ [])
 few_step trace w e k few rule =
     let x : End = e.end in
     let y : End = other e.end in
@@ -109,7 +131,7 @@ few_step trace w e k few rule =
     let F : End → Type 0 = λ v. (n : ℕ) → sent_on n (acts v (trace ++ e ∷ [])) ≤ 2 ^ 17 * length (trace ++ e ∷ []) in
     let mine : F x = λ n.
     let one : sent_on n (acts x trace ++ e.act ∷ []) ≤ sent_on n (acts x trace) + 2 ^ 17 =
-    one_frame (end_of x w) (end_of y w) (acts x trace) e.act n (λ j. (k.pairs x j).own) (plain (end_of x w) (end_of y w) e.act (k.ends x).pools rule) in
+    one_frame (end_of x w) (end_of y w) (acts x trace) e.act n (λ j. (k.pairs x j).own) rule in
     let before : sent_on n (acts x trace) ≤ 2 ^ 17 * length trace = few x n in
     let same : sent_on n (acts x (trace ++ e ∷ [])) ≡ sent_on n (acts x trace ++ e.act ∷ []) = ap (sent_on n) (acts_mine trace e) in
     omega (arith, longer, one, before, same) in
@@ -119,7 +141,7 @@ few_step trace w e k few rule =
     omega (arith, longer, before, same) in
     both F x mine others
 
-few_onward : (past rest : List (Entry Octets)) (w : State) → Seen past w → Few past → Follows w rest → Few (past ++ rest)
+few_onward : (past rest : List (Entry Octets)) (w : State) → Keeps past w → Few past → Follows w rest → Few (past ++ rest)
 few_onward past [] w k few follows = subst Few (sym (append-nil past)) few
 few_onward past (e ∷ rest) w k few follows =
     subst Few (append_assoc past (e ∷ []) rest)
@@ -133,7 +155,7 @@ few_all : (trace : List (Entry Octets)) → Follows start trace → Few trace
 few_all trace follows = few_onward [] trace start unsaid few_none follows
 
 -- so, in a trace that is not too long, no stream has come far
-short_end : (trace : List (Entry Octets)) (w : State) → Seen trace w → Few trace → length trace < 2 ^ 45 → (x : End) → IsShortEnd (end_of x w)
+short_end : (trace : List (Entry Octets)) (w : State) → Keeps trace w → Few trace → length trace < 2 ^ 45 → (x : End) → IsShortEnd (end_of x w)
 short_end trace w k few bound x = record {
   streams = λ n.
       let p = k.pairs x n in
@@ -150,4 +172,4 @@ short_end trace w k few bound x = record {
 }
 
 pub short_state : (trace : List (Entry Octets)) → Follows start trace → length trace < 2 ^ 45 → IsShortState (state_after start trace)
-short_state trace follows bound x = short_end trace (state_after start trace) (seen_after trace follows) (few_all trace follows) bound x
+short_state trace follows bound x = short_end trace (state_after start trace) (keeps_after trace follows) (few_all trace follows) bound x

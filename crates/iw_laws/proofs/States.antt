@@ -1,32 +1,39 @@
 -- What an act leaves of an end, by its answer.
-use Rattle.std.proofs.Common.{◌≡◌, ℕ, zero, suc, ◌<◌, List, [], ◌∷◌, ◌++◌, length, replicate, Option, Some, None, Ok, Err, Bool, true, false, cond, eqb, refl, sym, ap, ◌∙◌, subst}
+use Rattle.std.proofs.Common.{◌≡◌, ℕ, ◌<◌, List, [], ◌∷◌, ◌++◌, length, replicate, Option, Some, None, Ok, Err, Bool, true, false, cond, eqb, refl, sym, ap, ◌∙◌, subst}
 use Rattle.std.specs.Prelude.{slice_set, slice_index_or, unwrap_or, is_some, Result}
 use Rattle.std.specs.Option.{option_map, option_map_or}
-use Rattle.std.proofs.lemmas.Bool.{false≢true}
+use Rattle.std.proofs.lemmas.Bool.{false≢true, true≢false}
 use Rattle.std.proofs.lemmas.List.{append-nil, get_or-set_same, get_or-set_other, length-set, set-get_or}
 use Rattle.std.proofs.lemmas.Bool.{eq-eqb}
 use Rattle.std.proofs.lemmas.Option.{none-some}
+use Rattle.iw_octets.specs.declared.fault.Fault.{Fault}
 use Rattle.iw_memory.specs.declared.refusal.NoRegion.{NoRegion}
 use Rattle.iw_memory.specs.Region.{Region, new_region}
 use Rattle.iw_memory.specs.Table.{Table, region_at, register_refusal, next_stag}
 use Rattle.iw_memory.proofs.TableLemmas.{deregistered-none, with_region-none}
+use Rattle.iw_reads.specs.declared.response.ResponsePart.{ResponsePart}
+use Rattle.iw_untagged.specs.declared.queue.BufferRefusal.TheVariants.{Full}
+use Rattle.iw_untagged.specs.Receiving.{Source, Posted, Pooled, exchanged, is_full, seeing, shares_pool}
 use Rattle.iw_stream.specs.declared.answer.Role.{Role}
 use Rattle.iw_stream.specs.Starting.{private_in, agreement_in}
-use Rattle.iw_stream.specs.Stream.{StreamState, opened, with_buffer, with_request, with_mulpdu, accepted, rejected, breaks, after_emit, after_deliver, recv_refusal, post_refusal, size_refusal, with_first, first_refusal}
-use Rattle.iw_stream.specs.Work.{worked, table_worked}
+use Rattle.iw_stream.specs.declared.answer.RecvRefusal.TheVariants as recv_refusals
+use Rattle.iw_stream.proofs.Sharing.{left_alone}
+use Rattle.iw_laws.proofs.Shares.{work_shares}
+use Rattle.iw_stream.specs.Stream.{StreamState, shares, sees, ended, recv_refusal_of, Due, StartUp, LastWord, Response as ResponseDue, NextPart, NoneDue, due, emission_of, emitted, emission_due, octets_due, emission_fetched, octets_fetched, frame_fetched, opened, with_buffer, with_request, with_mulpdu, accepted, rejected, breaks, after_emit, after_deliver, recv_refusal, post_refusal, size_refusal, with_first, first_refusal}
+use Rattle.iw_stream.specs.Work.{worked}
 use Rattle.iw_endpoint.specs.declared.refusal.CallRefusal.TheVariants.{Refused}
 use Rattle.iw_endpoint.specs.Endpoint as endpoint
-use Rattle.iw_endpoint.specs.Endpoint.{EndpointState, Pool, pool_of, no_pools, lent_to, left_of, pool_left, stream_of, stream_at, has_stream, unopened, refusal_at, unasked}
+use Rattle.iw_endpoint.specs.Endpoint.{EndpointState, pool_of, lent_to, left_of, pool_left, stream_of, stream_at, has_stream, unopened, refusal_at, unasked}
 use Rattle.iw_endpoint.specs.Isolation.{answer_or, unless, if_there, after}
 use Rattle.iw_events.specs.declared.call.Options.{Options}
 use Rattle.iw_events.specs.declared.act.Act.{Act}
-use Rattle.iw_events.specs.declared.act.Act.TheVariants.{Domain, Register, Deregister, Invalidate, Store, Open, Stream}
+use Rattle.iw_events.specs.declared.act.Act.TheVariants.{Domain, Register, Deregister, Invalidate, Store, Open, Share, Pool, Unpool, OpenShared, Stream}
 use Rattle.iw_events.specs.declared.act.StreamAct.{StreamAct}
 use Rattle.iw_events.specs.declared.act.StreamAct.TheVariants.{Recv, Post, Emit, First, Deliver, Raw, Mulpdu, Accept, Reject, Work, Break}
-use Rattle.iw_events.specs.declared.act.Seen.{Seen}
 use Rattle.iw_events.specs.declared.act.Shown.{Shown}
 use Rattle.iw_laws.specs.Words.{Octets, Opening, no_opening, config_for, private_data, deed, octets_shown, sent_by, stream_acts_by, registered_under, table_by, table_by_stream}
-use Rattle.iw_laws.specs.Rules.{EndState, StreamRule, EndRule, PeerRule, Rule, seen_at, stream_for, wire_at, wires_after, call_made, end_after}
+use Rattle.iw_laws.specs.Turns.{first_queue}
+use Rattle.iw_laws.specs.Rules.{EndState, StreamRule, EndRule, shown_of, seen_at, stream_for, wire_at, wires_after, call_made, end_after}
 use Rattle.iw_laws.proofs.Seeing.{table_of_seen}
 
 -- ---- a stream, and the octets that it emitted
@@ -36,7 +43,7 @@ pub record Connected : Type 0 where
   pub wire : List ℕ
 
 abbrev pub connected : Opening → Connected
-connected o = record { stream = opened o.domain o.role o.config; wire = [] }
+connected o = record { stream = record (opened o.domain o.role o.config) { receiving = first_queue o.shared }; wire = [] }
 
 -- one to which nothing has happened, in no domain
 abbrev pub unconnected : Connected
@@ -45,52 +52,95 @@ unconnected = connected no_opening
 abbrev pub connected_at : EndState → ℕ → Connected
 connected_at s n = record { stream = stream_at s.endpoint n; wire = wire_at s n }
 
-abbrev pub opening_by : ℕ → Role → Options → Octets → Opening
-opening_by pd role options private = record { domain = pd; role = role; config = config_for options private }
+-- with the pool of its domain lent to it, where it has one
+abbrev pub connected_seen : EndState → ℕ → Connected
+connected_seen s n = record { stream = seen_at s.endpoint n; wire = wire_at s n }
 
--- ---- where no domain has a pool
+abbrev pub opening_by : Bool → ℕ → Role → Options → Octets → Opening
+opening_by shared pd role options private = record { domain = pd; role = role; config = config_for options private; shared = shared }
 
-pub no_pool : (e : EndpointState) (d : ℕ) → e.pools ≡ no_pools → pool_of e d ≡ None
-unfolding no_pools
-no_pool e d none = ap (λ ps. slice_index_or ps d None) none ∙ none_in 256 d
+-- ---- a pool that is lent
+
+-- to a stream that shares none
+lent_source : (x : Source) (pool : List Octets) → shares_pool x ≡ false → seeing x pool ≡ x
+lent_source (Posted bs) pool none = refl
+lent_source (Pooled ps held) pool none = absurd (true≢false none)
+
+pub shares_lent : (x : Source) (pool : List Octets) → shares_pool (seeing x pool) ≡ shares_pool x
+shares_lent (Posted bs) pool = refl
+shares_lent (Pooled ps held) pool = refl
+
+full_lent : (x : Source) (pool : List Octets) → is_full (seeing x pool) ≡ is_full x
+full_lent (Posted bs) pool = refl
+full_lent (Pooled ps held) pool = refl
+
+pub own_lent : (o : Option (List Octets)) (s : StreamState) → shares s ≡ false → lent_to o s ≡ s
+own_lent None s none = refl
+own_lent (Some pool) s none = λ i. record s { receiving = record s.receiving { source = lent_source s.receiving.source pool none i } }
+
+pub own_left : (table : Table) (o : Option (List Octets)) (s : StreamState) → shares s ≡ false → left_of table o s ≡ worked table s
+own_left table None s none = refl
+own_left table (Some pool) s none =
+    let same : sees s pool ≡ s = own_lent (Some pool) s none in
+    ap (λ z. sees (worked table z) (exchanged s.receiving.source pool)) same
+    ∙ own_lent (Some (exchanged s.receiving.source pool)) (worked table s) (work_shares table s ∙ none)
+
+pub own_pool : (table : Table) (o : Option (List Octets)) (s : StreamState) → shares s ≡ false → pool_left table o s ≡ o
+own_pool table None s none = refl
+own_pool table (Some pool) s none = ap Some (left_alone {A = Unit {0}} {E = Unit {0}} table table s (sees s pool) (worked table (sees s pool)) pool (Ok tt) refl refl tt none)
+
+-- a step alone sees it
+pub lent_domain : (o : Option (List Octets)) (s : StreamState) → (lent_to o s).domain ≡ s.domain
+lent_domain None s = refl
+lent_domain (Some pool) s = refl
+
+module _ (table : Table) (s : StreamState) (pool : List Octets) where
+  shown_lent : shown_of table (emission_of table s) (emitted table s) ≡ shown_of table (emission_of table (sees s pool)) (emitted table (sees s pool))
+  shown_lent = go (due s)
+    where
+      fetched : (part : ResponsePart) (r : Result (List ℕ) Fault) → shown_of table (emission_fetched s part r) (octets_fetched r) ≡ shown_of table (emission_fetched (sees s pool) part r) (octets_fetched r)
+      fetched part (Ok frame) = refl
+      fetched part (Err fault) = refl
+
+      go : (k : Due) → shown_of table (emission_due table s k) (octets_due table s k) ≡ shown_of table (emission_due table (sees s pool) k) (octets_due table (sees s pool) k)
+      go StartUp = refl
+      go (LastWord payload) = refl
+      go (ResponseDue part) = fetched part (frame_fetched table s part)
+      go (NextPart part) = refl
+      go NoneDue = refl
+
+  recv_lent : recv_refusal s ≡ recv_refusal (sees s pool)
+  recv_lent =
+      λ i. cond (sym (shares_lent s.receiving.source pool) i) (Some recv_refusals.Shared)
+      (cond (ended s) (Some recv_refusals.Ended) (option_map recv_refusal_of (cond (sym (full_lent s.receiving.source pool) i) (Some Full) None)))
+
+-- what an act sees of its stream otherwise is the same
+pub lent_rule : (e : EndpointState) (n : ℕ) (act : StreamAct Octets) → StreamRule e.table (stream_for e n act) act → StreamRule e.table (seen_at e n) act
+lent_rule e n act rule = go (pool_of e (stream_at e n).domain) act rule
   where
-    none_in : (k d : ℕ) → slice_index_or (replicate {A = Option Pool} k None) d None ≡ None
-    none_in zero d = refl
-    none_in (suc k) zero = refl
-    none_in (suc k) (suc d) = none_in k d
-
--- none is lent to a stream
-unlent : (e : EndpointState) (n : ℕ) (act : StreamAct Octets) → e.pools ≡ no_pools → stream_for e n act ≡ stream_at e n
-unlent e n act none = go (deed act).step
-  where
-    go : (o : Option (Seen Octets)) → option_map_or (λ step. seen_at e n) o (stream_at e n) ≡ stream_at e n
-    go None = refl
-    go (Some step) = ap (λ o. lent_to o (stream_at e n)) (no_pool e (stream_at e n).domain none)
-
--- so an act sees its stream as it is
-abbrev pub PlainEnd : EndpointState → Act Octets → Type 0
-PlainEnd e (Domain pd refused) = EndRule e (Domain pd refused)
-PlainEnd e (Register pd base rights octets answer) = EndRule e (Register pd base rights octets answer)
-PlainEnd e (Deregister stag answer) = EndRule e (Deregister stag answer)
-PlainEnd e (Invalidate stag refused) = EndRule e (Invalidate stag refused)
-PlainEnd e (Store stag to octets refused) = EndRule e (Store stag to octets refused)
-PlainEnd e (Open n pd role options private refused) = EndRule e (Open n pd role options private refused)
-PlainEnd e (Stream n act) = (has_stream e n ≡ true) × StreamRule e.table (stream_at e n) act
-
-plain_end : (e : EndpointState) (act : Act Octets) → e.pools ≡ no_pools → EndRule e act → PlainEnd e act
-plain_end e (Domain pd refused) none rule = rule
-plain_end e (Register pd base rights octets answer) none rule = rule
-plain_end e (Deregister stag answer) none rule = rule
-plain_end e (Invalidate stag refused) none rule = rule
-plain_end e (Store stag to octets refused) none rule = rule
-plain_end e (Open n pd role options private refused) none rule = rule
-plain_end e (Stream n act) none rule = (rule.0, subst (λ s. StreamRule e.table s act) (unlent e n act none) rule.1)
-
-abbrev pub Plain : EndState → EndState → Act Octets → Type 0
-Plain s peer act = PlainEnd s.endpoint act × PeerRule peer act
-
-pub plain : (s peer : EndState) (act : Act Octets) → s.endpoint.pools ≡ no_pools → Rule s peer act → Plain s peer act
-plain s peer act none rule = (plain_end s.endpoint act none rule.0, rule.1)
+    go : (o : Option (List Octets)) (act : StreamAct Octets) → StreamRule e.table (option_map_or (λ step. lent_to o (stream_at e n)) (deed act).step (stream_at e n)) act → StreamRule e.table (lent_to o (stream_at e n)) act
+    go None (Recv len refused) rule = rule
+    go None (Post m refused) rule = rule
+    go None (Emit shown) rule = rule
+    go None (First number refused) rule = rule
+    go None (Deliver from number octets delivery) rule = rule
+    go None (Raw number octets delivery) rule = rule
+    go None (Mulpdu size refused) rule = rule
+    go None (Accept private answer) rule = rule
+    go None (Reject private refused) rule = rule
+    go None (Work step) rule = rule
+    go None Break rule = rule
+    go (Some pool) (Recv len refused) rule = rule ∙ recv_lent e.table (stream_at e n) pool
+    go (Some pool) (Post m refused) rule = rule
+    go (Some pool) (Emit shown) rule = rule ∙ shown_lent e.table (stream_at e n) pool
+    go (Some pool) (First number refused) rule = rule
+    go (Some pool) (Deliver from number octets delivery) rule = rule
+    go (Some pool) (Raw number octets delivery) rule = rule
+    go (Some pool) (Mulpdu size refused) rule = rule
+    go (Some pool) (Accept private answer) rule = rule
+    go (Some pool) (Reject private refused) rule = rule
+    go (Some pool) (Work step) rule = rule
+    go (Some pool) Break rule = rule
 
 -- ---- what an act leaves, by its answer
 
@@ -116,23 +166,32 @@ stream_after table s Break = breaks s
 abbrev pub connected_after : Table → Connected → StreamAct Octets → Connected
 connected_after table c act = record { stream = stream_after table c.stream act; wire = c.wire ++ sent_by act }
 
-abbrev pub streams_after : Table → List (Option StreamState) → Act Octets → List (Option StreamState)
-streams_after table streams (Open n pd role options private None) = slice_set streams n (Some (connected (opening_by pd role options private)).stream)
-streams_after table streams (Open n pd role options private (Some refusal)) = streams
-streams_after table streams (Stream n act) = slice_set streams n (Some (stream_after table (unwrap_or (slice_index_or streams n None) unopened) act))
-streams_after table streams (Domain pd refused) = streams
-streams_after table streams (Register pd base rights octets answer) = streams
-streams_after table streams (Deregister stag answer) = streams
-streams_after table streams (Invalidate stag refused) = streams
-streams_after table streams (Store stag to octets refused) = streams
+-- of the stream of this number
+abbrev pub left_at : EndpointState → ℕ → StreamAct Octets → StreamState
+left_at e n act = option_map_or (λ step. left_of e.table (pool_of e (stream_at e n).domain) (stream_at e n)) (deed act).step (stream_after e.table (stream_at e n) act)
+
+abbrev pub streams_after : EndpointState → Act Octets → List (Option StreamState)
+streams_after e (Open n pd role options private None) = slice_set e.streams n (Some (connected (opening_by false pd role options private)).stream)
+streams_after e (Open n pd role options private (Some refusal)) = e.streams
+streams_after e (OpenShared n pd role options private None) = slice_set e.streams n (Some (connected (opening_by true pd role options private)).stream)
+streams_after e (OpenShared n pd role options private (Some refusal)) = e.streams
+streams_after e (Stream n act) = slice_set e.streams n (Some (left_at e n act))
+streams_after e (Domain pd refused) = e.streams
+streams_after e (Register pd base rights octets answer) = e.streams
+streams_after e (Deregister stag answer) = e.streams
+streams_after e (Invalidate stag refused) = e.streams
+streams_after e (Store stag to octets refused) = e.streams
+streams_after e (Share pd refused) = e.streams
+streams_after e (Pool pd len refused) = e.streams
+streams_after e (Unpool pd answer) = e.streams
 
 -- ---- calls that are refused, or not
 
-granted : {A R : Type 0} (q : Option R) (x y : A) → Ok x ≡ answer_or q y → (None ≡ q) × (x ≡ y)
+pub granted : {A R : Type 0} (q : Option R) (x y : A) → Ok x ≡ answer_or q y → (None ≡ q) × (x ≡ y)
 granted None x y h = (refl, cc)
 granted (Some r) x y h = absurd (let no : ⊥ = cc in no)
 
-denied : {A R : Type 0} (q : Option R) (r : R) (y : A) → Err r ≡ answer_or q y → Some r ≡ q
+pub denied : {A R : Type 0} (q : Option R) (r : R) (y : A) → Err r ≡ answer_or q y → Some r ≡ q
 denied None r y h = absurd (let no : ⊥ = cc in no)
 denied (Some r') r y h = cc
 
@@ -170,42 +229,46 @@ put_back xs n h = sym (ap (slice_set xs n) (some (slice_index_or xs n None) h) �
     some None h = absurd (false≢true h)
     some (Some s) h = refl
 
-stream_left : (e : EndpointState) (n : ℕ) (act : StreamAct Octets) → e.pools ≡ no_pools → has_stream e n ≡ true → StreamRule e.table (stream_at e n) act → (after e (call_made (Stream n act))).streams ≡ slice_set e.streams n (Some (stream_after e.table (stream_at e n) act))
-stream_left e n (Recv len None) none there rule = ap (λ (z : EndpointState). z.streams) (asked e (endpoint.with_buffer e n (replicate len 0)) n recv_refusal None there rule)
-stream_left e n (Recv len (Some r)) none there rule = ap (λ (z : EndpointState). z.streams) (asked e (endpoint.with_buffer e n (replicate len 0)) n recv_refusal (Some r) there rule) ∙ put_back e.streams n there
-stream_left e n (Post m None) none there rule = ap (λ (z : EndpointState). z.streams) (asked e (endpoint.with_request e n m) n (λ s. post_refusal s m) None there rule.1)
-stream_left e n (Post m (Some r)) none there rule = ap (λ (z : EndpointState). z.streams) (asked e (endpoint.with_request e n m) n (λ s. post_refusal s m) (Some r) there rule.1) ∙ put_back e.streams n there
-stream_left e n (First number None) none there rule = ap (λ (z : EndpointState). z.streams) (asked e (endpoint.with_first e n number) n first_refusal None there rule)
-stream_left e n (Mulpdu size None) none there rule = ap (λ (z : EndpointState). z.streams) (asked e (endpoint.with_mulpdu e n size) n (λ s. size_refusal size) None there rule)
-stream_left e n (First number (Some r)) none there rule = ap (λ (z : EndpointState). z.streams) (asked e (endpoint.with_first e n number) n first_refusal (Some r) there rule) ∙ put_back e.streams n there
-stream_left e n (Mulpdu size (Some r)) none there rule = ap (λ (z : EndpointState). z.streams) (asked e (endpoint.with_mulpdu e n size) n (λ s. size_refusal size) (Some r) there rule) ∙ put_back e.streams n there
-stream_left e n (Accept private (Ok agreed)) none there rule =
+stream_left : (e : EndpointState) (n : ℕ) (act : StreamAct Octets) → has_stream e n ≡ true → StreamRule e.table (stream_for e n act) act → (after e (call_made (Stream n act))).streams ≡ slice_set e.streams n (Some (left_at e n act))
+stream_left e n (Recv len None) there rule = ap (λ (z : EndpointState). z.streams) (asked e (endpoint.with_buffer e n (replicate len 0)) n recv_refusal None there rule)
+stream_left e n (Recv len (Some r)) there rule = ap (λ (z : EndpointState). z.streams) (asked e (endpoint.with_buffer e n (replicate len 0)) n recv_refusal (Some r) there rule) ∙ put_back e.streams n there
+stream_left e n (Post m None) there rule = ap (λ (z : EndpointState). z.streams) (asked e (endpoint.with_request e n m) n (λ s. post_refusal s m) None there rule.1)
+stream_left e n (Post m (Some r)) there rule = ap (λ (z : EndpointState). z.streams) (asked e (endpoint.with_request e n m) n (λ s. post_refusal s m) (Some r) there rule.1) ∙ put_back e.streams n there
+stream_left e n (First number None) there rule = ap (λ (z : EndpointState). z.streams) (asked e (endpoint.with_first e n number) n first_refusal None there rule)
+stream_left e n (Mulpdu size None) there rule = ap (λ (z : EndpointState). z.streams) (asked e (endpoint.with_mulpdu e n size) n (λ s. size_refusal size) None there rule)
+stream_left e n (First number (Some r)) there rule = ap (λ (z : EndpointState). z.streams) (asked e (endpoint.with_first e n number) n first_refusal (Some r) there rule) ∙ put_back e.streams n there
+stream_left e n (Mulpdu size (Some r)) there rule = ap (λ (z : EndpointState). z.streams) (asked e (endpoint.with_mulpdu e n size) n (λ s. size_refusal size) (Some r) there rule) ∙ put_back e.streams n there
+stream_left e n (Accept private (Ok agreed)) there rule =
     ap (λ (z : EndpointState). z.streams) (asked e (endpoint.accepted e n (private_data private)) n unasked None there (granted (unasked (stream_at e n)) agreed (agreement_in (stream_at e n).start) rule).0)
-stream_left e n (Accept private (Err r)) none there rule =
+stream_left e n (Accept private (Err r)) there rule =
     ap (λ (z : EndpointState). z.streams) (asked e (endpoint.accepted e n (private_data private)) n unasked (Some r) there (denied (unasked (stream_at e n)) r (agreement_in (stream_at e n).start) rule)) ∙ put_back e.streams n there
-stream_left e n (Reject private None) none there rule = ap (λ (z : EndpointState). z.streams) (asked e (endpoint.rejected e n (private_data private)) n unasked None there rule)
-stream_left e n (Reject private (Some r)) none there rule = ap (λ (z : EndpointState). z.streams) (asked e (endpoint.rejected e n (private_data private)) n unasked (Some r) there rule) ∙ put_back e.streams n there
-stream_left e n (Emit shown) none there rule = ap (λ (z : EndpointState). z.streams) (found (stream_of e n) e (endpoint.after_emit e n) there)
-stream_left e n (Deliver from number octets delivery) none there rule =
+stream_left e n (Reject private None) there rule = ap (λ (z : EndpointState). z.streams) (asked e (endpoint.rejected e n (private_data private)) n unasked None there rule)
+stream_left e n (Reject private (Some r)) there rule = ap (λ (z : EndpointState). z.streams) (asked e (endpoint.rejected e n (private_data private)) n unasked (Some r) there rule) ∙ put_back e.streams n there
+stream_left e n (Emit shown) there rule = ap (λ (z : EndpointState). z.streams) (found (stream_of e n) e (endpoint.after_emit e n) there)
+stream_left e n (Deliver from number octets delivery) there rule =
     ap (λ (z : EndpointState). z.streams) (found (stream_of e n) e (endpoint.after_deliver e n number octets) there)
     ∙ ap (λ x. slice_set e.streams n (Some (after_deliver (stream_at e n) number octets x))) (sym rule.1)
-stream_left e n (Raw number octets delivery) none there rule =
+stream_left e n (Raw number octets delivery) there rule =
     ap (λ (z : EndpointState). z.streams) (found (stream_of e n) e (endpoint.after_deliver e n number octets) there)
     ∙ ap (λ x. slice_set e.streams n (Some (after_deliver (stream_at e n) number octets x))) (sym rule)
-stream_left e n (Work step) none there rule =
+stream_left e n (Work step) there rule =
     ap (λ (z : EndpointState). z.streams) (found (stream_of e n) e (endpoint.after_work e n) there)
-    ∙ ap (λ o. slice_set e.streams n (Some (left_of e.table o (stream_at e n)))) (no_pool e (stream_at e n).domain none)
-stream_left e n Break none there rule = ap (λ (z : EndpointState). z.streams) (found (stream_of e n) e (endpoint.broken e n) there)
+stream_left e n Break there rule = ap (λ (z : EndpointState). z.streams) (found (stream_of e n) e (endpoint.broken e n) there)
 
-pub streams_left : (e : EndpointState) (act : Act Octets) → e.pools ≡ no_pools → PlainEnd e act → (after e (call_made act)).streams ≡ streams_after e.table e.streams act
-streams_left e (Domain pd refused) none rule = same_streams (endpoint.domain_refusal e pd) e (endpoint.added e pd) refl
-streams_left e (Register pd base rights octets answer) none rule = same_streams (register_refusal e.table pd base (length octets)) e (endpoint.registered e pd base octets rights) refl
-streams_left e (Deregister stag answer) none rule = refl
-streams_left e (Invalidate stag refused) none rule = refl
-streams_left e (Store stag to octets refused) none rule = same_streams (endpoint.store_refusal e stag to (length octets)) e (endpoint.stored e stag to octets) refl
-streams_left e (Open n pd role options private None) none rule = ap (λ q. (unless q e (endpoint.opened e n pd role (config_for options private))).streams) (sym rule)
-streams_left e (Open n pd role options private (Some r)) none rule = ap (λ q. (unless q e (endpoint.opened e n pd role (config_for options private))).streams) (sym rule)
-streams_left e (Stream n act) none rule = stream_left e n act none rule.0 rule.1
+pub streams_left : (e : EndpointState) (act : Act Octets) → EndRule e act → (after e (call_made act)).streams ≡ streams_after e act
+streams_left e (Domain pd refused) rule = same_streams (endpoint.domain_refusal e pd) e (endpoint.added e pd) refl
+streams_left e (Register pd base rights octets answer) rule = same_streams (register_refusal e.table pd base (length octets)) e (endpoint.registered e pd base octets rights) refl
+streams_left e (Deregister stag answer) rule = refl
+streams_left e (Invalidate stag refused) rule = refl
+streams_left e (Store stag to octets refused) rule = same_streams (endpoint.store_refusal e stag to (length octets)) e (endpoint.stored e stag to octets) refl
+streams_left e (Open n pd role options private None) rule = ap (λ q. (unless q e (endpoint.opened e n pd role (config_for options private))).streams) (sym rule)
+streams_left e (Open n pd role options private (Some r)) rule = ap (λ q. (unless q e (endpoint.opened e n pd role (config_for options private))).streams) (sym rule)
+streams_left e (Share pd refused) rule = same_streams (endpoint.share_refusal e pd) e (endpoint.shared e pd) refl
+streams_left e (Pool pd len refused) rule = same_streams (endpoint.pool_refusal e pd) e (endpoint.pooled e pd (replicate len 0)) refl
+streams_left e (Unpool pd answer) rule = same_streams (endpoint.take_refusal e pd) e (endpoint.after_take e pd) refl
+streams_left e (OpenShared n pd role options private None) rule = ap (λ q. (unless q e (endpoint.opened_shared e n pd role (config_for options private))).streams) (sym rule)
+streams_left e (OpenShared n pd role options private (Some r)) rule = ap (λ q. (unless q e (endpoint.opened_shared e n pd role (config_for options private))).streams) (sym rule)
+streams_left e (Stream n act) rule = stream_left e n act rule.0 rule.1
 
 -- ---- its regions
 
@@ -220,75 +283,53 @@ missing : (o : Option Region) (r : NoRegion) → Some r ≡ option_map_or (λ x.
 missing None r h = refl
 missing (Some x) r h = absurd (none-some _ (sym h))
 
-stream_table : (e : EndpointState) (n : ℕ) (act : StreamAct Octets) → e.pools ≡ no_pools → has_stream e n ≡ true → StreamRule e.table (stream_at e n) act → (after e (call_made (Stream n act))).table ≡ table_by_stream e.table act
-stream_table e n (Recv len refused) none there rule = same_table (endpoint.recv_refusal e n) e (endpoint.with_buffer e n (replicate len 0)) refl
-stream_table e n (Post m refused) none there rule = same_table (endpoint.post_refusal e n m) e (endpoint.with_request e n m) refl
-stream_table e n (First number refused) none there rule = same_table (endpoint.first_refusal e n) e (endpoint.with_first e n number) refl
-stream_table e n (Mulpdu size refused) none there rule = same_table (endpoint.size_refusal e n size) e (endpoint.with_mulpdu e n size) refl
-stream_table e n (Accept private answer) none there rule = same_table (endpoint.answer_refusal e n) e (endpoint.accepted e n (private_data private)) refl
-stream_table e n (Reject private refused) none there rule = same_table (endpoint.answer_refusal e n) e (endpoint.rejected e n (private_data private)) refl
-stream_table e n (Emit shown) none there rule = same_there (stream_of e n) e (endpoint.after_emit e n) refl
-stream_table e n (Deliver from number octets delivery) none there rule = same_there (stream_of e n) e (endpoint.after_deliver e n number octets) refl
-stream_table e n (Raw number octets delivery) none there rule = same_there (stream_of e n) e (endpoint.after_deliver e n number octets) refl
-stream_table e n (Work step) none there rule =
-    let s : StreamState = stream_at e n in
+stream_table : (e : EndpointState) (n : ℕ) (act : StreamAct Octets) → has_stream e n ≡ true → StreamRule e.table (stream_for e n act) act → (after e (call_made (Stream n act))).table ≡ table_by_stream e.table act
+stream_table e n (Recv len refused) there rule = same_table (endpoint.recv_refusal e n) e (endpoint.with_buffer e n (replicate len 0)) refl
+stream_table e n (Post m refused) there rule = same_table (endpoint.post_refusal e n m) e (endpoint.with_request e n m) refl
+stream_table e n (First number refused) there rule = same_table (endpoint.first_refusal e n) e (endpoint.with_first e n number) refl
+stream_table e n (Mulpdu size refused) there rule = same_table (endpoint.size_refusal e n size) e (endpoint.with_mulpdu e n size) refl
+stream_table e n (Accept private answer) there rule = same_table (endpoint.answer_refusal e n) e (endpoint.accepted e n (private_data private)) refl
+stream_table e n (Reject private refused) there rule = same_table (endpoint.answer_refusal e n) e (endpoint.rejected e n (private_data private)) refl
+stream_table e n (Emit shown) there rule = same_there (stream_of e n) e (endpoint.after_emit e n) refl
+stream_table e n (Deliver from number octets delivery) there rule = same_there (stream_of e n) e (endpoint.after_deliver e n number octets) refl
+stream_table e n (Raw number octets delivery) there rule = same_there (stream_of e n) e (endpoint.after_deliver e n number octets) refl
+stream_table e n (Work step) there rule =
+    let s : StreamState = seen_at e n in
     ap (λ (z : EndpointState). z.table) (found (stream_of e n) e (endpoint.after_work e n) there)
-    ∙ ap (λ o. table_worked e.table (lent_to o s)) (no_pool e s.domain none)
     ∙ table_of_seen e.table s (private_in (worked e.table s).start)
     ∙ ap (λ z. table_by_stream e.table (Work z)) (sym rule)
-stream_table e n Break none there rule = same_there (stream_of e n) e (endpoint.broken e n) refl
+stream_table e n Break there rule = same_there (stream_of e n) e (endpoint.broken e n) refl
 
-pub table_left : (e : EndpointState) (act : Act Octets) → e.pools ≡ no_pools → PlainEnd e act → (after e (call_made act)).table ≡ table_by e.table act
-table_left e (Domain pd None) none rule = ap (λ q. (unless q e (endpoint.added e pd)).table) (sym rule)
-table_left e (Domain pd (Some r)) none rule = ap (λ q. (unless q e (endpoint.added e pd)).table) (sym rule)
-table_left e (Register pd base rights octets (Ok stag)) none rule =
+pub table_left : (e : EndpointState) (act : Act Octets) → EndRule e act → (after e (call_made act)).table ≡ table_by e.table act
+table_left e (Domain pd None) rule = ap (λ q. (unless q e (endpoint.added e pd)).table) (sym rule)
+table_left e (Domain pd (Some r)) rule = ap (λ q. (unless q e (endpoint.added e pd)).table) (sym rule)
+table_left e (Register pd base rights octets (Ok stag)) rule =
     let k = granted (register_refusal e.table pd base (length octets)) stag (next_stag e.table pd) rule in
     ap (λ q. (unless q e (endpoint.registered e pd base octets rights)).table) (sym k.0) ∙ ap (λ z. registered_under e.table z (new_region base octets rights)) (sym k.1)
-table_left e (Register pd base rights octets (Err r)) none rule =
+table_left e (Register pd base rights octets (Err r)) rule =
     ap (λ q. (unless q e (endpoint.registered e pd base octets rights)).table) (sym (denied (register_refusal e.table pd base (length octets)) r (next_stag e.table pd) rule))
-table_left e (Deregister stag (Ok octets)) none rule = refl
-table_left e (Deregister stag (Err r)) none rule = deregistered-none e.table stag (unfound (region_at e.table stag) r rule)
-table_left e (Invalidate stag None) none rule = refl
-table_left e (Invalidate stag (Some r)) none rule = with_region-none e.table stag _ (missing (region_at e.table stag) r rule)
-table_left e (Store stag to octets None) none rule = ap (λ q. (unless q e (endpoint.stored e stag to octets)).table) (sym rule)
-table_left e (Store stag to octets (Some r)) none rule = ap (λ q. (unless q e (endpoint.stored e stag to octets)).table) (sym rule)
-table_left e (Open n pd role options private refused) none rule = same_table (endpoint.open_refusal e n pd) e (endpoint.opened e n pd role (config_for options private)) refl
-table_left e (Stream n act) none rule = stream_table e n act none rule.0 rule.1
+table_left e (Deregister stag (Ok octets)) rule = refl
+table_left e (Deregister stag (Err r)) rule = deregistered-none e.table stag (unfound (region_at e.table stag) r rule)
+table_left e (Invalidate stag None) rule = refl
+table_left e (Invalidate stag (Some r)) rule = with_region-none e.table stag _ (missing (region_at e.table stag) r rule)
+table_left e (Store stag to octets None) rule = ap (λ q. (unless q e (endpoint.stored e stag to octets)).table) (sym rule)
+table_left e (Store stag to octets (Some r)) rule = ap (λ q. (unless q e (endpoint.stored e stag to octets)).table) (sym rule)
+table_left e (Open n pd role options private refused) rule = same_table (endpoint.open_refusal e n pd) e (endpoint.opened e n pd role (config_for options private)) refl
+table_left e (Share pd refused) rule = same_table (endpoint.share_refusal e pd) e (endpoint.shared e pd) refl
+table_left e (Pool pd len refused) rule = same_table (endpoint.pool_refusal e pd) e (endpoint.pooled e pd (replicate len 0)) refl
+table_left e (Unpool pd answer) rule = same_table (endpoint.take_refusal e pd) e (endpoint.after_take e pd) refl
+table_left e (OpenShared n pd role options private refused) rule = same_table (endpoint.open_shared_refusal e n pd) e (endpoint.opened_shared e n pd role (config_for options private)) refl
+table_left e (Stream n act) rule = stream_table e n act rule.0 rule.1
 
 -- ---- its pools
 
-same_pools : {R : Type 0} (q : Option R) (e new : EndpointState) → new.pools ≡ e.pools → (unless q e new).pools ≡ e.pools
-same_pools None e new h = h
-same_pools (Some r) e new h = refl
+pub pools_refused : {R : Type 0} (q : Option R) (e new : EndpointState) → new.pools ≡ e.pools → (unless q e new).pools ≡ e.pools
+pools_refused None e new h = h
+pools_refused (Some r) e new h = refl
 
-pools_there : (o : Option StreamState) (e new : EndpointState) → new.pools ≡ e.pools → (if_there o e new).pools ≡ e.pools
+pub pools_there : (o : Option StreamState) (e new : EndpointState) → new.pools ≡ e.pools → (if_there o e new).pools ≡ e.pools
 pools_there None e new h = refl
 pools_there (Some s) e new h = h
-
-stream_pools : (e : EndpointState) (n : ℕ) (act : StreamAct Octets) → e.pools ≡ no_pools → (after e (call_made (Stream n act))).pools ≡ e.pools
-stream_pools e n (Recv len refused) none = same_pools (endpoint.recv_refusal e n) e (endpoint.with_buffer e n (replicate len 0)) refl
-stream_pools e n (Post m refused) none = same_pools (endpoint.post_refusal e n m) e (endpoint.with_request e n m) refl
-stream_pools e n (First number refused) none = same_pools (endpoint.first_refusal e n) e (endpoint.with_first e n number) refl
-stream_pools e n (Mulpdu size refused) none = same_pools (endpoint.size_refusal e n size) e (endpoint.with_mulpdu e n size) refl
-stream_pools e n (Accept private answer) none = same_pools (endpoint.answer_refusal e n) e (endpoint.accepted e n (private_data private)) refl
-stream_pools e n (Reject private refused) none = same_pools (endpoint.answer_refusal e n) e (endpoint.rejected e n (private_data private)) refl
-stream_pools e n (Emit shown) none = pools_there (stream_of e n) e (endpoint.after_emit e n) refl
-stream_pools e n (Deliver from number octets delivery) none = pools_there (stream_of e n) e (endpoint.after_deliver e n number octets) refl
-stream_pools e n (Raw number octets delivery) none = pools_there (stream_of e n) e (endpoint.after_deliver e n number octets) refl
-stream_pools e n (Work step) none =
-    let s : StreamState = stream_at e n in
-    pools_there (stream_of e n) e (endpoint.after_work e n)
-    (ap (λ o. slice_set e.pools s.domain (pool_left e.table o s)) (no_pool e s.domain none) ∙ ap (slice_set e.pools s.domain) (sym (no_pool e s.domain none)) ∙ set-get_or e.pools s.domain None)
-stream_pools e n Break none = pools_there (stream_of e n) e (endpoint.broken e n) refl
-
-pub pools_left : (e : EndpointState) (act : Act Octets) → e.pools ≡ no_pools → (after e (call_made act)).pools ≡ e.pools
-pools_left e (Domain pd refused) none = same_pools (endpoint.domain_refusal e pd) e (endpoint.added e pd) refl
-pools_left e (Register pd base rights octets answer) none = same_pools (register_refusal e.table pd base (length octets)) e (endpoint.registered e pd base octets rights) refl
-pools_left e (Deregister stag answer) none = refl
-pools_left e (Invalidate stag refused) none = refl
-pools_left e (Store stag to octets refused) none = same_pools (endpoint.store_refusal e stag to (length octets)) e (endpoint.stored e stag to octets) refl
-pools_left e (Open n pd role options private refused) none = same_pools (endpoint.open_refusal e n pd) e (endpoint.opened e n pd role (config_for options private)) refl
-pools_left e (Stream n act) none = stream_pools e n act none
 
 -- ---- its wires
 
@@ -302,6 +343,10 @@ wire_still s (Deregister stag answer) n none = refl
 wire_still s (Invalidate stag refused) n none = refl
 wire_still s (Store stag to octets refused) n none = refl
 wire_still s (Open m pd role options private refused) n none = refl
+wire_still s (Share pd refused) n none = refl
+wire_still s (Pool pd len refused) n none = refl
+wire_still s (Unpool pd answer) n none = refl
+wire_still s (OpenShared m pd role options private refused) n none = refl
 wire_still s (Stream m act) n none = go (eqb m n) refl none
   where
     shows : (o : Option (Shown Octets)) → eqb m n ≡ false → slice_index_or (option_map_or (λ shown. slice_set s.wires m (slice_index_or s.wires m [] ++ octets_shown shown)) o s.wires) n [] ≡ wire_at s n
@@ -327,6 +372,10 @@ length-wires s (Deregister stag answer) = refl
 length-wires s (Invalidate stag refused) = refl
 length-wires s (Store stag to octets refused) = refl
 length-wires s (Open m pd role options private refused) = refl
+length-wires s (Share pd refused) = refl
+length-wires s (Pool pd len refused) = refl
+length-wires s (Unpool pd answer) = refl
+length-wires s (OpenShared m pd role options private refused) = refl
 length-wires s (Stream m act) = shows (deed act).shown
   where
     shows : (o : Option (Shown Octets)) → length (option_map_or (λ shown. slice_set s.wires m (slice_index_or s.wires m [] ++ octets_shown shown)) o s.wires) ≡ length s.wires

@@ -1,9 +1,9 @@
 -- Whatever follows the rules is as the laws say.
 use Rattle.iw_laws.proofs.Nearby.{lands_near}
 use Rattle.std.proofs.Common.{◌≡◌, ℕ, zero, suc, ◌+◌, ◌^◌, ◌<◌, ◌≤◌, List, [], ◌∷◌, ◌++◌, length, drop, replicate, Option, Some, None, Bool, true, false, cond, eqb, refl, sym, ap, ◌∙◌, subst, arith, append_assoc, length-append, length-take, eqb-true, ◌-◌, Ok, Err, inl, inr, ◌⊎◌}
-use Rattle.std.specs.Prelude.{map, is_some, slice_index_or, unwrap_or, not, ◌||◌, Bool, ◌%◌, ◌^◌}
+use Rattle.std.specs.Prelude.{map, is_some, slice_set, slice_index_or, unwrap_or, not, ◌||◌, Bool, ◌%◌, ◌^◌}
 use Rattle.std.proofs.lemmas.List.{append-nil}
-use Rattle.std.proofs.lemmas.Bool.{false≢true, true≢false}
+use Rattle.std.proofs.lemmas.Bool.{eq-eqb, false≢true, true≢false}
 use Rattle.iw_ranges.specs.Nearest.{place_near, before_start}
 use Rattle.iw_octets.specs.Segment.{segment_octets}
 use Rattle.iw_memory.specs.Table.{Table}
@@ -24,7 +24,8 @@ use Rattle.iw_stream.specs.declared.answer.Role.{Role}
 use Rattle.iw_stream.specs.declared.answer.Role.TheVariants.{Preset, Initiator, Responder}
 use Rattle.iw_stream.specs.Starting.{StartState, AtOnce, Unheard, Heard, IsFresh, start_at_first, sending, expecting}
 use Rattle.iw_stream.specs.Starting as starting
-use Rattle.iw_stream.specs.Stream.{StreamState, frame_of}
+use Rattle.iw_untagged.specs.Receiving.{Receiving, sharing}
+use Rattle.iw_stream.specs.Stream.{StreamState, shares, frame_of}
 use Rattle.iw_fpdu.specs.declared.layout.Layout.{Layout}
 use Rattle.iw_fpdu.specs.Sequence.{sequence, place_past}
 use Rattle.iw_fpdu.specs.Laws.{IsBetween}
@@ -40,46 +41,34 @@ use Rattle.iw_queues.specs.Segments.{segment_of}
 use Rattle.iw_events.specs.declared.call.End.{End}
 use Rattle.iw_events.specs.declared.call.End.TheVariants.{A, B}
 use Rattle.iw_events.specs.declared.act.Act.{Act}
-use Rattle.iw_events.specs.declared.act.Act.TheVariants.{Domain, Register, Deregister, Invalidate, Store, Open, Stream}
+use Rattle.iw_events.specs.declared.act.Act.TheVariants.{Domain, Register, Deregister, Invalidate, Store, Open, Share, Pool, Unpool, OpenShared, Stream}
 use Rattle.iw_events.specs.declared.act.StreamAct.{StreamAct}
 use Rattle.iw_events.specs.declared.act.StreamAct.TheVariants.{Recv, Post, Emit, First, Deliver, Raw, Mulpdu, Accept, Reject, Work, Break}
 use Rattle.iw_events.specs.declared.act.Shown.TheVariants.{Frame, Fetched, Fault as Denied, Nothing}
 use Rattle.iw_events.specs.declared.act.Entry.{Entry}
 use Rattle.iw_events.specs.declared.act.Seen.TheVariants as seen
-use Rattle.iw_laws.specs.Turns.{story, in_order_point, is_near}
+use Rattle.iw_laws.specs.Turns.{story, in_order_point, is_near, first_queue, Pooling, pooling, pool_by}
 use Rattle.iw_laws.specs.Sends.{terminate_segment}
 use Rattle.std.specs.Prelude.{nat_lt}
-use Rattle.iw_laws.specs.Words.{Octets, other, acts, stream_acts, stream_acts_by, Opening, no_opening, opening_in, opening_of, openings, openings_by, posted, finished_kinds, handed_kinds, size_set, received, ended, sent, sent_by, placings, table_after, OnSome, deed}
-use Rattle.iw_endpoint.specs.Endpoint.{stream_of, stream_at, unopened as no_stream, has_stream, no_streams}
-use Rattle.iw_laws.specs.Rules.{EndState, State, end_of, with_end, at_first, start, Rule, WireRule, StreamRule, end_after, after_entry, state_after, Follows, wire_at, no_wires}
-use Rattle.iw_laws.proofs.States.{Plain, PlainEnd, plain, opening_by, Connected, connected, unconnected, connected_at, connected_after, streams_after, stream_after, wire_still, wire_more}
+use Rattle.iw_laws.specs.Words.{Octets, other, acts, stream_acts, stream_acts_by, Opening, no_opening, opening_in, opening_of, domain_of, openings, openings_by, posted, finished_kinds, handed_kinds, size_set, received, ended, sent, sent_by, placings, table_after, OnSome, deed}
+use Rattle.iw_endpoint.specs.Endpoint.{EndpointState, Pool as PoolOf, pool_of, stream_of, stream_at, unopened as no_stream, has_stream, no_pools, no_streams}
+use Rattle.iw_endpoint.proofs.Parts.{fresh_domains}
+use Rattle.iw_laws.specs.Rules.{EndState, State, end_of, with_end, at_first, start, Rule, EndRule, WireRule, StreamRule, stream_for, end_after, after_entry, state_after, Follows, wire_at, no_wires}
+use Rattle.iw_laws.proofs.States.{opening_by, Connected, connected, unconnected, connected_at, connected_seen, left_at, streams_after, wire_still, wire_more}
 use Rattle.iw_stream.specs.Work.{scene}
 use Rattle.iw_laws.proofs.Judged.{none_judged}
 use Rattle.iw_laws.proofs.EarlySent.{none_sent}
 use Rattle.iw_laws.specs.Once.{spans_placed}
 use Rattle.iw_laws.proofs.Spent.{none_spent}
-use Rattle.iw_laws.proofs.Tales.{Tale, tale_of, tale_after, tale-push, stream_acts-push, openings-push, acts_mine, acts_other}
+use Rattle.iw_laws.proofs.Tales.{Tale, tale_of, tale_after, tale-push, stream_acts-push, openings-push, acts_mine, acts_other, pooled, pooling-push, queue_other, queue_unused}
 use Rattle.iw_laws.proofs.Sending.{shown_good, EmitsStart, EmitsLast, EmitsPart, emits_as, terminate_small}
 use Rattle.iw_laws.proofs.Tracks.{OnStart, start_octets, Track, shown_stays}
 use Rattle.iw_laws.proofs.Left.{equal_has}
-use Rattle.iw_laws.proofs.Told.{after_act}
-use Rattle.iw_laws.proofs.Releases.{IsLeft, left_acts, nothing_given}
+use Rattle.iw_laws.proofs.Releases.{IsLeft, nothing_given}
 use Rattle.iw_laws.proofs.Fills.{nothing_placed}
-use Rattle.iw_laws.proofs.Owns.{Own, owning, answers_part, first_fits, Emits, out_of, lives, all_spoken, word_unbroken, runs_unbroken, Unspoken, IsSmall, IsStartOf, past_start}
-use Rattle.iw_laws.proofs.Ends.{EndSeen, end_step, opens, opens_same, at_act, at_same, at_other, number_there, unopened, opening_none, opening_one}
-
--- what the acts of an end say of a stream
-abbrev pub tale : ℕ → List (Act Octets) → Tale
-tale n done = tale_of (opening_of n done) (stream_acts n done)
-
--- a stream, as it would be had no octets of placed frames been given up
-pub record Holds (l : Opening) (c : Connected) (t : Tale) : Type 0 where
-  pub stream : StreamState
-  pub is_left : IsLeft c.stream stream
-  pub own : Own l (record { stream = stream; wire = c.wire }) t
-
-abbrev pub held : {l : Opening} {c : Connected} {t : Tale} → Holds l c t → Connected
-held {l} {c} {t} h = record { stream = h.stream; wire = c.wire }
+use Rattle.iw_laws.proofs.Owns.{Own, answers_part, first_fits, Emits, out_of, lives, all_spoken, word_unbroken, runs_unbroken, Unspoken, IsSmall, IsStartOf, past_start}
+use Rattle.iw_laws.proofs.Pools.{told_by, tale, tale_seen, Holds, PoolsSeen, HeldAt, next_held, pools_next, seen_held}
+use Rattle.iw_laws.proofs.Ends.{EndSeen, Opens, end_step, opens, opens_shared, opens_same, at_act, at_same, at_other, number_there, unopened, opening_none, opening_one}
 
 -- a stream at both ends, with what the acts say of each; if no octets strayed, what came is what the other end sent
 pub record Pair (l : Opening) (c : Connected) (t : Tale) (m : Opening) (d : Connected) (u : Tale) : Type 0 where
@@ -110,6 +99,19 @@ is_numbered table s (Accept private answer) rule = tt
 is_numbered table s (Reject private refused) rule = tt
 is_numbered table s (Work step) rule = tt
 is_numbered table s Break rule = tt
+
+numbered_at : (e : EndpointState) (n : ℕ) (act : StreamAct Octets) → StreamRule e.table (stream_for e n act) act → IsNumbered (stream_at e n).first act
+numbered_at e n (Work step) rule = tt
+numbered_at e n (Deliver from number octets delivery) rule = is_numbered e.table (stream_at e n) (Deliver from number octets delivery) rule
+numbered_at e n (Raw number octets delivery) rule = tt
+numbered_at e n (First number refused) rule = tt
+numbered_at e n (Recv len refused) rule = tt
+numbered_at e n (Post m refused) rule = tt
+numbered_at e n (Emit shown) rule = tt
+numbered_at e n (Mulpdu size refused) rule = tt
+numbered_at e n (Accept private answer) rule = tt
+numbered_at e n (Reject private refused) rule = tt
+numbered_at e n Break rule = tt
 
 neither : (a b : Bool) → (a || b) ≡ false → (a ≡ false) × (b ≡ false)
 neither true b h = absurd (true≢false h)
@@ -158,22 +160,6 @@ still_of t u (Work (seen.Terminated fault)) rule n h calm = h calm
 still_of t u (Work (seen.Fault fault)) rule n h calm = h calm
 still_of t u Break rule n h calm = h calm
 still_of t u (Work seen.Idle) rule n h calm = h calm
-
--- an act of the stream
-holding : (table : Table) (l : Opening) (c : Connected) (t : Tale) (act : StreamAct Octets) → StreamRule table c.stream act → Holds l c t → Holds l (connected_after table c act) (tale_after t act)
-holding table l c t act rule h =
-    let x = left_acts table c.stream h.stream t act h.is_left h.own.track rule in
-    record { stream = after_act h.stream act; is_left = x.1; own = owning l table (record { stream = h.stream; wire = c.wire }) t act x.0 h.own }
-
-streamed : (table : Table) (l : Opening) (c : Connected) (t : Tale) (m : Opening) (d : Connected) (u : Tale) (act : StreamAct Octets) → StreamRule table c.stream act → WireRule d.wire act → Pair l c t m d u
-    → Pair l (connected_after table c act) (tale_after t act) m d u
-streamed table l c t m d u act rule wire p = record {
-  own = holding table l c t act rule p.own;
-  own_peer = p.own_peer;
-  out = λ raw. of_more u.story.came t.sent (sent_by act) (p.out raw);
-  back = still_of t u act (subst (λ z. WireRule z act) p.own_peer.own.wire wire)
-      (subst (λ z. IsNumbered z act) (ap (λ (z : StreamState). z.first) p.own.is_left.has.same ∙ sym p.own.own.numbered.first) (is_numbered table c.stream act rule)) p.back;
-}
 
 -- ---- at the start, and at an opening
 
@@ -329,22 +315,36 @@ unfolding story
 nothing_of o octets = of_nothing octets
 
 -- a stream to which nothing has happened is opened
-reopened : (o l m : Opening) (c : Connected) (done : List (StreamAct Octets)) (d : Connected) (u : Tale) → length o.config.private.items ≤ 512 → done ≡ [] → Pair l c (tale_of l done) m d u → Pair o (connected o) (tale_of o []) m d u
-reopened o l m c done d u small none p = record {
+reopened : (o l m : Opening) (c : Connected) (shared : Bool) (queue : Receiving) (done : List (StreamAct Octets)) (d : Connected) (u : Tale) → length o.config.private.items ≤ 512 → done ≡ []
+    → Pair l c (told_by shared l done queue) m d u → Pair o (connected o) (tale_of o []) m d u
+reopened o l m c shared queue done d u small none p = record {
   own = no_holds o small;
   own_peer = p.own_peer;
   out = λ raw. subst (IsOf u.story.came) (ap sent none) (p.out raw);
   back = λ raw. nothing_of o u.sent;
 }
 
+first_told : (o : Opening) → told_by o.shared o [] sharing ≡ tale_of o []
+unfolding story
+first_told o = λ i. record (tale_of o []) { story = record (story o []) { receiving = go o.shared i } }
+  where
+    go : (b : Bool) → cond b sharing (first_queue b) ≡ first_queue b
+    go true = refl
+    go false = refl
+
+-- an act that is none of the stream leaves its queue
+same_queue : (n : ℕ) (done : List (Act Octets)) (act : Act Octets) → stream_acts_by n act ≡ [] → (pooling (done ++ act ∷ [])).queues n ≡ (pooling done).queues n
+same_queue n done act none = ap (λ (z : Pooling). z.queues n) (pooling-push done act) ∙ queue_other (pooled done) n act none
+
 -- an act that neither opens the stream nor is one of it
-same_stream : (s : EndState) (act : Act Octets) (n : ℕ) (done : List (Act Octets)) (m : Opening) (d : Connected) (u : Tale) → EndSeen s done → PlainEnd s.endpoint act → slice_index_or (streams_after s.endpoint.table s.endpoint.streams act) n None ≡ slice_index_or s.endpoint.streams n None → openings_by n act ≡ []
+same_stream : (s : EndState) (act : Act Octets) (n : ℕ) (done : List (Act Octets)) (m : Opening) (d : Connected) (u : Tale) → EndRule s.endpoint act → slice_index_or (streams_after s.endpoint act) n None ≡ slice_index_or s.endpoint.streams n None → openings_by n act ≡ []
     → stream_acts_by n act ≡ [] → Pair (opening_of n done) (connected_at s n) (tale n done) m d u → Pair (opening_of n (done ++ act ∷ [])) (connected_at (end_after s act) n) (tale n (done ++ act ∷ [])) m d u
-same_stream s act n done m d u k rule same closed none p =
+same_stream s act n done m d u rule same closed none p =
     let same_opening : opening_of n (done ++ act ∷ []) ≡ opening_of n done = ap opening_in (opens_same n done act closed) in
     let acts_are : stream_acts n (done ++ act ∷ []) ≡ stream_acts n done = stream_acts-push n done act ∙ ap (λ z. stream_acts n done ++ z) none ∙ append-nil (stream_acts n done) in
-    let left : stream_of s.endpoint n ≡ stream_of (end_after s act).endpoint n = sym same ∙ sym (at_act s.endpoint act n k.pools rule) in
-    moved m d u (sym same_opening) (λ i. record { stream = unwrap_or (left i) no_stream; wire = sym (wire_still s act n none) i }) (λ i. tale_of (sym same_opening i) (sym acts_are i)) p
+    let left : stream_of s.endpoint n ≡ stream_of (end_after s act).endpoint n = sym same ∙ sym (at_act s.endpoint act n rule) in
+    moved m d u (sym same_opening) (λ i. record { stream = unwrap_or (left i) no_stream; wire = sym (wire_still s act n none) i })
+    (λ i. told_by (sym same_opening i).shared (sym same_opening i) (sym acts_are i) (sym (same_queue n done act none) i)) p
 
 pub acts_none : (m n : ℕ) (act : StreamAct Octets) → eqb m n ≡ false → stream_acts_by n (Stream m act) ≡ []
 acts_none m n act e = ap (λ b. cond b (act ∷ []) []) e
@@ -352,67 +352,88 @@ acts_none m n act e = ap (λ b. cond b (act ∷ []) []) e
 pub acts_one : (m n : ℕ) (act : StreamAct Octets) → eqb m n ≡ true → stream_acts_by n (Stream m act) ≡ act ∷ []
 acts_one m n act e = ap (λ b. cond b (act ∷ []) []) e
 
--- one more act of a stream, in what is said of it
-pub tale_next : (n : ℕ) (done : List (Act Octets)) (m : ℕ) (act : StreamAct Octets) → eqb m n ≡ true → tale n (done ++ Stream m act ∷ []) ≡ tale_after (tale n done) act
-tale_next n done m act e =
-    (λ i. tale_of (opening_in (opens_same n done (Stream m act) refl i)) ((stream_acts-push n done (Stream m act) ∙ ap (λ z. stream_acts n done ++ z) (acts_one m n act e)) i))
-    ∙ tale-push (opening_of n done) (stream_acts n done) act
+-- one more act of a stream
+pub acts_next : (n : ℕ) (done : List (Act Octets)) (m : ℕ) (act : StreamAct Octets) → eqb m n ≡ true → stream_acts n (done ++ Stream m act ∷ []) ≡ stream_acts n done ++ act ∷ []
+acts_next n done m act e = stream_acts-push n done (Stream m act) ∙ ap (λ z. stream_acts n done ++ z) (acts_one m n act e)
+
+pub sent_next : (done : List (StreamAct Octets)) (act : StreamAct Octets) → sent (done ++ act ∷ []) ≡ sent done ++ sent_by act
+sent_next done act = ap (λ (t : Tale). t.sent) (tale-push no_opening done act)
 
 nothing_sent : sent [] ≡ []
 unfolding sent
 nothing_sent = refl
 
--- an act of an end, as each of its streams sees it
-acted : (s peer : EndState) (done : List (Act Octets)) (act : Act Octets) (n : ℕ) (l : Opening) (u : Tale) → EndSeen s done → Plain s peer act → Pair (opening_of n done) (connected_at s n) (tale n done) l (connected_at peer n) u
-    → Pair (opening_of n (done ++ act ∷ [])) (connected_at (end_after s act) n) (tale n (done ++ act ∷ [])) l (connected_at peer n) u
-acted s peer done (Domain pd None) n l u k rule p = same_stream s (Domain pd None) n done l (connected_at peer n) u k rule.0 refl refl refl p
-acted s peer done (Domain pd (Some refusal)) n l u k rule p = same_stream s (Domain pd (Some refusal)) n done l (connected_at peer n) u k rule.0 refl refl refl p
-acted s peer done (Register pd base rights octets answer) n l u k rule p = same_stream s (Register pd base rights octets answer) n done l (connected_at peer n) u k rule.0 refl refl refl p
-acted s peer done (Deregister stag answer) n l u k rule p = same_stream s (Deregister stag answer) n done l (connected_at peer n) u k rule.0 refl refl refl p
-acted s peer done (Invalidate stag refused) n l u k rule p = same_stream s (Invalidate stag refused) n done l (connected_at peer n) u k rule.0 refl refl refl p
-acted s peer done (Store stag to octets refused) n l u k rule p = same_stream s (Store stag to octets refused) n done l (connected_at peer n) u k rule.0 refl refl refl p
-acted s peer done (Open m pd role options private (Some refusal)) n l u k rule p = same_stream s (Open m pd role options private (Some refusal)) n done l (connected_at peer n) u k rule.0 refl refl refl p
-acted s peer done (Open m pd role options private None) n l u k rule p = go (eqb m n) refl
+-- a stream is opened
+opened_pair : (s : EndState) (done : List (Act Octets)) (act : Act Octets) (m n : ℕ) (o l : Opening) (d : Connected) (u : Tale) → EndSeen s done → EndRule s.endpoint act → Opens s m → length o.config.private.items ≤ 512 → openings_by n act ≡ cond (eqb m n) (o ∷ []) []
+    → streams_after s.endpoint act ≡ slice_set s.endpoint.streams m (Some (connected o).stream) → stream_acts_by n act ≡ [] → Pair (opening_of n done) (connected_at s n) (tale n done) l d u
+    → Pair (opening_of n (done ++ act ∷ [])) (connected_at (end_after s act) n) (tale n (done ++ act ∷ [])) l d u
+opened_pair s done act m n o l d u k rule new small one left silent p = go (eqb m n) refl
   where
-    act : Act Octets
-    act = Open m pd role options private None
-
-    go : (b : Bool) → eqb m n ≡ b → Pair (opening_of n (done ++ act ∷ [])) (connected_at (end_after s act) n) (tale n (done ++ act ∷ [])) l (connected_at peer n) u
-    go false e = same_stream s act n done l (connected_at peer n) u k rule.0 (at_other s m n (Some (connected (opening_by pd role options private)).stream) e) (opening_none (eqb m n) (opening_by pd role options private) e) refl p
+    go : (b : Bool) → eqb m n ≡ b → Pair (opening_of n (done ++ act ∷ [])) (connected_at (end_after s act) n) (tale n (done ++ act ∷ [])) l d u
+    go false e = same_stream s act n done l d u rule (ap (λ xs. slice_index_or xs n None) left ∙ at_other s m n (Some (connected o).stream) e) (one ∙ opening_none (eqb m n) o e) silent p
     go true e =
-        let o = opens s m pd rule.0 in
         let same : m ≡ n = eqb-true m n e in
-        let c : Connected = connected (opening_by pd role options private) in
-        let room : m < length s.endpoint.streams = omega (arith, o.number, k.numbers) in
-        let here : stream_of (end_after s act).endpoint n ≡ Some c.stream =
-        at_act s.endpoint act n k.pools rule.0 ∙ subst (λ j. slice_index_or (streams_after s.endpoint.table s.endpoint.streams act) j None ≡ Some c.stream) same (at_same s m c.stream room) in
-        let closed : has_stream s.endpoint n ≡ false = subst (λ j. has_stream s.endpoint j ≡ false) same o.fresh in
+        let room : m < length s.endpoint.streams = omega (arith, new.number, k.numbers) in
+        let here : stream_of (end_after s act).endpoint n ≡ Some (connected o).stream =
+        at_act s.endpoint act n rule ∙ ap (λ xs. slice_index_or xs n None) left ∙ subst (λ j. slice_index_or (slice_set s.endpoint.streams m (Some (connected o).stream)) j None ≡ Some (connected o).stream) same (at_same s m (connected o).stream room) in
+        let closed : has_stream s.endpoint n ≡ false = subst (λ j. has_stream s.endpoint j ≡ false) same new.fresh in
         let before : openings n done ≡ [] = unopened (openings n done) (sym (k.opened n) ∙ closed) in
-        let now : opening_of n (done ++ act ∷ []) ≡ opening_by pd role options private =
-        ap opening_in (openings-push n done act ∙ (λ i. before i ++ opening_one (eqb m n) (opening_by pd role options private) e i)) in
-        let silent : stream_acts n (done ++ act ∷ []) ≡ [] = stream_acts-push n done act ∙ ap (λ z. z ++ []) (k.unused n closed) in
-        let quiet : [] ≡ wire_at (end_after s act) n = sym (p.own.own.wire ∙ ap sent (k.unused n closed) ∙ nothing_sent) in
-        moved l (connected_at peer n) u (sym now) (λ i. record { stream = unwrap_or (sym here i) no_stream; wire = quiet i }) (λ i. tale_of (sym now i) (sym silent i))
-        (reopened (opening_by pd role options private) (opening_of n done) l (connected_at s n) (stream_acts n done) (connected_at peer n) u (omega (arith, length-take 512 private)) (k.unused n closed) p)
-acted s peer done (Stream m act) n l u k rule p = go (eqb m n) refl
+        let now : opening_of n (done ++ act ∷ []) ≡ o = ap opening_in (openings-push n done act ∙ (λ i. before i ++ (one ∙ opening_one (eqb m n) o e) i)) in
+        let none : stream_acts n (done ++ act ∷ []) ≡ [] = stream_acts-push n done act ∙ (λ i. k.unused n closed i ++ silent i) in
+        let queue : (pooling (done ++ act ∷ [])).queues n ≡ sharing = same_queue n done act silent ∙ queue_unused n done (k.unused n closed) in
+        let quiet : [] ≡ wire_at (end_after s act) n = sym (wire_still s act n silent ∙ p.own.own.wire ∙ ap sent (k.unused n closed) ∙ nothing_sent) in
+        moved l d u (sym now) (λ i. record { stream = unwrap_or (sym here i) no_stream; wire = quiet i }) (sym (first_told o) ∙ (λ i. told_by (sym now i).shared (sym now i) (sym none i) (sym queue i)))
+        (reopened o (opening_of n done) l (connected_at s n) (opening_of n done).shared ((pooling done).queues n) (stream_acts n done) d u small (k.unused n closed) p)
+
+-- an act of the stream itself
+acted_here : (s peer : EndState) (done : List (Act Octets)) (act : StreamAct Octets) (n : ℕ) (l : Opening) (u : Tale) → EndSeen s done → PoolsSeen s done → Rule s peer (Stream n act) → Pair (opening_of n done) (connected_at s n) (tale n done) l (connected_at peer n) u
+    → Pair (opening_of n (done ++ Stream n act ∷ [])) (connected_at (end_after s (Stream n act)) n) (tale n (done ++ Stream n act ∷ [])) l (connected_at peer n) u
+acted_here s peer done act n l u k pools rule p =
+    let o : Opening = opening_of n done in
+    let those : List (StreamAct Octets) = stream_acts n done in
+    let queue : Receiving = (pooling (done ++ Stream n act ∷ [])).queues n in
+    let there : n < length s.endpoint.streams = number_there s n rule.0.0 in
+    let one : eqb n n ≡ true = eq-eqb n n refl in
+    let opening_is : opening_of n (done ++ Stream n act ∷ []) ≡ o = ap opening_in (opens_same n done (Stream n act) refl) in
+    let acts_are : stream_acts n (done ++ Stream n act ∷ []) ≡ those ++ act ∷ [] = acts_next n done n act one in
+    let here : stream_of (end_after s (Stream n act)).endpoint n ≡ Some (left_at s.endpoint n act) = at_act s.endpoint (Stream n act) n rule.0 ∙ at_same s n (left_at s.endpoint n act) there in
+    let room : n < length s.wires = omega (arith, there, k.numbers, k.wires) in
+    let wire : WireRule u.sent act = subst (λ z. WireRule z act) p.own_peer.own.wire rule.1.1 in
+    let numbered : IsNumbered (tale_of o those).story.first act =
+    subst (λ z. IsNumbered z act) (ap (λ (z : StreamState). z.first) p.own.is_left.has.same ∙ sym p.own.own.numbered.first) (numbered_at s.endpoint n act rule.0.1) in
+    let next : Pair o (record { stream = left_at s.endpoint n act; wire = wire_at s n ++ sent_by act }) (told_by o.shared o (those ++ act ∷ []) queue) l (connected_at peer n) u = record {
+      own = next_held s done n act k pools rule.0.0 rule.0.1 p.own;
+      own_peer = p.own_peer;
+      out = λ raw. subst (IsOf u.story.came) (sym (sent_next those act)) (of_more u.story.came (sent those) (sent_by act) (p.out raw));
+      back = subst (λ (z : Tale). z.story.strays ≡ false → IsOf z.story.came u.sent) (sym (tale-push o those act)) (still_of (tale_of o those) u act wire numbered p.back);
+    } in
+    moved l (connected_at peer n) u (sym opening_is) (λ i. record { stream = unwrap_or (sym here i) no_stream; wire = wire_more s n n act refl room i })
+    (λ i. told_by (sym opening_is i).shared (sym opening_is i) (sym acts_are i) queue) next
+
+-- an act of an end, as each of its streams sees it
+acted : (s peer : EndState) (done : List (Act Octets)) (act : Act Octets) (n : ℕ) (l : Opening) (u : Tale) → EndSeen s done → PoolsSeen s done → Rule s peer act → Pair (opening_of n done) (connected_at s n) (tale n done) l (connected_at peer n) u
+    → Pair (opening_of n (done ++ act ∷ [])) (connected_at (end_after s act) n) (tale n (done ++ act ∷ [])) l (connected_at peer n) u
+acted s peer done (Domain pd refused) n l u k pools rule p = same_stream s (Domain pd refused) n done l (connected_at peer n) u rule.0 refl refl refl p
+acted s peer done (Register pd base rights octets answer) n l u k pools rule p = same_stream s (Register pd base rights octets answer) n done l (connected_at peer n) u rule.0 refl refl refl p
+acted s peer done (Deregister stag answer) n l u k pools rule p = same_stream s (Deregister stag answer) n done l (connected_at peer n) u rule.0 refl refl refl p
+acted s peer done (Invalidate stag refused) n l u k pools rule p = same_stream s (Invalidate stag refused) n done l (connected_at peer n) u rule.0 refl refl refl p
+acted s peer done (Store stag to octets refused) n l u k pools rule p = same_stream s (Store stag to octets refused) n done l (connected_at peer n) u rule.0 refl refl refl p
+acted s peer done (Share pd refused) n l u k pools rule p = same_stream s (Share pd refused) n done l (connected_at peer n) u rule.0 refl refl refl p
+acted s peer done (Pool pd len refused) n l u k pools rule p = same_stream s (Pool pd len refused) n done l (connected_at peer n) u rule.0 refl refl refl p
+acted s peer done (Unpool pd answer) n l u k pools rule p = same_stream s (Unpool pd answer) n done l (connected_at peer n) u rule.0 refl refl refl p
+acted s peer done (Open m pd role options private (Some refusal)) n l u k pools rule p = same_stream s (Open m pd role options private (Some refusal)) n done l (connected_at peer n) u rule.0 refl refl refl p
+acted s peer done (OpenShared m pd role options private (Some refusal)) n l u k pools rule p = same_stream s (OpenShared m pd role options private (Some refusal)) n done l (connected_at peer n) u rule.0 refl refl refl p
+acted s peer done (Open m pd role options private None) n l u k pools rule p =
+    opened_pair s done (Open m pd role options private None) m n (opening_by false pd role options private) l (connected_at peer n) u k rule.0 (opens s m pd rule.0) (omega (arith, length-take 512 private)) refl refl refl p
+acted s peer done (OpenShared m pd role options private None) n l u k pools rule p =
+    opened_pair s done (OpenShared m pd role options private None) m n (opening_by true pd role options private) l (connected_at peer n) u k rule.0 (opens_shared s m pd rule.0) (omega (arith, length-take 512 private)) refl refl refl p
+acted s peer done (Stream m act) n l u k pools rule p = go (eqb m n) refl
   where
     go : (b : Bool) → eqb m n ≡ b → Pair (opening_of n (done ++ Stream m act ∷ [])) (connected_at (end_after s (Stream m act)) n) (tale n (done ++ Stream m act ∷ [])) l (connected_at peer n) u
-    go false e = same_stream s (Stream m act) n done l (connected_at peer n) u k rule.0 (at_other s m n (Some (stream_after s.endpoint.table (stream_at s.endpoint m) act)) e) refl (acts_none m n act e) p
+    go false e = same_stream s (Stream m act) n done l (connected_at peer n) u rule.0 (at_other s m n (Some (left_at s.endpoint m act)) e) refl (acts_none m n act e) p
     go true e =
-        let same : m ≡ n = eqb-true m n e in
-        let x : StreamState = stream_after s.endpoint.table (stream_at s.endpoint m) act in
-        let there : m < length s.endpoint.streams = number_there s m rule.0.0 in
-        let here : stream_of (end_after s (Stream m act)).endpoint n ≡ Some x =
-        at_act s.endpoint (Stream m act) n k.pools rule.0 ∙ subst (λ j. slice_index_or (streams_after s.endpoint.table s.endpoint.streams (Stream m act)) j None ≡ Some x) same (at_same s m x there) in
-        let stream_is : stream_after s.endpoint.table (stream_at s.endpoint n) act ≡ stream_at (end_after s (Stream m act)).endpoint n =
-        ap (λ j. stream_after s.endpoint.table (stream_at s.endpoint j) act) (sym same) ∙ ap (λ z. unwrap_or z no_stream) (sym here) in
-        let room : n < length s.wires = omega (arith, there, same, k.numbers, k.wires) in
-        let is : connected_after s.endpoint.table (connected_at s n) act ≡ connected_at (end_after s (Stream m act)) n =
-        (λ i. record { stream = stream_is i; wire = wire_more s m n act same room i }) in
-        let own_rule : StreamRule s.endpoint.table (connected_at s n).stream act =
-        subst (λ j. StreamRule s.endpoint.table (connected_at s j).stream act) same rule.0.1 in
-        moved l (connected_at peer n) u (ap opening_in (sym (opens_same n done (Stream m act) refl))) is (sym (tale_next n done m act e))
-        (streamed s.endpoint.table (opening_of n done) (connected_at s n) (tale n done) l (connected_at peer n) u act own_rule (subst (λ j. WireRule (wire_at peer j) act) same rule.1.1) p)
+        subst (λ j. Rule s peer (Stream j act) → Pair (opening_of n (done ++ Stream j act ∷ [])) (connected_at (end_after s (Stream j act)) n) (tale n (done ++ Stream j act ∷ [])) l (connected_at peer n) u) (sym (eqb-true m n e))
+        (λ rule. acted_here s peer done act n l u k pools rule p) rule
 
 -- ---- what an act may emit
 
@@ -478,8 +499,9 @@ abbrev PairAt : EndState → List (Act Octets) → EndState → List (Act Octets
 PairAt s own peer others n = Pair (opening_of n own) (connected_at s n) (tale n own) (opening_of n others) (connected_at peer n) (tale n others)
 
 -- what the entries and the state have in common
-pub record Seen (trace : List (Entry Octets)) (w : State) : Type 0 where
+pub record Keeps (trace : List (Entry Octets)) (w : State) : Type 0 where
   pub ends : (x : End) → EndSeen (end_of x w) (acts x trace)
+  pub pools : (x : End) → PoolsSeen (end_of x w) (acts x trace)
   pub pairs : (x : End) (n : ℕ) → PairAt (end_of x w) (acts x trace) (end_of (other x) w) (acts (other x) trace) n
 
 changed : (x : End) (s : EndState) (w : State) → end_of x (with_end x s w) ≡ s
@@ -501,10 +523,9 @@ both P A here there B = there
 both P B here there A = there
 both P B here there B = here
 
-pub one_more : (trace : List (Entry Octets)) (w : State) (e : Entry Octets) → Seen trace w → Rule (end_of e.end w) (end_of (other e.end) w) e.act → Seen (trace ++ e ∷ []) (after_entry w e)
+pub one_more : (trace : List (Entry Octets)) (w : State) (e : Entry Octets) → Keeps trace w → Rule (end_of e.end w) (end_of (other e.end) w) e.act → Keeps (trace ++ e ∷ []) (after_entry w e)
 one_more trace w e k rule =
     let x : End = e.end in
-    let follows : Plain (end_of x w) (end_of (other x) w) e.act = plain (end_of x w) (end_of (other x) w) e.act (k.ends x).pools rule in
     let y : End = other e.end in
     let s : EndState = end_of x w in
     let s' : EndState = end_after s e.act in
@@ -514,25 +535,28 @@ one_more trace w e k rule =
     let mine : acts x (trace ++ e ∷ []) ≡ acts x trace ++ e.act ∷ [] = acts_mine trace e in
     let others : acts y (trace ++ e ∷ []) ≡ acts y trace = acts_other trace e in
     let E : End → Type 0 = λ v. EndSeen (end_of v w') (acts v (trace ++ e ∷ [])) in
-    let end_mine : E x = subst (λ z. EndSeen z (acts x (trace ++ e ∷ []))) (sym here) (subst (EndSeen s') (sym mine) (end_step s (end_of y w) (acts x trace) e.act (k.ends x) follows)) in
+    let end_mine : E x = subst (λ z. EndSeen z (acts x (trace ++ e ∷ []))) (sym here) (subst (EndSeen s') (sym mine) (end_step s (end_of y w) (acts x trace) e.act (k.ends x) rule)) in
     let end_other : E y = subst (λ z. EndSeen z (acts y (trace ++ e ∷ []))) (sym there) (subst (EndSeen (end_of y w)) (sym others) (k.ends y)) in
+    let Q : End → Type 0 = λ v. PoolsSeen (end_of v w') (acts v (trace ++ e ∷ [])) in
+    let pools_mine : Q x = subst (λ z. PoolsSeen z (acts x (trace ++ e ∷ []))) (sym here) (subst (PoolsSeen s') (sym mine) (pools_next s (acts x trace) e.act (k.ends x) (k.pools x) rule.0 (λ n. (k.pairs x n).own))) in
+    let pools_other : Q y = subst (λ z. PoolsSeen z (acts y (trace ++ e ∷ []))) (sym there) (subst (PoolsSeen (end_of y w)) (sym others) (k.pools y)) in
     let D : End → List (Act Octets) = λ v. acts v (trace ++ e ∷ []) in
     let P : End → Type 0 = λ v. (n : ℕ) → PairAt (end_of v w') (D v) (end_of (other v) w') (D (other v)) n in
     let pair_mine : P x = λ n.
     let next : PairAt s' (acts x trace ++ e.act ∷ []) (end_of y w) (acts y trace) n =
-    acted s (end_of y w) (acts x trace) e.act n (opening_of n (acts y trace)) (tale n (acts y trace)) (k.ends x) follows (k.pairs x n) in
+    acted s (end_of y w) (acts x trace) e.act n (opening_of n (acts y trace)) (tale n (acts y trace)) (k.ends x) (k.pools x) rule (k.pairs x n) in
     subst (λ z. PairAt z (D x) (end_of y w') (D y) n) (sym here)
     (subst (λ z. PairAt s' z (end_of y w') (D y) n) (sym mine)
     (subst (λ z. PairAt s' (acts x trace ++ e.act ∷ []) z (D y) n) (sym there)
     (subst (λ z. PairAt s' (acts x trace ++ e.act ∷ []) (end_of y w) z n) (sym others) next))) in
     let pair_other : P y = λ n. subst (λ v. PairAt (end_of y w') (D y) (end_of v w') (D v) n) (sym (twice x)) (swapped (pair_mine n)) in
-    record { ends = both E x end_mine end_other; pairs = both P x pair_mine pair_other }
+    record { ends = both E x end_mine end_other; pools = both Q x pools_mine pools_other; pairs = both P x pair_mine pair_other }
 
 -- from a moment on, to the end of what follows the rules
-pub onward : (past rest : List (Entry Octets)) (w : State) → Seen past w → Follows w rest → Seen (past ++ rest) (state_after w rest)
-onward past [] w k follows = subst (λ p. Seen p w) (sym (append-nil past)) k
+pub onward : (past rest : List (Entry Octets)) (w : State) → Keeps past w → Follows w rest → Keeps (past ++ rest) (state_after w rest)
+onward past [] w k follows = subst (λ p. Keeps p w) (sym (append-nil past)) k
 onward past (e ∷ rest) w k follows =
-    subst (λ p. Seen p (state_after (after_entry w e) rest)) (append_assoc past (e ∷ []) rest)
+    subst (λ p. Keeps p (state_after (after_entry w e) rest)) (append_assoc past (e ∷ []) rest)
     (onward (past ++ e ∷ []) rest (after_entry w e) (one_more past w e k follows.0) follows.1)
 
 -- the first entries follow the rules, and so do the others from there on
@@ -580,11 +604,12 @@ fresh_end : (x : End) → EndSeen at_first (acts x [])
 unfolding acts openings stream_acts table_after no_streams no_wires
 fresh_end x = record {
   table = refl;
-  pools = refl;
+  domains = fresh_domains;
   numbers = refl;
   wires = refl;
   opened = λ n. ap is_some (none_at n);
   domain = λ n h. absurd (false≢true (ap is_some (sym (none_at n)) ∙ h));
+  pooled = λ n h. absurd (false≢true (ap is_some (sym (none_at n)) ∙ h));
   unused = λ n h. refl;
 }
 
@@ -601,9 +626,26 @@ start_at : (n : ℕ) (x : End) → unconnected ≡ connected_at (end_of x start)
 start_at n A = λ i. record { stream = unwrap_or (sym (none_at n) i) no_stream; wire = sym (no_wire n) i }
 start_at n B = λ i. record { stream = unwrap_or (sym (none_at n) i) no_stream; wire = sym (no_wire n) i }
 
-pub unsaid : Seen [] start
-unsaid = record { ends = start_end; pairs = start_pair }
+no_pool_at : (d : ℕ) → slice_index_or no_pools d None ≡ None
+unfolding no_pools
+no_pool_at d = none_in 256 d
   where
+    none_in : (k d : ℕ) → slice_index_or (replicate {A = Option PoolOf} k None) d None ≡ None
+    none_in zero d = refl
+    none_in (suc k) zero = refl
+    none_in (suc k) (suc d) = none_in k d
+
+pooled_none : (d : ℕ) (x : End) → None ≡ pool_by d (acts x [])
+unfolding acts pooling
+pooled_none d x = refl
+
+pub unsaid : Keeps [] start
+unsaid = record { ends = start_end; pools = start_pools; pairs = start_pair }
+  where
+    start_pools : (x : End) → PoolsSeen (end_of x start) (acts x [])
+    start_pools A d = no_pool_at d ∙ pooled_none d A
+    start_pools B d = no_pool_at d ∙ pooled_none d B
+
     start_end : (x : End) → EndSeen (end_of x start) (acts x [])
     start_end A = fresh_end A
     start_end B = fresh_end B
@@ -613,8 +655,46 @@ unsaid = record { ends = start_end; pairs = start_pair }
         moved (opening_of n (acts (other x) [])) (connected_at (end_of (other x) start) n) (tale n (acts (other x) [])) (nothing_opened n x) (start_at n x) (nothing_said n x)
         (swapped (moved no_opening unconnected (tale_of no_opening []) (nothing_opened n (other x)) (start_at n (other x)) (nothing_said n (other x)) no_pair))
 
+-- ---- what a law sees of it: the pool of its domain is lent to each stream
+
+shared_is : (s : EndState) (done : List (Act Octets)) (n : ℕ) → EndSeen s done → shares (stream_at s.endpoint n) ≡ (opening_of n done).shared
+shared_is s done n k = go (stream_of s.endpoint n) refl
+  where
+    go : (o : Option StreamState) → stream_of s.endpoint n ≡ o → shares (stream_at s.endpoint n) ≡ (opening_of n done).shared
+    go (Some x) e = k.pooled n (ap is_some e)
+    go None e = ap (λ z. shares (unwrap_or z no_stream)) e ∙ ap (λ os. (opening_in os).shared) (sym (unopened (openings n done) (sym (k.opened n) ∙ ap is_some e)))
+
+pool_is : (s : EndState) (done : List (Act Octets)) (n : ℕ) → EndSeen s done → PoolsSeen s done → (opening_of n done).shared ≡ true → pool_of s.endpoint (stream_at s.endpoint n).domain ≡ pool_by (domain_of n done) done
+pool_is s done n k pools shared = go (has_stream s.endpoint n) refl
+  where
+    go : (b : Bool) → has_stream s.endpoint n ≡ b → pool_of s.endpoint (stream_at s.endpoint n).domain ≡ pool_by (domain_of n done) done
+    go true e = pools (stream_at s.endpoint n).domain ∙ ap (λ d. pool_by d done) (k.domain n e)
+    go false e = absurd (false≢true (ap (λ os. (opening_in os).shared) (sym (unopened (openings n done) (sym (k.opened n) ∙ e))) ∙ shared))
+
+abbrev PairSeenAt : EndState → List (Act Octets) → EndState → List (Act Octets) → ℕ → Type 0
+PairSeenAt s own peer others n = Pair (opening_of n own) (connected_seen s n) (tale_seen n own) (opening_of n others) (connected_seen peer n) (tale_seen n others)
+
+pub record Seen (trace : List (Entry Octets)) (w : State) : Type 0 where
+  pub ends : (x : End) → EndSeen (end_of x w) (acts x trace)
+  pub pools : (x : End) → PoolsSeen (end_of x w) (acts x trace)
+  pub pairs : (x : End) (n : ℕ) → PairSeenAt (end_of x w) (acts x trace) (end_of (other x) w) (acts (other x) trace) n
+
+keeps_seen : (trace : List (Entry Octets)) (w : State) → Keeps trace w → Seen trace w
+keeps_seen trace w k = record {
+  ends = k.ends;
+  pools = k.pools;
+  pairs = λ x n.
+      let p = k.pairs x n in
+      let seen_so : (v : End) → HeldAt (end_of v w) (acts v trace) n → Holds (opening_of n (acts v trace)) (connected_seen (end_of v w) n) (tale_seen n (acts v trace)) =
+      λ v h. seen_held (end_of v w) (acts v trace) n (shared_is (end_of v w) (acts v trace) n (k.ends v)) (pool_is (end_of v w) (acts v trace) n (k.ends v) (k.pools v)) h in
+      record { own = seen_so x p.own; own_peer = seen_so (other x) p.own_peer; out = p.out; back = p.back };
+}
+
 pub seen_at : (past future trace : List (Entry Octets)) → Follows start trace → trace ≡ past ++ future → Seen past (state_after start past)
-seen_at past future trace follows is = onward [] past start unsaid (follows_split past future start (subst (Follows start) is follows)).0
+seen_at past future trace follows is = keeps_seen past (state_after start past) (onward [] past start unsaid (follows_split past future start (subst (Follows start) is follows)).0)
+
+pub keeps_after : (trace : List (Entry Octets)) → Follows start trace → Keeps trace (state_after start trace)
+keeps_after trace follows = onward [] trace start unsaid follows
 
 pub seen_after : (trace : List (Entry Octets)) → Follows start trace → Seen trace (state_after start trace)
-seen_after trace follows = onward [] trace start unsaid follows
+seen_after trace follows = keeps_seen trace (state_after start trace) (keeps_after trace follows)

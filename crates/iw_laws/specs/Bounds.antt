@@ -2,7 +2,7 @@
 use Rattle.std.specs.Prelude.{◌≡◌, ℕ, ◌+◌, ◌<◌, ◌≤◌, ◌^◌, ◌⊎◌, true, false, List, length}
 use Rattle.iw_events.specs.declared.call.End.{End}
 use Rattle.iw_events.specs.declared.call.Call.{Call}
-use Rattle.iw_events.specs.declared.call.Call.TheVariants.{Domain, Register, Deregister, Invalidate, Store, Open, Stream}
+use Rattle.iw_events.specs.declared.call.Call.TheVariants.{Domain, Register, Deregister, Invalidate, Store, Open, Share, Pool, Unpool, OpenShared, Stream}
 use Rattle.iw_events.specs.declared.call.StreamCall.{StreamCall}
 use Rattle.iw_events.specs.declared.call.StreamCall.TheVariants.{Recv, Post, Emit, First, Deliver, Raw, Mulpdu, Accept, Reject, Work, Break}
 use Rattle.iw_stream.specs.Stream.{StreamState}
@@ -47,6 +47,10 @@ IsOfStream P (Deregister stag) = ⊥
 IsOfStream P (Invalidate stag) = ⊥
 IsOfStream P (Store stag to octets) = ⊥
 IsOfStream P (Open n pd role options private) = ⊥
+IsOfStream P (Share pd) = ⊥
+IsOfStream P (Pool pd len) = ⊥
+IsOfStream P (Unpool pd) = ⊥
+IsOfStream P (OpenShared n pd role options private) = ⊥
 
 -- the call needs a stream that was not opened
 abbrev pub LacksStream : EndState → EndState → Call Octets → Type 0

@@ -1,6 +1,6 @@
 -- How each call is answered, and what becomes of octets that come.
 use Rattle.std.specs.Prelude.{◌≡◌, ℕ, ◌+◌, ◌-◌, ◌%◌, ◌^◌, ◌≤◌, nat_le, nat_lt, not, ◌&&◌, ◌||◌, Bool, true, false, List, ◌∷◌, ◌++◌, length, take, drop, if◌then◌else◌, Option, Some, None, Result, Ok, Err, IfOk}
-use Rattle.std.specs.Option.{option_map_or}
+use Rattle.std.specs.Option.{option_map, option_map_or, option_or}
 use Rattle.std.specs.Result.{result_err}
 use Rattle.iw_octets.specs.declared.stag.Stag.{Stag}
 use Rattle.iw_memory.specs.declared.refusal.NoRegion.{NoRegion}
@@ -23,14 +23,16 @@ use Rattle.iw_stream.specs.declared.answer.OpenRefusal.TheVariants.{NumberTaken,
 use Rattle.iw_stream.specs.Starting.{is_open, is_asked, agreement_in}
 use Rattle.iw_stream.specs.Stream.{size_refusal}
 use Rattle.iw_untagged.specs.Receiving.{is_full, is_shared}
-use Rattle.iw_endpoint.specs.Endpoint.{stream_numbers}
+use Rattle.iw_endpoint.specs.declared.refusal.OpenSharedRefusal.{OpenSharedRefusal}
+use Rattle.iw_endpoint.specs.Endpoint.{stream_numbers, share_fault, pool_fault, take_fault, taken, open_shared_refusal_of, unshared}
+use Rattle.iw_endpoint.specs.Isolation.{answer_or}
 use Rattle.iw_events.specs.declared.act.Act.{Act}
-use Rattle.iw_events.specs.declared.act.Act.TheVariants.{Domain, Register, Deregister, Invalidate, Store, Open, Stream}
+use Rattle.iw_events.specs.declared.act.Act.TheVariants.{Domain, Register, Deregister, Invalidate, Store, Open, Share, Pool, Unpool, OpenShared, Stream}
 use Rattle.iw_events.specs.declared.act.StreamAct.{StreamAct}
 use Rattle.iw_events.specs.declared.act.StreamAct.TheVariants.{Recv, Post, Emit, First, Deliver, Raw, Mulpdu, Accept, Reject, Work, Break}
 use Rattle.iw_events.specs.declared.act.Entry.{Entry}
 use Rattle.iw_laws.specs.Words.{Octets, Coming, other, acts, deed, stream_acts, openings, was_opened, posted, handed_kinds, ended, sent, table_after}
-use Rattle.iw_laws.specs.Turns.{Story, story_of, in_order_point, landed}
+use Rattle.iw_laws.specs.Turns.{Story, story_of, pool_by, in_order_point, landed}
 use Rattle.iw_laws.specs.Words.{OnSome, OnStream, AtEach}
 
 -- ---- the calls of an end
@@ -54,6 +56,10 @@ open_refusal_by before n pd =
     else if not (is_added (table_after before) pd) then Some NoDomain
     else None
 
+-- that the domain has no pool comes after all else
+abbrev pub open_shared_refusal_by : List (Act Octets) → ℕ → ℕ → Option OpenSharedRefusal
+open_shared_refusal_by before n pd = option_or (option_map open_shared_refusal_of (open_refusal_by before n pd)) (unshared (pool_by pd before))
+
 -- by what was done at the end before
 abbrev pub EndAnswered : List (Act Octets) → Act Octets → Type 0
 EndAnswered before (Domain pd refused) = refused ≡ domain_refusal (table_after before) pd
@@ -63,9 +69,13 @@ EndAnswered before (Deregister stag answer) = answer ≡ deregister_answer (tabl
 EndAnswered before (Invalidate stag refused) = refused ≡ invalidate_refusal (table_after before) stag
 EndAnswered before (Store stag to octets refused) = refused ≡ store_refusal (table_after before) stag to (length octets)
 EndAnswered before (Open n pd role options private refused) = refused ≡ open_refusal_by before n pd
+EndAnswered before (Share pd refused) = refused ≡ share_fault (is_added (table_after before) pd) (pool_by pd before)
+EndAnswered before (Pool pd len refused) = refused ≡ pool_fault (is_added (table_after before) pd) (pool_by pd before)
+EndAnswered before (Unpool pd answer) = answer ≡ answer_or (take_fault (is_added (table_after before) pd) (pool_by pd before)) (taken (pool_by pd before))
+EndAnswered before (OpenShared n pd role options private refused) = refused ≡ open_shared_refusal_by before n pd
 EndAnswered before (Stream n act) = Unit {0}
 
--- each call of an end is answered by its regions and streams, as the entries before it leave them
+-- each call of an end is answered by its regions, pools and streams, as the entries before it leave them
 abbrev pub ShowsMemory : List (Entry Octets) → Type 0
 ShowsMemory = AtEach EndAnswered
 

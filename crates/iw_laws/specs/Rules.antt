@@ -21,7 +21,7 @@ use Rattle.iw_events.specs.declared.call.StreamCall.{StreamCall}
 use Rattle.iw_events.specs.declared.call.StreamCall.TheVariants as stream_calls
 use Rattle.iw_events.specs.Events.{stream_call_of}
 use Rattle.iw_events.specs.declared.act.Act.{Act}
-use Rattle.iw_events.specs.declared.act.Act.TheVariants.{Domain, Register, Deregister, Invalidate, Store, Open, Stream}
+use Rattle.iw_events.specs.declared.act.Act.TheVariants.{Domain, Register, Deregister, Invalidate, Store, Open, Share, Pool, Unpool, OpenShared, Stream}
 use Rattle.iw_events.specs.declared.act.StreamAct.{StreamAct}
 use Rattle.iw_events.specs.declared.act.StreamAct.TheVariants.{Recv, Post, Emit, First, Deliver, Raw, Mulpdu, Accept, Reject, Work, Break}
 use Rattle.iw_events.specs.declared.act.Shown.{Shown}
@@ -29,7 +29,7 @@ use Rattle.iw_events.specs.declared.act.Shown.TheVariants.{Frame, Fetched, Fault
 use Rattle.iw_events.specs.declared.act.Seen.{Seen}
 use Rattle.iw_events.specs.declared.act.Seen.TheVariants as seen
 use Rattle.iw_events.specs.declared.act.Entry.{Entry}
-use Rattle.iw_endpoint.specs.Endpoint.{EndpointState, fresh, has_stream, stream_at, stream_numbers, pool_of, lent_to, domain_refusal, store_refusal, open_refusal, unasked}
+use Rattle.iw_endpoint.specs.Endpoint.{EndpointState, fresh, has_stream, stream_at, stream_numbers, pool_of, lent_to, domain_refusal, store_refusal, open_refusal, share_refusal, pool_refusal, take_refusal, taken_at, open_shared_refusal, unasked}
 use Rattle.iw_endpoint.specs.Isolation as calls
 use Rattle.iw_endpoint.specs.Isolation.{answer_or, after}
 use Rattle.iw_laws.specs.Words.{Octets, other, deed, octets_shown, config_for, private_data}
@@ -157,6 +157,10 @@ EndRule e (Deregister stag answer) = answer ≡ deregister_answer e.table stag
 EndRule e (Invalidate stag refused) = refused ≡ invalidate_refusal e.table stag
 EndRule e (Store stag to octets refused) = refused ≡ store_refusal e stag to (length octets)
 EndRule e (Open n pd role options private refused) = refused ≡ open_refusal e n pd
+EndRule e (Share pd refused) = refused ≡ share_refusal e pd
+EndRule e (Pool pd len refused) = refused ≡ pool_refusal e pd
+EndRule e (Unpool pd answer) = answer ≡ answer_or (take_refusal e pd) (taken_at e pd)
+EndRule e (OpenShared n pd role options private refused) = refused ≡ open_shared_refusal e n pd
 EndRule e (Stream n act) = (has_stream e n ≡ true) × StreamRule e.table (stream_for e n act) act
 
 -- what the other end has to do with it
@@ -192,6 +196,10 @@ call_made (Deregister stag answer) = calls.Deregister stag
 call_made (Invalidate stag refused) = calls.Invalidate stag
 call_made (Store stag to octets refused) = calls.Store stag to octets
 call_made (Open n pd role options private refused) = calls.Open n pd role (config_for options private)
+call_made (Share pd refused) = calls.Share pd
+call_made (Pool pd len refused) = calls.PostShared pd (replicate len 0)
+call_made (Unpool pd answer) = calls.TakeShared pd
+call_made (OpenShared n pd role options private refused) = calls.OpenShared n pd role (config_for options private)
 call_made (Stream n act) = calls.AtStream n (stream_call_made act)
 
 -- what is emitted goes out after what was

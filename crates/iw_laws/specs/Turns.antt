@@ -28,7 +28,7 @@ use Rattle.iw_locate.specs.declared.judged.State.TheVariants as states
 use Rattle.iw_locate.specs.Free.{Scene, scene_of, front_of}
 use Rattle.iw_locate.specs.Lowest.{overlaps_placed, early_place}
 use Rattle.iw_locate.specs.Records.{added, kept_from}
-use Rattle.iw_untagged.specs.Receiving.{Receiving, nothing_received, with_buffer, written, finished, flushed, oldest}
+use Rattle.iw_untagged.specs.Receiving.{Receiving, nothing_received, sharing, seeing, exchanged, with_buffer, written, finished, flushed, oldest}
 use Rattle.iw_startup.specs.declared.config.Agreed.{Agreed}
 use Rattle.iw_startup.specs.declared.progress.Progress.{Progress}
 use Rattle.iw_startup.specs.declared.progress.Progress.TheVariants as progress
@@ -46,6 +46,7 @@ use Rattle.iw_stream.specs.Terminating.{terminate_judged, terminate_turned, term
 use Rattle.iw_stream.specs.Starting.{StartState, start_at_first, is_open, sending, expecting, first_place_in, first_place_out, is_responder, awaits_frame, progress_in, heard, private_in, agreement_in, answered_with}
 use Rattle.iw_stream.specs.Work.{clash_fault}
 use Rattle.iw_events.specs.declared.act.Act.{Act}
+use Rattle.iw_events.specs.declared.act.Act.TheVariants.{Domain, Register, Deregister, Invalidate, Store, Open, Share, Pool, Unpool, OpenShared, Stream}
 use Rattle.iw_events.specs.declared.act.StreamAct.{StreamAct}
 use Rattle.iw_events.specs.declared.act.Shown.{Shown}
 use Rattle.iw_events.specs.declared.act.Shown.TheVariants as shows
@@ -100,7 +101,7 @@ pub record Story : Type 0 where
   pub turns : ℕ  -- how many frames had their turn
   pub placed : Bool  -- the frame whose turn is next was placed, when those before it had had theirs
   pub early : List EarlyRecord  -- the frames that were judged before their turn, from the in-order point on, lowest first
-  pub receiving : Receiving  -- the receive buffers, with what was placed in them
+  pub receiving : Receiving  -- the receive buffers, with what was placed in them, and the pool that they come from, where they do
   pub whole : ℕ  -- how many of the messages that were posted went out to their last frame
   pub reads : List Outstanding  -- the Reads whose requests went out, and the last frames of whose responses had no turn
   pub answered : ℕ  -- how many Reads went before them
@@ -319,6 +320,10 @@ story_called t act = record t {
 abbrev pub story_after : Story → StreamAct Octets → Story
 story_after t act = option_map_or (story_seen t) (deed act).step (option_map_or (story_shown t) (deed act).shown (story_called t act))
 
+-- nothing was received, and no buffer is posted, or bound
+abbrev pub first_queue : Bool → Receiving
+first_queue shared = record nothing_received { source = if shared then sharing.source else nothing_received.source }
+
 -- of a stream that was opened so
 abbrev pub untold : Opening → Story
 untold o = record {
@@ -330,7 +335,7 @@ untold o = record {
   turns = 0;
   placed = false;
   early = [];
-  receiving = nothing_received;
+  receiving = first_queue o.shared;
   whole = 0;
   reads = [];
   answered = 0;
@@ -343,6 +348,79 @@ untold o = record {
 
 unfoldable pub story : Opening → List (StreamAct Octets) → Story
 story o done = fold story_after (untold o) done
+
+-- ---- receive buffers that come from a pool
+
+-- by the acts of the stream alone, which do not tell of the pool
+abbrev pub story_alone : ℕ → List (Act Octets) → Story
+story_alone n before = story (opening_of n before) (stream_acts n before)
+
+-- a pool, if there is one, is lent to a queue
+abbrev pub lent_in : Option (List Octets) → Receiving → Receiving
+lent_in pool r = record r { source = option_map_or (seeing r.source) pool r.source }
+
+-- what the acts of an end say of the pools of its domains, and of the queues of the streams that share them
+pub record Pooling : Type 0 where
+  pub done : List (Act Octets)
+  pub pools : ℕ → Option (List Octets)  -- by domain: the buffers posted to it and neither taken nor bound to a message, oldest first
+  pub queues : ℕ → Receiving  -- by stream: the buffers bound to its messages, with what was placed in them; no pool is lent to it
+
+-- no domain has a pool
+abbrev pub nothing_pooled : Pooling
+nothing_pooled = record { done = []; pools = λ d. None; queues = λ n. sharing }
+
+-- the same, but that there is this at one number
+abbrev pub put_at : {A : Type 0} → (ℕ → A) → ℕ → A → ℕ → A
+put_at f n x m = if n == m then x else f m
+
+-- a queue, and the pool that was lent to it, once that is taken back for what the queue held before
+abbrev pub taken_back : Option (List Octets) → Receiving → Receiving → Receiving
+taken_back pool before after =
+    record after { source = option_map_or (λ p. seeing after.source (exchanged before.source p)) pool after.source }
+
+abbrev pub pool_back : Option (List Octets) → Receiving → Receiving → Option (List Octets)
+pool_back pool before after = option_map (λ p. exchanged after.source (exchanged before.source p)) pool
+
+-- a step of a stream: the pool of its domain is lent to its queue
+abbrev pub queue_seen : Pooling → ℕ → Seen Octets → Receiving
+queue_seen p n step = (story_seen (record (story_alone n p.done) { receiving = lent_in (p.pools (domain_of n p.done)) (p.queues n) }) step).receiving
+
+abbrev pub pooling_seen : Pooling → ℕ → Seen Octets → Pooling
+pooling_seen p n step = record p {
+  pools = put_at p.pools (domain_of n p.done) (pool_back (p.pools (domain_of n p.done)) (p.queues n) (queue_seen p n step));
+  queues = put_at p.queues n (taken_back (p.pools (domain_of n p.done)) (p.queues n) (queue_seen p n step));
+}
+
+abbrev pub pooling_by : Pooling → Act Octets → Pooling
+pooling_by p (Share pd None) = record p { pools = put_at p.pools pd (Some []) }
+pooling_by p (Share pd (Some refusal)) = p
+pooling_by p (Pool pd len None) = record p { pools = put_at p.pools pd (option_map (λ pool. pool ++ replicate len 0 ∷ []) (p.pools pd)) }
+pooling_by p (Pool pd len (Some refusal)) = p
+pooling_by p (Unpool pd (Ok buffer)) = record p { pools = put_at p.pools pd (option_map (drop 1) (p.pools pd)) }
+pooling_by p (Unpool pd (Err refusal)) = p
+pooling_by p (Stream n act) = if (opening_of n p.done).shared then option_map_or (pooling_seen p n) (deed act).step p else p
+pooling_by p (Domain pd refused) = p
+pooling_by p (Register pd base rights octets answer) = p
+pooling_by p (Deregister stag answer) = p
+pooling_by p (Invalidate stag refused) = p
+pooling_by p (Store stag to octets refused) = p
+pooling_by p (Open n pd role options private refused) = p
+pooling_by p (OpenShared n pd role options private refused) = p
+
+abbrev pub pooling_after : Pooling → Act Octets → Pooling
+pooling_after p act = record (pooling_by p act) { done = p.done ++ act ∷ [] }
+
+unfoldable pub pooling : List (Act Octets) → Pooling
+pooling done = fold pooling_after nothing_pooled done
+
+-- the pool of a domain, if it has one
+abbrev pub pool_by : ℕ → List (Act Octets) → Option (List Octets)
+pool_by d before = (pooling before).pools d
+
+-- the queue of a stream: where it shares a pool, with that lent to it
+abbrev pub receiving_of : ℕ → List (Act Octets) → Receiving
+receiving_of n before =
+    if (opening_of n before).shared then lent_in (pool_by (domain_of n before) before) ((pooling before).queues n) else (story_alone n before).receiving
 
 -- ---- how a frame is answered
 
@@ -416,8 +494,9 @@ private_heard t = private_in (hears t).start
 
 -- ---- the law
 
+-- at the next act of a stream
 abbrev pub story_of : ℕ → List (Act Octets) → Story
-story_of n before = story (opening_of n before) (stream_acts n before)
+story_of n before = record (story_alone n before) { receiving = receiving_of n before }
 
 abbrev pub standing : ℕ → List (Act Octets) → Standing
 standing n before =

@@ -27,7 +27,7 @@ use Rattle.iw_startup.specs.declared.side.Reply.TheVariants as replies
 use Rattle.iw_stream.specs.declared.answer.Role.{Role}
 use Rattle.iw_stream.specs.declared.answer.Role.TheVariants.{Preset}
 use Rattle.iw_events.specs.declared.act.Act.{Act}
-use Rattle.iw_events.specs.declared.act.Act.TheVariants.{Domain, Register, Deregister, Invalidate, Store, Open, Stream}
+use Rattle.iw_events.specs.declared.act.Act.TheVariants.{Domain, Register, Deregister, Invalidate, Store, Open, Share, Pool, Unpool, OpenShared, Stream}
 use Rattle.iw_events.specs.declared.act.StreamAct.{StreamAct}
 use Rattle.iw_events.specs.declared.act.StreamAct.TheVariants.{Recv, Post, Emit, First, Deliver, Raw, Mulpdu, Accept, Reject, Work, Break}
 use Rattle.iw_events.specs.declared.act.Shown.{Shown}
@@ -64,6 +64,10 @@ of_stream (Deregister stag answer) = None
 of_stream (Invalidate stag refused) = None
 of_stream (Store stag to octets refused) = None
 of_stream (Open number pd role options private refused) = None
+of_stream (Share pd refused) = None
+of_stream (Pool pd len refused) = None
+of_stream (Unpool pd answer) = None
+of_stream (OpenShared number pd role options private refused) = None
 
 abbrev pub stream_acts_by : ℕ → Act Octets → List (StreamAct Octets)
 stream_acts_by n act = option_map_or (λ x. if x.0 == n then x.1 ∷ [] else []) (of_stream act) []
@@ -73,11 +77,12 @@ stream_acts n done = flat_map (stream_acts_by n) done
 
 -- ---- a stream that was opened
 
--- in which domain, in which role, and what the end asked for
+-- in which domain, in which role, what the end asked for, and whether its receive buffers come from the pool of its domain
 pub record Opening : Type 0 where
   pub domain : ℕ
   pub role : Role
   pub config : Config
+  pub shared : Bool
 
 -- private data as a start-up frame has it, which has room for 512 octets
 abbrev pub private_data : Octets → ArrayVec ℕ
@@ -87,7 +92,11 @@ abbrev pub config_for : Options → Octets → Config
 config_for options private = record { markers = options.markers; crc = options.crc; private = private_data private }
 
 abbrev pub openings_by : ℕ → Act Octets → List Opening
-openings_by n (Open number pd role options private None) = if number == n then record { domain = pd; role = role; config = config_for options private } ∷ [] else []
+openings_by n (Open number pd role options private None) =
+    if number == n then record { domain = pd; role = role; config = config_for options private; shared = false } ∷ [] else []
+openings_by n (OpenShared number pd role options private None) =
+    if number == n then record { domain = pd; role = role; config = config_for options private; shared = true } ∷ [] else []
+openings_by n (OpenShared number pd role options private (Some refusal)) = []
 openings_by n (Open number pd role options private (Some refusal)) = []
 openings_by n (Stream number act) = []
 openings_by n (Domain pd refused) = []
@@ -95,6 +104,9 @@ openings_by n (Register pd base rights octets answer) = []
 openings_by n (Deregister stag answer) = []
 openings_by n (Invalidate stag refused) = []
 openings_by n (Store stag to octets refused) = []
+openings_by n (Share pd refused) = []
+openings_by n (Pool pd len refused) = []
+openings_by n (Unpool pd answer) = []
 
 -- the openings of the stream: one, where it was opened
 unfoldable pub openings : ℕ → List (Act Octets) → List Opening
@@ -106,7 +118,7 @@ was_opened (opening ∷ others) = true
 
 -- what stands for an opening where there was none
 abbrev pub no_opening : Opening
-no_opening = record { domain = 0; role = Preset; config = record { markers = false; crc = false; private = record { items = [] } } }
+no_opening = record { domain = 0; role = Preset; config = record { markers = false; crc = false; private = record { items = [] } }; shared = false }
 
 abbrev pub opening_in : List Opening → Opening
 opening_in [] = no_opening
@@ -371,6 +383,10 @@ table_by table (Invalidate stag (Some refusal)) = table
 table_by table (Store stag to octets None) = put table stag to octets
 table_by table (Store stag to octets (Some refusal)) = table
 table_by table (Open number pd role options private refused) = table
+table_by table (Share pd refused) = table
+table_by table (Pool pd len refused) = table
+table_by table (Unpool pd answer) = table
+table_by table (OpenShared number pd role options private refused) = table
 table_by table (Stream number act) = table_by_stream table act
 
 -- the regions of an end: what was registered, less what was deregistered, with what was stored and placed, and what was
