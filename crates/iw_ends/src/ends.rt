@@ -74,6 +74,16 @@ fn act<'h>(
             options,
             private,
         } => end.open(meter, *stream, *pd, *role, *options, private),
+        EndCall::Share { pd } => end.share(meter, *pd),
+        EndCall::Pool { pd, len } => end.pool(meter, *pd, *len),
+        EndCall::Unpool { pd } => end.unpool(meter, *pd),
+        EndCall::OpenShared {
+            stream,
+            pd,
+            role,
+            options,
+            private,
+        } => end.open_shared(meter, *stream, *pd, *role, *options, private),
         EndCall::Stream { stream, call } => act_at(end, peer, meter, *stream, call),
     }
 }

@@ -30,10 +30,14 @@ pub enum Call {
     BreakLink,
     Private,
     Local,
+    Share,
+    PostShared,
+    TakeShared,
+    OpenShared,
 }
 
 /// Each call, and whether it takes memory.
-pub const CALLS: [(Call, bool); 21] = [
+pub const CALLS: [(Call, bool); 25] = [
     (Call::New, true),
     (Call::Register, true),
     (Call::Open, true),
@@ -55,6 +59,10 @@ pub const CALLS: [(Call, bool); 21] = [
     (Call::BreakLink, false),
     (Call::Private, false),
     (Call::Local, false),
+    (Call::Share, false),
+    (Call::PostShared, true),
+    (Call::TakeShared, false),
+    (Call::OpenShared, true),
 ];
 
 impl Call {
@@ -109,7 +117,7 @@ pub struct Meter<'h> {
     heap: Heap<'h>,
     is_refusing: bool,
     /// By call: how often it was made, and how many of its requests for memory were refused.
-    counts: [(u64, u64); 21],
+    counts: [(u64, u64); 25],
 }
 
 impl<'h> Meter<'h> {
@@ -119,7 +127,7 @@ impl<'h> Meter<'h> {
         Meter {
             heap,
             is_refusing,
-            counts: [(0, 0); 21],
+            counts: [(0, 0); 25],
         }
     }
 

@@ -6,8 +6,8 @@ use crate::wire::Wire;
 use bytes::Bytes;
 use iw_endpoint::{
     Agreed, CallRefusal, Config, Delivery, Emission, Endpoint, MAX_PLACE, NoSuchStream, Octets,
-    OpenRefusal, PostRefusal, RecvRefusal, RegisterRefusal, Request, Right, Rights, Role,
-    STREAM_NUMBERS, Stag, Step,
+    OpenRefusal, OpenSharedRefusal, PoolRefusal, PostRefusal, RecvRefusal, RegisterRefusal,
+    Request, Right, Rights, Role, STREAM_NUMBERS, ShareRefusal, Stag, Step,
 };
 use iw_events::{Act, Options, Seen, Shown, StreamAct, StreamCall};
 use std::alloc::AllocError;
@@ -57,6 +57,15 @@ fn see_received<'h>(
         solicited,
         invalidate,
     })
+}
+
+// What an opening asks for.
+fn config_for(options: Options, private: &[u8]) -> Config {
+    Config {
+        markers: options.markers,
+        crc: options.crc,
+        private: private_data(private),
+    }
 }
 
 impl<'h> Side<'h> {
@@ -190,11 +199,7 @@ impl<'h> Side<'h> {
     ) -> Answer<'h> {
         let copy = private.clone()?;
         for n in 0..MOST_TRIES {
-            let config = Config {
-                markers: options.markers,
-                crc: options.crc,
-                private: private_data(private.as_slice()),
-            };
+            let config = config_for(options, private.as_slice());
             meter.begin(n);
             let opened = self.endpoint.open(stream, pd, role, config);
             if opened == Err(OpenRefusal::NoMemory) {
@@ -211,6 +216,82 @@ impl<'h> Side<'h> {
             });
         }
         Err(Stopped::Endless(Call::Open))
+    }
+
+    pub(crate) fn share(&mut self, meter: &mut Meter<'h>, pd: u8) -> Answer<'h> {
+        for n in 0..MOST_TRIES {
+            meter.begin(n);
+            let shared = self.endpoint.share(pd);
+            if shared == Err(ShareRefusal::NoMemory) {
+                continue;
+            }
+            meter.end(Call::Share, n)?;
+            return Ok(Act::Share {
+                pd,
+                refused: shared.err(),
+            });
+        }
+        Err(Stopped::Endless(Call::Share))
+    }
+
+    pub(crate) fn pool(&mut self, meter: &mut Meter<'h>, pd: u8, len: u32) -> Answer<'h> {
+        let mut buffer = vec![in meter.heap(); 0; len as usize]?;
+        for n in 0..MOST_TRIES {
+            meter.begin(n);
+            let refused = match self.endpoint.post_shared(pd, buffer) {
+                Ok(()) => None,
+                Err((PoolRefusal::NoMemory, back)) => {
+                    buffer = back;
+                    continue;
+                }
+                Err((refusal, _)) => Some(refusal),
+            };
+            meter.end(Call::PostShared, n)?;
+            return Ok(Act::Pool { pd, len, refused });
+        }
+        Err(Stopped::Endless(Call::PostShared))
+    }
+
+    pub(crate) fn unpool(&mut self, meter: &mut Meter<'h>, pd: u8) -> Answer<'h> {
+        meter.begin(0);
+        let answer = self.endpoint.take_shared(pd);
+        meter.end(Call::TakeShared, 0)?;
+        let answer = match answer {
+            Ok(Some(buffer)) => Ok(Some(Bytes::from_vec(buffer)?)),
+            Ok(None) => Ok(None),
+            Err(refusal) => Err(refusal),
+        };
+        Ok(Act::Unpool { pd, answer })
+    }
+
+    pub(crate) fn open_shared(
+        &mut self,
+        meter: &mut Meter<'h>,
+        stream: u8,
+        pd: u8,
+        role: Role,
+        options: Options,
+        private: &Bytes<Heap<'h>>,
+    ) -> Answer<'h> {
+        let copy = private.clone()?;
+        for n in 0..MOST_TRIES {
+            let config = config_for(options, private.as_slice());
+            meter.begin(n);
+            let opened = self.endpoint.open_shared(stream, pd, role, config);
+            if opened == Err(OpenSharedRefusal::NoMemory) {
+                continue;
+            }
+            meter.end(Call::OpenShared, n)?;
+            return Ok(Act::OpenShared {
+                stream,
+                pd,
+                role,
+                options,
+                private: copy,
+                refused: opened.err(),
+            });
+        }
+        Err(Stopped::Endless(Call::OpenShared))
     }
 
     /// Calls a stream; `came` are the octets that it delivers.

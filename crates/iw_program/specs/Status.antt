@@ -60,6 +60,10 @@ act_faults (acts.Deregister stag answer) = false
 act_faults (acts.Invalidate stag refused) = false
 act_faults (acts.Store stag to octets refused) = false
 act_faults (acts.Open stream pd role options private refused) = false
+act_faults (acts.Share pd refused) = false
+act_faults (acts.Pool pd len refused) = false
+act_faults (acts.Unpool pd answer) = false
+act_faults (acts.OpenShared stream pd role options private refused) = false
 act_faults (acts.Stream stream act) = stream_faults act
 
 -- a stream ended by a fault, here or at the peer

@@ -3,7 +3,7 @@ use Rattle.std.proofs.Common.{◌≡◌, ◌⊎◌, inl, inr, ℕ, ◌-◌, ◌^
 use Rattle.iw_stream.specs.declared.answer.Role.{Role}
 use Rattle.iw_stream.specs.declared.answer.Role.TheVariants.{Preset, Initiator, Responder}
 use Rattle.iw_events.specs.declared.call.Call.{Call}
-use Rattle.iw_events.specs.declared.call.Call.TheVariants.{Domain, Register, Deregister, Invalidate, Store, Open, Stream}
+use Rattle.iw_events.specs.declared.call.Call.TheVariants.{Domain, Register, Deregister, Invalidate, Store, Open, Share, Pool, Unpool, OpenShared, Stream}
 use Rattle.iw_octets.specs.declared.message.Message.TheVariants as messages
 use Rattle.iw_queues.specs.declared.request.Request.TheVariants as requests
 use Rattle.iw_events.specs.declared.call.StreamCall.TheVariants.{Recv, First, Deliver, Raw, Mulpdu, Accept, Reject, Break}
@@ -19,10 +19,10 @@ use Rattle.iw_schedules.specs.SendKind.{kind_word, is_solicited, invalidated_wor
 use Rattle.iw_schedules.specs.Rights.{rights_word}
 use Rattle.iw_schedules.specs.Options.{options_word}
 use Rattle.iw_schedules.specs.Words.{role_text, roles, role_word, call_text, call_words, call_word}
-use Rattle.iw_schedules.specs.Calls.{field, octet_number, long_number, short_number, times_at, step_call, one, posted, read_of, domain_at, register_at, deregister_at, invalidate_at, store_at, open_at, accept_at, reject_at, recv_at, send_at, write_at, read_at, steps_at, deliver_at, raw_at, first_at, mulpdu_at, break_at, beyond, calls_at}
+use Rattle.iw_schedules.specs.Calls.{field, octet_number, long_number, short_number, times_at, step_call, one, posted, read_of, domain_at, register_at, deregister_at, invalidate_at, store_at, open_at, share_at, pool_at, unpool_at, open_shared_at, accept_at, reject_at, recv_at, send_at, write_at, read_at, steps_at, deliver_at, raw_at, first_at, mulpdu_at, break_at, beyond, calls_at}
 use Rattle.iw_schedules.specs.Grammar.{Word, IsOctetNumber, IsTimes, IsCall}
 use Rattle.iw_schedules.specs.Grammar.IsKind.{plain, solicited, invalidating, both as solicited_and_invalidating}
-use Rattle.iw_schedules.specs.Grammar.IsCall.{domain, register, deregister, invalidate, store, opening, accept, reject, recv, send, write, read, emit, emit_times, work, work_times, deliver, raw, first, mulpdu, breaking}
+use Rattle.iw_schedules.specs.Grammar.IsCall.{domain, register, deregister, invalidate, store, opening, share, pool, unpool, opening_shared, accept, reject, recv, send, write, read, emit, emit_times, work, work_times, deliver, raw, first, mulpdu, breaking}
 use Rattle.iw_schedules.proofs.KindLaws.{bind_ok, okay, number_is, number_again, times_is, times_again, stag_is, stag_again, octets_is, octets_again, private_is, private_again, rights_is, rights_again, options_are, options_again, one_of_is, kind_is}
 
 abbrev Calls : Type 0
@@ -114,6 +114,37 @@ open_is words calls e =
     finishes (λ ws made. IsCall (codes "open" ∷ a ∷ b ∷ c ∷ d ∷ f ∷ ws) made) calls (one (Open stream pd role options private)) others then_f
     (subst (λ w. IsCall (codes "open" ∷ a ∷ b ∷ w ∷ d ∷ f ∷ []) (one (Open stream pd role options private))) (sym (one_of_is role_text roles c role is_c))
     (opening (number_is 255 a stream is_a) (number_is 255 b pd is_b) (options_are d options is_d) (private_is f private is_f))))))))
+
+pub share_is : (words : List Word) (calls : Calls) → share_at words ≡ Ok (calls, []) → IsCall (codes "share" ∷ words) calls
+unfolding share_at
+share_is words calls e =
+    reads octet_number words _ (calls, []) (λ ws. IsCall (codes "share" ∷ ws) calls) e (λ a pd others is_a then_a.
+    finishes (λ ws made. IsCall (codes "share" ∷ a ∷ ws) made) calls (one (Share pd)) others then_a (share (number_is 255 a pd is_a)))
+
+pub pool_is : (words : List Word) (calls : Calls) → pool_at words ≡ Ok (calls, []) → IsCall (codes "pool" ∷ words) calls
+unfolding pool_at
+pool_is words calls e =
+    reads octet_number words _ (calls, []) (λ ws. IsCall (codes "pool" ∷ ws) calls) e (λ a pd past_a is_a then_a.
+    reads (number_word MAX_WORD_OCTETS) past_a _ (calls, []) (λ ws. IsCall (codes "pool" ∷ a ∷ ws) calls) then_a (λ b len others is_b then_b.
+    finishes (λ ws made. IsCall (codes "pool" ∷ a ∷ b ∷ ws) made) calls (one (Pool pd len)) others then_b (pool (number_is 255 a pd is_a) (number_is MAX_WORD_OCTETS b len is_b))))
+
+pub unpool_is : (words : List Word) (calls : Calls) → unpool_at words ≡ Ok (calls, []) → IsCall (codes "unpool" ∷ words) calls
+unfolding unpool_at
+unpool_is words calls e =
+    reads octet_number words _ (calls, []) (λ ws. IsCall (codes "unpool" ∷ ws) calls) e (λ a pd others is_a then_a.
+    finishes (λ ws made. IsCall (codes "unpool" ∷ a ∷ ws) made) calls (one (Unpool pd)) others then_a (unpool (number_is 255 a pd is_a)))
+
+pub open_shared_is : (words : List Word) (calls : Calls) → open_shared_at words ≡ Ok (calls, []) → IsCall (codes "openshared" ∷ words) calls
+unfolding open_shared_at
+open_shared_is words calls e =
+    reads octet_number words _ (calls, []) (λ ws. IsCall (codes "openshared" ∷ ws) calls) e (λ a stream past_a is_a then_a.
+    reads octet_number past_a _ (calls, []) (λ ws. IsCall (codes "openshared" ∷ a ∷ ws) calls) then_a (λ b pd past_b is_b then_b.
+    reads role_word past_b _ (calls, []) (λ ws. IsCall (codes "openshared" ∷ a ∷ b ∷ ws) calls) then_b (λ c role past_c is_c then_c.
+    reads options_word past_c _ (calls, []) (λ ws. IsCall (codes "openshared" ∷ a ∷ b ∷ c ∷ ws) calls) then_c (λ d options past_d is_d then_d.
+    reads private_word past_d _ (calls, []) (λ ws. IsCall (codes "openshared" ∷ a ∷ b ∷ c ∷ d ∷ ws) calls) then_d (λ f private others is_f then_f.
+    finishes (λ ws made. IsCall (codes "openshared" ∷ a ∷ b ∷ c ∷ d ∷ f ∷ ws) made) calls (one (OpenShared stream pd role options private)) others then_f
+    (subst (λ w. IsCall (codes "openshared" ∷ a ∷ b ∷ w ∷ d ∷ f ∷ []) (one (OpenShared stream pd role options private))) (sym (one_of_is role_text roles c role is_c))
+    (opening_shared (number_is 255 a stream is_a) (number_is 255 b pd is_b) (options_are d options is_d) (private_is f private is_f))))))))
 
 pub accept_is : (words : List Word) (calls : Calls) → accept_at words ≡ Ok (calls, []) → IsCall (codes "accept" ∷ words) calls
 unfolding accept_at
@@ -253,6 +284,10 @@ past_is named.Deregister words calls e = deregister_is words calls e
 past_is named.Invalidate words calls e = invalidate_is words calls e
 past_is named.Store words calls e = store_is words calls e
 past_is named.Open words calls e = open_is words calls e
+past_is named.Share words calls e = share_is words calls e
+past_is named.Pool words calls e = pool_is words calls e
+past_is named.Unpool words calls e = unpool_is words calls e
+past_is named.OpenShared words calls e = open_shared_is words calls e
 past_is named.Accept words calls e = accept_is words calls e
 past_is named.Reject words calls e = reject_is words calls e
 past_is named.Recv words calls e = recv_is words calls e
@@ -281,13 +316,17 @@ role_again Initiator = refl
 role_again Responder = refl
 
 pub calls_again : (words : List Word) (calls : Calls) → IsCall words calls → calls_at words ≡ Ok (calls, [])
-unfolding calls_at call_word domain_at register_at deregister_at invalidate_at store_at open_at accept_at reject_at recv_at send_at write_at read_at steps_at deliver_at raw_at first_at mulpdu_at break_at
+unfolding calls_at call_word domain_at register_at deregister_at invalidate_at store_at open_at share_at pool_at unpool_at open_shared_at accept_at reject_at recv_at send_at write_at read_at steps_at deliver_at raw_at first_at mulpdu_at break_at
 calls_again words calls (domain {a} {pd} p) = rw (number_again 255 a pd p) refl
 calls_again words calls (register {a} {b} {c} {d} {pd} {base} {rights} {octets} p q r s) = rw (number_again 255 a pd p, number_again (2 ^ 64 - 1) b base q, rights_again c rights r, octets_again d octets s) refl
 calls_again words calls (deregister {a} {stag} p) = rw (stag_again a stag p) refl
 calls_again words calls (invalidate {a} {stag} p) = rw (stag_again a stag p) refl
 calls_again words calls (store {a} {b} {c} {stag} {to} {octets} p q r) = rw (stag_again a stag p, number_again (2 ^ 64 - 1) b to q, octets_again c octets r) refl
 calls_again words calls (opening {a} {b} {d} {e} {stream} {pd} {role} {options} {private} p q r s) = rw (number_again 255 a stream p, number_again 255 b pd q, role_again role, options_again d options r, private_again e private s) refl
+calls_again words calls (share {a} {pd} p) = rw (number_again 255 a pd p) refl
+calls_again words calls (pool {a} {b} {pd} {len} p q) = rw (number_again 255 a pd p, number_again MAX_WORD_OCTETS b len q) refl
+calls_again words calls (unpool {a} {pd} p) = rw (number_again 255 a pd p) refl
+calls_again words calls (opening_shared {a} {b} {d} {e} {stream} {pd} {role} {options} {private} p q r s) = rw (number_again 255 a stream p, number_again 255 b pd q, role_again role, options_again d options r, private_again e private s) refl
 calls_again words calls (accept {a} {b} {stream} {private} p q) = rw (number_again 255 a stream p, private_again b private q) refl
 calls_again words calls (reject {a} {b} {stream} {private} p q) = rw (number_again 255 a stream p, private_again b private q) refl
 calls_again words calls (recv {a} {b} {stream} {len} p q) = rw (number_again 255 a stream p, number_again MAX_WORD_OCTETS b len q) refl

@@ -31,6 +31,14 @@ use Rattle.iw_stream.specs.declared.answer.SizeRefusal.{SizeRefusal}
 use Rattle.iw_stream.specs.declared.answer.SizeRefusal.TheVariants as sizes
 use Rattle.iw_stream.specs.declared.answer.OpenRefusal.{OpenRefusal}
 use Rattle.iw_stream.specs.declared.answer.OpenRefusal.TheVariants as opens
+use Rattle.iw_endpoint.specs.declared.refusal.ShareRefusal.{ShareRefusal}
+use Rattle.iw_endpoint.specs.declared.refusal.ShareRefusal.TheVariants as shares
+use Rattle.iw_endpoint.specs.declared.refusal.PoolRefusal.{PoolRefusal}
+use Rattle.iw_endpoint.specs.declared.refusal.PoolRefusal.TheVariants as pools
+use Rattle.iw_endpoint.specs.declared.refusal.TakeRefusal.{TakeRefusal}
+use Rattle.iw_endpoint.specs.declared.refusal.TakeRefusal.TheVariants as takes
+use Rattle.iw_endpoint.specs.declared.refusal.OpenSharedRefusal.{OpenSharedRefusal}
+use Rattle.iw_endpoint.specs.declared.refusal.OpenSharedRefusal.TheVariants as shared_opens
 use Rattle.iw_events.specs.declared.act.Shown.{Shown}
 use Rattle.iw_events.specs.declared.act.Shown.TheVariants as shown
 use Rattle.iw_events.specs.declared.act.Seen.{Seen}
@@ -83,6 +91,28 @@ open_refusal opens.NumberTaken = (1, codes "NumberTaken")
 open_refusal opens.BadNumber = (2, codes "BadNumber")
 open_refusal opens.NoDomain = (3, codes "NoDomain")
 open_refusal opens.NoMemory = (4, codes "NoMemory")
+
+abbrev pub share_refusal : ShareRefusal → Numbered
+share_refusal shares.NoDomain = (1, codes "NoDomain")
+share_refusal shares.AlreadyShared = (2, codes "AlreadyShared")
+share_refusal shares.NoMemory = (3, codes "NoMemory")
+
+abbrev pub pool_refusal : PoolRefusal → Numbered
+pool_refusal pools.NoDomain = (1, codes "NoDomain")
+pool_refusal pools.NotShared = (2, codes "NotShared")
+pool_refusal pools.Full = (3, codes "Full")
+pool_refusal pools.NoMemory = (4, codes "NoMemory")
+
+abbrev pub take_refusal : TakeRefusal → Numbered
+take_refusal takes.NoDomain = (1, codes "NoDomain")
+take_refusal takes.NotShared = (2, codes "NotShared")
+
+abbrev pub open_shared_refusal : OpenSharedRefusal → Numbered
+open_shared_refusal shared_opens.NumberTaken = (1, codes "NumberTaken")
+open_shared_refusal shared_opens.BadNumber = (2, codes "BadNumber")
+open_shared_refusal shared_opens.NoDomain = (3, codes "NoDomain")
+open_shared_refusal shared_opens.NotShared = (4, codes "NotShared")
+open_shared_refusal shared_opens.NoMemory = (5, codes "NoMemory")
 
 abbrev pub recv_refusal : RecvRefusal → Numbered
 recv_refusal recvs.Full = (1, codes "Full")

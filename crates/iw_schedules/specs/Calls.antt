@@ -6,7 +6,7 @@ use Rattle.iw_octets.specs.declared.message.Message.TheVariants as messages
 use Rattle.iw_queues.specs.declared.request.Request.{Request}
 use Rattle.iw_queues.specs.declared.request.Request.TheVariants as requests
 use Rattle.iw_events.specs.declared.call.Call.{Call}
-use Rattle.iw_events.specs.declared.call.Call.TheVariants.{Domain, Register, Deregister, Invalidate, Store, Open, Stream}
+use Rattle.iw_events.specs.declared.call.Call.TheVariants.{Domain, Register, Deregister, Invalidate, Store, Open, Share, Pool, Unpool, OpenShared, Stream}
 use Rattle.iw_events.specs.declared.call.StreamCall.{StreamCall}
 use Rattle.iw_events.specs.declared.call.StreamCall.TheVariants.{Recv, Post, Emit, First, Deliver, Raw, Mulpdu, Accept, Reject, Work, Break}
 use Rattle.iw_schedules.specs.declared.fault.FaultName.{FaultName}
@@ -103,6 +103,31 @@ open_at words = do
   private ← field private_word options.1
   Ok (one (Open stream.0 pd.0 role.0 options.0 private.0), private.1)
 
+unfoldable pub share_at : List (List ℕ) → Taken (List (Call (List ℕ)))
+share_at words = do
+  pd ← field octet_number words
+  Ok (one (Share pd.0), pd.1)
+
+unfoldable pub pool_at : List (List ℕ) → Taken (List (Call (List ℕ)))
+pool_at words = do
+  pd ← field octet_number words
+  len ← field (number_word MAX_WORD_OCTETS) pd.1
+  Ok (one (Pool pd.0 len.0), len.1)
+
+unfoldable pub unpool_at : List (List ℕ) → Taken (List (Call (List ℕ)))
+unpool_at words = do
+  pd ← field octet_number words
+  Ok (one (Unpool pd.0), pd.1)
+
+unfoldable pub open_shared_at : List (List ℕ) → Taken (List (Call (List ℕ)))
+open_shared_at words = do
+  stream ← field octet_number words
+  pd ← field octet_number stream.1
+  role ← field role_word pd.1
+  options ← field options_word role.1
+  private ← field private_word options.1
+  Ok (one (OpenShared stream.0 pd.0 role.0 options.0 private.0), private.1)
+
 unfoldable pub accept_at : List (List ℕ) → Taken (List (Call (List ℕ)))
 accept_at words = do
   stream ← field octet_number words
@@ -198,6 +223,10 @@ beyond named.Deregister words = deregister_at words
 beyond named.Invalidate words = invalidate_at words
 beyond named.Store words = store_at words
 beyond named.Open words = open_at words
+beyond named.Share words = share_at words
+beyond named.Pool words = pool_at words
+beyond named.Unpool words = unpool_at words
+beyond named.OpenShared words = open_shared_at words
 beyond named.Accept words = accept_at words
 beyond named.Reject words = reject_at words
 beyond named.Recv words = recv_at words

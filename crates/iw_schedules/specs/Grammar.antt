@@ -13,7 +13,7 @@ use Rattle.iw_events.specs.declared.call.End.{End}
 use Rattle.iw_stream.specs.declared.answer.Role.{Role}
 use Rattle.iw_events.specs.declared.call.Options.{Options}
 use Rattle.iw_events.specs.declared.call.Call.{Call}
-use Rattle.iw_events.specs.declared.call.Call.TheVariants.{Domain, Register, Deregister, Invalidate, Store, Open, Stream}
+use Rattle.iw_events.specs.declared.call.Call.TheVariants.{Domain, Register, Deregister, Invalidate, Store, Open, Share, Pool, Unpool, OpenShared, Stream}
 use Rattle.iw_events.specs.declared.call.StreamCall.TheVariants.{Recv, Emit, First, Deliver, Raw, Mulpdu, Accept, Reject, Work, Break}
 use Rattle.iw_schedules.specs.declared.fault.FaultName.{FaultName}
 use Rattle.iw_schedules.specs.declared.fault.ScheduleFault.{ScheduleFault}
@@ -95,6 +95,11 @@ pub data IsCall : List Word → List (Call (List ℕ)) → Type 0 where
       → IsCall (codes "store" ∷ a ∷ b ∷ c ∷ []) (one (Store stag to octets))
   opening : {a b d e : Word} {stream pd : ℕ} {role : Role} {options : Options} {private : List ℕ} → IsOctetNumber a stream → IsOctetNumber b pd → IsOptions d options → IsPrivate e private
       → IsCall (codes "open" ∷ a ∷ b ∷ role_text role ∷ d ∷ e ∷ []) (one (Open stream pd role options private))
+  share : {a : Word} {pd : ℕ} → IsOctetNumber a pd → IsCall (codes "share" ∷ a ∷ []) (one (Share pd))
+  pool : {a b : Word} {pd len : ℕ} → IsOctetNumber a pd → IsNumber MAX_WORD_OCTETS b len → IsCall (codes "pool" ∷ a ∷ b ∷ []) (one (Pool pd len))
+  unpool : {a : Word} {pd : ℕ} → IsOctetNumber a pd → IsCall (codes "unpool" ∷ a ∷ []) (one (Unpool pd))
+  opening_shared : {a b d e : Word} {stream pd : ℕ} {role : Role} {options : Options} {private : List ℕ} → IsOctetNumber a stream → IsOctetNumber b pd → IsOptions d options → IsPrivate e private
+      → IsCall (codes "openshared" ∷ a ∷ b ∷ role_text role ∷ d ∷ e ∷ []) (one (OpenShared stream pd role options private))
   accept : {a b : Word} {stream : ℕ} {private : List ℕ} → IsOctetNumber a stream → IsPrivate b private → IsCall (codes "accept" ∷ a ∷ b ∷ []) (one (Stream stream (Accept private)))
   reject : {a b : Word} {stream : ℕ} {private : List ℕ} → IsOctetNumber a stream → IsPrivate b private → IsCall (codes "reject" ∷ a ∷ b ∷ []) (one (Stream stream (Reject private)))
   recv : {a b : Word} {stream len : ℕ} → IsOctetNumber a stream → IsNumber MAX_WORD_OCTETS b len → IsCall (codes "recv" ∷ a ∷ b ∷ []) (one (Stream stream (Recv len)))

@@ -1,5 +1,5 @@
 -- A trace as text: a line for each entry.
-use Rattle.std.specs.Prelude.{ℕ, List, [], ◌∷◌, ◌++◌, Result, Ok, Err, codes}
+use Rattle.std.specs.Prelude.{ℕ, List, [], ◌∷◌, ◌++◌, Option, Some, None, Result, Ok, Err, codes}
 use Rattle.std.specs.Option.{option_map}
 use Rattle.std.specs.List.{flat_map}
 use Rattle.std.specs.Fmt.{decimal}
@@ -9,15 +9,16 @@ use Rattle.iw_queues.specs.declared.request.Request.{Request}
 use Rattle.iw_queues.specs.declared.request.Request.TheVariants as requests
 use Rattle.iw_memory.specs.declared.refusal.RegisterRefusal.{RegisterRefusal}
 use Rattle.iw_memory.specs.declared.refusal.NoRegion.{NoRegion}
+use Rattle.iw_endpoint.specs.declared.refusal.TakeRefusal.{TakeRefusal}
 use Rattle.iw_events.specs.declared.act.Act.{Act}
-use Rattle.iw_events.specs.declared.act.Act.TheVariants.{Domain, Register, Deregister, Invalidate, Store, Open, Stream}
+use Rattle.iw_events.specs.declared.act.Act.TheVariants.{Domain, Register, Deregister, Invalidate, Store, Open, Share, Pool, Unpool, OpenShared, Stream}
 use Rattle.iw_events.specs.declared.act.StreamAct.{StreamAct}
 use Rattle.iw_events.specs.declared.act.StreamAct.TheVariants.{Recv, Post, Emit, First, Deliver, Raw, Mulpdu, Accept, Reject, Work, Break}
 use Rattle.iw_events.specs.declared.act.Entry.{Entry}
 use Rattle.iw_schedules.specs.declared.words.CallWord.{CallWord}
 use Rattle.iw_schedules.specs.declared.words.CallWord.TheVariants as named
 use Rattle.iw_schedules.specs.Words.{end_text, call_text}
-use Rattle.iw_schedules.specs.Answers.{Words, octets_text, stag_text, domain_refusal, register_refusal, no_region, store_refusal, open_refusal, recv_refusal, post_refusal, size_refusal, not_asked, refused, ok_or_refused, delivery_text, accepted_words, shown_words, seen_words, first_refusal}
+use Rattle.iw_schedules.specs.Answers.{Words, octets_text, stag_text, domain_refusal, register_refusal, no_region, store_refusal, open_refusal, share_refusal, pool_refusal, take_refusal, open_shared_refusal, recv_refusal, post_refusal, size_refusal, not_asked, refused, ok_or_refused, delivery_text, accepted_words, shown_words, seen_words, first_refusal}
 
 abbrev pub registered : Result Stag RegisterRefusal → Words
 registered (Ok stag) = stag_text stag ∷ []
@@ -26,6 +27,12 @@ registered (Err refusal) = refused (register_refusal refusal)
 abbrev pub deregistered : Result (List ℕ) NoRegion → Words
 deregistered (Ok octets) = codes "ok" ∷ octets_text octets ∷ []
 deregistered (Err refusal) = refused no_region
+
+-- the buffer that was taken out of a pool
+abbrev pub unpooled : Result (Option (List ℕ)) TakeRefusal → Words
+unpooled (Ok (Some octets)) = codes "ok" ∷ octets_text octets ∷ []
+unpooled (Ok None) = codes "empty" ∷ []
+unpooled (Err refusal) = refused (take_refusal refusal)
 
 -- the word that posts a message or a Read
 abbrev pub post_word : Request (List ℕ) → CallWord
@@ -79,6 +86,10 @@ act_words (Deregister stag answer) = call_text named.Deregister ∷ stag_text st
 act_words (Invalidate stag refusal) = call_text named.Invalidate ∷ stag_text stag ∷ ok_or_refused (option_map (λ missing. no_region) refusal)
 act_words (Store stag to octets refusal) = call_text named.Store ∷ stag_text stag ∷ ok_or_refused (option_map store_refusal refusal)
 act_words (Open stream pd role options private refusal) = call_text named.Open ∷ decimal stream ∷ ok_or_refused (option_map open_refusal refusal)
+act_words (Share pd refusal) = call_text named.Share ∷ decimal pd ∷ ok_or_refused (option_map share_refusal refusal)
+act_words (Pool pd len refusal) = call_text named.Pool ∷ decimal pd ∷ ok_or_refused (option_map pool_refusal refusal)
+act_words (Unpool pd answer) = call_text named.Unpool ∷ decimal pd ∷ unpooled answer
+act_words (OpenShared stream pd role options private refusal) = call_text named.OpenShared ∷ decimal stream ∷ ok_or_refused (option_map open_shared_refusal refusal)
 act_words (Stream stream act) = stream_words stream act
 
 -- words, with a space before each

@@ -8,7 +8,7 @@ use Rattle.iw_stream.specs.declared.answer.Role.TheVariants.{Preset, Initiator, 
 use Rattle.iw_schedules.specs.declared.fault.FaultName.{FaultName}
 use Rattle.iw_schedules.specs.declared.fault.FaultName.TheVariants.{BadWord}
 use Rattle.iw_schedules.specs.declared.words.CallWord.{CallWord}
-use Rattle.iw_schedules.specs.declared.words.CallWord.TheVariants.{Domain, Register, Deregister, Invalidate, Store, Open, Accept, Reject, Recv, Send, Write, Read, Emit, Work, Deliver, Raw, First, Mulpdu, Break}
+use Rattle.iw_schedules.specs.declared.words.CallWord.TheVariants.{Domain, Register, Deregister, Invalidate, Store, Open, Share, Pool, Unpool, OpenShared, Accept, Reject, Recv, Send, Write, Read, Emit, Work, Deliver, Raw, First, Mulpdu, Break}
 
 -- the one of these that has this text
 abbrev pub one_of : {X : Type 0} → (X → List ℕ) → List X → List ℕ → Result X FaultName
@@ -44,6 +44,10 @@ call_text Deregister = codes "deregister"
 call_text Invalidate = codes "invalidate"
 call_text Store = codes "store"
 call_text Open = codes "open"
+call_text Share = codes "share"
+call_text Pool = codes "pool"
+call_text Unpool = codes "unpool"
+call_text OpenShared = codes "openshared"
 call_text Accept = codes "accept"
 call_text Reject = codes "reject"
 call_text Recv = codes "recv"
@@ -59,7 +63,7 @@ call_text Mulpdu = codes "mulpdu"
 call_text Break = codes "break"
 
 abbrev pub call_words : List CallWord
-call_words = Domain ∷ Register ∷ Deregister ∷ Invalidate ∷ Store ∷ Open ∷ Accept ∷ Reject ∷ Recv ∷ Send ∷ Write ∷ Read ∷ Emit ∷ Work ∷ Deliver ∷ Raw ∷ First ∷ Mulpdu ∷ Break ∷ []
+call_words = Domain ∷ Register ∷ Deregister ∷ Invalidate ∷ Store ∷ Open ∷ Share ∷ Pool ∷ Unpool ∷ OpenShared ∷ Accept ∷ Reject ∷ Recv ∷ Send ∷ Write ∷ Read ∷ Emit ∷ Work ∷ Deliver ∷ Raw ∷ First ∷ Mulpdu ∷ Break ∷ []
 
 unfoldable pub call_word : List ℕ → Result CallWord FaultName
 call_word word = one_of call_text call_words word

@@ -10,6 +10,7 @@ ghost use Rattle.iw_schedules.specs.Words.{role_word, call_word};
 ghost use Rattle.iw_schedules.specs.Calls.{calls_of, calls_at, step_call, steps_at};
 ghost use Rattle.iw_schedules.specs.Calls.{next_word, field, beyond, octet_number, long_number, short_number, times_at};
 ghost use Rattle.iw_schedules.specs.Calls.{domain_at, register_at, deregister_at, invalidate_at, store_at};
+ghost use Rattle.iw_schedules.specs.Calls.{share_at, pool_at, unpool_at, open_shared_at};
 ghost use Rattle.iw_schedules.specs.Calls.{open_at, accept_at, reject_at, mulpdu_at, break_at, first_at, deliver_at, raw_at};
 ghost use Rattle.iw_schedules.specs.Calls.{recv_at, send_at, write_at, read_at};
 
@@ -227,6 +228,52 @@ fn open<A: Allocator + Copy>(alloc: A, words: &mut Pieces<'_>) -> Result<Calls<B
     }))
 }
 
+#[tactic(auto, unfolding(crate::specs::Calls::share_at))]
+fn share<A: Allocator>(words: &mut Pieces<'_>) -> Result<Calls<Bytes<A>>, ReadError>
+    ensures { Gives (λ calls. (calls_of calls, words.new)) result (share_at words.old) }
+{
+    let pd = octet_number_in(words)?;
+    Ok(Calls::One(Call::Share { pd }))
+}
+
+#[tactic(auto, unfolding(crate::specs::Calls::pool_at))]
+fn pool<A: Allocator>(words: &mut Pieces<'_>) -> Result<Calls<Bytes<A>>, ReadError>
+    ensures { Gives (λ calls. (calls_of calls, words.new)) result (pool_at words.old) }
+{
+    let pd = octet_number_in(words)?;
+    let len = kinds::number(next(words)?, kinds::MAX_WORD_OCTETS)? as u32;
+    Ok(Calls::One(Call::Pool { pd, len }))
+}
+
+#[tactic(auto, unfolding(crate::specs::Calls::unpool_at))]
+fn unpool<A: Allocator>(words: &mut Pieces<'_>) -> Result<Calls<Bytes<A>>, ReadError>
+    ensures { Gives (λ calls. (calls_of calls, words.new)) result (unpool_at words.old) }
+{
+    let pd = octet_number_in(words)?;
+    Ok(Calls::One(Call::Unpool { pd }))
+}
+
+#[tactic(auto, unfolding(crate::specs::Calls::open_shared_at))]
+fn open_shared<A: Allocator + Copy>(
+    alloc: A,
+    words: &mut Pieces<'_>,
+) -> Result<Calls<Bytes<A>>, ReadError>
+    ensures { Gives (λ calls. (calls_of calls, words.new)) result (open_shared_at words.old) }
+{
+    let stream = octet_number_in(words)?;
+    let pd = octet_number_in(words)?;
+    let role = role_in(words)?;
+    let options = options_in(words)?;
+    let private = private_in(alloc, words)?;
+    Ok(Calls::One(Call::OpenShared {
+        stream,
+        pd,
+        role,
+        options,
+        private,
+    }))
+}
+
 #[tactic(auto, unfolding(crate::specs::Calls::accept_at))]
 fn accept<A: Allocator + Copy>(
     alloc: A,
@@ -392,6 +439,10 @@ fn calls_past<A: Allocator + Copy>(
         CallWord::Invalidate => invalidate(words),
         CallWord::Store => store(alloc, words),
         CallWord::Open => open(alloc, words),
+        CallWord::Share => share(words),
+        CallWord::Pool => pool(words),
+        CallWord::Unpool => unpool(words),
+        CallWord::OpenShared => open_shared(alloc, words),
         CallWord::Accept => accept(alloc, words),
         CallWord::Reject => reject(alloc, words),
         CallWord::Recv => recv(words),

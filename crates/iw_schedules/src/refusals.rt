@@ -3,9 +3,11 @@
 ghost use Rattle.std.specs.Prelude.{◌≡◌};
 ghost use Rattle.iw_schedules.specs.Answers.{domain_refusal, register_refusal, store_refusal, no_region};
 ghost use Rattle.iw_schedules.specs.Answers.{open_refusal, not_asked, startup_fault};
+ghost use Rattle.iw_schedules.specs.Answers.{share_refusal, pool_refusal, take_refusal, open_shared_refusal};
 ghost use Rattle.iw_schedules.specs.Answers.{size_refusal, recv_refusal, post_refusal, first_refusal};
 ghost use Rattle.iw_schedules.specs.Shown.{shown_refusal};
 
+use iw_endpoint::{OpenSharedRefusal, PoolRefusal, ShareRefusal, TakeRefusal};
 use iw_memory::{DomainRefusal, NoRegion, RegisterRefusal, StoreRefusal};
 use iw_startup::{NotAsked, StartupFault};
 use iw_stream::{FirstRefusal, OpenRefusal, PostRefusal, RecvRefusal, SizeRefusal};
@@ -71,6 +73,48 @@ pub(crate) fn of_open(refusal: OpenRefusal) -> Refusal
         OpenRefusal::BadNumber => Refusal::new(2, "BadNumber"),
         OpenRefusal::NoDomain => Refusal::new(3, "NoDomain"),
         OpenRefusal::NoMemory => Refusal::new(4, "NoMemory"),
+    }
+}
+
+pub(crate) fn of_share(refusal: ShareRefusal) -> Refusal
+    ensures { shown_refusal result ≡ share_refusal refusal }
+{
+    match refusal {
+        ShareRefusal::NoDomain => Refusal::new(1, "NoDomain"),
+        ShareRefusal::AlreadyShared => Refusal::new(2, "AlreadyShared"),
+        ShareRefusal::NoMemory => Refusal::new(3, "NoMemory"),
+    }
+}
+
+pub(crate) fn of_pool(refusal: PoolRefusal) -> Refusal
+    ensures { shown_refusal result ≡ pool_refusal refusal }
+{
+    match refusal {
+        PoolRefusal::NoDomain => Refusal::new(1, "NoDomain"),
+        PoolRefusal::NotShared => Refusal::new(2, "NotShared"),
+        PoolRefusal::Full => Refusal::new(3, "Full"),
+        PoolRefusal::NoMemory => Refusal::new(4, "NoMemory"),
+    }
+}
+
+pub(crate) fn of_take(refusal: TakeRefusal) -> Refusal
+    ensures { shown_refusal result ≡ take_refusal refusal }
+{
+    match refusal {
+        TakeRefusal::NoDomain => Refusal::new(1, "NoDomain"),
+        TakeRefusal::NotShared => Refusal::new(2, "NotShared"),
+    }
+}
+
+pub(crate) fn of_open_shared(refusal: OpenSharedRefusal) -> Refusal
+    ensures { shown_refusal result ≡ open_shared_refusal refusal }
+{
+    match refusal {
+        OpenSharedRefusal::NumberTaken => Refusal::new(1, "NumberTaken"),
+        OpenSharedRefusal::BadNumber => Refusal::new(2, "BadNumber"),
+        OpenSharedRefusal::NoDomain => Refusal::new(3, "NoDomain"),
+        OpenSharedRefusal::NotShared => Refusal::new(4, "NotShared"),
+        OpenSharedRefusal::NoMemory => Refusal::new(5, "NoMemory"),
     }
 }
 

@@ -6,11 +6,12 @@ ghost use Rattle.iw_schedules.specs.Words.{call_text};
 ghost use Rattle.iw_schedules.specs.Answers.{stag_text, kind_text, right_text, delivery_text, ok_or_refused};
 ghost use Rattle.iw_schedules.specs.Answers.{agreed_text, asked_words, accepted_words, opened_words};
 ghost use Rattle.iw_schedules.specs.Answers.{with_fault, fault_words, terminated_words};
+ghost use Rattle.iw_schedules.specs.Answers.{share_refusal, pool_refusal, open_shared_refusal};
 ghost use Rattle.iw_schedules.specs.Answers.{placed_words, tried_words};
 ghost use Rattle.iw_schedules.specs.Answers.{buffered_words, requested_words, received_words};
 ghost use Rattle.iw_schedules.specs.Answers.{seen_words, shown_words, fetched_words};
 ghost use Rattle.iw_schedules.specs.Answers.{done_words, flushed_words, flushed_recv_words};
-ghost use Rattle.iw_schedules.specs.Trace.{registered, deregistered, post_word, call_on, call_of_stag};
+ghost use Rattle.iw_schedules.specs.Trace.{registered, deregistered, unpooled, post_word, call_on, call_of_stag};
 ghost use Rattle.iw_schedules.specs.Trace.{stream_word, stream_answer, stream_words, act_words, entry_text, trace_text};
 ghost use Rattle.iw_schedules.specs.Appended.{with_words};
 
@@ -19,6 +20,7 @@ use crate::send_kind::SendKind;
 use crate::words::{CallWord, end_name};
 use crate::{appending, refusals};
 use bytes::Bytes;
+use iw_endpoint::{OpenSharedRefusal, PoolRefusal, ShareRefusal, TakeRefusal};
 use iw_events::{Act, Entry, Request, Seen, Shown, StreamAct};
 use iw_memory::{NoRegion, RegisterRefusal, Right};
 use iw_octets::{Fault, Message, Stag};
@@ -451,6 +453,59 @@ fn add_deregistered<A: Allocator + Copy>(
     }
 }
 
+fn add_share<A: Allocator>(
+    text: &mut String<A>,
+    pd: u8,
+    refused: Option<ShareRefusal>,
+) -> Result<(), AllocError>
+    ensures { OnOk result (string_bytes text.new ≡ with_words (string_bytes text.old)
+        (call_text CallWord.Share ∷ decimal pd ∷ ok_or_refused (option_map share_refusal refused))) }
+{
+    add_call_outcome(text, CallWord::Share, pd, refused.map(refusals::of_share))
+}
+
+fn add_pool<A: Allocator>(
+    text: &mut String<A>,
+    pd: u8,
+    refused: Option<PoolRefusal>,
+) -> Result<(), AllocError>
+    ensures { OnOk result (string_bytes text.new ≡ with_words (string_bytes text.old)
+        (call_text CallWord.Pool ∷ decimal pd ∷ ok_or_refused (option_map pool_refusal refused))) }
+{
+    add_call_outcome(text, CallWord::Pool, pd, refused.map(refusals::of_pool))
+}
+
+fn add_open_shared<A: Allocator>(
+    text: &mut String<A>,
+    stream: u8,
+    refused: Option<OpenSharedRefusal>,
+) -> Result<(), AllocError>
+    ensures { OnOk result (string_bytes text.new ≡ with_words (string_bytes text.old)
+        (call_text CallWord.OpenShared ∷ decimal stream ∷ ok_or_refused (option_map open_shared_refusal refused))) }
+{
+    let refused = refused.map(refusals::of_open_shared);
+    add_call_outcome(text, CallWord::OpenShared, stream, refused)
+}
+
+fn add_unpooled<A: Allocator + Copy>(
+    text: &mut String<A>,
+    pd: u8,
+    answer: &Result<Option<Bytes<A>>, TakeRefusal>,
+) -> Result<(), AllocError>
+    ensures { OnOk result (string_bytes text.new ≡ with_words (string_bytes text.old)
+        (call_text CallWord.Unpool ∷ decimal pd ∷ unpooled answer.now)) }
+{
+    add_call(text, CallWord::Unpool, pd)?;
+    match answer {
+        Ok(Some(octets)) => {
+            appending::word(text, "ok")?;
+            appending::octets(text, octets.as_slice())
+        }
+        Ok(None) => appending::word(text, "empty"),
+        Err(refusal) => appending::refusal(text, refusals::of_take(*refusal)),
+    }
+}
+
 fn add_act<A: Allocator + Copy>(text: &mut String<A>, act: &Act<Bytes<A>>) -> Result<(), AllocError>
     ensures { OnOk result (string_bytes text.new ≡ with_words (string_bytes text.old) (act_words act.now)) }
 {
@@ -477,6 +532,14 @@ fn add_act<A: Allocator + Copy>(text: &mut String<A>, act: &Act<Bytes<A>>) -> Re
             let refused = refused.map(refusals::of_open);
             add_call_outcome(text, CallWord::Open, *stream, refused)
         }
+        Act::Share { pd, refused } => add_share(text, *pd, *refused),
+        Act::Pool { pd, refused, .. } => add_pool(text, *pd, *refused),
+        Act::Unpool { pd, answer } => add_unpooled(text, *pd, answer),
+        Act::OpenShared {
+            stream,
+            refused,
+            ..
+        } => add_open_shared(text, *stream, *refused),
         Act::Stream { stream, act } => add_stream_act(text, *stream, act),
     }
 }

@@ -15,6 +15,10 @@ pub(crate) enum CallWord {
     Invalidate,
     Store,
     Open,
+    Share,
+    Pool,
+    Unpool,
+    OpenShared,
     Accept,
     Reject,
     Recv,
@@ -32,13 +36,17 @@ pub(crate) enum CallWord {
 
 impl CallWord {
     /// Every one of them.
-    pub(crate) const ALL: [CallWord; 19] = [
+    pub(crate) const ALL: [CallWord; 23] = [
         CallWord::Domain,
         CallWord::Register,
         CallWord::Deregister,
         CallWord::Invalidate,
         CallWord::Store,
         CallWord::Open,
+        CallWord::Share,
+        CallWord::Pool,
+        CallWord::Unpool,
+        CallWord::OpenShared,
         CallWord::Accept,
         CallWord::Reject,
         CallWord::Recv,
@@ -64,6 +72,10 @@ impl CallWord {
             CallWord::Invalidate => "invalidate",
             CallWord::Store => "store",
             CallWord::Open => "open",
+            CallWord::Share => "share",
+            CallWord::Pool => "pool",
+            CallWord::Unpool => "unpool",
+            CallWord::OpenShared => "openshared",
             CallWord::Accept => "accept",
             CallWord::Reject => "reject",
             CallWord::Recv => "recv",

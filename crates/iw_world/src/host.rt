@@ -105,6 +105,16 @@ impl<A: Allocator + Copy> Host<A> {
                 options,
                 private,
             } => self.open(*stream, *pd, *role, *options, private),
+            Call::Share { pd } => self.share(*pd),
+            Call::Pool { pd, len } => self.pool(alloc, *pd, *len),
+            Call::Unpool { pd } => self.unpool(*pd),
+            Call::OpenShared {
+                stream,
+                pd,
+                role,
+                options,
+                private,
+            } => self.open_shared(*stream, *pd, *role, *options, private),
             Call::Stream { stream, call } => {
                 let act = self.act_on(alloc, peer, *stream, call)?;
                 Ok(Act::Stream {
@@ -262,8 +272,8 @@ fn open<A: Allocator + Copy>(
     }
 }
 
-// What an end asks for that opens a stream with these options and this private data.
-fn config_for(options: Options, private: &[u8]) -> Config
+/// What an end asks for that opens a stream with these options and this private data.
+pub(crate) fn config_for(options: Options, private: &[u8]) -> Config
     ensures { result ≡ config_for options private.now }
 {
     Config {

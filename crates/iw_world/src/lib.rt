@@ -9,6 +9,7 @@ mod acts;
 mod copies;
 mod fault;
 mod host;
+mod pools;
 mod stream;
 mod wire;
 mod world;
