@@ -13,7 +13,7 @@ use iw_ranges::Islands;
 use iw_schedules::{print_trace, read_schedule};
 use iw_stream::{Config, PrivateData, Role, Step, Stream};
 use iw_testing::FailsAt;
-use iw_untagged::RecvQueue;
+use iw_untagged::{RecvQueue, SharedQueue};
 use iw_world::World;
 use std::alloc::{AllocError, Global};
 use std::test::Fail;
@@ -31,9 +31,12 @@ enum Call {
     WriteFpdu,
     JudgedReady,
     RecvQueuePost,
+    RecvQueueShared,
+    SharedQueuePost,
     CompletionsReady,
     SendQueuePost,
     StreamNew,
+    StreamNewShared,
     StreamPostSend,
     StreamPostWrite,
     StreamPostRead,
@@ -48,7 +51,7 @@ enum Call {
     Replay,
 }
 
-const CALLS: [Call; 23] = [
+const CALLS: [Call; 26] = [
     Call::MemoryNew,
     Call::MemoryRegister,
     Call::IslandsNew,
@@ -57,9 +60,12 @@ const CALLS: [Call; 23] = [
     Call::WriteFpdu,
     Call::JudgedReady,
     Call::RecvQueuePost,
+    Call::RecvQueueShared,
+    Call::SharedQueuePost,
     Call::CompletionsReady,
     Call::SendQueuePost,
     Call::StreamNew,
+    Call::StreamNewShared,
     Call::StreamPostSend,
     Call::StreamPostWrite,
     Call::StreamPostRead,
@@ -225,6 +231,48 @@ fn recv_queue_post(heap: Heap<'_>, n: u64) -> Result<Outcome, AllocError> {
     Ok(try_post_buffer(heap, n, &mut queue, &mut handed))
 }
 
+fn recv_queue_shared(heap: Heap<'_>, n: u64) -> Outcome {
+    heap.refuse_after(n);
+    let is_made = RecvQueue::shared(heap).is_ok();
+    let is_refused = heap.has_refused();
+    judge(is_made, is_refused, RecvQueue::shared(heap).is_ok())
+}
+
+// Posts a buffer that was handed over to a pool, and has it handed back where it is not taken.
+fn pools_buffer<'h>(
+    pool: &mut SharedQueue<Heap<'h>>,
+    handed: &mut Option<Vec<u8, Heap<'h>>>,
+) -> bool {
+    let Some(buffer) = handed.take() else {
+        return false;
+    };
+    match pool.post(buffer) {
+        Ok(()) => true,
+        Err((_, buffer)) => {
+            *handed = Some(buffer);
+            false
+        }
+    }
+}
+
+fn try_pool_buffer<'h>(
+    heap: Heap<'h>,
+    n: u64,
+    pool: &mut SharedQueue<Heap<'h>>,
+    handed: &mut Option<Vec<u8, Heap<'h>>>,
+) -> Outcome {
+    heap.refuse_after(n);
+    let is_made = pools_buffer(pool, handed);
+    let is_refused = heap.has_refused();
+    judge(is_made, is_refused, pools_buffer(pool, handed))
+}
+
+fn shared_queue_post(heap: Heap<'_>, n: u64) -> Result<Outcome, AllocError> {
+    let mut handed = octets(heap)?;
+    let mut pool = SharedQueue::new(heap)?;
+    Ok(try_pool_buffer(heap, n, &mut pool, &mut handed))
+}
+
 fn completions_ready(heap: Heap<'_>, n: u64) -> Outcome {
     let mut completions = Completions::new(heap);
     heap.refuse_after(n);
@@ -305,6 +353,22 @@ fn opened<'h>(heap: Heap<'h>, markers: bool) -> Result<Stream<Heap<'h>>, AllocEr
         private: PrivateData::new(),
     };
     Stream::new(heap, 1, Role::Preset, config)
+}
+
+fn opens_shared(heap: Heap<'_>) -> bool {
+    let config = Config {
+        markers: false,
+        crc: false,
+        private: PrivateData::new(),
+    };
+    Stream::new_shared(heap, 1, Role::Preset, config).is_ok()
+}
+
+fn stream_new_shared(heap: Heap<'_>, n: u64) -> Outcome {
+    heap.refuse_after(n);
+    let is_made = opens_shared(heap);
+    let is_refused = heap.has_refused();
+    judge(is_made, is_refused, opens_shared(heap))
 }
 
 fn opens(heap: Heap<'_>) -> bool {
@@ -579,9 +643,12 @@ fn attempt(heap: Heap<'_>, call: Call, n: u64) -> Result<Outcome, AllocError> {
         Call::WriteFpdu => Ok(fpdu(heap, n)),
         Call::JudgedReady => Ok(judged_ready(heap, n)),
         Call::RecvQueuePost => recv_queue_post(heap, n),
+        Call::RecvQueueShared => Ok(recv_queue_shared(heap, n)),
+        Call::SharedQueuePost => shared_queue_post(heap, n),
         Call::CompletionsReady => Ok(completions_ready(heap, n)),
         Call::SendQueuePost => send_queue_post(heap, n),
         Call::StreamNew => Ok(stream_new(heap, n)),
+        Call::StreamNewShared => Ok(stream_new_shared(heap, n)),
         Call::StreamPostSend
         | Call::StreamPostWrite
         | Call::StreamPostRead

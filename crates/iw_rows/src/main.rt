@@ -28,7 +28,7 @@ enum Ending {
 }
 
 /// The schedules, by the names of their files, `NAME.schedule`. The trace of one that has a trace is in `NAME.trace`.
-const ROWS: [(&str, Ending); 84] = [
+const ROWS: [(&str, Ending); 90] = [
     ("first", Ending::Completed),
     ("one-write", Ending::Completed),
     ("empty-messages", Ending::Completed),
@@ -90,6 +90,12 @@ const ROWS: [(&str, Ending); 84] = [
     ("terminates-that-come", Ending::Faulted),
     ("numbers-that-wrap", Ending::Completed),
     ("places-before-a-stream", Ending::Completed),
+    ("a-shared-pool", Ending::Completed),
+    ("streams-that-share-a-pool", Ending::Faulted),
+    ("one-more-buffer-in-the-pool", Ending::Completed),
+    ("a-domain-without-a-pool", Ending::Completed),
+    ("a-pool-that-is-full", Ending::Completed),
+    ("a-bound-buffer-that-came-early", Ending::Faulted),
     ("break", Ending::Completed),
     ("a-break-in-the-middle-of-a-send", Ending::Completed),
     ("a-broken-stream-hands-back", Ending::Completed),

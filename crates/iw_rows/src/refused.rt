@@ -43,13 +43,13 @@ pub(crate) fn each_refused(alloc: Global, schedule: &[u8]) -> Result<Option<u64>
 /// How often each call was made, and how many of its requests for memory were refused.
 #[derive(Drop)]
 pub(crate) struct Counts {
-    counts: [(u64, u64); 21],
+    counts: [(u64, u64); 25],
 }
 
 impl Counts {
     pub(crate) fn new() -> Counts {
         Counts {
-            counts: [(0, 0); 21],
+            counts: [(0, 0); 25],
         }
     }
 
@@ -62,8 +62,8 @@ impl Counts {
     }
 
     /// Each call with its counts, and whether it takes memory.
-    pub(crate) fn each(&self) -> [(Call, bool, u64, u64); 21] {
-        let mut each = [(Call::New, true, 0, 0); 21];
+    pub(crate) fn each(&self) -> [(Call, bool, u64, u64); 25] {
+        let mut each = [(Call::New, true, 0, 0); 25];
         for (it, ((call, takes_memory), (made, refused))) in each
             .iter_mut()
             .zip(CALLS.into_iter().zip(self.counts))
