@@ -4,8 +4,8 @@
  * output, starts no thread, keeps no time and calls nothing of the program but malloc, realloc and free. The program
  *
  * 1. opens a handle (iwarp_new), adds a domain (iwarp_add_domain), and registers what peers may use (iwarp_register);
- * 2. opens a stream for each connection (iwarp_open), and posts receive buffers (iwarp_post_recv); or makes a pool of receive
- *    buffers (iwarp_share, iwarp_post_shared), and opens streams that share it (iwarp_open_shared);
+ * 2. opens a stream for each connection (iwarp_open), and posts receive buffers (iwarp_post_recv); or makes a pool of
+ *    receive buffers (iwarp_share, iwarp_post_shared), and opens streams that share it (iwarp_open_shared);
  * 3. when octets came: hands them in with the sequence number of the first of them, which is the number of octets that
  *    came before it, modulo 2^32 (iwarp_deliver), and calls iwarp_work_on, or iwarp_work, until it tells IWARP_IDLE. At
  *    IWARP_ASKED it calls iwarp_accept or iwarp_reject and goes on;
@@ -214,17 +214,18 @@ int32_t iwarp_post_recv(struct iwarp *handle, uint8_t stream, size_t n);
 /* Makes the domain a pool of receive buffers, with none in it. */
 int32_t iwarp_share(struct iwarp *handle, uint8_t pd);
 
-/* Posts a receive buffer of `n` octets to the domain's pool, after the others: at most 1,024. A Send takes the oldest with the
- * first of its octets that is placed; one that finds the pool empty, or the oldest too short, ends its stream alone. */
+/* Posts a receive buffer of `n` octets to the domain's pool, after the others: at most 1,024. A Send takes the oldest
+ * with the first of its segments that is placed; one that finds the pool empty, or the oldest too short, ends its stream
+ * alone. */
 int32_t iwarp_post_shared(struct iwarp *handle, uint8_t pd, size_t n);
 
-/* Takes the oldest buffer out of the domain's pool. `*found` is 1, and its `*n` octets stay for iwarp_fetch; or both are 0,
- * where the pool has none. */
+/* Takes the oldest buffer out of the domain's pool. `*found` is 1, and its `*n` octets stay for iwarp_fetch; or both are
+ * 0, if the pool has none. */
 int32_t iwarp_take_shared(struct iwarp *handle, uint8_t pd, uint32_t *found, size_t *n);
 
-/* Opens a stream as iwarp_open does, one that takes its receive buffers from its domain's pool. iwarp_post_recv is
- * IWARP_SHARED at it. A buffer that it took comes back with IWARP_RECEIVED or IWARP_FLUSHED_RECV, and is not in the pool again
- * until the program posts another. */
+/* Opens a stream as iwarp_open does, one that takes its receive buffers from its domain's pool: iwarp_post_recv returns
+ * IWARP_SHARED there. A buffer that it took comes back with IWARP_RECEIVED or IWARP_FLUSHED_RECV. It does not go back to
+ * the pool: the program posts another. */
 int32_t iwarp_open_shared(struct iwarp *handle, uint8_t stream, uint8_t pd, uint32_t role, uint32_t options,
                           const uint8_t *private_data, size_t n);
 

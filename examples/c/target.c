@@ -5,7 +5,7 @@
  *
  * prints `port Q`, and a line for each Send that it received. OPTIONS is a sum of IWARP_MARKERS and IWARP_CRC; PORT is 0 for
  * any free port. With BUFFERS, 1 to 1024, all connections take their receive buffers from one pool of so many. Its status is 1
- * where a connection failed. `iwarp connect --port Q` is its peer. */
+ * if a connection failed. `iwarp connect --port Q` is its peer. */
 #include "host.h"
 
 enum { DOMAIN = 1, MOST = 64, REGION = 65536, BUFFER = 4096, READ = 65536, FRAME = 66000 };
@@ -20,7 +20,7 @@ struct connection {
 };
 
 static struct iwarp end = IWARP_CLOSED;
-static int pooled; /* the buffers of the pool; 0 where there is none */
+static int pooled; /* how many buffers the pool has; 0 if there is none */
 static struct connection connections[MOST];
 static uint8_t octets[READ], frame[FRAME], zeroes[REGION];
 
@@ -36,7 +36,7 @@ static void print_octets(const uint8_t *from, size_t n) {
     for (size_t i = 0; i < n; i++) printf("%02x", from[i]);
 }
 
-/* Begins a connection: its region, its stream, and, where there is no pool, a buffer for one Send. */
+/* Begins a connection: its region, its stream and, if there is no pool, a buffer for one Send. */
 static void begin(uint8_t number, int fd, uint32_t options) {
     struct connection *connection = &connections[number];
     connection->fd = fd;
