@@ -1,4 +1,4 @@
-/* What calls cost through the C interface, beside the same calls from Rattle (crates/handle_bench), in one run, by turns: the
+/* What calls cost through the C interface, beside the same calls from Rattle (crates/bench_handle), in one run, by turns: the
  * median of many rounds of each, in processor time. */
 #define _POSIX_C_SOURCE 199309L
 #include "../../include/iwarp.h"

@@ -1,4 +1,4 @@
-//! What is carried; `crates/stream_bench/src/load.rt` has the same.
+//! What is carried; `crates/bench_stream/src/load.rt` has the same.
 
 /// The messages have by turns the first octets and those from here on.
 pub const SHIFT: usize = 64;

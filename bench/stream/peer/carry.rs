@@ -1,4 +1,4 @@
-//! Loads carried by the peer, as `crates/stream_bench` carries them by `iw_stream`.
+//! Loads carried by the peer, as `crates/bench_stream` carries them by `iw_stream`.
 
 use super::layout::Layout;
 use super::memory::{Memory, Stag};

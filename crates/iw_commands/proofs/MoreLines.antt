@@ -4,9 +4,9 @@ use Rattle.std.proofs.Common.{arith, append_assoc, append-nil, length-append, ze
 use Rattle.std.proofs.Math.Seq.{take-append-add}
 use Rattle.std.specs.Io.KnownBytes.{Appends}
 use Rattle.std.proofs.KnownBytes.{Appends-trans, Appends-nil}
-use Rattle.iw_status.specs.declared.Status.{Status}
-use Rattle.iw_status.specs.declared.Status.TheVariants.{Completed, Failed, Refused}
-use Rattle.iw_status.specs.Status.{with}
+use Rattle.iw_output.specs.declared.status.Status.{Status}
+use Rattle.iw_output.specs.declared.status.Status.TheVariants.{Completed, Failed, Refused}
+use Rattle.iw_output.specs.Status.{with}
 use Rattle.iw_endpoint.specs.Endpoint.{EndpointState}
 use Rattle.iw_links.specs.declared.report.Report.{Report}
 use Rattle.iw_links.specs.Exchange.{Part, Serves, Plan, plan_for, listening, shared_region}

@@ -1,8 +1,8 @@
 -- What a command prints, and how it ends by that. What is known of the output's octets before and after is an option.
 use Rattle.std.specs.Prelude.{◌≡◌, ℕ, List, [], ◌∷◌, ◌++◌, ◌+◌, ◌≤◌, ◌⊎◌, Option, length, take}
 use Rattle.std.specs.Io.KnownBytes.{Appends}
-use Rattle.iw_status.specs.declared.Status.{Status}
-use Rattle.iw_status.specs.Status.{with}
+use Rattle.iw_output.specs.declared.status.Status.{Status}
+use Rattle.iw_output.specs.Status.{with}
 use Rattle.iw_endpoint.specs.Endpoint.{EndpointState}
 use Rattle.iw_links.specs.declared.exchange.Terms.{Terms}
 use Rattle.iw_links.specs.declared.report.Report.{Report}

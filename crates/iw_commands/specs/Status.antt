@@ -1,8 +1,8 @@
 -- How the program ends.
 use Rattle.std.specs.Prelude.{List, [], ◌∷◌, None, true, if◌then◌else◌}
-use Rattle.iw_status.specs.declared.Status.{Status}
-use Rattle.iw_status.specs.declared.Status.TheVariants.{Completed, Failed, Refused}
-use Rattle.iw_status.specs.Status.{with}
+use Rattle.iw_output.specs.declared.status.Status.{Status}
+use Rattle.iw_output.specs.declared.status.Status.TheVariants.{Completed, Failed, Refused}
+use Rattle.iw_output.specs.Status.{with}
 use Rattle.iw_links.specs.declared.report.Report.{Report}
 use Rattle.iw_links.specs.Exchange.{is_completed}
 use Rattle.iw_commands.specs.declared.fault.CommandFault.{CommandFault}

@@ -9,7 +9,7 @@ use crate::peers::{Calls, Peers};
 use crate::printing::{print_report, unmade};
 use iw_endpoint::Endpoint;
 use iw_links::{Counted, MOST_READ, Output, Report, Terms, ask, caller};
-use iw_status::Status;
+use iw_output::Status;
 use std::alloc::Global;
 use std::io::{Read, Write};
 use std::net::Net;

@@ -1,7 +1,7 @@
 ghost use Rattle.std.specs.Prelude.{◌≡◌};
 ghost use Rattle.iw_commands.specs.Status.{fault_status};
 
-use iw_status::Status;
+use iw_output::Status;
 use std::alloc::AllocError;
 use thiserror::Error;
 

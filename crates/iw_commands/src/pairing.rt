@@ -12,7 +12,7 @@ use crate::printing::{print_report, unmade};
 use crate::starting::listener;
 use iw_endpoint::Endpoint;
 use iw_links::{Counted, MOST_READ, MOST_READS, Report, Terms, caller};
-use iw_status::Status;
+use iw_output::Status;
 use std::alloc::Global;
 use std::io::{Read, Write};
 use std::net::Net;

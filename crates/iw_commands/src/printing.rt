@@ -8,8 +8,7 @@ ghost use Rattle.iw_commands.specs.Status.{report_status, unmade};
 use crate::fault::CommandFault;
 use crate::lines::lines_of;
 use iw_links::Report;
-use iw_output::write_octets;
-use iw_status::Status;
+use iw_output::{Status, write_octets};
 use std::alloc::Global;
 use std::io::Write;
 

@@ -10,7 +10,7 @@ use crate::port::port_text;
 use crate::printing::{print_report, print_text, unmade};
 use iw_endpoint::{Endpoint, Stag};
 use iw_links::{Counted, MOST_READ, Report, Terms, listener, serve};
-use iw_status::Status;
+use iw_output::Status;
 use std::alloc::Global;
 use std::io::Write;
 use std::net::Net;

@@ -1,9 +1,12 @@
-//! Octets written to an output: whole, or as far as it takes them.
+//! How a run of the program ends, and octets written to an output: whole, or as far as it takes them.
 #![tactic(auto)]
 
 ghost use Rattle.std.specs.Prelude.{◌≡◌, ◌≤◌, length, take, MatchResult};
 ghost use Rattle.std.specs.Io.KnownBytes.{Appends};
 
+mod status;
+
+pub use status::Status;
 use std::io::{ErrorKind, Write};
 use thiserror::Error;
 

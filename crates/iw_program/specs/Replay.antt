@@ -9,7 +9,7 @@ use Rattle.iw_schedules.specs.Trace.{trace_text}
 use Rattle.iw_laws.specs.declared.fault.WorldFault.{WorldFault}
 use Rattle.iw_laws.specs.Rules.{start, Follows}
 use Rattle.iw_laws.specs.Stops.{StopsAt}
-use Rattle.iw_status.specs.declared.Status.{Status}
+use Rattle.iw_output.specs.declared.status.Status.{Status}
 use Rattle.iw_program.specs.declared.fault.Refusal.{Refusal}
 use Rattle.iw_program.specs.declared.fault.Refusal.TheVariants.{Schedule, World, NoMemory}
 use Rattle.iw_program.specs.declared.fault.ReplayFault.{ReplayFault}

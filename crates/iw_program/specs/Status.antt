@@ -10,8 +10,8 @@ use Rattle.iw_events.specs.declared.act.Shown.TheVariants as shown
 use Rattle.iw_events.specs.declared.act.Seen.{Seen}
 use Rattle.iw_events.specs.declared.act.Seen.TheVariants as seen
 use Rattle.iw_events.specs.declared.act.Entry.{Entry}
-use Rattle.iw_status.specs.declared.Status.{Status}
-use Rattle.iw_status.specs.declared.Status.TheVariants.{Completed, Failed, Refused}
+use Rattle.iw_output.specs.declared.status.Status.{Status}
+use Rattle.iw_output.specs.declared.status.Status.TheVariants.{Completed, Failed, Refused}
 use Rattle.iw_program.specs.declared.fault.ReplayFault.{ReplayFault}
 use Rattle.iw_program.specs.declared.fault.ReplayFault.TheVariants as faults
 

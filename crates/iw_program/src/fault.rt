@@ -1,8 +1,8 @@
 ghost use Rattle.std.specs.Prelude.{◌≡◌};
 ghost use Rattle.iw_program.specs.Status.{stopped_status};
 
+use iw_output::Status;
 use iw_schedules::ScheduleFault;
-use iw_status::Status;
 use iw_world::WorldFault;
 use std::alloc::AllocError;
 use std::error::Error;

@@ -9,6 +9,6 @@ mod status;
 mod text;
 
 pub use fault::{Refusal, ReplayFault};
-pub use iw_status::Status;
+pub use iw_output::Status;
 pub use program::replay;
 pub use text::{Replayed, replay_text};

@@ -4,8 +4,7 @@ ghost use Rattle.iw_program.specs.Replay.{Prints, Stops};
 use crate::fault::ReplayFault;
 use crate::input::read_text;
 use crate::text::replay_text;
-use iw_output::write_octets;
-use iw_status::Status;
+use iw_output::{Status, write_octets};
 use std::alloc::Allocator;
 use std::io::{Read, Write};
 

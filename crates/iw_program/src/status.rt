@@ -3,7 +3,7 @@ ghost use Rattle.iw_program.specs.Status.{sees_fault, shows_fault, is_fault, sta
 
 use bytes::Bytes;
 use iw_events::{Act, Entry, Seen, Shown, StreamAct};
-use iw_status::Status;
+use iw_output::Status;
 use std::alloc::Allocator;
 
 // Whether a step of work found a fault, or one in the peer's start-up frame, or the peer's Terminate.

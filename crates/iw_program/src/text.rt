@@ -3,8 +3,8 @@ ghost use Rattle.iw_program.specs.Replay.{Replays, Refuses};
 
 use crate::fault::Refusal;
 use crate::status::trace_status;
+use iw_output::Status;
 use iw_schedules::{print_trace, read_schedule};
-use iw_status::Status;
 use iw_world::World;
 use std::alloc::{Allocator, Global};
 

@@ -1,5 +1,5 @@
 use Rattle.std.proofs.Common.{◌≡◌, rules}
-use Rattle.iw_status.specs.Status.{with}
+use Rattle.iw_output.specs.Status.{with}
 use Rattle.iw_commands.specs.Status.{report_status}
 use Rattle.iw_commands.proofs.MoreLines.{nothing_yet, prints_on, stops_at}
 use Rattle.iw_commands.proofs.serving.serve_each.Goals as goal

@@ -1,7 +1,0 @@
-use Rattle.std.proofs.Common.{sym, subst}
-use Rattle.ranges_bench.specs.Whole.{IsWhole}
-use Rattle.ranges_bench.proofs.Kept.{whole_delivered}
-use Rattle.ranges_bench.proofs.deliver.Goals as goal
-
-pub returns : goal.returns
-returns c = subst IsWhole (sym c.in_ok-add.ensures.ok) (whole_delivered c.args.islands.now.arrived c.args.place c.args.octets.now c.requires)

@@ -1,5 +1,0 @@
-use Rattle.ranges_bench.specs.Whole.{IsWhole}
-use Rattle.ranges_bench.proofs.in_order.Given as goal
-
-abbrev pub invariant-loop-piece : goal.invariant-loop-piece
-invariant-loop-piece l = IsWhole l.islands.arrived

@@ -1,0 +1,105 @@
+//! Schedules whose requests for memory are refused.
+
+use bytes::Bytes;
+use iw_events::{Entry, Event};
+use iw_program::replay;
+use iw_schedules::{print_trace, read_schedule};
+use std::alloc::{AllocError, Global};
+use test_ends::{CALLS, Call, Ends, Heap, Stopped};
+use test_support::FailsAt;
+
+/// The most requests for memory of one replay.
+const MOST_REQUESTS: u64 = 1_000_000;
+
+// Whether the replay ends for want of memory where its request behind the next `n` is refused, and writes nothing; `None`
+// where there is no such request.
+fn is_refused(alloc: Global, schedule: &[u8], n: u64) -> Result<Option<bool>, AllocError> {
+    let heap = FailsAt::new(alloc, n);
+    let mut written = Vec::new(alloc);
+    let mut input = schedule;
+    let ended = replay(&heap, &mut input, &mut written);
+    if !heap.has_refused() {
+        return Ok(None);
+    }
+    Ok(Some(match ended {
+        Ok(_) => false,
+        Err(fault) => written.is_empty() && fault.to_string(alloc)?.as_str() == "no memory",
+    }))
+}
+
+/// Replays a schedule with its first request for memory refused, then with the second alone, and so on to the last.
+/// Returns how many there were; `None` where one of these replays ended in another way than for want of memory.
+pub(crate) fn each_refused(alloc: Global, schedule: &[u8]) -> Result<Option<u64>, AllocError> {
+    for n in 0..MOST_REQUESTS {
+        match is_refused(alloc, schedule, n)? {
+            None => return Ok(Some(n)),
+            Some(true) => {}
+            Some(false) => return Ok(None),
+        }
+    }
+    Ok(None)
+}
+
+/// How often each call was made, and how many of its requests for memory were refused.
+#[derive(Drop)]
+pub(crate) struct Counts {
+    counts: [(u64, u64); 25],
+}
+
+impl Counts {
+    pub(crate) fn new() -> Counts {
+        Counts {
+            counts: [(0, 0); 25],
+        }
+    }
+
+    fn add(&mut self, ends: &Ends<'_>) {
+        for (counts, (call, _)) in self.counts.iter_mut().zip(CALLS) {
+            let (made, refused) = ends.counted(call);
+            counts.0 = counts.0.saturating_add(made);
+            counts.1 = counts.1.saturating_add(refused);
+        }
+    }
+
+    /// Each call with its counts, and whether it takes memory.
+    pub(crate) fn each(&self) -> [(Call, bool, u64, u64); 25] {
+        let mut each = [(Call::New, true, 0, 0); 25];
+        for (it, ((call, takes_memory), (made, refused))) in each
+            .iter_mut()
+            .zip(CALLS.into_iter().zip(self.counts))
+        {
+            *it = (call, takes_memory, made, refused);
+        }
+        each
+    }
+}
+
+// Makes the events happen one after the other, each of their requests for memory being refused in turn.
+fn entries<'h>(
+    ends: &mut Ends<'h>,
+    heap: Heap<'h>,
+    events: &[Event<Bytes<Heap<'h>>>],
+) -> Result<Vec<Entry<Bytes<Heap<'h>>>, Heap<'h>>, Stopped> {
+    let mut entries = Vec::new(heap);
+    for event in events {
+        entries.push(ends.happen(event)?)?;
+    }
+    Ok(entries)
+}
+
+/// Whether this is the trace of a schedule at two endpoints, each request for memory of each call being refused in turn,
+/// and the same call made again.
+pub(crate) fn made_again(
+    alloc: Global,
+    schedule: &[u8],
+    trace: &[u8],
+    counts: &mut Counts,
+) -> anyhow::Result<bool> {
+    let heap = FailsAt::new(alloc, u64::MAX);
+    let events = read_schedule(&heap, schedule)?;
+    let mut ends = Ends::new(&heap, true)?;
+    let entries = entries(&mut ends, &heap, events.as_slice())?;
+    counts.add(&ends);
+    let text = print_trace(&heap, entries.as_slice())?;
+    Ok(text.as_bytes() == trace)
+}
