@@ -33,6 +33,9 @@ const RECEIVED_EARLY: f64 = 0.48;
 const MAX_EARLY: f64 = 1.5;
 const MAX_LYING: f64 = 10.0;
 
+/// How much more a Send may take whose buffer comes from a pool.
+const MAX_POOLED: f64 = 1.1;
+
 const GROWTH_TRIES: usize = 5;
 
 /// How many octets an idle stream may hold.
@@ -200,6 +203,21 @@ fn judge_reads(turns: usize, wanted: &mut Wanted) {
     }
 }
 
+/// Sends to 64 streams by turns, whose 1,024 receive buffers come from one pool, beside the same over queues of their own.
+fn judge_pool(turns: usize, wanted: &mut Wanted) {
+    let load = Load { sends: true, message: 1_024, ahead: 15, pairs: 64, ..Load::PLAIN }.carrying(4 << 20);
+    let [mut own, mut pooled] =
+        [load, Load { pooled: true, ..load }].map(|load| Row::new("Sends of 1 KiB, 64 streams by turns", load));
+    own.try_out_ours();
+    pooled.try_out_ours();
+    for _ in 0..turns {
+        own.turn_ours();
+        pooled.turn_ours();
+    }
+    let ratio = pooled.an_octet() / own.an_octet();
+    wanted.at_most("Sends of 1 KiB to 64 streams, from a pool of 1,024 buffers to queues of their own", ratio, MAX_POOLED);
+}
+
 /// Frames that are placed before their turn, beside the same in order, with markers and CRCs.
 fn judge_early(turns: usize, wanted: &mut Wanted) {
     let mut rows = rows::early();
@@ -304,6 +322,7 @@ fn main() {
     judge_limits(&rows, &limits, &mut wanted);
     judge_growth(turns / 10 + 1, &mut wanted);
     judge_reads(turns / 10 + 1, &mut wanted);
+    judge_pool(turns, &mut wanted);
     judge_early(turns / 4 + 1, &mut wanted);
     judge_lying(turns / 4 + 1, &mut wanted);
     judge_crc(turns, &mut wanted);

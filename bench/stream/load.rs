@@ -18,6 +18,8 @@ pub struct Load {
     pub start_up: bool,
     /// The messages are Sends, and not Writes.
     pub sends: bool,
+    /// The receiving streams share one pool of receive buffers.
+    pub pooled: bool,
     /// The receiving ends read the messages, one at a time each, in place of that the others write them.
     pub reads: bool,
     /// After each round what came is compared with what was posted.
@@ -38,6 +40,8 @@ pub struct Load {
     pub message: usize,
     /// How many messages are posted at a time.
     pub posted: usize,
+    /// How many receive buffers each receiving stream has posted, or added to the pool, before the first round.
+    pub ahead: usize,
     /// How many pairs of streams go by turns.
     pub pairs: usize,
     /// How many frames of a stream are emitted at a time.
@@ -59,6 +63,7 @@ impl Load {
         crc: false,
         start_up: false,
         sends: false,
+        pooled: false,
         reads: false,
         compared: false,
         two_callers: false,
@@ -69,6 +74,7 @@ impl Load {
         mulpdu: 1_400,
         message: 16_384,
         posted: 1,
+        ahead: 0,
         pairs: 1,
         batch: 1,
         late: 1,

@@ -3,6 +3,7 @@ use bytes::Bytes;
 use iw_memory::{Memory, Stag};
 use iw_octets::{MAX_PLACE, Message, Octets, ReadRequest};
 use iw_stream::{Config, Delivery, Emission, PrivateData, Request, Role, Step, Stream};
+use iw_untagged::SharedQueue;
 use std::alloc::{AllocError, Global};
 
 /// The domain of all streams and regions.
@@ -21,22 +22,66 @@ impl From<AllocError> for Stop {
     }
 }
 
+/// Receive buffers of one side.
+#[derive(Drop)]
+pub(crate) struct Buffers {
+    /// Those that are not posted.
+    pub(crate) spare: Vec<Vec<u8>>,
+    /// Those that streams share.
+    pub(crate) pool: SharedQueue,
+}
+
+impl Buffers {
+    /// No buffer.
+    pub(crate) fn new(alloc: Global) -> Result<Buffers, Stop> {
+        Ok(Buffers {
+            spare: Vec::new(alloc),
+            pool: SharedQueue::new(alloc)?,
+        })
+    }
+
+    /// Adds a buffer of zeros that is not posted.
+    pub(crate) fn add(&mut self, alloc: Global, len: usize) -> Result<(), Stop> {
+        let buffer = vec![in alloc; 0; len]?;
+        self.spare.reserve(1)?;
+        self.spare.push_reserved(buffer);
+        Ok(())
+    }
+}
+
 /// One end of a connection.
 #[derive(Drop)]
 pub(crate) struct End {
     stream: Stream,
+    /// Its receive buffers come from the pool.
+    pooled: bool,
+}
+
+fn config(load: Load) -> Config {
+    Config {
+        markers: load.markers,
+        crc: load.crc,
+        private: PrivateData::new(),
+    }
 }
 
 impl End {
     /// An end with the load's markers and CRCs.
     pub(crate) fn new(alloc: Global, load: Load, role: Role) -> Result<End, Stop> {
-        let config = Config {
-            markers: load.markers,
-            crc: load.crc,
-            private: PrivateData::new(),
-        };
         Ok(End {
-            stream: Stream::new(alloc, DOMAIN, role, config)?,
+            stream: Stream::new(alloc, DOMAIN, role, config(load))?,
+            pooled: false,
+        })
+    }
+
+    /// The same, which receives: its receive buffers come from the pool if the load says so.
+    pub(crate) fn receiving(alloc: Global, load: Load, role: Role) -> Result<End, Stop> {
+        if !load.pooled {
+            return End::new(alloc, load, role);
+        }
+        Ok(End {
+            stream: Stream::new_shared(alloc, DOMAIN, role, config(load))?,
+            pooled: true,
         })
     }
 
@@ -78,8 +123,14 @@ impl End {
         self.post(Request::Read(request))
     }
 
-    /// Posts a receive buffer.
-    pub(crate) fn post_recv(&mut self, buffer: Vec<u8>) -> Result<(), Stop> {
+    /// Posts a receive buffer that is not posted yet, to the pool if the end shares one.
+    pub(crate) fn post_recv(&mut self, buffers: &mut Buffers) -> Result<(), Stop> {
+        let Some(buffer) = buffers.spare.pop() else {
+            return Err(Stop);
+        };
+        if self.pooled {
+            return add_to_pool(&mut buffers.pool, buffer);
+        }
         match self.stream.post_recv(buffer) {
             Ok(()) => Ok(()),
             Err(_) => Err(Stop),
@@ -115,19 +166,24 @@ impl End {
         }
     }
 
-    // Does one step, and tells how many octets it placed: `None` where there was nothing to do. The buffer of a Send that is
-    // complete is added to `spare`.
+    // Does one step, and tells how many octets it placed: `None` if there was nothing to do. The buffer of a Send that is
+    // complete is no longer posted.
     #[inline(always)]
-    fn step(&mut self, memory: &mut Memory, spare: &mut Vec<Vec<u8>>) -> Result<Option<u64>, Stop> {
+    fn step(&mut self, memory: &mut Memory, buffers: &mut Buffers) -> Result<Option<u64>, Stop> {
         if self.stream.in_order_point() > MAX_PLACE {
             return Err(Stop);
         }
-        let Ok(step) = self.stream.work(memory) else {
+        let worked = if self.pooled {
+            self.stream.work_shared(memory, &mut buffers.pool)
+        } else {
+            self.stream.work(memory)
+        };
+        let Ok(step) = worked else {
             return Err(Stop);
         };
         match step {
             Step::Placed { len, .. } | Step::Buffered { len, .. } => Ok(Some(len as u64)),
-            Step::Received { buffer, .. } => keep(spare, buffer),
+            Step::Received { buffer, .. } => keep(&mut buffers.spare, buffer),
             Step::Done(_) | Step::Tried(_) | Step::Passed => Ok(Some(0)),
             Step::Asked | Step::Opened(_) | Step::Requested { .. } => Ok(Some(0)),
             Step::Idle => Ok(None),
@@ -141,11 +197,11 @@ impl End {
     pub(crate) fn settle(
         &mut self,
         memory: &mut Memory,
-        spare: &mut Vec<Vec<u8>>,
+        buffers: &mut Buffers,
     ) -> Result<u64, Stop> {
         let mut placed = 0u64;
         for _ in 0..MAX_STEPS {
-            let Some(more) = self.step(memory, spare)? else {
+            let Some(more) = self.step(memory, buffers)? else {
                 return Ok(placed);
             };
             placed = placed.wrapping_add(more);
@@ -158,16 +214,23 @@ impl End {
     pub(crate) fn settle_too(
         &mut self,
         memory: &mut Memory,
-        spare: &mut Vec<Vec<u8>>,
+        buffers: &mut Buffers,
     ) -> Result<u64, Stop> {
         let mut placed = 0u64;
         for _ in 0..MAX_STEPS {
-            match self.step(memory, spare)? {
+            match self.step(memory, buffers)? {
                 Some(more) => placed = placed.wrapping_add(more),
                 None => return Ok(placed),
             }
         }
         Err(Stop)
+    }
+}
+
+fn add_to_pool(pool: &mut SharedQueue, buffer: Vec<u8>) -> Result<(), Stop> {
+    match pool.post(buffer) {
+        Ok(()) => Ok(()),
+        Err(_) => Err(Stop),
     }
 }
 

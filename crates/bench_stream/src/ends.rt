@@ -1,4 +1,4 @@
-use crate::end::{DOMAIN, End, Stop};
+use crate::end::{Buffers, DOMAIN, End, Stop};
 use crate::load::Load;
 use crate::wire::Wire;
 use bytes::Bytes;
@@ -53,8 +53,7 @@ fn register(memory: &mut Memory, octets: Vec<u8>, rights: Rights) -> Result<Stag
 #[derive(Drop)]
 struct Receiving {
     memory: Memory,
-    /// Receive buffers that are not posted.
-    spare: Vec<Vec<u8>>,
+    buffers: Buffers,
     /// How many octets a delivery has at most.
     delivery: usize,
     /// Of each so many deliveries of a window the first stays away.
@@ -68,7 +67,7 @@ impl Receiving {
     fn new(alloc: Global, load: Load) -> Result<Receiving, Stop> {
         Ok(Receiving {
             memory: memory(alloc)?,
-            spare: Vec::new(alloc),
+            buffers: Buffers::new(alloc)?,
             delivery: load.delivery,
             gap: load.gap,
             too: false,
@@ -77,9 +76,9 @@ impl Receiving {
 
     fn settle(&mut self, end: &mut End) -> Result<u64, Stop> {
         if self.too {
-            end.settle_too(&mut self.memory, &mut self.spare)
+            end.settle_too(&mut self.memory, &mut self.buffers)
         } else {
-            end.settle(&mut self.memory, &mut self.spare)
+            end.settle(&mut self.memory, &mut self.buffers)
         }
     }
 
@@ -128,18 +127,10 @@ impl Receiving {
         Ok(deliveries)
     }
 
-    // Has room for a message that is sent.
-    fn post_recv(&mut self, end: &mut End) -> Result<(), Stop> {
-        match self.spare.pop() {
-            Some(buffer) => end.post_recv(buffer),
-            None => Err(Stop),
-        }
-    }
-
     // Whether what is free and what is registered has these octets.
     fn holds(&self, stag: Stag, sends: bool, octets: &[u8]) -> bool {
         if sends {
-            return all_have(self.spare.as_slice(), octets);
+            return all_have(self.buffers.spare.as_slice(), octets);
         }
         match self.memory.local(stag) {
             Some(region) => region == octets,
@@ -173,7 +164,7 @@ impl Pair {
         };
         Ok(Pair {
             sender: End::new(alloc, load, sends)?,
-            receiver: End::new(alloc, load, receives)?,
+            receiver: End::receiving(alloc, load, receives)?,
         })
     }
 
@@ -185,7 +176,7 @@ impl Pair {
         receiving: &mut Receiving,
     ) -> Result<(), Stop> {
         if load.sends {
-            receiving.post_recv(&mut self.receiver)?;
+            self.receiver.post_recv(&mut receiving.buffers)?;
             self.sender.post_send(octets.clone()?)
         } else {
             self.sender.post_write(stag, octets.clone()?)
@@ -256,7 +247,7 @@ pub(crate) struct Ends {
     /// The sending side has one region, which is read, and gets no buffer back.
     source: Memory,
     source_stag: Stag,
-    none: Vec<Vec<u8>>,
+    none: Buffers,
     receiving: Receiving,
     stag: Stag,
     wire: Wire,
@@ -277,7 +268,7 @@ impl Ends {
             pairs: Vec::with_capacity(alloc, load.pairs)?,
             source: memory(alloc)?,
             source_stag: Stag::new(DOMAIN, 0, 0),
-            none: Vec::new(alloc),
+            none: Buffers::new(alloc)?,
             receiving: Receiving::new(alloc, load)?,
             stag: Stag::new(DOMAIN, 0, 0),
             wire: Wire::new(alloc),
@@ -301,14 +292,19 @@ impl Ends {
         Ok(())
     }
 
+    // The buffers of a round, and before them those that are posted ahead.
     fn add_buffers(&mut self, alloc: Global) -> Result<(), Stop> {
         if !self.load.sends {
             return Ok(());
         }
+        for pair in self.pairs.iter_mut() {
+            for _ in 0..self.load.ahead {
+                self.receiving.buffers.add(alloc, self.load.message)?;
+                pair.receiver.post_recv(&mut self.receiving.buffers)?;
+            }
+        }
         for _ in 0..self.load.posted.saturating_mul(self.load.pairs) {
-            let buffer = vec![in alloc; 0; self.load.message]?;
-            self.receiving.spare.reserve(1)?;
-            self.receiving.spare.push_reserved(buffer);
+            self.receiving.buffers.add(alloc, self.load.message)?;
         }
         Ok(())
     }

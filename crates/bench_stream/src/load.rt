@@ -10,6 +10,8 @@ pub struct Load {
     pub start_up: bool,
     /// The messages are Sends, and not Writes.
     pub sends: bool,
+    /// The receiving streams share one pool of receive buffers.
+    pub pooled: bool,
     /// The receiving ends read the messages, one at a time each, in place of that the others write them.
     pub reads: bool,
     /// After each round what came is compared with what was posted.
@@ -30,6 +32,8 @@ pub struct Load {
     pub message: usize,
     /// How many messages are posted at a time.
     pub posted: usize,
+    /// How many receive buffers each receiving stream has posted, or added to the pool, before the first round.
+    pub ahead: usize,
     /// How many pairs of streams go by turns.
     pub pairs: usize,
     /// How many frames of a stream are emitted at a time.

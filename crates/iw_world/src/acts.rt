@@ -9,13 +9,13 @@ ghost use Rattle.iw_laws.specs.Rules.{needs_peer, seen_of};
 ghost use Rattle.iw_events.specs.declared.act.Act.{Act};
 ghost use Rattle.iw_events.specs.declared.call.Call.{Call};
 
-use crate::copies::{known, message_in, private_data, shared, standing, whole};
 use crate::fault::Failure;
 use crate::host::Host;
+use crate::known::known;
 use crate::stream;
 use bytes::Bytes;
 use iw_endpoint::Endpoint;
-use iw_events::{Seen, StreamAct, StreamCall};
+use iw_events::{Seen, StreamAct, StreamCall, message_in, private_data, shared, standing, whole};
 use iw_octets::{Octets, Stag};
 use iw_stream::{Request, Step};
 use std::alloc::{AllocError, Allocator};

@@ -8,12 +8,11 @@ ghost use Rattle.iw_endpoint.specs.Isolation as calls;
 ghost use Rattle.iw_memory.specs.Table.{register_refusal, next_stag};
 ghost use Rattle.iw_laws.specs.Words.{config_for};
 
-use crate::copies::private_data;
 use crate::fault::Failure;
 use crate::wire::Wire;
 use bytes::Bytes;
 use iw_endpoint::{Endpoint, STREAM_NUMBERS};
-use iw_events::{Act, Call, Options};
+use iw_events::{Act, Call, Options, private_data};
 use iw_memory::{RegisterRefusal, Rights, Stag};
 use iw_stream::{Config, OpenRefusal, Role};
 use std::alloc::{AllocError, Allocator, Global};

@@ -6,9 +6,9 @@
 #![tactic(auto)]
 
 mod acts;
-mod copies;
 mod fault;
 mod host;
+mod known;
 mod pools;
 mod stream;
 mod wire;

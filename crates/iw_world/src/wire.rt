@@ -5,11 +5,10 @@ ghost use Rattle.iw_endpoint.specs.Endpoint.{has_stream, stream_at, emission_at,
 ghost use Rattle.iw_laws.specs.Bounds.{IsShort};
 ghost use Rattle.iw_laws.specs.Rules.{shown_of};
 
-use crate::copies::standing;
 use crate::fault::Failure;
 use bytes::Bytes;
 use iw_endpoint::{CallRefusal, Emission, Endpoint};
-use iw_events::Shown;
+use iw_events::{Shown, standing};
 use iw_memory::Memory;
 use std::alloc::{AllocError, Allocator, Global};
 use std::marker::Model;

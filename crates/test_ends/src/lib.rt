@@ -5,7 +5,6 @@
 //! So the entries are those of a run with ample memory only where each refusal left all as it was.
 #![tactic(auto)]
 
-mod copies;
 mod ends;
 mod meter;
 mod side;

@@ -1,6 +1,5 @@
 //! One end: its endpoint, and what its streams emitted.
 
-use crate::copies::{message_in, private_data, shared, standing};
 use crate::meter::{Call, Heap, MOST_TRIES, Meter, Stopped};
 use crate::wire::Wire;
 use bytes::Bytes;
@@ -9,7 +8,10 @@ use iw_endpoint::{
     OpenRefusal, OpenSharedRefusal, PoolRefusal, PostRefusal, RecvRefusal, RegisterRefusal,
     Request, Right, Rights, Role, STREAM_NUMBERS, ShareRefusal, Stag, Step,
 };
-use iw_events::{Act, Options, Seen, Shown, StreamAct, StreamCall};
+use iw_events::{
+    Act, Options, Seen, Shown, StreamAct, StreamCall, message_in, private_data, shared, standing,
+    whole,
+};
 use std::alloc::AllocError;
 
 #[derive(Drop)]
@@ -41,8 +43,7 @@ fn endpoint<'h>(meter: &mut Meter<'h>) -> Result<Endpoint<Heap<'h>>, Stopped> {
 }
 
 fn see_flushed<'h>(buffer: Octets<Heap<'h>>) -> SeenStep<'h> {
-    let len = buffer.len();
-    Ok(Seen::FlushedRecv(message_in(buffer, len)?))
+    Ok(Seen::FlushedRecv(whole(buffer)?))
 }
 
 fn see_received<'h>(

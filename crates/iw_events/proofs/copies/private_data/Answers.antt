@@ -1,7 +1,7 @@
 use Rattle.std.proofs.Common.{◌≡◌, ◌++◌, take, ap, ◌∙◌, arith}
 use Rattle.std.proofs.lemmas.Grind.{common_steps}
 use Rattle.std.proofs.lemmas.List.{take_min}
-use Rattle.iw_world.proofs.copies.private_data.Goals as goal
+use Rattle.iw_events.proofs.copies.private_data.Goals as goal
 
 pub returns : goal.returns
 returns c =

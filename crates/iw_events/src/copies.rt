@@ -1,23 +1,17 @@
-//! Copies for the trace, and facts that reading a value tells.
+//! Copies of what an end has, for the entries of a trace.
 
 ghost use Rattle.std.specs.Prelude.{◌≡◌, ◌+◌, ◌-◌, ◌≤◌, ◌<◌, take, drop, length, Some, IfOk};
-ghost use Rattle.iw_laws.specs.Rules.{FitsPosted};
-ghost use Rattle.iw_octets.specs.Payload.{FitsRequest};
-ghost use Rattle.iw_octets.specs.Stag.{FitsStag};
 ghost use Rattle.iw_memory.specs.Table.{octets_at};
-ghost use Rattle.iw_laws.specs.Words.{private_data};
 
 use bytes::Bytes;
 use iw_memory::{Memory, Stag};
-use iw_octets::{Message, Octets, ReadRequest};
-use iw_startup::MAX_PRIVATE;
-use iw_stream::{PrivateData, Request};
+use iw_octets::{Message, Octets};
+use iw_queues::Request;
+use iw_startup::{MAX_PRIVATE, PrivateData};
 use std::alloc::{AllocError, Allocator};
 
 /// The same request; its octets are shared, not copied.
-pub(crate) fn shared<A: Allocator>(
-    request: &Request<Bytes<A>>,
-) -> Result<Request<Bytes<A>>, AllocError>
+pub fn shared<A: Allocator>(request: &Request<Bytes<A>>) -> Result<Request<Bytes<A>>, AllocError>
     ensures { IfOk result (λ copy. copy ≡ request.now) }
 {
     match request {
@@ -43,48 +37,8 @@ pub(crate) fn shared<A: Allocator>(
     }
 }
 
-// A number that was read fits its type.
-fn known_stag(stag: Stag)
-    ensures { FitsStag stag }
-{
-    stag.known();
-}
-
-// So do those of a Read.
-fn known_read(request: ReadRequest)
-    ensures { FitsRequest request }
-{
-    let ReadRequest {
-        sink,
-        sink_to: _,
-        size: _,
-        source,
-        source_to: _,
-    } = request;
-    known_stag(sink);
-    known_stag(source);
-}
-
-/// Tells that the numbers of a request fit their fields.
-pub(crate) fn known<A: Allocator>(request: &Request<Bytes<A>>)
-    ensures { FitsPosted request.now }
-{
-    match request {
-        Request::Message(Message::Write { stag, to, .. }) => {
-            known_stag(*stag);
-            let _to = *to;
-        }
-        Request::Message(Message::Send { invalidate, .. }) => {
-            if let Some(stag) = invalidate {
-                known_stag(*stag);
-            }
-        }
-        Request::Read(read) => known_read(*read),
-    }
-}
-
 /// The octets of a region from tagged offset `to` on, `len` of them, as far as the region has them.
-pub(crate) fn standing<A: Allocator + Copy>(
+pub fn standing<A: Allocator + Copy>(
     alloc: A,
     memory: &Memory<A>,
     stag: Stag,
@@ -102,8 +56,8 @@ pub(crate) fn standing<A: Allocator + Copy>(
 }
 
 /// Private data as a start-up frame has it: the first 512 octets.
-pub(crate) fn private_data(octets: &[u8]) -> PrivateData
-    ensures { result ≡ private_data octets.now }
+pub fn private_data(octets: &[u8]) -> PrivateData
+    ensures { result ≡ record { items = take MAX_PRIVATE octets.now } }
 {
     let mut private = PrivateData::new();
     let _ = private.try_extend_from_slice(&octets[..MAX_PRIVATE.min(octets.len())]);
@@ -111,7 +65,7 @@ pub(crate) fn private_data(octets: &[u8]) -> PrivateData
 }
 
 /// The message that a buffer holds: its first `len` octets.
-pub(crate) fn message_in<A: Allocator + Copy>(
+pub fn message_in<A: Allocator + Copy>(
     buffer: Octets<A>,
     len: usize,
 ) -> Result<Bytes<A>, AllocError>
@@ -123,7 +77,7 @@ pub(crate) fn message_in<A: Allocator + Copy>(
 }
 
 /// All octets of a buffer.
-pub(crate) fn whole<A: Allocator + Copy>(buffer: Octets<A>) -> Result<Bytes<A>, AllocError>
+pub fn whole<A: Allocator + Copy>(buffer: Octets<A>) -> Result<Bytes<A>, AllocError>
     ensures { IfOk result (λ octets. octets ≡ buffer) }
 {
     Ok(Bytes::from_vec(buffer.into_vec())?)
