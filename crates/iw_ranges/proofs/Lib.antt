@@ -11,3 +11,5 @@ pub mod InOrder
 pub mod Blocks
 pub mod Left
 pub mod NearPlaces
+pub mod InPlace
+pub mod Empties

@@ -77,7 +77,7 @@ forgot to old new order is = record {
   beyond = λ p low. ap (in_spans p) is ∙ in_past to old p low;
 }
 
-untouched : (to : ℕ) (old : List Span) → AreSpans old → KeepsGone to old old
+pub untouched : (to : ℕ) (old : List Span) → AreSpans old → KeepsGone to old old
 untouched to old order = record {
   order = order;
   came = λ p t. t;

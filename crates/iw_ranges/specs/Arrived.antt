@@ -1,5 +1,5 @@
 -- What came of a stream, place by place, and what each call makes of it.
-use Rattle.std.specs.Prelude.{ℕ, ◌≡◌, ◌<◌, ◌≤◌, ◌+◌, ◌-◌, ◌^◌, zero, suc, Bool, true, false, ◌&&◌, ◌||◌, not, nat_lt, nat_le, List, [], ◌∷◌, length, map, drop, max, if◌then◌else◌, slice_index, slice_index_or}
+use Rattle.std.specs.Prelude.{ℕ, ◌≡◌, ◌<◌, ◌≤◌, ◌+◌, ◌-◌, ◌^◌, zero, suc, Bool, true, false, ◌&&◌, ◌||◌, not, nat_lt, nat_le, List, [], ◌∷◌, length, map, take, drop, ◌++◌, max, if◌then◌else◌, slice_index, slice_index_or}
 use Rattle.std.specs.List.{range_with_len}
 use Rattle.iw_ranges.specs.declared.Delivery.{Delivery}
 use Rattle.iw_ranges.specs.declared.Delivery.TheVariants.{Kept, Dropped}
@@ -15,11 +15,17 @@ pub record Arrived : Type 0 where
   pub floor : ℕ
   pub cells : List Cell
 
--- an `Islands`: what came, how many releases there is room for, and for how many octets there is memory
+-- an `Islands`: what came, how many releases there is room for, for how many octets there is memory, and what stands past the last place that came,
+-- which means nothing until it is counted as come
 pub record Held : Type 0 where
   pub arrived : Arrived
   pub room : ℕ
   pub memory : ℕ
+  pub ahead : List ℕ
+
+-- these octets written over the first of those that stand ahead
+abbrev pub with_ahead : Held → List ℕ → Held
+with_ahead h octets = record h { ahead = take (length h.ahead) (octets ++ drop (length octets) h.ahead) }
 
 abbrev pub nothing : Arrived
 nothing = record { floor = 0; cells = [] }
@@ -83,6 +89,14 @@ window = 262144
 abbrev pub max_islands : ℕ
 max_islands = 1024
 
+-- the memory for octets, in octets, that is kept where nothing came past the in-order point
+abbrev pub max_idle : ℕ
+max_idle = 131072
+
+-- and the most that is ever had: for a window, and a quarter of one that lies before the in-order point
+abbrev pub max_held : ℕ
+max_held = 327680
+
 -- how many islands of octets there are, those that came without a gap from `floor` on not counted
 unfoldable pub island_count : (ℕ → Bool) → ℕ → ℕ
 island_count came floor = starts_in came (floor + 1) window
@@ -112,6 +126,21 @@ delivered a place octets = if is_dropped a place (length octets) then a else tak
 abbrev pub BringsOctets : Arrived → ℕ → ℕ → Type 0
 BringsOctets a place n = (delivery a place n ≡ Kept) × ((p : ℕ) × (place ≤ p) × (p < place + n) × (has_come a p ≡ false))
 
+-- ---- octets that are read in place
+-- every place before the last that came has come
+abbrev pub HasNoGap : Arrived → Type 0
+HasNoGap a = (p : ℕ) → p < end_of a → has_come a p ≡ true
+
+-- for how many octets there can be room past the last place that came: as far as the window reaches, and no more memory than is kept where nothing came
+abbrev pub most_ahead : Arrived → ℕ
+most_ahead a = if nat_lt 0 (length a.cells) then window - length a.cells else max_idle
+
+-- n octets can be written past the last place that came, and be counted
+pub record IsReadyFor (n : ℕ) (h : Held) : Type 0 where
+  pub order : HasNoGap h.arrived
+  pub near : end_of h.arrived + n ≤ h.arrived.floor + window
+  pub stand : n ≤ length h.ahead
+
 -- ---- what comes after
 -- the in-order point is `to`, or stays where it lies further on
 unfoldable pub advanced : Arrived → ℕ → Arrived
@@ -126,19 +155,15 @@ given_up from to p Gone = Gone
 unfoldable pub released : Arrived → ℕ → ℕ → Arrived
 released a from to = drawn a.floor (end_of a) (λ p. given_up from to p (cell_at a p))
 
+-- what came past the in-order point is given up, as though it had not come: nothing came from that point on
+abbrev pub emptied : Arrived → Arrived
+emptied a = record { floor = a.floor; cells = [] }
+
 -- ---- what is so at any time
 pub record IsWithinLimits (a : Arrived) : Type 0 where
   pub octets : (p : ℕ) → a.floor + window ≤ p → cell_at a p ≡ Missing
   pub islands : island_count (has_come a) a.floor ≤ max_islands
   pub floor : a.floor ≤ 2 ^ 63
-
--- the memory for octets, in octets, that is kept where nothing came past the in-order point
-abbrev pub max_idle : ℕ
-max_idle = 131072
-
--- and the most that is ever had: for a window, and a quarter of one that lies before the in-order point
-abbrev pub max_held : ℕ
-max_held = 327680
 
 abbrev pub IsIdleWithin : Held → Type 0
 IsIdleWithin h = h.arrived.cells ≡ [] → h.memory ≤ max_idle

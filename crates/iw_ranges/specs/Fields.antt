@@ -1,5 +1,5 @@
 -- What the fields of an `Islands` mean, and what they keep.
-use Rattle.std.specs.Prelude.{ℕ, ◌≡◌, ◌≤◌, ◌<◌, ◌+◌, ◌-◌, ◌^◌, true, List, length, if◌then◌else◌, slice_index, vec_capacity}
+use Rattle.std.specs.Prelude.{ℕ, ◌≡◌, ◌≤◌, ◌<◌, ◌+◌, ◌-◌, ◌^◌, true, List, length, drop, if◌then◌else◌, slice_index, vec_capacity}
 use Rattle.std.specs.VecDeque.{deque_len, deque_capacity}
 use Rattle.iw_ranges.specs.Spans.{in_spans, IsFromStart, AreSpans, first_end}
 use Rattle.iw_ranges.specs.Arrived.{Cell, Missing, Here, Gone, Arrived, Held, drawn, window, max_idle, max_held}
@@ -26,7 +26,7 @@ abbrev pub arrived_in : Fields → Arrived
 arrived_in f = drawn f.floor f.end (cell_of f)
 
 abbrev pub held_by : {A : Type 0} → Inside A → Held
-held_by {A} a = record { arrived = arrived_in (fields_of a); room = deque_capacity a.gone - deque_len a.gone; memory = vec_capacity a.octets }
+held_by {A} a = record { arrived = arrived_in (fields_of a); room = deque_capacity a.gone - deque_len a.gone; memory = vec_capacity a.octets; ahead = drop (a.end - a.base) a.octets.items }
 
 pub record IsSound (f : Fields) : Type 0 where
   pub base : f.base ≤ f.floor

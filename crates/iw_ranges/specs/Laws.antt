@@ -1,7 +1,7 @@
 -- What the calls leave, said of each place.
 use Rattle.std.specs.Prelude.{ℕ, ◌≡◌, ◌≤◌, ◌+◌, ◌-◌, ◌++◌, false, List, length, map, drop, nat_lt, if◌then◌else◌}
 use Rattle.iw_ranges.specs.declared.Delivery.TheVariants.{Kept}
-use Rattle.iw_ranges.specs.Arrived.{Arrived, Here, Gone, cell_at, has_come, cells_between, in_order, come_after, first_copy, given_up, delivery, delivered, taken_in, advanced, released}
+use Rattle.iw_ranges.specs.Arrived.{Arrived, Missing, Here, Gone, cell_at, has_come, cells_between, in_order, come_after, first_copy, given_up, delivery, delivered, taken_in, advanced, released, emptied}
 use Rattle.iw_ranges.specs.InOrder.{IsHeld, IsOf}
 
 -- a delivery that is kept leaves each octet that came before as it was, and else its own
@@ -23,6 +23,10 @@ StaysCome = (a : Arrived) (from to p : ℕ) → has_come (released a from to) p 
 
 abbrev pub GivesUpBefore : Type 0
 GivesUpBefore = (a : Arrived) (to p : ℕ) → cell_at (advanced a to) p ≡ (if nat_lt p to then Gone else cell_at a p)
+
+-- nothing came from the in-order point on, and what lies before it stays given up
+abbrev pub EmptiesPast : Type 0
+EmptiesPast = (a : Arrived) (p : ℕ) → cell_at (emptied a) p ≡ (if nat_lt p a.floor then Gone else Missing)
 
 -- what came in order stands past the in-order point, and the place past it didn't come; a delivery only adds to its end, the in-order point takes
 -- away its front, in either order; and from the beginning of the stream on it is the first octets that were sent, where each one that came was sent

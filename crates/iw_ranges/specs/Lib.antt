@@ -5,3 +5,4 @@ pub mod Parts
 pub mod Laws
 pub mod InOrder
 pub mod Nearest
+pub mod Lending

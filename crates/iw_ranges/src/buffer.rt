@@ -15,7 +15,7 @@ use std::collections::VecDeque;
 const MAX_HELD: usize = 327_680;
 
 /// For how many octets an empty buffer may have memory.
-const MAX_IDLE: usize = 131_072;
+pub(crate) const MAX_IDLE: usize = 131_072;
 
 /// How many octets are moved at most for each that the in-order point passed.
 const MAX_MOVED: usize = 4;
@@ -71,6 +71,7 @@ fn room_for(capacity: usize, len: usize) -> usize
     requires { len ≤ 327680 }
     ensures enough { max len capacity ≤ result }
     ensures bounded { result ≤ max capacity 327680 }
+    ensures idle { len ≤ 131072 → result ≤ max capacity 131072 }
 {
     if len <= capacity {
         return capacity;
@@ -108,18 +109,23 @@ fn extend_to<A: Allocator>(buffer: &mut Vec<u8, A>, len: usize)
     replace_with(buffer, len, extended)
 }
 
-/// Puts the octets at index `at`, past all that stands in the buffer, with zeros between. There is room for them.
-fn lay_past<A: Allocator>(buffer: &mut Vec<u8, A>, at: usize, octets: &[u8])
-    requires past { vec_len buffer.old ≤ at }
-    requires room { at + length octets.now ≤ vec_capacity buffer.old }
-    ensures octets { (i : ℕ) → slice_index buffer.new.items i
-        ≡ (if nat_le at i && nat_lt i (at + length octets.now) then slice_index octets.now (i - at)
-        else slice_index buffer.old.items i) }
-    ensures len { vec_len buffer.new ≡ at + length octets.now }
-    ensures memory { vec_capacity buffer.new ≡ vec_capacity buffer.old }
+/// Makes the buffer at least `len` octets long, with zeros past what stands in it. An `Err` changes nothing.
+pub(crate) fn grow<A: Allocator>(buffer: &mut Vec<u8, A>, len: usize) -> Result<(), AllocError>
+    requires held { len ≤ 327680 }
+    ensures octets { (i : ℕ) → slice_index buffer.new.items i ≡ slice_index buffer.old.items i }
+    ensures len { OnOk result (vec_len buffer.new ≡ max (vec_len buffer.old) len) }
+    ensures err { OnErr result (buffer.new.items ≡ buffer.old.items) }
+    ensures err_memory { OnErr result (vec_capacity buffer.new ≡ vec_capacity buffer.old) }
+    ensures memory { vec_capacity buffer.new ≤ max (vec_capacity buffer.old) 327680 }
+    ensures idle { len ≤ 131072 → vec_capacity buffer.new ≤ max (vec_capacity buffer.old) 131072 }
 {
-    extend_to(buffer, at + octets.len());
-    write_at(buffer, at, octets);
+    if len <= buffer.len() {
+        return Ok(());
+    }
+    let room = room_for(buffer.capacity(), len);
+    buffer.reserve_exact(room - buffer.len())?;
+    extend_to(buffer, len);
+    Ok(())
 }
 
 /// Puts the octets at index `at`, past all that stands in the buffer, with zeros between. An `Err` changes nothing.
@@ -138,9 +144,8 @@ fn append<A: Allocator>(buffer: &mut Vec<u8, A>, at: usize, octets: &[u8]) -> Re
     if octets.is_empty() {
         return Ok(());
     }
-    let room = room_for(buffer.capacity(), at + octets.len());
-    buffer.reserve_exact(room - buffer.len())?;
-    lay_past(buffer, at, octets);
+    grow(buffer, at + octets.len())?;
+    write_at(buffer, at, octets);
     Ok(())
 }
 
@@ -247,6 +252,15 @@ pub(crate) fn put<A: Allocator>(
     Ok(())
 }
 
+/// Lets all octets go, and gives back their memory.
+pub(crate) fn clear<A: Allocator>(octets: &mut Vec<u8, A>)
+    ensures items { octets.new.items ≡ [] }
+    ensures memory { vec_capacity octets.new ≡ 0 }
+{
+    octets.clear();
+    octets.shrink_to_fit();
+}
+
 /// Where there is memory for more than 131,072 octets, lets all of them go and gives it back.
 #[inline]
 fn give_back<A: Allocator>(octets: &mut Vec<u8, A>)
@@ -255,8 +269,7 @@ fn give_back<A: Allocator>(octets: &mut Vec<u8, A>)
     ensures less { vec_capacity octets.new ≤ vec_capacity octets.old }
 {
     if octets.capacity() > MAX_IDLE {
-        octets.clear();
-        octets.shrink_to_fit();
+        clear(octets);
     }
 }
 
@@ -272,6 +285,7 @@ pub(crate) fn let_go<A: Allocator>(octets: &mut Vec<u8, A>, base: &mut u64, end:
     ensures len { vec_len octets.new ≤ vec_len octets.old }
     ensures low { base.old ≤ base.new }
     ensures high { base.new ≤ to }
+    ensures begins { to ≡ end → base.new ≡ to }
     ensures idle { to ≡ end → vec_capacity octets.new ≤ 131072 }
     ensures memory { vec_capacity octets.new ≤ vec_capacity octets.old }
 {

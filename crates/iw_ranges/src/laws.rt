@@ -1,6 +1,6 @@
 //! What the calls of [`Islands`](crate::Islands) leave, said of each place of the stream.
 ghost use Rattle.iw_ranges.specs.Laws.{KeepsFirstCopies, AddsPlaces, StaysCome, InOrderGrows};
-ghost use Rattle.iw_ranges.specs.Laws.{GivesUpPlaces, GivesUpBefore};
+ghost use Rattle.iw_ranges.specs.Laws.{GivesUpPlaces, GivesUpBefore, EmptiesPast};
 ghost use Rattle.iw_ranges.specs.Nearest.{TellsPlaces, TellsNear, KnownPlaces};
 
 /// Of an octet that came twice the first copy stays.
@@ -26,6 +26,11 @@ pub fn released_places_stay_come()
 /// What lies before the in-order point is given up, and all else stays as it is.
 pub fn the_in_order_point_gives_up_what_is_before()
     ensures { GivesUpBefore }
+{}
+
+/// Once what came past the in-order point is given up, no octet from there on counts as come.
+pub fn nothing_stays_past_the_in_order_point()
+    ensures { EmptiesPast }
 {}
 
 /// What came in order stands past the in-order point without a gap, and grows at its end with each delivery.

@@ -8,11 +8,12 @@ ghost use Rattle.std.specs.Prelude.{◌≡◌, ◌<◌, ◌≤◌, ◌+◌, ◌^
 ghost use Rattle.std.specs.Prelude.{true, false, MatchBool, IfOk, OnOk, OnErr};
 ghost use Rattle.std.specs.List.{concat};
 ghost use Rattle.std.specs.Iterator.{YieldsFirstBy, item_count};
-ghost use Rattle.iw_ranges.specs.Arrived.{nothing, cell_at, has_come, cells_between, window, IsHere, Here, Missing};
-ghost use Rattle.iw_ranges.specs.Arrived.{delivery, delivered, advanced, released, BringsOctets};
+ghost use Rattle.iw_ranges.specs.Arrived.{nothing, cell_at, has_come, end_of, cells_between, window, IsHere, Here, Missing};
+ghost use Rattle.iw_ranges.specs.Arrived.{delivery, delivered, advanced, released, emptied, BringsOctets};
 ghost use Rattle.iw_ranges.specs.Arrived.{IsWithinLimits, IsIdleWithin, max_held};
 
 mod buffer;
+mod in_place;
 pub mod laws;
 pub mod nearest;
 mod spans;
@@ -203,6 +204,7 @@ impl<A: Allocator> Islands<A> {
         ensures come { (p : ℕ) → p < result → has_come self.now.arrived p ≡ true }
         ensures missing { cell_at self.now.arrived result ≡ Missing }
         ensures limits { IsWithinLimits self.now.arrived }
+        ensures near { end_of self.now.arrived ≤ self.now.arrived.floor + window }
     {
         self.missing
     }
@@ -341,6 +343,21 @@ impl<A: Allocator> Islands<A> {
         self.floor = to;
         forget(&mut self.gone, to);
         let_go(&mut self.octets, &mut self.base, self.end, to);
+    }
+
+    /// Gives up what came past the in-order point, as though it had not come, and gives back the memory. The in-order
+    /// point stays.
+    pub fn give_up(&mut self)
+        ensures arrived { self.new.arrived ≡ emptied self.old.arrived }
+        ensures memory { self.new.memory ≡ 0 }
+        ensures room { self.new.room ≡ 0 }
+    {
+        buffer::clear(&mut self.octets);
+        spans::clear(&mut self.gone);
+        spans::keep_before(&mut self.spans, self.floor);
+        self.base = self.floor;
+        self.missing = self.floor;
+        self.end = self.floor;
     }
 }
 

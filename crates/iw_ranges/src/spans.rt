@@ -3,7 +3,7 @@ ghost use Rattle.std.specs.Bool.{OnTrue};
 ghost use Rattle.std.specs.VecDeque.{deque_len, deque_capacity};
 ghost use Rattle.iw_ranges.specs.Spans.{in_spans, spans_past, first_end, IsFromStart, IsInOrder, IsFirstReaching};
 ghost use Rattle.iw_ranges.specs.Spans.{add_span, merge_span};
-ghost use Rattle.std.specs.Prelude.{take, drop, ◌++◌};
+ghost use Rattle.std.specs.Prelude.{take, drop, ◌++◌, [], ◌∷◌};
 
 use std::alloc::Allocator;
 use std::collections::VecDeque;
@@ -156,6 +156,25 @@ pub(crate) fn forget<A: Allocator>(gone: &mut VecDeque<Span, A>, to: u64)
     'passed: while !gone.is_empty() && gone[0].to <= to {
         let _ = gone.pop_front();
     }
+}
+
+/// Leaves one span, of the places before `to`, and gives back the memory of the others.
+pub(crate) fn keep_before<A: Allocator>(spans: &mut VecDeque<Span, A>, to: u64)
+    requires { IsFromStart spans.old.items }
+    ensures { spans.new.items ≡ record { from = 0; to = to } ∷ [] }
+{
+    spans.truncate(1);
+    spans.shrink_to_fit();
+    spans[0] = Span { from: 0, to };
+}
+
+/// Drops all spans, and gives back their memory.
+pub(crate) fn clear<A: Allocator>(spans: &mut VecDeque<Span, A>)
+    ensures items { spans.new.items ≡ [] }
+    ensures memory { deque_capacity spans.new ≡ 0 }
+{
+    spans.clear();
+    spans.shrink_to_fit();
 }
 
 /// Whether all places from `from` up to `to` lie in the spans, of which that at `low` is the first that reaches `from`.

@@ -4,6 +4,7 @@ use Rattle.iw_ranges.specs.Spans.{in_spans}
 use Rattle.iw_ranges.specs.Fields.{Fields, fields_of}
 use Rattle.iw_ranges.proofs.Counts.{within_limits}
 use Rattle.iw_ranges.proofs.Cells.{come_via, first_missing, first_covers, cell_is, cell_missing}
+use Rattle.iw_ranges.proofs.InPlace.{end_via}
 use Rattle.iw_ranges.proofs.Islands.missing.Goals as goal
 
 pub returns-clause-come : goal.returns-clause-come
@@ -21,3 +22,8 @@ returns-clause-missing g c =
 
 pub returns-clause-limits : goal.returns-clause-limits
 returns-clause-limits g c = subst (λ (h : Held). IsWithinLimits h.arrived) c.self.view_is (within_limits (fields_of c.self.inside) c.self.invariant.sound)
+
+pub returns-clause-near : goal.returns-clause-near
+returns-clause-near g c =
+    let f : Fields = fields_of c.self.inside in
+    omega (arith, c.self.invariant.sound.windowed, end_via f c.self.invariant.sound c.args.self.now.arrived (ap (λ (h : Held). h.arrived) c.self.view_is), ap (λ (h : Held). h.arrived.floor) c.self.view_is)
