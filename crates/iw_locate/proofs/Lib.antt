@@ -21,3 +21,4 @@ pub mod Recorded
 pub mod GivesUp
 pub mod Left
 pub mod PastHole
+pub mod Emptied

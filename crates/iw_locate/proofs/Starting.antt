@@ -13,7 +13,7 @@ use Rattle.iw_locate.specs.Keeping.{KeptCanLocate, NoRecordKeeps, EverythingTell
 pub kept_can_locate : {T : Type 0} → KeptCanLocate T
 kept_can_locate v keeps low turn = record { based = keeps.based; low = low; between = keeps.between; marked = keeps.marked; records = keeps.records; turn = turn; released = keeps.released }
 
-none_in : {X : Type 0} (xs : List X) → xs ≡ [] → (x : X) → Contains xs x → ⊥
+pub none_in : {X : Type 0} (xs : List X) → xs ≡ [] → (x : X) → Contains xs x → ⊥
 none_in [] e x (k, lt, is) = omega arith
 none_in (y ∷ xs) e x within = absurd (cc e)
 
@@ -48,7 +48,7 @@ everything_tells {T} v based low limits few = record {
         ]
 
 -- what came lies before the place from which on nothing came
-open_reached : {T : Type 0} (v : Scene T) (reach : ℕ) → ((q : ℕ) → reach ≤ q → has_come v.arrived (v.base + q) ≡ false) → (s : ℕ) → IsOpen v s → s < reach
+pub open_reached : {T : Type 0} (v : Scene T) (reach : ℕ) → ((q : ℕ) → reach ≤ q → has_come v.arrived (v.base + q) ≡ false) → (s : ℕ) → IsOpen v s → s < reach
 open_reached v reach missing s o =
     elim (cases_lt s reach) [
       | inl near ↦ near

@@ -2,19 +2,20 @@
 use Rattle.std.specs.Prelude.{ℕ, ◌+◌, ◌-◌, ◌^◌, ◌<◌, ◌≤◌, ◌≡◌, ◌⊎◌, true, false, List, [], length, slice_index}
 use Rattle.std.specs.List.{Contains}
 use Rattle.iw_ranges.specs.declared.Delivery.TheVariants.{Kept}
-use Rattle.iw_ranges.specs.Arrived.{Arrived, Missing, Gone, cell_at, has_come, delivery, delivered, advanced, released, IsWithinLimits}
+use Rattle.iw_ranges.specs.Arrived.{Arrived, Missing, Gone, cell_at, has_come, delivery, delivered, advanced, released, emptied, IsWithinLimits}
 use Rattle.iw_fpdu.specs.declared.layout.Layout.{Layout}
 use Rattle.iw_fpdu.specs.Frame.{frame_end}
 use Rattle.iw_fpdu.specs.Laws.{IsBetween}
 use Rattle.iw_locate.specs.declared.frame.Frame.{Frame}
-use Rattle.iw_locate.specs.declared.frame.Next.TheVariants.{Frame as Found}
+use Rattle.iw_locate.specs.declared.frame.Next.{Next}
+use Rattle.iw_locate.specs.declared.frame.Next.TheVariants.{Frame as Found, Nothing}
 use Rattle.iw_locate.specs.declared.judged.Record.{Record}
 use Rattle.iw_locate.specs.declared.judged.State.{State}
 use Rattle.iw_locate.specs.declared.unsearched.Unsearched.{Unsearched}
 use Rattle.iw_locate.specs.Records.{from_of, IsPlaced, added, kept_from}
 use Rattle.iw_locate.specs.Free.{Scene, scene_of, point_of, front_of, octet_of, GivesUpOnlyPlaced, CanLocate}
 use Rattle.iw_locate.specs.Next.{IsNext}
-use Rattle.iw_locate.specs.Unsearched.{Tells, IsFollowed, everything, nothing_unsearched, counted_from, with_octets, past_frame, from_place, anywhere}
+use Rattle.iw_locate.specs.Unsearched.{Tells, IsFollowed, everything, nothing_from, nothing_unsearched, counted_from, with_octets, past_frame, from_place, anywhere}
 
 -- the records of frames that were judged early, and what came: each span lies wholly ahead of the in-order point and is whole, and from that point on only
 -- octets of placed frames were given up; that the spans are in order, and no two have a place in common, is so of a `Judged` at any time
@@ -86,3 +87,12 @@ abbrev pub TurnKeeps : Type 0 → Type 0
 TurnKeeps T = (v : Scene T) (u left : Unsearched) (to : ℕ) → Keeps v → Tells v u → IsPassed v to
     → ((left ≡ from_place u (to - v.base)) × ((r : Record T) → Contains v.records r → from_of r < to - v.base → r.end ≤ to - v.base)) ⊎ (left ≡ anywhere u)
     → let w = changed v (advanced v.arrived to) (kept_from (to - v.base) v.records) in Keeps w × Tells w left
+
+-- what came past the in-order point is given up, and every record: the direction is one of which nothing came from that point on, so that nothing can be judged
+-- until more comes
+abbrev pub emptied_past : {T : Type 0} → Scene T → Scene T
+emptied_past v = changed v (emptied v.arrived) []
+
+abbrev pub GivingUpKeeps : Type 0 → Type 0
+GivingUpKeeps T = (v : Scene T) → Keeps v
+    → let w = emptied_past v in Keeps w × IsFrontUnplaced w × Tells w (nothing_from (point_of v)) × ((next : Next) → IsNext w next → next ≡ Nothing)

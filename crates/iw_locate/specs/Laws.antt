@@ -7,6 +7,8 @@ use Rattle.iw_fpdu.specs.Reading.{marker_agrees}
 use Rattle.iw_fpdu.specs.Found.{octet_in}
 use Rattle.iw_locate.specs.declared.judged.Record.{Record}
 use Rattle.iw_locate.specs.Records.{from_of, IsPlaced, AreApart, added, kept_from}
+use Rattle.iw_locate.specs.declared.frame.Next.{Next}
+use Rattle.iw_locate.specs.Next.{IsNext}
 use Rattle.iw_locate.specs.Free.{Scene, PointsTo, EndsBefore, IsOpen, IsFree, GivesUpOnlyPlaced}
 
 -- ---- what the calls leave, record by record
@@ -36,3 +38,7 @@ pub record IsFreeByAny {T : Type 0} (w : Scene T) (s : ℕ) : Type 0 where
 abbrev pub ReleasesLoseNothing : Type 0 → Type 0
 ReleasesLoseNothing T = (v : Scene T) (came : Arrived) → GivesUpOnlyPlaced v → AreApart v.records → IsCameOf v came
     → (s : ℕ) → IsFree v s ↔ IsFreeByAny (record v { arrived = came }) s
+
+-- what is judged next hangs on the scene alone
+abbrev pub NextIsOne : Type 0 → Type 0
+NextIsOne T = (v : Scene T) (a b : Next) → IsNext v a → IsNext v b → a ≡ b

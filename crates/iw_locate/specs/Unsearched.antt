@@ -35,8 +35,12 @@ pub record IsFollowed (u : Unsearched) (f : Frame) : Type 0 where
 abbrev pub everything : Unsearched
 everything = record { from = 0; to = 0; low = 0; high = 2 ^ 63; reach = 2 ^ 63 }
 
+-- nothing came at `place` or past it
+abbrev pub nothing_from : ℕ → Unsearched
+nothing_from place = record { from = 0; to = 0; low = 0; high = 0; reach = place }
+
 abbrev pub nothing_unsearched : Unsearched
-nothing_unsearched = record { from = 0; to = 0; low = 0; high = 0; reach = 0 }
+nothing_unsearched = nothing_from 0
 
 -- places count from `base` on, and frames may begin anywhere
 abbrev pub counted_from : Unsearched → ℕ → Unsearched

@@ -256,6 +256,17 @@ impl<T, A: Allocator> Judged<T, A> {
         forget(&mut self.records, place);
     }
 
+    /// Drops every record, and gives back the memory.
+    pub fn give_up(&mut self)
+    where
+        T: Drop,
+        ensures records { self.new.records ≡ [] }
+        ensures room { self.new.room ≡ 0 }
+    {
+        self.records.clear();
+        self.records.shrink_to_fit();
+    }
+
     /// Adds a record of a frame that overlaps none with a record. It takes the room that one `ready` made.
     pub fn add(&mut self, frame: Frame, state: State<T>)
     where

@@ -2,9 +2,9 @@
 ghost use Rattle.iw_locate.specs.Known.{KnownPlaces};
 ghost use Rattle.iw_locate.specs.Keeping.{KeptCanLocate, NoRecordKeeps};
 ghost use Rattle.iw_locate.specs.Keeping.{EverythingTells, NothingTells, StartUpTells};
-ghost use Rattle.iw_locate.specs.Keeping.{JudgingKeeps, DeliveryKeeps, ReleaseKeeps, TurnKeeps};
+ghost use Rattle.iw_locate.specs.Keeping.{JudgingKeeps, DeliveryKeeps, ReleaseKeeps, TurnKeeps, GivingUpKeeps};
 ghost use Rattle.iw_locate.specs.Lowest.{LowestIsTold, OverlapsAreTold};
-ghost use Rattle.iw_locate.specs.Laws.{AddsOne, KeepsFrom, ReleasesLoseNothing};
+ghost use Rattle.iw_locate.specs.Laws.{AddsOne, KeepsFrom, NextIsOne, ReleasesLoseNothing};
 
 /// What is added is one record more.
 pub fn added_records_are_one_more<T>()
@@ -73,6 +73,17 @@ pub fn a_release_keeps<T>()
 /// that lie before it were dropped.
 pub fn a_turn_keeps<T>()
     ensures { TurnKeeps T }
+{}
+
+/// Once what came past the in-order point was given up, and every record, which
+/// [`Unsearched::gave_up`](crate::Unsearched::gave_up) was told. Then nothing can be judged until more comes.
+pub fn giving_up_keeps<T>()
+    ensures { GivingUpKeeps T }
+{}
+
+/// There is one answer: it hangs on how the direction is laid out, what came from the in-order point on, and the records.
+pub fn next_is_one<T>()
+    ensures { NextIsOne T }
 {}
 
 /// The lowest place where a frame can be judged early can be worked out.

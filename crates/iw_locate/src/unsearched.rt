@@ -2,7 +2,7 @@ ghost use Rattle.std.specs.Prelude.{◌≡◌, ◌<◌, ◌≤◌, ◌⊎◌};
 ghost use Rattle.std.specs.List.{Contains};
 ghost use Rattle.iw_locate.specs.declared.judged.Record.{Record};
 ghost use Rattle.iw_locate.specs.Records.{from_of};
-ghost use Rattle.iw_locate.specs.Unsearched.{everything, nothing_unsearched, counted_from, with_octets};
+ghost use Rattle.iw_locate.specs.Unsearched.{everything, nothing_from, nothing_unsearched, counted_from, with_octets};
 ghost use Rattle.iw_locate.specs.Unsearched.{past_frame, from_low, from_place, anywhere, Tells};
 ghost use Rattle.iw_locate.specs.Free.{Scene};
 
@@ -52,6 +52,17 @@ impl Unsearched {
             high: 0,
             reach: 0,
         }
+    }
+
+    /// What came at the in-order point, which is `place`, and past it is given up, and every record is dropped: nothing has to be
+    /// looked at until more comes.
+    pub fn gave_up(&mut self, place: u64)
+        ensures { self.new ≡ nothing_from place }
+    {
+        *self = Unsearched {
+            reach: place,
+            ..Unsearched::nothing()
+        };
     }
 
     /// The start-up frame has `base` octets: places were counted from its beginning, and count from its end now.
