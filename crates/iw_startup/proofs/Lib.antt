@@ -4,6 +4,10 @@ pub mod Cuts
 pub mod Ends
 pub mod Handshake
 pub mod Heard
+pub mod Known
+pub mod Lengths
 pub mod Openings
 pub mod Pieces
 pub mod Reached
+pub mod Words
+pub mod Written

@@ -1,3 +1,4 @@
+pub mod Enhanced
 pub mod Frame
 pub mod Laws
 pub mod Own

@@ -1,12 +1,12 @@
 ghost use Rattle.std.specs.Prelude.{◌≡◌, ◌≤◌, length, true, None};
-ghost use Rattle.iw_startup.specs.Frame.{flags};
 ghost use Rattle.iw_startup.specs.Peer.{peer_key};
 ghost use Rattle.iw_startup.specs.declared.side.Reply.TheVariants.{Accept, Reject};
 ghost use Rattle.iw_startup.specs.declared.side.Side.TheVariants as sides;
 ghost use Rattle.iw_startup.specs.State.{asks_as, own_frame, is_responder, is_unanswered, has_agreed, replied};
 
-use crate::config::{Config, FIXED_OCTETS, MAX_FRAME, PrivateData};
-use crate::frame::{flags_octet, written};
+use crate::config::{Config, Establishment, MAX_FRAME, PrivateData};
+use crate::frame::{self, written};
+use crate::negotiation::{asked_revision, at_responder, in_kind};
 use crate::progress::Progress;
 use crate::side::{REPLY_KEY, REQUEST_KEY};
 use arrayvec::ArrayVec;
@@ -26,6 +26,7 @@ enum Standing {
 pub(crate) struct Own {
     pub(crate) markers: bool,
     pub(crate) crc: bool,
+    pub(crate) establishment: Establishment,
     standing: Standing,
     private: PrivateData,
 }
@@ -36,7 +37,7 @@ impl Model for Own {
     ghost Value = { OwnState };
 
     ghost view = { λ o. record {
-      config = record { markers = o.markers; crc = o.crc; private = private_asked o.standing o.private };
+      config = record { markers = o.markers; crc = o.crc; establishment = o.establishment; private = private_asked o.standing o.private };
       side = side_of o.standing o.private;
     } };
 }
@@ -49,6 +50,7 @@ impl Own {
         Own {
             markers: config.markers,
             crc: config.crc,
+            establishment: config.establishment,
             standing: Standing::Initiator,
             private: config.private,
         }
@@ -61,6 +63,7 @@ impl Own {
         Own {
             markers: config.markers,
             crc: config.crc,
+            establishment: at_responder(config.establishment),
             standing: Standing::Unanswered,
             private: ArrayVec::new(),
         }
@@ -124,35 +127,44 @@ impl Own {
         }
     }
 
-    fn flags(&self, rejected: bool) -> u8
-        ensures { result ≡ flags self.now.config.markers self.now.config.crc rejected }
+    /// The frame that this end sends where these octets came of the peer's, no octets at a responder without an answer.
+    pub(crate) fn frame(&self, octets: &[u8]) -> ArrayVec<u8, MAX_FRAME>
+        requires { length (own_frame self.now.config self.now.side octets.now) ≤ MAX_FRAME }
+        ensures { result.items ≡ own_frame self.now.config self.now.side octets.now }
     {
-        flags_octet(self.markers, self.crc, rejected)
-    }
-
-    /// The frame that this end sends, no octets at a responder without an answer.
-    pub(crate) fn frame(&self) -> ArrayVec<u8, MAX_FRAME>
-        ensures { result.items ≡ own_frame self.now.config self.now.side }
-    {
+        let (markers, crc) = (self.markers, self.crc);
         match self.standing {
-            Standing::Initiator => written(REQUEST_KEY, self.flags(false), &self.private),
             Standing::Unanswered => ArrayVec::new(),
-            Standing::Accepted => written(REPLY_KEY, self.flags(false), &self.private),
-            Standing::Rejected => written(REPLY_KEY, self.flags(true), &self.private),
+            Standing::Initiator => {
+                let revision = asked_revision(self.establishment);
+                written(REQUEST_KEY, markers, crc, false, revision, &self.private)
+            }
+            Standing::Accepted => {
+                let revision = in_kind(false, frame::revision_of(self, octets));
+                written(REPLY_KEY, markers, crc, false, revision, &self.private)
+            }
+            Standing::Rejected => {
+                let revision = in_kind(true, frame::revision_of(self, octets));
+                written(REPLY_KEY, markers, crc, true, revision, &self.private)
+            }
         }
     }
 
     /// How many octets that frame has.
-    #[tactic(auto, unfolding(crate::specs::Frame::start_frame))]
-    pub(crate) fn frame_len(&self) -> usize
-        ensures len { result ≡ length (own_frame self.now.config self.now.side) }
-        ensures fits { result ≤ MAX_FRAME }
+    #[tactic(auto, using(crate::proofs::Lengths::length_request, crate::proofs::Lengths::length_reply))]
+    pub(crate) fn frame_len(&self, octets: &[u8]) -> usize
+        ensures { result ≡ length (own_frame self.now.config self.now.side octets.now) }
     {
         match self.standing {
             Standing::Unanswered => 0,
-            Standing::Initiator | Standing::Accepted | Standing::Rejected => {
-                FIXED_OCTETS + self.private.len()
+            Standing::Initiator => {
+                frame::written_len(
+                    asked_revision(self.establishment).is_enhanced(),
+                    &self.private,
+                )
             }
+            Standing::Accepted => frame::written_len(frame::has_word(self, octets), &self.private),
+            Standing::Rejected => frame::written_len(frame::has_word(self, octets), &self.private),
         }
     }
 }

@@ -1,15 +1,19 @@
 ghost use Rattle.std.specs.Prelude.{◌≡◌, ◌≤◌, length, IsTrue, is_ok, OnOk, OnErr, IfOk, Some, None};
 ghost use Rattle.iw_startup.specs.declared.side.Reply.{Reply};
 ghost use Rattle.iw_startup.specs.declared.side.Side.{Side};
+ghost use Rattle.iw_startup.specs.Enhanced.{asked_revision};
+ghost use Rattle.iw_startup.specs.Frame.{private_room, revision_of};
 ghost use Rattle.iw_startup.specs.Peer.{progress_of};
 ghost use Rattle.iw_startup.specs.State.{begun, is_responder, pushed, used, progress, IsReached};
-ghost use Rattle.iw_startup.specs.State.{private_of, frame_of, agreement, agreed_of, awaits_answer, answered};
+ghost use Rattle.iw_startup.specs.State.{private_of, told_of, frame_of, agreement, agreed_of, mismatch_of, awaits_answer, answered, answer_room};
 
-use crate::config::{Agreed, Config, FIXED_OCTETS, MAX_FRAME, PrivateData};
-use crate::frame;
+use crate::config::{Agreed, Config, FIXED_OCTETS, MAX_ENHANCED_PRIVATE, MAX_FRAME, PrivateData};
+use crate::enhanced::{EnhancedData, Mismatch};
 use crate::own::Own;
 use crate::progress::Progress;
+use crate::{frame, negotiation};
 use arrayvec::ArrayVec;
+use iw_octets::MAX_PRIVATE;
 use std::marker::Model;
 use thiserror::Error;
 
@@ -38,7 +42,10 @@ impl Model for Startup {
 
 impl Startup {
     /// The end that sends the Request, before anything came from the peer.
+    ///
+    /// The private data has at most [`MAX_ENHANCED_PRIVATE`] octets unless the establishment is `Plain`.
     pub fn initiator(config: Config) -> Startup
+        requires { length config.private.items ≤ private_room (asked_revision config.establishment) }
         ensures { result ≡ begun Side.Initiator config }
     {
         Startup {
@@ -77,7 +84,7 @@ impl Startup {
 
     /// How far the peer's frame has come where these octets are all that came of it. It only looks.
     pub fn progress_of(&self, octets: &[u8]) -> Progress
-        ensures { result ≡ progress_of self.now.side octets.now }
+        ensures { result ≡ progress_of self.now.config.establishment self.now.side octets.now }
     {
         frame::progress_in(&self.own, octets)
     }
@@ -97,11 +104,23 @@ impl Startup {
         self.octets.len()
     }
 
-    /// Answers the Request: the connection is to be. The Reply carries this private data.
+    /// How many octets of private data an answer may carry: 508 to an enhanced Request, else 512.
+    pub fn answer_room(&self) -> usize
+        ensures { result ≡ answer_room self.now }
+    {
+        if frame::has_word(&self.own, self.octets.as_slice()) {
+            return MAX_ENHANCED_PRIVATE;
+        }
+        MAX_PRIVATE
+    }
+
+    /// Answers the Request: the connection is to be. The Reply is of the Request's revision, and carries this private
+    /// data, for which [`Startup::answer_room`] tells the room.
     ///
     /// An `Err` changes nothing. It comes at an initiator, before the Request is whole, for a faulty one, and after an
     /// answer was given.
     pub fn accept(&mut self, private: PrivateData) -> Result<Agreed, NotAsked>
+        requires { length private.items ≤ answer_room self.old }
         ensures refused { is_ok result ≡ awaits_answer self.old }
         ensures ok { OnOk result (self.new ≡ answered self.old (Reply.Accept private)) }
         ensures err { OnErr result (self.new ≡ self.old) }
@@ -115,11 +134,12 @@ impl Startup {
         Ok(frame::agreement_with(&self.own, self.octets.as_slice()))
     }
 
-    /// Answers the Request: the connection is not to be. The Reply carries this private data, and M and C as one that
-    /// accepts.
+    /// Answers the Request: the connection is not to be. The Reply carries this private data, and M, C and the word as one
+    /// that accepts, with an ORD of 16 unless the Request's IRD is not negotiated.
     ///
     /// An `Err` changes nothing. It comes where that of [`Startup::accept`] does.
     pub fn reject(&mut self, private: PrivateData) -> Result<(), NotAsked>
+        requires { length private.items ≤ answer_room self.old }
         ensures refused { is_ok result ≡ awaits_answer self.old }
         ensures ok { OnOk result (self.new ≡ answered self.old (Reply.Reject private)) }
         ensures err { OnErr result (self.new ≡ self.old) }
@@ -137,7 +157,7 @@ impl Startup {
     pub fn frame(&self) -> ArrayVec<u8, MAX_FRAME>
         ensures { result.items ≡ frame_of self.now }
     {
-        self.own.frame()
+        self.own.frame(self.octets.as_slice())
     }
 
     /// The peer's private data, empty before its frame is whole.
@@ -149,12 +169,25 @@ impl Startup {
         frame::private_in(&self.own, self.octets.as_slice())
     }
 
+    /// What the peer told in its word of IRD and ORD, once its frame was read: also where a Reply rejects, and where it wants
+    /// what this end does not have (RFC 6581 9.1). It is `None` if the frame has no word.
+    #[tactic(auto, unfolding(crate::specs::State::told_of))]
+    pub fn told(&self) -> Option<EnhancedData>
+        ensures { result ≡ told_of self.now }
+    {
+        let octets = self.octets.as_slice();
+        if !frame::is_read(&self.own, octets) {
+            return None;
+        }
+        frame::told(&self.own, octets)
+    }
+
     /// How many octets the frame has that this end sends.
     pub fn frame_len(&self) -> usize
         ensures len { result ≡ length (frame_of self.now) }
         ensures fits { result ≤ MAX_FRAME }
     {
-        self.own.frame_len()
+        self.own.frame_len(self.octets.as_slice())
     }
 
     /// What both frames agree on: at an initiator once the Reply accepts, at a responder once its user did.
@@ -170,10 +203,25 @@ impl Startup {
         Some(frame::agreement_with(&self.own, octets))
     }
 
-    // The Request is whole, and its user gave no answer yet.
-    fn awaits_answer(&self) -> bool
-        ensures awaits { result ≡ awaits_answer self.now }
-        ensures fixed { IsTrue result → FIXED_OCTETS ≤ length self.now.octets }
+    /// What an initiator does not have that the Reply wants, which accepts (RFC 6581 8, 9). The stream is then to be
+    /// terminated, and what was agreed stands.
+    #[tactic(auto, unfolding(crate::specs::State::mismatch_of))]
+    pub fn mismatch(&self) -> Option<Mismatch>
+        ensures { result ≡ mismatch_of self.now }
+    {
+        let octets = self.octets.as_slice();
+        match frame::progress_in(&self.own, octets) {
+            Progress::Agreed => {
+                let told = frame::told(&self.own, octets);
+                negotiation::mismatch_in(self.own.establishment, told)
+            }
+            Progress::More | Progress::Asked | Progress::Faulted(_) => None,
+        }
+    }
+
+    /// Whether a responder's user may answer: the Request is whole, and there is no answer yet.
+    pub fn awaits_answer(&self) -> bool
+        ensures { result ≡ awaits_answer self.now }
     {
         self.own.is_unanswered()
             && frame::progress_in(&self.own, self.octets.as_slice()) == Progress::Asked

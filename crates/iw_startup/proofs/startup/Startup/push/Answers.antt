@@ -9,13 +9,14 @@ use Rattle.iw_startup.proofs.startup.Startup.push.Goals as goal
 steps : (c : goal.After-progress_in-progress) →
     let xs = c.self.inside.octets.items in
     let all = xs ++ c.args.octets.now in
+    let est = c.self.inside.own.config.establishment in
     let side = c.self.inside.own.side in
-    (c.take_up_to-fixed.result + c.take_up_to-private.result ≡ min (frame_end side all - length xs) (length c.args.octets.now))
-    × (c.take_up_to-private.new.taken.items ≡ frame_part side all)
+    (c.take_up_to-fixed.result + c.take_up_to-private.result ≡ min (frame_end est side all - length xs) (length c.args.octets.now))
+    × (c.take_up_to-private.new.taken.items ≡ frame_part est side all)
 steps c =
-    let end_is : c.end_of_frame-end.result ≡ frame_end c.self.inside.own.side c.take_up_to-fixed.new.taken.items
-    = c.end_of_frame-end.ensures.end ∙ ap (frame_end c.self.inside.own.side) c.as_slice.ensures.value in
-    in_two_steps c.self.inside.own.side c.self.inside.octets.items c.args.octets.now
+    let end_is : c.end_of_frame-end.result ≡ frame_end c.self.inside.own.config.establishment c.self.inside.own.side c.take_up_to-fixed.new.taken.items
+    = c.end_of_frame-end.ensures.end ∙ ap (frame_end c.self.inside.own.config.establishment c.self.inside.own.side) c.as_slice.ensures.value in
+    in_two_steps c.self.inside.own.config.establishment c.self.inside.own.side c.self.inside.octets.items c.args.octets.now
     c.take_up_to-fixed.result c.take_up_to-private.result c.end_of_frame-end.result
     c.take_up_to-fixed.new.taken.items c.take_up_to-private.new.taken.items
     c.self.invariant.within c.take_up_to-fixed.ensures.used c.take_up_to-fixed.ensures.items end_is
