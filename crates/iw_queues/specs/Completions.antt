@@ -57,7 +57,7 @@ done_from first (m ∷ ms) = if m.finished then Some (record { ticket = first; k
 abbrev pub done : Outstanding → Option Done
 done c = done_from c.first c.messages
 
--- what is left after the oldest message, where one was handed out
+-- what is left after the oldest message, if one was handed out
 abbrev pub handed_out : Outstanding → Option Done → Outstanding
 handed_out c None = c
 handed_out c (Some message) = record { first = (c.first + 1) % 2 ^ 64; messages = drop 1 c.messages }

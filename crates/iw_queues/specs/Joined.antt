@@ -24,7 +24,7 @@ payloads (Tagged head octets ∷ ss) = octets ++ payloads ss
 payloads (Untagged head octets ∷ ss) = octets ++ payloads ss
 
 -- ---- Sends
--- a Send that is complete, with the number of the STag that it invalidates, if it does
+-- a Send that is complete, with the number of the STag that it invalidates, if any
 pub record Whole : Type 0 where
   pub octets : List ℕ
   pub solicited : Bool

@@ -38,7 +38,7 @@ pub record HasSent (ms : List (Request (List ℕ))) (sent : List (Segment (List 
   pub goes_on : (rest : List (Segment (List ℕ))) → AreSpelled numbers q.offset q.unsent rest → AreSpelled first_numbers 0 ms (sent ++ rest)
   pub counted : numbers_after_all numbers q.unsent ≡ numbers_after_all first_numbers ms
 
--- what is sent part by part is the beginning of segments that carry the posted messages, in order and whole
+-- the parts that are sent are the first of segments that carry the posted messages, in order and whole
 pub record SendsInOrder : Type 0 where
   pub start : HasSent [] [] first_numbers nothing_posted
   pub post : (ms : List (Request (List ℕ))) (sent : List (Segment (List ℕ))) (numbers : Numbers) (q : Queue) (message : Request (List ℕ)) → IsWithinLimits q → HasSent ms sent numbers q
@@ -51,7 +51,7 @@ pub record SendsInOrder : Type 0 where
   pub whole : (ms : List (Request (List ℕ))) (sent : List (Segment (List ℕ))) (numbers : Numbers) (q : Queue) → HasSent ms sent numbers q
       → (rest : List (Segment (List ℕ))) × AreSpelled first_numbers 0 ms (sent ++ rest)
 
--- a part that is not the last fills the largest ULPDU, the last is what is left, and a part without octets is all of a message without octets
+-- a part that is not the last fills the largest ULPDU, the last has what is left, and a part without octets is all of a message without octets
 pub record IsFilled (max : ℕ) (part : Part (Request (List ℕ))) : Type 0 where
   pub full : part.last ≡ false → part.n + header_len part.message ≡ max
   pub end : part.last ≡ true → part.offset + part.n ≡ length (payload part.message)
@@ -61,7 +61,7 @@ pub record IsFilled (max : ℕ) (part : Part (Request (List ℕ))) : Type 0 wher
 abbrev pub FillsParts : Type 0
 FillsParts = (q : Queue) (max : ℕ) (part : Part (Request (List ℕ))) → 128 ≤ max → IsWithinLimits q → next_part q max ≡ Some part → IsFilled max part
 
--- a Read is awaited from the sending of its request on until it is finished, or given up as the oldest, whatever else is done
+-- a Read is awaited from the time when its request is sent until it is finished, or given up as the oldest, whatever else is done
 pub record AwaitsReads : Type 0 where
   pub sent : (q : Queue) (max : ℕ) (part : Part (Request (List ℕ))) → IsWithinLimits q → q.sent.first < 2 ^ 64 → next_part q max ≡ Some part → kind_of part.message ≡ kinds.Read
       → IsAwaited (part_sent q (Some part)).sent part.ticket
@@ -71,7 +71,7 @@ pub record AwaitsReads : Type 0 where
   pub others_given_up : (q : Queue) (ticket : ℕ) → q.sent.first < 2 ^ 64 → ticket < 2 ^ 64 → ticket ≢ q.sent.first → IsAwaited q.sent ticket → IsAwaited (handed_from q (oldest_in q)).sent ticket
 
 -- ---- order
--- what the messages are that are not handed out, in posting order
+-- what kind of message each is that is not handed out, in posting order
 abbrev pub kinds_in : Queue → List Kind
 kinds_in q = map (λ m. m.kind) q.sent.messages ++ map kind_of q.unsent
 
@@ -81,7 +81,7 @@ pub record IsHandedOut (q : Queue) (d : Done) : Type 0 where
   pub ticket : d.ticket ≡ q.sent.first
   pub next : (handed_from q (Some d)).sent.first ≡ (q.sent.first + 1) % 2 ^ 64
 
--- messages are handed out in the order in which they were posted, finished or given up, whatever the order in which Reads finish
+-- messages are handed out in the order in which they were posted, finished or given up, in whatever order Reads finish
 pub record KeepsOrder : Type 0 where
   pub posted : (q : Queue) (message : Request (List ℕ)) → kinds_in (posted q message) ≡ kinds_in q ++ kind_of message ∷ []
   pub sent : (q : Queue) (max : ℕ) → kinds_in (part_sent q (next_part q max)) ≡ kinds_in q

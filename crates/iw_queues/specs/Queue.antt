@@ -19,7 +19,7 @@ abbrev pub nothing_posted : Queue
 nothing_posted = record { sent = nothing_sent; unsent = []; offset = 0 }
 
 -- ---- posting
--- why a message is not posted, but for want of memory
+-- why a message is not posted, except that there is no memory
 abbrev pub post_refusal : Queue → Request (List ℕ) → Option Refusal
 post_refusal q message =
     if nat_le 256 (length q.sent.messages + length q.unsent) then Some Full
@@ -34,7 +34,7 @@ abbrev pub posted : Queue → Request (List ℕ) → Queue
 posted q message = record q { unsent = q.unsent ++ message ∷ [] }
 
 -- ---- sending
--- the part from `offset` on of a message, where a ULPDU may have `max` octets: as many as fit after the header, or what is left
+-- the part from `offset` on of a message, if a ULPDU may have `max` octets: as many as fit after the header, or what is left
 abbrev pub part_from : ℕ → Request (List ℕ) → ℕ → ℕ → Part (Request (List ℕ))
 part_from ticket message offset max =
     let part = part_at (length (payload message)) (max - header_len message) offset in
@@ -86,7 +86,7 @@ abbrev pub past_oldest : ℕ → List Sent → List (Request (List ℕ)) → ℕ
 past_oldest next [] unsent offset = record { sent = record { first = next; messages = [] }; unsent = drop 1 unsent; offset = 0 }
 past_oldest next (m ∷ ms) unsent offset = record { sent = record { first = next; messages = ms }; unsent = unsent; offset = offset }
 
--- what is left where this message was handed out
+-- what is left if this message was handed out
 abbrev pub handed_from : Queue → Option Done → Queue
 handed_from q None = q
 handed_from q (Some message) = past_oldest ((q.sent.first + 1) % 2 ^ 64) q.sent.messages q.unsent q.offset

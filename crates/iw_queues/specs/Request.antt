@@ -11,7 +11,7 @@ kind_of (Message (Write stag to octets)) = kinds.Write
 kind_of (Message (Send octets solicited invalidate)) = kinds.Send
 kind_of (Read request) = kinds.Read
 
--- the octets that are sent with it: none of a Read
+-- the octets that are sent with it; a Read has none
 abbrev pub payload : Request (List ℕ) → List ℕ
 payload (Message (Write stag to octets)) = octets
 payload (Message (Send octets solicited invalidate)) = octets
@@ -23,7 +23,7 @@ size_of (Message (Write stag to octets)) = length octets
 size_of (Message (Send octets solicited invalidate)) = length octets
 size_of (Read request) = request.size
 
--- the octets of the header before each of its parts: tagged, or untagged (RFC 5041 4.2, 4.3)
+-- how many octets the header of each of its parts has: tagged, or untagged (RFC 5041 4.2, 4.3)
 abbrev pub header_len : Request (List ℕ) → ℕ
 header_len (Message (Write stag to octets)) = 14
 header_len (Message (Send octets solicited invalidate)) = 18

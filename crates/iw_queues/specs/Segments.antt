@@ -2,6 +2,8 @@
 use Rattle.std.specs.Prelude.{ℕ, ◌≡◌, ◌+◌, ◌%◌, ◌^◌, ◌<◌, ◌≤◌, Bool, true, false, List, [], ◌∷◌, ◌++◌, length, take, drop, if◌then◌else◌, Option, is_some, ◌-◌}
 use Rattle.std.specs.Option.{option_map_or}
 use Rattle.iw_octets.specs.declared.constants.TheConstants.{DDP_VERSION, TAGGED_HEADER, UNTAGGED_HEADER, MAX_ULPDU}
+use Rattle.iw_octets.specs.declared.head.TaggedHead.{TaggedHead}
+use Rattle.iw_octets.specs.declared.head.UntaggedHead.{UntaggedHead}
 use Rattle.iw_octets.specs.declared.message.Message.TheVariants.{Write, Send}
 use Rattle.iw_octets.specs.declared.operation.TaggedOperation.TheVariants as tagged
 use Rattle.iw_octets.specs.declared.operation.UntaggedOperation.TheVariants as untagged
@@ -35,30 +37,51 @@ abbrev pub numbers_after_all : Numbers → List (Request (List ℕ)) → Numbers
 numbers_after_all numbers [] = numbers
 numbers_after_all numbers (m ∷ ms) = numbers_after_all (numbers_after numbers m) ms
 
--- the segment with these octets of a Write, which stand from `offset` on in its payload (RFC 5041 4.2)
+-- the header of a segment of a Write whose octets begin `offset` octets into the message (RFC 5041 4.2)
+abbrev pub write_head : Stag → ℕ → ℕ → Bool → TaggedHead
+write_head stag to offset last = record {
+  last = last;
+  ddp_version = DDP_VERSION;
+  control = control_of (tagged_opcode tagged.Write);
+  stag = stag;
+  to = (to + offset) % 2 ^ 64;
+}
+
+-- the same for a Send, each segment of which has the opcode and the STag to invalidate (RFC 5040 4.1, RFC 5041 4.3)
+abbrev pub send_head : ℕ → Bool → Option Stag → ℕ → Bool → UntaggedHead
+send_head msn solicited invalidate offset last = record {
+  last = last;
+  ddp_version = DDP_VERSION;
+  control = control_of (untagged_opcode (untagged.Send solicited (is_some invalidate)));
+  tail = option_map_or number_of invalidate 0;
+  queue = queue_of (untagged.Send solicited (is_some invalidate));
+  msn = msn;
+  mo = offset;
+}
+
+-- the header of a Read Request, which is one segment, on a queue of its own (RFC 5040 5.2.1)
+abbrev pub request_head : ℕ → UntaggedHead
+request_head msn = record {
+  last = true;
+  ddp_version = DDP_VERSION;
+  control = control_of (untagged_opcode untagged.ReadRequest);
+  tail = 0;
+  queue = queue_of untagged.ReadRequest;
+  msn = msn;
+  mo = 0;
+}
+
+-- the segments with these headers and octets
 abbrev pub write_segment : Stag → ℕ → ℕ → Bool → List ℕ → Segment (List ℕ)
-write_segment stag to offset last octets =
-    Tagged (record { last = last; ddp_version = DDP_VERSION; control = control_of (tagged_opcode tagged.Write); stag = stag; to = (to + offset) % 2 ^ 64 }) octets
+write_segment stag to offset last octets = Tagged (write_head stag to offset last) octets
 
--- the same of a Send, each segment of which has the opcode and the STag to invalidate (RFC 5040 4.1, RFC 5041 4.3)
 abbrev pub send_segment : ℕ → Bool → Option Stag → ℕ → Bool → List ℕ → Segment (List ℕ)
-send_segment msn solicited invalidate offset last octets =
-    Untagged (record {
-      last = last;
-      ddp_version = DDP_VERSION;
-      control = control_of (untagged_opcode (untagged.Send solicited (is_some invalidate)));
-      tail = option_map_or number_of invalidate 0;
-      queue = queue_of (untagged.Send solicited (is_some invalidate));
-      msn = msn;
-      mo = offset;
-    }) octets
+send_segment msn solicited invalidate offset last octets = Untagged (send_head msn solicited invalidate offset last) octets
 
--- the one segment of a Read: its request, on a queue of its own (RFC 5040 5.2.1)
 abbrev pub request_segment : ℕ → ReadRequest → Segment (List ℕ)
-request_segment msn request =
-    Untagged (record { last = true; ddp_version = DDP_VERSION; control = control_of (untagged_opcode untagged.ReadRequest); tail = 0; queue = queue_of untagged.ReadRequest; msn = msn; mo = 0 }) (request_octets request)
+request_segment msn request = Untagged (request_head msn) (request_octets request)
 
--- the segment with these octets of a message, which stand from `offset` on in its payload; a Read has the octets of its request
+-- the segment with these octets of a message, which begin `offset` octets into it; a Read has the octets of its request
 abbrev pub segment_with : Numbers → Request (List ℕ) → ℕ → Bool → List ℕ → Segment (List ℕ)
 segment_with numbers (Message (Write stag to payload)) offset last octets = write_segment stag to offset last octets
 segment_with numbers (Message (Send payload solicited invalidate)) offset last octets = send_segment numbers.send solicited invalidate offset last octets
@@ -73,7 +96,7 @@ pub record IsFront (room : ℕ) (segment : ℕ → Bool → List ℕ → Segment
   pub left : 0 < length back
   pub is : s ≡ segment offset false front
 
--- any cut of the octets: no part is empty, but one of no octets alone, and the last is marked
+-- any cut of the octets: no part is empty, unless there are no octets, and the last is marked
 abbrev pub IsCut : ℕ → (ℕ → Bool → List ℕ → Segment (List ℕ)) → ℕ → List ℕ → List (Segment (List ℕ)) → Type 0
 IsCut room segment offset octets [] = ⊥
 IsCut room segment offset octets (s ∷ []) = (length octets ≤ room) × (s ≡ segment offset true octets)
@@ -87,14 +110,14 @@ AreSegments numbers (Message (Send octets solicited invalidate)) offset ss =
     IsCut (MAX_ULPDU - UNTAGGED_HEADER) (send_segment numbers.send solicited invalidate) offset (drop offset octets) ss
 AreSegments numbers (Read request) offset ss = ss ≡ request_segment numbers.read request ∷ []
 
--- the segments of these messages, one message after the other, `offset` octets of the first having gone before (RFC 5041 5.3)
+-- the segments of these messages, one message after the other, if `offset` octets of the first were sent before (RFC 5041 5.3)
 abbrev pub AreSpelled : Numbers → ℕ → List (Request (List ℕ)) → List (Segment (List ℕ)) → Type 0
 AreSpelled numbers offset [] ss = ss ≡ []
 AreSpelled numbers offset (m ∷ ms) ss =
     (mine later : List (Segment (List ℕ))) × (ss ≡ mine ++ later) × AreSegments numbers m offset mine × AreSpelled (numbers_after numbers m) 0 ms later
 
 -- ---- a part that is shown
--- its segment, where the next Send and the next Read have these numbers
+-- its segment, if the next Send and the next Read have these numbers
 abbrev pub segment_of : Numbers → Part (Request (List ℕ)) → Segment (List ℕ)
 segment_of numbers part = segment_with numbers part.message part.offset part.last (take part.n (drop part.offset (payload part.message)))
 

@@ -5,7 +5,7 @@ use std::alloc::{AllocError, Allocator, Global};
 use std::collections::VecDeque;
 use std::marker::Model;
 
-/// A message that is handed out: finished, or given up.
+/// A message that is handed out, finished or given up.
 #[derive(Clone, Copy, Debug, PartialEq, Eq)]
 pub struct Done {
     /// The number that it was given when it was posted.
@@ -13,7 +13,7 @@ pub struct Done {
     pub kind: Kind,
 }
 
-/// A message that was sent to its end and not yet handed out.
+/// A message that was sent whole and not yet handed out.
 #[derive(Clone, Copy, Debug, PartialEq, Eq)]
 pub(crate) struct Sent {
     kind: Kind,
@@ -22,7 +22,7 @@ pub(crate) struct Sent {
 
 /// The messages that were sent and not yet handed out, in posting order.
 ///
-/// Each has a ticket: 0 for the first, and one more, modulo 2^64, for each next.
+/// Each has a ticket: 0 for the first, and one more than the last, modulo 2^64, for each next.
 #[derive(Drop)]
 pub struct Completions<A: Allocator = Global> {
     // The ticket of the oldest message.
@@ -79,8 +79,8 @@ impl<A: Allocator> Completions<A> {
         self.first.wrapping_add(self.messages.len() as u64)
     }
 
-    /// Makes room for `n` more messages. The room stays until it is used. An `Err`, where there is no memory, leaves
-    /// the messages as they are, and comes only where the room is not there.
+    /// Makes room for `n` more messages. The room stays until it is used. An `Err` means out of memory. It leaves the
+    /// messages as they are, and comes only if there was less room.
     pub fn ready(&mut self, n: usize) -> Result<(), AllocError>
         ensures same { self.new.outstanding ≡ self.old.outstanding }
         ensures ok { OnOk result (n ≤ self.new.room) }
@@ -90,8 +90,8 @@ impl<A: Allocator> Completions<A> {
         self.messages.reserve(n)
     }
 
-    /// Adds a message that was sent to its end. A Write and a Send are finished by that, a Read is not (RFC 5040 5.5).
-    /// It takes the room of one message.
+    /// Adds a message that was sent whole. A Write or a Send is then finished, a Read is not (RFC 5040 5.5). The message
+    /// takes the room of one.
     pub fn add(&mut self, kind: Kind)
         requires { 0 < self.old.room }
         ensures added { self.new.outstanding ≡ added self.old.outstanding kind }
@@ -118,7 +118,7 @@ impl<A: Allocator> Completions<A> {
         }
     }
 
-    /// Finishes a Read, whose response has come whole.
+    /// Finishes the Read with this ticket, whose whole response has come.
     pub fn finish(&mut self, ticket: u64)
         requires { IsAwaited self.old.outstanding ticket }
         ensures finished { self.new.outstanding ≡ finished self.old.outstanding ticket }

@@ -1,4 +1,4 @@
-//! What holds of the segments that carry posted messages, in whatever parts each was cut.
+//! What holds of the segments that carry posted messages, whatever parts each was cut into.
 ghost use Rattle.iw_queues.specs.Laws.{JoinsToMessage, CompletesInOrder, CoversWrites};
 ghost use Rattle.iw_queues.specs.Laws.{SendsInOrder, FillsParts, AwaitsReads, KeepsOrder};
 
@@ -17,24 +17,24 @@ pub fn writes_are_covered()
     ensures { CoversWrites }
 {}
 
-/// What a queue sends part by part, each part no longer than a ULPDU of then allows, is the beginning of segments that
-/// carry the posted messages, in order and whole.
+/// The parts that a queue sends, each no longer than the ULPDU allows at that time, are the first of segments that carry
+/// the posted messages, in order and whole.
 pub fn parts_are_sent_in_order()
     ensures { SendsInOrder }
 {}
 
-/// No part is shorter than the ULPDU allows but a message's last, which is what is left, and none is empty but that of
-/// a message without octets.
+/// Only the last part of a message, which has what is left, is shorter than the ULPDU allows, and only the part of a
+/// message without octets is empty.
 pub fn parts_are_filled()
     ensures { FillsParts }
 {}
 
-/// A Read is awaited from the sending of its request on until it is finished, or given up as the oldest.
+/// A Read is awaited from the time when its request is sent until it is finished, or given up as the oldest message.
 pub fn reads_are_awaited()
     ensures { AwaitsReads }
 {}
 
-/// Messages are handed out in the order in which they were posted, whatever the order in which Reads finish.
+/// Messages are handed out in the order in which they were posted, in whatever order Reads finish.
 pub fn messages_keep_their_order()
     ensures { KeepsOrder }
 {}

@@ -1,12 +1,12 @@
 //! What is posted at one end of a stream: it is cut into parts, sent part by part, and completed in posting order.
 //!
-//! `post` hands a [`Request`] to a [`SendQueue`]; `next_part` shows what is to be sent next, for a ULPDU of at most so
-//! many octets, and `part_sent` says that it was. A Write or a Send is finished by its last part, a Read by `finish`,
+//! `post` hands a [`Request`] to a [`SendQueue`]; `next_part` shows what is to be sent next, in a ULPDU of at most a given
+//! size, and `part_sent` says that it was sent. A Write or a Send is finished with its last part, a Read by `finish`,
 //! once its response has come. `next` hands finished messages out, each as a [`Done`], in the order in which they were
-//! posted (RFC 5040 5.5); `flush` gives up the oldest, finished or not. [`Completions`] is the half that waits to be
+//! posted (RFC 5040 5.5); `flush` gives up the oldest, finished or not. [`Completions`] holds the messages that wait to be
 //! handed out.
 //!
-//! Only `post` takes memory, and makes the room of the completion with it.
+//! Only `post` takes memory, for the message's completion too.
 #![tactic(auto)]
 
 mod completions;

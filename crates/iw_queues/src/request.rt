@@ -28,7 +28,7 @@ pub enum Refusal {
     /// 256 messages are posted and not yet handed out.
     #[error("256 messages are posted and not yet handed out")]
     Full,
-    /// The message has more than 16,777,216 octets, or is a Read of more.
+    /// The message has more than 16,777,216 octets, or is a Read that asks for more.
     #[error("the message or Read has more than 16,777,216 octets")]
     TooLong,
     #[error("no memory")]
@@ -46,7 +46,7 @@ impl<A: Allocator> Request<Bytes<A>> {
         }
     }
 
-    /// The octets that are sent with it: none of a Read.
+    /// The octets that are sent with it; a Read has none.
     pub fn payload(&self) -> &[u8]
         ensures { result.now ≡ payload self.now }
     {
@@ -68,7 +68,7 @@ impl<A: Allocator> Request<Bytes<A>> {
         }
     }
 
-    /// The octets of the header that stands before each of its parts: a Write is tagged, the others are untagged.
+    /// How many octets the header of each of its parts has: a Write is tagged, the others are untagged.
     pub fn header_len(&self) -> usize
         ensures len { result ≡ header_len self.now }
         ensures small { result ≤ 18 }

@@ -28,10 +28,10 @@ pub struct Part<M> {
 
 /// The messages posted at one end of a stream and not yet handed out, in posting order.
 ///
-/// Each has a ticket: 0 for the first, and one more, modulo 2^64, for each next.
+/// Each has a ticket: 0 for the first, and one more than the last, modulo 2^64, for each next.
 #[derive(Drop)]
 pub struct SendQueue<A: Allocator = Global> {
-    // The messages that were sent to their end; it has room for each of the others.
+    // The messages that were sent whole, with room for each of the others.
     sent: Completions<A>,
     // The others.
     unsent: VecDeque<Request<Bytes<A>>, A>,
@@ -98,24 +98,24 @@ impl<A: Allocator> SendQueue<A> {
         self.len() == 0
     }
 
-    /// The limits that the queue keeps: at most 256 messages, those left to be sent of at most 16,777,216 octets each.
+    /// The limits that the queue keeps: at most 256 messages, and at most 16,777,216 octets in each that is left to be sent.
     pub fn limits(&self)
         ensures { IsWithinLimits self.now }
     {
         let _ = &self.sent;
     }
 
-    /// Whether a part of the message that is next was sent, and not its last.
+    /// Whether a part of the next message was sent, but not its last.
     pub fn is_begun(&self) -> bool
         ensures { result ≡ nat_lt 0 self.now.offset }
     {
         self.offset > 0
     }
 
-    /// Posts a message after the others, and tells its ticket. `NoMemory` comes only where no other refusal applies.
-    /// An `Err` changes nothing, and has the message.
+    /// Posts a message after the others; the answer is its ticket. `NoMemory` comes only if no other refusal applies. An
+    /// `Err` changes nothing, and hands the message back.
     pub fn post(&mut self, message: Request<Bytes<A>>) -> Result<u64, (Refusal, Request<Bytes<A>>)>
-        // The refusal, where one applies, and otherwise want of memory alone.
+        // The refusal if one applies, and otherwise out of memory alone.
         ensures refused { IfSome (post_refusal self.old message)
             (λ refusal. IfErr result (λ e. e.0 ≡ refusal) × IsErr result) }
         ensures memory { IfNone (post_refusal self.old message) (IfErr result (λ e. e.0 ≡ Refusal.NoMemory)) }
@@ -137,7 +137,7 @@ impl<A: Allocator> SendQueue<A> {
         Ok(ticket)
     }
 
-    // Why the message is not posted, but for want of memory.
+    // Why the message is not posted, except that there is no memory.
     fn refusal(&self, message: &Request<Bytes<A>>) -> Option<Refusal>
         ensures { result ≡ post_refusal self.now message.now }
     {
@@ -150,10 +150,10 @@ impl<A: Allocator> SendQueue<A> {
         None
     }
 
-    /// The part that is to be sent next, if a message is left to be sent. It only looks.
+    /// The part that is to be sent next, if a message is left to be sent. Nothing changes.
     ///
     /// `max` is the largest ULPDU that may be sent, in octets. A part is as long as the ULPDU allows after the header,
-    /// and the last one what is left: none is empty but that of an empty message. A Read is one part without octets.
+    /// and the last one has what is left. Only the part of an empty message is empty. A Read is one part without octets.
     #[inline(always)]
     pub fn next_part(&self, max: usize) -> Option<Part<&Request<Bytes<A>>>>
         requires { 128 ≤ max }
@@ -173,8 +173,8 @@ impl<A: Allocator> SendQueue<A> {
         })
     }
 
-    /// Says that the part that `next_part` shows was sent, by how many octets it has and whether it is its message's last.
-    /// The last part of a Write or a Send finishes it.
+    /// Says that the part that `next_part` shows was sent: it has `n` octets, and `last` tells whether it is its message's
+    /// last. The last part of a Write or a Send finishes it.
     #[inline(always)]
     pub fn part_sent(&mut self, n: usize, last: bool)
         requires { IsNext self.old n last }
@@ -198,7 +198,7 @@ impl<A: Allocator> SendQueue<A> {
         self.sent.awaits(ticket)
     }
 
-    /// Finishes a Read, whose response has come whole.
+    /// Finishes the Read with this ticket, whose whole response has come.
     pub fn finish(&mut self, ticket: u64)
         requires { IsAwaited self.old.sent ticket }
         ensures { self.new ≡ sent_with self.old (finished self.old.sent ticket) }
@@ -223,7 +223,7 @@ impl<A: Allocator> SendQueue<A> {
         if !self.sent.is_empty() {
             return self.sent.flush();
         }
-        // One that was not sent to its end is given up as if it were.
+        // A message that was not sent whole is given up as if it were.
         let kind = take_first(&mut self.unsent)?;
         self.offset = 0;
         self.sent.add(kind);

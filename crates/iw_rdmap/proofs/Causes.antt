@@ -3,6 +3,7 @@ use Rattle.std.proofs.Common.{◌≡◌, ℕ, ◌+◌, ◌-◌, ◌≤◌, ◌<�
 use Rattle.std.specs.Prelude.{Result, ◌==◌, nat_le, IfOk, IfErr}
 use Rattle.std.proofs.lemmas.Bool.{cases_lt}
 use Rattle.std.proofs.lemmas.Bool.Decides.{nat_tests}
+use Rattle.iw_octets.specs.declared.constants.TheConstants.{MAX_UNANSWERED}
 use Rattle.iw_octets.specs.declared.fault.Fault.{Fault}
 use Rattle.iw_octets.specs.declared.fault.TheConstants.Fault as faults
 use Rattle.iw_octets.specs.declared.head.TaggedHead.{TaggedHead}
@@ -133,7 +134,7 @@ sound_untagged first len next unanswered head payload is long front =
     go true false true None = fails first faults.OPERATION_UNEXPECTED there (omega arith) (omega arith) refl
     go true false true (Some (Send solicited invalidates)) = passes first len (heads.Send head) refl refl is there within
     go true false true (Some ReadRequest) =
-        sound_request first len (len - 18) (heads.Request head (request_fields payload)) refl refl is long front refl (not (head.msn == next)) (nat_le 16 unanswered) (not (head.mo == 0)) (not head.last)
+        sound_request first len (len - 18) (heads.Request head (request_fields payload)) refl refl is long front refl (not (head.msn == next)) (nat_le MAX_UNANSWERED unanswered) (not (head.mo == 0)) (not head.last)
     go true false true (Some Terminate) =
         sound_terminate first len (heads.Terminate head (word_fields payload)) refl refl is there within (not (head.msn == 1)) (not (head.mo == 0)) (nat_lt 52 (len - 18) || not head.last) (nat_lt (len - 18) 4)
 

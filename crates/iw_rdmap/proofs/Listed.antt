@@ -65,7 +65,7 @@ is_terminate (Some ReadRequest) = false
 is_terminate (Some (Send solicited invalidates)) = false
 is_terminate (Some Terminate) = true
 
--- an operation on its queue or none, where a test of it is known
+-- an operation on its queue or none, if a test of it is known
 on-queue : (test : Option UntaggedOperation → Bool) (b : Bool) (operation : UntaggedOperation) → test None ≡ false →
     test (if b then Some operation else None) ≡ (b && test (Some operation))
 on-queue test true operation none = refl

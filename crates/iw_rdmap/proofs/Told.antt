@@ -1,4 +1,4 @@
--- A Terminate that was spelled is judged as one that carries the fault.
+-- A Terminate that was written is judged as one that carries the fault.
 use Rattle.std.proofs.Common.{◌≡◌, ℕ, ◌-◌, ◌≤◌, ◌<◌, Bool, true, false, not, ◌||◌, nat_lt, List, [], ◌++◌, length, take, drop, get_or, Some, None, Ok, refl, ap, sym, ◌∙◌, arith, length-append, append_assoc, if◌then◌else◌}
 use Rattle.std.specs.Int.{w16, to_be_bytes}
 use Rattle.std.proofs.lemmas.Bool.Decides.{nat_tests}

@@ -4,6 +4,7 @@ use Rattle.std.specs.Prelude.{Result, ◌==◌, nat_le}
 use Rattle.std.proofs.lemmas.Bool.Decides.{nat_tests}
 use Rattle.std.proofs.Math.ListN.{get_or-append}
 use Rattle.std.proofs.lemmas.List.{append-nil}
+use Rattle.iw_octets.specs.declared.constants.TheConstants.{MAX_UNANSWERED}
 use Rattle.iw_octets.specs.declared.fault.Fault.{Fault}
 use Rattle.iw_octets.specs.declared.fault.TheConstants.Fault as faults
 use Rattle.iw_octets.specs.declared.head.UntaggedHead.{UntaggedHead}
@@ -55,7 +56,7 @@ untagged_front : (head : UntaggedHead) (payload beyond : List ℕ) (n next unans
 untagged_front head payload beyond n next unanswered (Err fault) h k = refl
 untagged_front head payload beyond n next unanswered (Ok (Send solicited invalidates)) h k = refl
 untagged_front head payload beyond n next unanswered (Ok ReadRequest) h k =
-    any_request (not (head.msn == next)) (nat_le 16 unanswered) (not (head.mo == 0)) (nat_lt 28 n || not head.last) (nat_lt n 28)
+    any_request (not (head.msn == next)) (nat_le MAX_UNANSWERED unanswered) (not (head.mo == 0)) (nat_lt 28 n || not head.last) (nat_lt n 28)
     (heads.Request head (request_fields payload)) (heads.Request head (request_fields (payload ++ beyond))) (too_long n (not head.last) h)
 untagged_front head payload beyond n next unanswered (Ok Terminate) h k =
     ap (λ word. fault_or (terminate_fault head n) (heads.Terminate head word)) (sym (word_front payload beyond k))

@@ -11,7 +11,7 @@ header_octets (Send head) = 18
 header_octets (Request head request) = 18
 header_octets (Terminate head word) = 18
 
--- and of a Read Request's own header after it (RFC 5040 4.4)
+-- and with a Read Request's own header after it (RFC 5040 4.4)
 abbrev pub headers_octets : Head → ℕ
 headers_octets (Write head) = 14
 headers_octets (Response head) = 14

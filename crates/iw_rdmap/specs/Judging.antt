@@ -1,6 +1,7 @@
 -- Which segment a ULPDU is, or the first check that it fails: those of its length and its header, up to the ones that need a buffer,
 -- a region or an outstanding Read.
 use Rattle.std.specs.Prelude.{ℕ, ◌-◌, ◌≤◌, ◌==◌, ◌||◌, not, nat_lt, nat_le, min, List, length, if◌then◌else◌, Option, Some, None, Result, Ok, Err}
+use Rattle.iw_octets.specs.declared.constants.TheConstants.{MAX_UNANSWERED}
 use Rattle.iw_octets.specs.declared.fault.Fault.{Fault}
 use Rattle.iw_octets.specs.declared.fault.TheConstants.Fault as faults
 use Rattle.iw_octets.specs.declared.head.TaggedHead.{TaggedHead}
@@ -22,7 +23,7 @@ pub record IsFront (most : ℕ) (first : List ℕ) (len : ℕ) : Type 0 where
   pub enough : min most len ≤ length first
   pub within : length first ≤ len
 
--- the operation that a header's opcode names; where its segment can have no such opcode, that is the fault (RFC 5040 4.1, 7.2)
+-- the operation that a header's opcode names; the fault if its segment can have no such opcode (RFC 5040 4.1, 7.2)
 abbrev pub expected : {A : Type 0} → Option A → Result A Fault
 expected None = Err faults.OPERATION_UNEXPECTED
 expected (Some operation) = Ok operation
@@ -47,13 +48,13 @@ untagged_checked head =
     else if not (rdmap_version head.control == 1) then Err faults.OPERATION_VERSION
     else expected (on_queue head.queue (untagged_operation (opcode_of head.control)))
 
--- the checks of a Read Request with n octets of payload, in their order: it is the message that is due, fewer than 16 wait for their
--- responses (which is as many as this endpoint takes), and it is one segment with a Read Request header as its payload (RFC 5041 4.3, 7.1,
+-- the checks of a Read Request with n octets of payload, in their order: it is the message that is due, fewer requests wait for their
+-- responses than this endpoint takes, and it is one segment with a Read Request header as its payload (RFC 5041 4.3, 7.1,
 -- RFC 5040 4.4, 5.2.1)
 abbrev pub request_fault : UntaggedHead → ℕ → ℕ → ℕ → Option Fault
 request_fault head n next unanswered =
     if not (head.msn == next) then Some faults.UNTAGGED_MSN_RANGE
-    else if nat_le 16 unanswered then Some faults.UNTAGGED_NO_BUFFER
+    else if nat_le MAX_UNANSWERED unanswered then Some faults.UNTAGGED_NO_BUFFER
     else if not (head.mo == 0) then Some faults.UNTAGGED_INVALID_OFFSET
     else if nat_lt 28 n || not head.last then Some faults.UNTAGGED_TOO_LONG
     else if nat_lt n 28 then Some faults.SEGMENT_SHORT
@@ -70,9 +71,9 @@ terminate_fault head n =
     else None
 
 -- the fault, or else this
-abbrev pub fault_or : Option Fault → Head → Result Head Fault
-fault_or None head = Ok head
-fault_or (Some fault) head = Err fault
+abbrev pub fault_or : {A : Type 0} → Option Fault → A → Result A Fault
+fault_or None x = Ok x
+fault_or (Some fault) x = Err fault
 
 abbrev pub judged_request : UntaggedHead → List ℕ → ℕ → ℕ → ℕ → Result Head Fault
 judged_request head payload n next unanswered =
@@ -92,7 +93,7 @@ judged_untagged head payload n next unanswered (Ok (Send solicited invalidates))
 judged_untagged head payload n next unanswered (Ok ReadRequest) = judged_request head payload n next unanswered
 judged_untagged head payload n next unanswered (Ok Terminate) = judged_terminate head payload n
 
--- a segment of a ULPDU of `len` octets; none where they are too few for its header
+-- a segment of a ULPDU of `len` octets; none if they are too few for its header
 abbrev pub judged_segment : Option (Segment (List ℕ)) → ℕ → ℕ → ℕ → Result Head Fault
 judged_segment None len next unanswered = Err faults.SEGMENT_SHORT
 judged_segment (Some (Tagged head payload)) len next unanswered = judged_tagged head (tagged_checked head)

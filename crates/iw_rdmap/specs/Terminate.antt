@@ -35,7 +35,7 @@ word_for fault request = record {
   has_request = has_request fault request;
 }
 
--- the octets of the DDP header of a segment that begins so (RFC 5041 4.2, 4.3)
+-- how many octets the DDP header of a segment has that begins with these (RFC 5041 4.2, 4.3)
 abbrev pub header_len : List ℕ → ℕ
 header_len first = if is_tagged (slice_index first 0) then 14 else 18
 

@@ -109,8 +109,8 @@ fn judge_terminate(head: UntaggedHead, payload: &[u8], n: usize) -> Result<Head,
 /// Judges a ULPDU of `len` octets by its header: what it is, or the first check that it fails, up to those that need a
 /// buffer, a region or an outstanding Read (RFC 5040 4 and 7.2, RFC 5041 4 and 7.1).
 ///
-/// `first` are the first [`FIRST_OCTETS`] octets of the ULPDU, or all where it has fewer. `next` is the message sequence
-/// number of the Read Request that is due, `unanswered` the number of Read Requests that wait for their responses.
+/// `first` holds the first [`FIRST_OCTETS`] octets of the ULPDU, or all of them if it has fewer. `next` is the message
+/// sequence number of the Read Request that is due, `unanswered` the number of Read Requests that wait for their responses.
 ///
 /// The fault is that of the first check that fails, in this order:
 /// - [`Fault::SEGMENT_SHORT`]: the ULPDU has no octets, or fewer than its header.
@@ -124,8 +124,8 @@ fn judge_terminate(head: UntaggedHead, payload: &[u8], n: usize) -> Result<Head,
 /// - Then of a Terminate: [`Fault::UNTAGGED_MSN_RANGE`], its number is not 1; [`Fault::UNTAGGED_INVALID_OFFSET`];
 ///   [`Fault::UNTAGGED_TOO_LONG`], more than 52 octets, or not the last segment; [`Fault::SEGMENT_SHORT`], fewer than 4.
 ///
-/// What [`terminate`](crate::terminate) takes of the ULPDU is in `first`: with the fault, and with any that is found later
-/// of a segment that passes, also the 28 octets of a Read Request's header where it is one.
+/// `first` holds all that [`terminate`](crate::terminate) takes of the ULPDU, both with this fault and with any fault that
+/// is found later in a segment that passes; of a Read Request, that includes the 28 octets of its own header.
 #[inline(always)]
 pub fn judge(first: &[u8], len: u16, next: u32, unanswered: usize) -> Result<Head, Fault>
     requires { IsFront FIRST_OCTETS first.now len }
@@ -162,10 +162,10 @@ fn judge_segment(first: &[u8], len: u16, next: u32, unanswered: usize) -> Result
     }
 }
 
-/// The header of a Write or a Read Response, where a ULPDU begins with one that passes its checks: those for which
-/// [`judge`] answers it.
+/// The header of a Write or a Read Response, if a ULPDU begins with one that passes its checks, which are those of
+/// [`judge`].
 ///
-/// `first` are its first octets, as there; such a segment is told by 14 of them.
+/// `first` holds the first octets of the ULPDU, as for [`judge`]; 14 of them are enough to tell such a segment.
 #[tactic(auto, unfolding(iw_octets::specs::Segment::read_segment))]
 #[inline(always)]
 pub fn tagged_head(first: &[u8]) -> Option<TaggedHead>

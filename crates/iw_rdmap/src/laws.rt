@@ -5,12 +5,12 @@ pub fn front_will_do()
     ensures { FrontWillDo }
 {}
 
-/// A Terminate that one end spells is judged by the other as a Terminate that carries its fault.
+/// A Terminate that one end sends is judged by the other as a Terminate that carries its fault.
 pub fn terminates_are_told()
     ensures { TerminatesAreTold }
 {}
 
-/// A segment is judged by the checks of one list for each kind of header.
+/// One list for each kind of header has all checks that a segment is judged by, in their order.
 pub fn checks_are_listed()
     ensures { ChecksAreListed }
 {}

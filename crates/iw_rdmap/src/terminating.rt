@@ -16,14 +16,14 @@ const DDP: u8 = 1;
 
 const REMOTE_PROTECTION: u8 = 1;
 
-// The segment's length and its DDP header come with this fault.
+// Whether the segment's length and its DDP header come with this fault.
 fn has_segment(fault: Fault) -> bool
     ensures { result ≡ has_segment fault }
 {
     fault.layer <= DDP && fault != Fault::SEGMENT_SHORT
 }
 
-// Its Read Request header comes too.
+// Whether its Read Request header comes too.
 fn has_request(fault: Fault, request: bool) -> bool
     ensures { result ≡ has_request fault request }
 {
@@ -44,7 +44,7 @@ fn word_for(fault: Fault, request: bool) -> TerminateWord
     }
 }
 
-// The octets of the DDP header of a segment that begins so.
+// How many octets the DDP header of a segment has that begins with these.
 fn header_len(first: &[u8]) -> usize
     ensures len { result ≡ header_len first.now }
     ensures most { result ≤ UNTAGGED_HEADER }
@@ -65,10 +65,11 @@ fn append(payload: &mut ArrayVec<u8, MAX_TERMINATE>, octets: &[u8])
 
 /// The payload of the Terminate that a fault ends the stream with (RFC 5040 4.8).
 ///
-/// `first` are the first octets of the ULPDU of `len` octets that had the fault, and `request` says that it is a Read
-/// Request. With a fault of RDMAP or DDP come the ULPDU's length and its DDP header, as it came, reserved bits and all;
-/// with a remote protection error of a Read Request also its Read Request header. `first` has to hold what comes. With
-/// [`Fault::SEGMENT_SHORT`] and with a fault of MPA nothing comes, and `first` may be any octets.
+/// `first` holds the first octets of the ULPDU of `len` octets that had the fault, and `request` says that it is a Read
+/// Request. With a fault of RDMAP or DDP, the payload has the ULPDU's length and its DDP header, as it came, reserved
+/// bits and all; with a remote protection error of a Read Request, also its Read Request header. `first` must hold what
+/// the payload has of the ULPDU. With [`Fault::SEGMENT_SHORT`] and with a fault of MPA the payload has nothing of it, and
+/// `first` may be any octets.
 #[tactic(auto, unfolding(iw_octets::specs::Payload::word_octets))]
 pub fn terminate(fault: Fault, first: &[u8], len: u16, request: bool) -> ArrayVec<u8, MAX_TERMINATE>
     requires fits { FitsFault fault }

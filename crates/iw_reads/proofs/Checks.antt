@@ -3,13 +3,14 @@ use Rattle.std.proofs.Common.{◌≡◌, ℕ, ◌+◌, ◌≤◌, Bool, true, fa
 use Rattle.std.specs.Prelude.{◌↔◌, ◌==◌, nat_le, slice_get}
 use Rattle.std.specs.Bool.{Decides}
 use Rattle.std.specs.List.{Any}
-use Rattle.std.proofs.lemmas.Bool.Decides.{Decides-and, Decides-eqb, Decides-like, nat_tests}
+use Rattle.std.proofs.lemmas.Bool.Decides.{Decides-and, Decides-eqb, Decides-like, nat_tests, same_from_decides}
 use Rattle.std.proofs.lemmas.List.Folds.{Any-from_list_any, list_any-from_Any}
 use Rattle.std.proofs.lemmas.Option.{none-some}
 use Rattle.iw_octets.specs.declared.fault.Fault.{Fault}
 use Rattle.iw_octets.specs.declared.fault.TheConstants.Fault as faults
 use Rattle.iw_octets.specs.declared.head.TaggedHead.{TaggedHead}
 use Rattle.iw_octets.specs.declared.stag.Stag.{Stag}
+use Rattle.iw_octets.specs.Stag.{FitsStag, number_of}
 use Rattle.iw_reads.specs.declared.reads.Outstanding.{Outstanding}
 use Rattle.iw_reads.specs.Laws.{AskedFor, GoesOn}
 use Rattle.iw_reads.specs.Outstanding.{same_stag, sink_offset, is_inside, asks_for, is_asked, sink_fault, next_offset, goes_on, response_turn_fault}
@@ -22,6 +23,20 @@ Decides-same_stag a b =
     (Decides-and ((a.domain == b.domain) && (a.slot == b.slot)) (a.key == b.key)
     (Decides-and (a.domain == b.domain) (a.slot == b.slot) (Decides-eqb a.domain b.domain) (Decides-eqb a.slot b.slot))
     (Decides-eqb a.key b.key))
+
+-- STags are the same if they are as numbers
+pub same_numbers : (a b : Stag) → FitsStag a → FitsStag b → (number_of a == number_of b) ≡ same_stag a b
+same_numbers a b fits_a fits_b =
+    same_from_decides {P = number_of a ≡ number_of b} (number_of a == number_of b) (same_stag a b)
+    (Decides-eqb (number_of a) (number_of b))
+    (Decides-like (same_stag a b) (λ (same : a ≡ b). ap number_of same) (λ (same : number_of a ≡ number_of b). again same) (Decides-same_stag a b))
+  where
+    again : number_of a ≡ number_of b → a ≡ b
+    again same =
+        let domain : a.domain ≡ b.domain = omega (arith, fits_a.domain, fits_a.slot, fits_a.key, fits_b.domain, fits_b.slot, fits_b.key, same) in
+        let slot : a.slot ≡ b.slot = omega (arith, fits_a.domain, fits_a.slot, fits_a.key, fits_b.domain, fits_b.slot, fits_b.key, same) in
+        let key : a.key ≡ b.key = omega (arith, fits_a.domain, fits_a.slot, fits_a.key, fits_b.domain, fits_b.slot, fits_b.key, same) in
+        λ i. record { domain = domain i; slot = slot i; key = key i }
 
 Decides-inside : (n end size : ℕ) → Decides ((n == 0) || nat_le end size) ((n ≡ 0) ⊎ (end ≤ size))
 Decides-inside n end size = grind (arith, nat_tests)

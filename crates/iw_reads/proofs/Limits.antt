@@ -7,7 +7,7 @@ use Rattle.std.proofs.lemmas.Option.{none-some, same_Some}
 use Rattle.iw_octets.specs.declared.payload.ReadRequest.{ReadRequest}
 use Rattle.iw_reads.specs.declared.reads.Outstanding.{Outstanding}
 use Rattle.iw_reads.specs.declared.requests.Asked.{Asked}
-use Rattle.iw_reads.specs.Outstanding.{asked_for, HoldsLimits}
+use Rattle.iw_reads.specs.Outstanding.{most_reads, asked_for, HoldsLimits}
 use Rattle.iw_reads.specs.Requests.{IsBegun}
 use Rattle.iw_reads.specs.Source.{IsInRange}
 
@@ -17,7 +17,7 @@ Within read = read.turned ≤ read.request.size
 abbrev IsFresh : Outstanding → Type 0
 IsFresh read = read.turned ≡ 0
 
-pub limits-asked : (reads : List Outstanding) (ticket : ℕ) (request : ReadRequest) → length reads < 16 → HoldsLimits reads → HoldsLimits (asked_for reads ticket request)
+pub limits-asked : (reads : List Outstanding) (ticket : ℕ) (request : ReadRequest) → length reads < most_reads → HoldsLimits reads → HoldsLimits (asked_for reads ticket request)
 limits-asked reads ticket request room holds = record {
   few = omega (arith, length-append reads (read ∷ []));
   within = All-push Within reads read holds.within (omega arith);
@@ -40,7 +40,7 @@ limits-ended (read ∷ (next ∷ beyond)) holds = record {
   in_order = All-tail IsFresh next beyond holds.in_order;
 }
 
--- where the next part of the oldest response stands in its source the offsets do not wrap
+-- the offsets do not wrap up to the next part of the oldest response in its source
 pub part_in_range : (unanswered : List Asked) (fetched : ℕ) (asked : Asked) → slice_get unanswered 0 ≡ Some asked → All (λ asked. IsInRange asked.request) unanswered → IsBegun unanswered fetched →
     0 < fetched → asked.request.source_to + fetched < 2 ^ 64
 part_in_range [] fetched asked is ranges begun some = absurd (none-some asked is)

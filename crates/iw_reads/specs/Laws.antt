@@ -1,4 +1,4 @@
--- What may be said of the definitions, beside the calls.
+-- What holds of the definitions alone.
 use Rattle.std.specs.Prelude.{ℕ, ◌≡◌, ◌↔◌, ◌⊎◌, ◌+◌, ◌-◌, ◌<◌, ◌≤◌, ◌^◌, true, false, List, [], ◌∷◌, ◌++◌, length, take, drop, map, slice_get, Any, Some, None, IsSomeAnd}
 use Rattle.std.specs.List.{flat_map}
 use Rattle.iw_octets.specs.declared.head.TaggedHead.{TaggedHead}
@@ -29,7 +29,7 @@ ResponsesAreWhole = (request : ReadRequest) (max : ℕ) (source : List ℕ) → 
 abbrev pub parts_left : ReadRequest → ℕ → ℕ → List ResponsePart
 parts_left request offset max = map (part_of_response request) (parts_from offset (request.size - offset) (max - 14))
 
--- what is to be fetched for all requests, where a ULPDU may have `max` octets: the responses, one after the other
+-- what is to be fetched for all requests, if a ULPDU may have `max` octets: the responses, one after the other
 abbrev pub to_fetch_for : List Asked → ℕ → ℕ → List ResponsePart
 to_fetch_for [] fetched max = []
 to_fetch_for (asked ∷ beyond) fetched max =
@@ -38,7 +38,7 @@ to_fetch_for (asked ∷ beyond) fetched max =
 abbrev pub to_fetch : Requested → ℕ → List ResponsePart
 to_fetch s max = to_fetch_for s.unanswered s.fetched max
 
--- responses are fetched part by part, whole, in the order of the requests; there is no next part only where all are answered
+-- responses are fetched part by part, whole, in the order of the requests; there is no next part only if all are answered
 pub record AnswersInOrder : Type 0 where
   pub fetched : (s : Requested) (max : ℕ) (part : ResponsePart) → 14 < max → response_part s max ≡ Some part →
       to_fetch s max ≡ part ∷ to_fetch (part_fetched s (Some part)) max
@@ -46,7 +46,7 @@ pub record AnswersInOrder : Type 0 where
       to_fetch (taken_up s asked) max ≡ to_fetch s max ++ response_parts asked.request max
   pub done : (s : Requested) (max : ℕ) → response_part s max ≡ None → s.unanswered ≡ []
 
--- where all octets that were asked for may be read, each part may be
+-- if all octets that were asked for may be read, each part may be
 abbrev pub PartsMayBeFetched : Type 0
 PartsMayBeFetched = (table : Table) (pd : ℕ) (request : ReadRequest) (max offset : ℕ) →
     14 < max → offset ≤ request.size → source_fault table pd request ≡ None →

@@ -1,6 +1,7 @@
 -- The outstanding Reads of this end: the request was sent, and the last segment of the response had no turn yet.
 use Rattle.std.specs.Prelude.{ℕ, ◌≡◌, ◌+◌, ◌-◌, ◌%◌, ◌^◌, ◌<◌, ◌≤◌, ◌==◌, ◌&&◌, ◌||◌, Bool, not, nat_le, List, [], ◌∷◌, ◌++◌, length, drop, All, if◌then◌else◌, Option, Some, None}
 use Rattle.std.specs.List.{list_any}
+use Rattle.iw_octets.specs.declared.constants.TheConstants.{MAX_UNANSWERED}
 use Rattle.iw_octets.specs.declared.fault.Fault.{Fault}
 use Rattle.iw_octets.specs.declared.fault.TheConstants.Fault as faults
 use Rattle.iw_octets.specs.declared.head.TaggedHead.{TaggedHead}
@@ -10,9 +11,9 @@ use Rattle.iw_reads.specs.declared.reads.Outstanding.{Outstanding}
 
 -- ---- a request is sent
 
--- so many may be outstanding
+-- how many may be outstanding
 abbrev pub most_reads : ℕ
-most_reads = 16
+most_reads = MAX_UNANSWERED
 
 -- the Read is outstanding after the others, and nothing of its response had its turn
 abbrev pub asked_for : List Outstanding → ℕ → ReadRequest → List Outstanding
@@ -49,7 +50,7 @@ sink_fault reads head n = if is_asked reads head n then None else Some faults.OP
 abbrev pub next_offset : Outstanding → ℕ
 next_offset read = (read.request.sink_to + read.turned) % 2 ^ 64
 
--- it goes on with the segment: from where it stands, not past the size, and to its end only where the size is reached
+-- it goes on with the segment: from that offset, not past the size, and to its end only if the size is reached
 abbrev pub goes_on : Outstanding → TaggedHead → ℕ → Bool
 goes_on read head n =
     same_stag read.request.sink head.stag
@@ -62,7 +63,7 @@ abbrev pub response_turn_fault : List Outstanding → TaggedHead → ℕ → Opt
 response_turn_fault [] head n = Some faults.PROTECTION_BOUNDS
 response_turn_fault (read ∷ reads) head n = if goes_on read head n then None else Some faults.PROTECTION_BOUNDS
 
--- the oldest has n octets more that had their turn; the last segment ends it
+-- n octets more of the oldest had their turn; the last segment ends it
 abbrev pub reads_turned : List Outstanding → TaggedHead → ℕ → List Outstanding
 reads_turned [] head n = []
 reads_turned (read ∷ reads) head n = if head.last then reads else record read { turned = read.turned + n } ∷ reads
@@ -80,7 +81,7 @@ pub record HoldsLimits (reads : List Outstanding) : Type 0 where
   pub within : All (λ read. read.turned ≤ read.request.size) reads
   pub in_order : All (λ read. read.turned ≡ 0) (drop 1 reads)
 
--- they keep the limits, and where there are any, there are places for as many as may be outstanding
+-- they keep the limits, and if there are any, there are places for as many as may be outstanding
 pub record HasPlaces (reads : List Outstanding) (capacity : ℕ) : Type 0 where
   pub limits : HoldsLimits reads
   pub places : 0 < length reads → most_reads ≤ capacity

@@ -1,7 +1,7 @@
 -- The Read Requests of the peer: which is due, and which wait for their responses.
 use Rattle.std.specs.Prelude.{ℕ, ◌≡◌, ◌+◌, ◌-◌, ◌%◌, ◌^◌, ◌<◌, ◌≤◌, List, [], ◌∷◌, ◌++◌, length, drop, slice_get, All, if◌then◌else◌, Option, Some, None}
 use Rattle.std.specs.Option.{option_map_or}
-use Rattle.iw_octets.specs.declared.constants.TheConstants.{TAGGED_HEADER}
+use Rattle.iw_octets.specs.declared.constants.TheConstants.{MAX_UNANSWERED, TAGGED_HEADER}
 use Rattle.iw_octets.specs.Parts.{part_at}
 use Rattle.iw_octets.specs.Payload.{request_octets}
 use Rattle.iw_reads.specs.declared.requests.Asked.{Asked}
@@ -18,15 +18,11 @@ pub record Requested : Type 0 where
 abbrev pub nothing_asked : Requested
 nothing_asked = record { next = 1; unanswered = []; fetched = 0 }
 
--- so many may wait for their responses
-abbrev pub most_unanswered : ℕ
-most_unanswered = 16
-
 -- the request waits after the others, and the next one is due
 abbrev pub taken_up : Requested → Asked → Requested
 taken_up s asked = record s { next = (s.next + 1) % 2 ^ 32; unanswered = s.unanswered ++ asked ∷ [] }
 
--- the part of a response that is next, where a ULPDU may have `max` octets
+-- the part of a response that is next, if a ULPDU may have `max` octets
 abbrev pub part_for : List Asked → ℕ → ℕ → Option ResponsePart
 part_for [] fetched max = None
 part_for (asked ∷ beyond) fetched max =
@@ -47,7 +43,7 @@ part_fetched s (Some part) =
 abbrev pub headers_of : Asked → List ℕ
 headers_of asked = asked.header.items ++ request_octets asked.request
 
--- those of the oldest request; no octets where none waits
+-- those of the oldest request; no octets if none waits
 abbrev pub oldest_headers : Requested → List ℕ
 oldest_headers s = option_map_or headers_of (slice_get s.unanswered 0) []
 
@@ -59,7 +55,7 @@ IsBegun [] fetched = fetched ≡ 0
 IsBegun (asked ∷ beyond) fetched = 0 < fetched → fetched < asked.request.size
 
 pub record HoldsLimits (s : Requested) : Type 0 where
-  pub few : length s.unanswered ≤ most_unanswered
+  pub few : length s.unanswered ≤ MAX_UNANSWERED
   pub next : s.next < 2 ^ 32
   pub headers : All (λ asked. length asked.header.items ≡ 18) s.unanswered
   pub ranges : All (λ asked. IsInRange asked.request) s.unanswered

@@ -12,7 +12,7 @@ use Rattle.iw_memory.specs.Table.{Table, octets_at}
 use Rattle.iw_reads.specs.declared.response.ResponsePart.{ResponsePart}
 use Rattle.iw_reads.specs.Source.{reading_fault}
 
--- the header of a segment of the response, whose octets stand from `offset` on in what was asked for: it names the sink
+-- the header of a segment of the response whose octets begin `offset` octets into what was asked for: it names the sink
 -- (RFC 5040 4.5, 5.2.2)
 abbrev pub response_head : ReadRequest → ℕ → Bool → TaggedHead
 response_head request offset last = record {
@@ -32,11 +32,11 @@ part_of_response request part = record {
   n = part.n;
 }
 
--- all parts of a response, where a ULPDU may have `max` octets: it is cut as any message is
+-- all parts of a response, if a ULPDU may have `max` octets: it is cut as any message is
 abbrev pub response_parts : ReadRequest → ℕ → List ResponsePart
 response_parts request max = map (part_of_response request) (parts request.size (max - TAGGED_HEADER))
 
--- the first check that the part's octets fail, for a stream of domain pd; none where there are none
+-- the first check that the part's octets fail, for a stream of domain pd; none if the part has no octets
 abbrev pub fetch_fault : Table → ℕ → ResponsePart → Option Fault
 fetch_fault table pd part = reading_fault table pd part.stag part.to part.n
 

@@ -18,7 +18,7 @@ denial_fault ToWrap = faults.PROTECTION_OFFSET_WRAP
 denial_fault Bounds = faults.PROTECTION_BOUNDS
 denial_fault Rights = faults.PROTECTION_RIGHTS
 
--- the first check that fails where a peer in domain pd reads n octets from tagged offset `to` on; none where n is 0
+-- the first check that fails if a peer in domain pd reads n octets from tagged offset `to` on; none if n is 0
 abbrev pub reading_fault : Table → ℕ → Stag → ℕ → ℕ → Option Fault
 reading_fault table pd stag to n = option_map denial_fault (denial table pd stag to n rights.Read)
 

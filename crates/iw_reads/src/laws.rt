@@ -16,13 +16,14 @@ pub fn parts_may_be_fetched()
     ensures { PartsMayBeFetched }
 {}
 
-/// What one end answers is what the other asked for: it passes the checks there, and its turns.
+/// What one end answers is what the other asked for: each part passes the checks there when it is placed, and at its
+/// turn.
 pub fn answers_are_asked_for()
     ensures { AnswersAreAskedFor }
 {}
 
-/// What `check` and `turn` of [`Reads`](crate::Reads) pass, and nothing else, was asked for and goes on with the oldest
-/// Read.
+/// `check` of [`Reads`](crate::Reads) passes exactly what was asked for, and `turn` exactly what goes on with the response
+/// of the oldest Read.
 pub fn checks_tell()
     ensures { ChecksTell }
 {}

@@ -1,7 +1,7 @@
-//! What a stream keeps of Reads (RFC 5040 4.4, 4.5, 5.2): at the end that asked the Reads that are outstanding, and at
-//! the end that was asked the Read Requests that wait for their responses, with how each response is cut and fetched.
+//! What a stream keeps of Reads (RFC 5040 4.4, 4.5, 5.2): at the end that asks, the Reads that are outstanding; at the
+//! end that is asked, the Read Requests that wait for their responses, and how each response is cut and fetched.
 //!
-//! No call takes memory but [`Reads::add`], for all Reads at once.
+//! Only [`Reads::add`] takes memory, for all Reads at once.
 #![tactic(auto)]
 
 mod laws;
@@ -14,7 +14,7 @@ pub use laws::{
     answers_are_asked_for, answers_in_order, checks_tell, known_responses, parts_may_be_fetched,
     responses_are_whole,
 };
-pub use reads::{MAX_READS, Outstanding, Reads};
+pub use reads::{Outstanding, Reads};
 pub use requests::{Asked, REQUEST_HEADERS, Requests};
 pub use response::{ResponsePart, fetch};
 pub use source::check_source;

@@ -6,14 +6,11 @@ ghost use Rattle.iw_reads.specs.Outstanding.{same_stag, is_inside, asks_for, is_
 ghost use Rattle.iw_reads.specs.Outstanding.{goes_on, response_turn_fault, reads_turned, finished_read};
 
 use crate::response::past_part;
-use iw_octets::{Fault, ReadRequest, Stag, TaggedHead};
+use iw_octets::{Fault, MAX_UNANSWERED, ReadRequest, Stag, TaggedHead};
 use std::alloc::{AllocError, Allocator, Global};
 use std::marker::Model;
 
-/// How many Reads may be outstanding at one end of a stream.
-pub const MAX_READS: usize = 16;
-
-/// A Read whose request was sent, and the last segment of whose response had no turn yet.
+/// A Read whose request was sent, and whose response has not ended: its last segment had no turn yet.
 #[derive(Clone, Copy, Debug, PartialEq, Eq)]
 pub struct Outstanding {
     /// The number that it was given when it was posted.
@@ -23,7 +20,7 @@ pub struct Outstanding {
     pub turned: u32,
 }
 
-// An outstanding Read as it is kept: the numbers of 64 bits stand first, so that no octets are lost between fields.
+// An outstanding Read as it is kept. The numbers of 64 bits come first, so that there is no padding between fields.
 #[derive(Drop)]
 struct Kept {
     ticket: u64,
@@ -47,7 +44,7 @@ impl Model for Kept {
     } };
 }
 
-/// The outstanding Reads of one end of a stream, oldest first, at most [`MAX_READS`].
+/// The outstanding Reads of one end of a stream, oldest first, at most [`MAX_UNANSWERED`].
 #[derive(Drop)]
 pub struct Reads<A: Allocator = Global> {
     reads: Vec<Kept, A>,
@@ -66,7 +63,7 @@ impl<A: Allocator> Model for Reads<A> {
 }
 
 impl<A: Allocator> Reads<A> {
-    /// No Read is outstanding. It takes no memory yet.
+    /// No Read is outstanding. No memory is taken yet.
     pub fn new(alloc: A) -> Reads<A>
         ensures { result ≡ [] }
     {
@@ -89,31 +86,32 @@ impl<A: Allocator> Reads<A> {
         self.reads.is_empty()
     }
 
-    /// The limits that the Reads keep: at most 16, and only of the oldest had octets their turn.
+    /// The limits that the Reads keep: there are at most [`MAX_UNANSWERED`], and only of the oldest one's response had any
+    /// octets their turn.
     pub fn limits(&self)
         ensures { HoldsLimits self.now }
     {
         let _ = &self.reads;
     }
 
-    /// Whether as many Reads are outstanding as may be: no request may be sent.
+    /// Whether as many Reads are outstanding as may be, so that no request may be sent.
     pub fn is_full(&self) -> bool
         ensures { result ≡ nat_le most_reads (length self.now) }
     {
-        self.reads.len() >= MAX_READS
+        self.reads.len() >= MAX_UNANSWERED
     }
 
-    /// The request of the Read with this ticket was sent. There must be room for it.
+    /// Says that the request of the Read with this ticket was sent. There must be room for it.
     ///
-    /// The first Read takes the memory of all [`MAX_READS`], so an `Err`, which is want of memory, comes only where none
-    /// is outstanding. It changes nothing.
+    /// The first Read takes the memory for all [`MAX_UNANSWERED`]. So an `Err`, which means out of memory, comes only if no
+    /// Read is outstanding. It changes nothing.
     pub fn add(&mut self, ticket: u64, request: ReadRequest) -> Result<(), AllocError>
         requires { length self.old < most_reads }
         ensures ok { OnOk result (self.new ≡ asked_for self.old ticket request) }
         ensures err { OnErr result (self.new ≡ self.old) }
         ensures memory { OnErr result (self.old ≡ []) }
     {
-        self.reads.reserve_exact(MAX_READS - self.reads.len())?;
+        self.reads.reserve_exact(MAX_UNANSWERED - self.reads.len())?;
         self.reads.push_reserved(Kept {
             ticket,
             sink_to: request.sink_to,
@@ -126,10 +124,10 @@ impl<A: Allocator> Reads<A> {
         Ok(())
     }
 
-    /// Whether a segment of a Read Response with this header and `n` octets of payload was asked for: a Read is
+    /// Checks that a segment of a Read Response with this header and `n` octets of payload was asked for: a Read is
     /// outstanding with the header's STag as its sink, and the octets lie inside the sink, whose tagged offsets count
-    /// modulo 2^64; with no octets any tagged offset will do. Otherwise it is [`Fault::OPERATION_UNEXPECTED`]. It only
-    /// looks, and says nothing of the region (RFC 5040 4.8, 5.2.2).
+    /// modulo 2^64; with no octets any tagged offset will do. Otherwise the fault is [`Fault::OPERATION_UNEXPECTED`]. The
+    /// region itself is not checked, and nothing changes (RFC 5040 4.8, 5.2.2).
     pub fn check(&self, head: &TaggedHead, n: usize) -> Result<(), Fault>
         ensures { result_err result ≡ sink_fault self.now head.now n }
     {
@@ -139,13 +137,14 @@ impl<A: Allocator> Reads<A> {
         Err(Fault::OPERATION_UNEXPECTED)
     }
 
-    /// Gives a segment of a Read Response with this header and `n` octets of payload, which was placed, its turn. It
-    /// tells the ticket of the Read that the segment ends, if it is the last of its response.
+    /// Gives a segment of a Read Response with this header and `n` octets of payload, which was placed, its turn. The
+    /// answer is the ticket of the Read that the segment ends, if the segment is the last of its response.
     ///
     /// Responses come in the order of the requests (RFC 5040 5.2.2): the segment must go on with the response of the
-    /// oldest Read, at the tagged offset past the octets that had their turn. It may not run past the Read's size,
-    /// and is its response's last only where the size is reached; without octets, it may come after it. Otherwise, and
-    /// where no Read is outstanding, it is [`Fault::PROTECTION_BOUNDS`], which changes nothing.
+    /// oldest Read, at the tagged offset past the octets that had their turn. It may not run past the Read's size, and may
+    /// be the last of its response only if the size is reached with it; a segment without octets may come even past that
+    /// size's last octet. Otherwise, and if no Read is outstanding, the fault is [`Fault::PROTECTION_BOUNDS`], which changes
+    /// nothing.
     #[inline(always)]
     pub fn turn(&mut self, head: &TaggedHead, n: usize) -> Result<Option<u64>, Fault>
         ensures refused { result_err result ≡ response_turn_fault self.old head.now n }
@@ -169,7 +168,7 @@ impl<A: Allocator> Reads<A> {
     }
 }
 
-// The Read with `n` octets more of its response that had their turn.
+// The Read after `n` octets more of its response had their turn.
 #[inline(always)]
 fn turned_by(read: &Kept, n: usize) -> Kept
     requires { read.now.turned + n ≤ read.now.request.size }
@@ -186,14 +185,17 @@ fn turned_by(read: &Kept, n: usize) -> Kept
     }
 }
 
+#[tactic(auto, using(crate::proofs::Checks::same_numbers))]
 #[inline(always)]
 fn same_stag(a: &Stag, b: &Stag) -> bool
     ensures { result ≡ same_stag a.now b.now }
 {
-    a.domain() == b.domain() && a.slot() == b.slot() && a.key() == b.key()
+    a.known();
+    b.known();
+    a == b
 }
 
-// The `n` octets from tagged offset `to` on lie inside the sink.
+// Whether the `n` octets from tagged offset `to` on lie inside the sink.
 fn is_inside(read: &Kept, to: u64, n: usize) -> bool
     ensures { result ≡ is_inside read.now.request to n }
 {
@@ -202,7 +204,7 @@ fn is_inside(read: &Kept, to: u64, n: usize) -> bool
     n == 0 || (offset <= size && n as u64 <= size - offset)
 }
 
-// The response of the Read goes on with this segment.
+// Whether the response of the Read goes on with this segment.
 #[inline(always)]
 fn goes_on(read: &Kept, head: &TaggedHead, n: usize) -> bool
     requires { read.now.turned ≤ read.now.request.size }
@@ -215,7 +217,7 @@ fn goes_on(read: &Kept, head: &TaggedHead, n: usize) -> bool
         && fits(read.size, read.turned, head.last, n)
 }
 
-// The `n` octets after those that had their turn are not past the size, and reach it where they are the last.
+// Whether the `n` octets after those that had their turn do not run past the size, and reach it if they are the last.
 #[inline(always)]
 fn fits(size: u32, turned: u32, last: bool, n: usize) -> bool
     requires { turned ≤ size }
@@ -226,7 +228,7 @@ fn fits(size: u32, turned: u32, last: bool, n: usize) -> bool
     n <= left && (!last || n == left)
 }
 
-// The Read asked for what the segment brings.
+// Whether the Read asked for what the segment brings.
 fn asks_for(head: &TaggedHead, n: usize, read: &Kept) -> bool
     ensures { result ≡ asks_for head.now n read.now }
 {

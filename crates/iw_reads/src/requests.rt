@@ -1,7 +1,7 @@
 ghost use Rattle.std.specs.Prelude.{◌≡◌, ◌↔◌, ◌+◌, ◌<◌, ◌≤◌, [], length, IsTrue, IsSome, IfSome};
 ghost use Rattle.iw_octets.specs.Head.{FitsTagged};
 ghost use Rattle.iw_octets.specs.Parts.{part_at};
-ghost use Rattle.iw_reads.specs.Requests.{most_unanswered, nothing_asked, taken_up, HoldsLimits};
+ghost use Rattle.iw_reads.specs.Requests.{nothing_asked, taken_up, HoldsLimits};
 ghost use Rattle.iw_reads.specs.Requests.{response_part, part_fetched, oldest_headers};
 ghost use Rattle.iw_reads.specs.Source.{IsInRange};
 
@@ -15,15 +15,15 @@ use std::marker::Model;
 /// How many octets the headers of a Read Request have: DDP's, and its own after it.
 pub const REQUEST_HEADERS: usize = UNTAGGED_HEADER + READ_REQUEST_HEADER;
 
-/// A Read Request of the peer that was taken: its DDP header as it came, 18 octets, which a later Terminate takes
-/// along, and the request after it.
+/// A Read Request of the peer that was taken: its DDP header as it came, 18 octets, which a later Terminate carries,
+/// and the request after it.
 #[derive(Debug, Drop)]
 pub struct Asked {
     pub header: ArrayVec<u8, 18>,
     pub request: ReadRequest,
 }
 
-// A request as it is kept: the numbers of 64 bits stand first, so that no octets are lost between fields.
+// A request as it is kept. The numbers of 64 bits come first, so that there is no padding between fields.
 #[derive(Drop)]
 struct Kept {
     sink_to: u64,
@@ -45,7 +45,7 @@ impl Model for Kept {
     } };
 }
 
-// What a place holds that no request was put in.
+// What a place holds before a request is put there.
 impl Default for Kept {
     fn default() -> Kept {
         Kept {
@@ -128,7 +128,8 @@ impl Requests {
         self.unanswered.is_empty()
     }
 
-    /// The limits that the requests keep: at most 16 wait, each with a whole header and offsets that don't wrap.
+    /// The limits that the requests keep: at most [`MAX_UNANSWERED`] wait, each with a whole header and offsets that don't
+    /// wrap.
     pub fn limits(&self)
         ensures { HoldsLimits self.now }
     {
@@ -136,7 +137,7 @@ impl Requests {
     }
 
     /// The headers of the request that has waited longest, 46 octets: DDP's, as it came, and the Read Request's after
-    /// it. No octets where none waits.
+    /// it. There are no octets if no request waits.
     pub fn oldest_headers(&self) -> ArrayVec<u8, REQUEST_HEADERS>
         ensures octets { result.items ≡ oldest_headers self.now }
         ensures len { 0 < length self.now.unanswered → length result.items ≡ REQUEST_HEADERS }
@@ -150,10 +151,10 @@ impl Requests {
     }
 
     /// Takes the request that is due: it waits after the others, and the next number is due. There must be room for
-    /// it, its header must be whole, and the offsets of its source may not wrap, as
-    /// [`check_source`](crate::check_source) tells.
+    /// it, its header must be whole, and the offsets of its source must not wrap, which
+    /// [`check_source`](crate::check_source) checks.
     pub fn take(&mut self, asked: Asked)
-        requires room { length self.old.unanswered < most_unanswered }
+        requires room { length self.old.unanswered < MAX_UNANSWERED }
         requires header { length asked.header.items ≡ UNTAGGED_HEADER }
         requires range { IsInRange asked.request }
         ensures { self.new ≡ taken_up self.old asked }
@@ -163,10 +164,10 @@ impl Requests {
         self.unanswered.push(to_keep(header, request));
     }
 
-    /// The part that is to be fetched next, of the response to the oldest request, if one waits. It only looks.
+    /// The part that is to be fetched next, of the response to the oldest request, if one waits. Nothing changes.
     ///
     /// `max` is the largest ULPDU that may be sent, in octets. A part is as long as the ULPDU allows after the header,
-    /// and the last one what is left: none is empty but that of a Read of no octets.
+    /// and the last one has what is left. Only the part of a Read of no octets is empty.
     pub fn next_part(&self, max: usize) -> Option<ResponsePart>
         requires { 14 < max }
         ensures part { result ≡ response_part self.now max }
@@ -178,7 +179,8 @@ impl Requests {
         Some(part_of_response(&asked.request(), part))
     }
 
-    /// Says that the part that `next_part(max)` shows was fetched and sent. The last part answers the oldest request.
+    /// Says that the part that `next_part(max)` shows was fetched and sent. With the last part, the oldest request is
+    /// answered.
     pub fn part_fetched(&mut self, max: usize)
         requires max { 14 < max }
         requires part { IsSome (response_part self.old max) }
@@ -215,7 +217,7 @@ fn to_keep(header: ArrayVec<u8, UNTAGGED_HEADER>, request: ReadRequest) -> Kept
     }
 }
 
-// The part from an offset on of so many octets, where a part has at most `size`.
+// The part from `offset` on of `len` octets, if a part has at most `size`.
 fn part_at(len: u32, size: usize, offset: u32) -> Part
     requires { offset ≤ len }
     ensures { result ≡ part_at len size offset }

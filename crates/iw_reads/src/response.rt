@@ -21,7 +21,7 @@ pub struct ResponsePart {
     pub n: usize,
 }
 
-/// The header of a segment of the response whose octets stand from `offset` on in what was asked for.
+/// The header of a segment of the response whose octets begin `offset` octets into what was asked for.
 fn response_head(request: &ReadRequest, offset: usize, last: bool) -> TaggedHead
     ensures head { result ≡ response_head request.now offset last }
     ensures fits { FitsTagged result }
@@ -51,7 +51,7 @@ pub(crate) fn part_of_response(request: &ReadRequest, part: Part) -> ResponsePar
     }
 }
 
-/// The offset past `n` octets more of so many.
+/// The offset past the next `n` of `len` octets.
 #[inline(always)]
 pub(crate) fn past_part(len: u32, offset: u32, n: usize) -> u32
     requires { offset + n ≤ len }
@@ -60,8 +60,8 @@ pub(crate) fn past_part(len: u32, offset: u32, n: usize) -> u32
     offset + n as u32
 }
 
-/// Fetches a part's octets, lent by the region, for a stream of domain `pd`. What may be read is checked again at each
-/// part (RFC 5040 7.2): the fault is the first that [`check_source`](crate::check_source) names, for these octets.
+/// The octets of a part, lent by the region, for a stream of domain `pd`. Whether they may be read is checked again for
+/// each part (RFC 5040 7.2): the fault is the first that [`check_source`](crate::check_source) names, for these octets.
 pub fn fetch<'a, A: Allocator>(
     part: &ResponsePart,
     memory: &'a Memory<A>,

@@ -7,10 +7,10 @@ use iw_memory::{Deny, Memory, Right};
 use iw_octets::{Fault, ReadRequest, Stag};
 use std::alloc::Allocator;
 
-/// Whether a peer in domain `pd` may read all octets that a Read asks for. The fault is the first that applies, of
-/// RDMAP's protection errors: the STag is another domain's, it names no valid region, the offsets wrap, they leave the
-/// region, or the region does not grant the right to read (RFC 5040 5.2.1, 7.2). Of a Read of no octets nothing is
-/// checked, and the STag may name nothing.
+/// Checks that a peer in domain `pd` may read all octets that a Read asks for. The fault is the first that applies of
+/// RDMAP's protection errors: the STag belongs to another domain, it names no valid region, the offsets wrap, they leave
+/// the region, or the region does not grant the right to read (RFC 5040 5.2.1, 7.2). A Read of no octets passes whatever
+/// its STag is.
 pub fn check_source<A: Allocator>(
     request: &ReadRequest,
     memory: &Memory<A>,
@@ -31,7 +31,7 @@ pub fn check_source<A: Allocator>(
     }
 }
 
-/// The `n` octets from tagged offset `to` on, where a peer in domain `pd` may read them.
+/// The `n` octets from tagged offset `to` on, if a peer in domain `pd` may read them.
 pub(crate) fn readable<'a, A: Allocator>(
     memory: &'a Memory<A>,
     pd: u8,
