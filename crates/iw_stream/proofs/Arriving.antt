@@ -233,7 +233,7 @@ pub next_near : (v : Scene (ArrayVec ℕ)) → IsWithinLimits v.arrived → v.ar
 next_near v limits low lacking f (inl (is, whole, clear)) = absurd (lacking whole)
 next_near v limits low lacking f (inr (is, none, can, lowest)) = omega (arith, open_near v limits f.start lowest.0.open_, low)
 
--- ---- a search, where the frame at the in-order point is not whole
+-- ---- a search, if the frame at the in-order point is not whole
 abbrev pub IsSince : Scene (ArrayVec ℕ) → Option Frame → Type 0
 IsSince v found = MatchOption found (IsNone v) (λ f. (f ≡ frame_at v f.start true) × CanBeEarly v × IsLowest v f.start)
 

@@ -98,7 +98,7 @@ written_room None mo octets low end h = absurd h
 written_room (Some b) mo octets low end h = omega (arith, h, no_shorter b mo octets low)
 
 -- ---- a segment is placed
--- it has a buffer, where nothing is wrong with it
+-- it has a buffer, if nothing is wrong with it
 pub buffer_there : (r : Receiving) (msn mo n : ℕ) → buffer_fault r msn mo n ≡ None → IsSomeAnd (buffer_for r.source (ahead_of r.due msn)) (λ b. mo + n ≤ length b)
 buffer_there r msn mo n e = go (buffer_for r.source (ahead_of r.due msn)) (fits (ahead_of r.due msn) (buffer_for r.source (ahead_of r.due msn)) (mo + n) e)
   where

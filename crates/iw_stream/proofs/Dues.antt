@@ -7,7 +7,7 @@ use Rattle.iw_reads.specs.declared.response.ResponsePart.{ResponsePart}
 use Rattle.iw_stream.specs.Ending.{last_word}
 use Rattle.iw_stream.specs.Stream.{StreamState, Due, StartUp, LastWord, Response, NextPart, NoneDue, due, is_mute, owes_frame, part_due, response_due}
 
--- what is due where no start-up frame and no Terminate is
+-- what is due if no start-up frame and no Terminate is
 abbrev next_due : StreamState → Due
 next_due s = cond (is_mute s) NoneDue (option_map_or Response (response_due s) (option_map_or NextPart (part_due s) NoneDue))
 

@@ -1,4 +1,4 @@
--- A frame that is judged before its turn; and which task the frames of an open stream come to, where some were.
+-- A frame that is judged before its turn; and which task the frames of an open stream come to, if some were.
 use Rattle.std.proofs.Common.{◌≡◌, ℕ, ◌+◌, ◌-◌, ◌<◌, ◌≤◌, Bool, true, false, cond, if◌then◌else◌, length, Option, Some, None, Ok, Err, refl, sym, ap, ◌∙◌, subst, arith, inl, inr}
 use Rattle.std.specs.Prelude.{Result, IfOk, IfSome, OnOk, is_some}
 use Rattle.std.specs.Option.{option_map, option_map_or, option_or}
@@ -104,7 +104,7 @@ task_judges s found over none w is = ap (λ o. option_map_or Judge o Rest) w.nex
 pub none_clashes : (s : StreamState) (found : Found) (over : Bool) → IsSeen s found over → over ≡ false → (frame : Frame) → next_frame s ≡ Some frame → clashes s frame ≡ false
 none_clashes s found over w clear frame is = ap (clashes s) (sym (same_Some _ _ (sym w.next ∙ is))) ∙ w.clash ∙ clear
 
--- where none that was placed lies over it, whatever was judged past it
+-- if none that was placed lies over it, whatever was judged past it
 pub task_front : (s : StreamState) → waiting s ≡ None → is_some (next_frame s) ≡ true → ((frame : Frame) → next_frame s ≡ Some frame → clashes s frame ≡ false) → option_map_or Judge (next_frame s) Rest ≡ frame_task s
 task_front s none whole clear = go (next_frame s) refl whole
   where

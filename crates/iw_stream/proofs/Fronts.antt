@@ -105,7 +105,7 @@ next_read layout a base start (Some found) beyond b limits is read =
     subst (IsNext layout a base) (sym (read.0 ∙ ap (λ s. found_at a layout base s) is))
     (is_next layout a base beyond b limits (subst (λ s. IsWhole a layout.markers base s) is read.1))
 
--- where nothing came from the place on at which the frame begins
+-- if nothing came from the place on at which the frame begins
 pub none_there : (layout : Layout) (a : Arrived) (base start missing : ℕ) → base ≤ a.floor → IsBetween layout.markers (a.floor - base) → start ≡ frame_start layout.markers (a.floor - base) → cell_at a missing ≡ Missing
     → missing ≤ base + start → frame_at layout a base start ≡ None
 none_there layout a base start missing beyond b is gap early =

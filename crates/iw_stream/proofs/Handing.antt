@@ -14,7 +14,7 @@ use Rattle.iw_stream.specs.Work.{GiveUp, GiveBack, Rest, handing_back, left_by}
 none_left : (n : ℕ) → n ≤ 0 → n ≡ 0
 none_left n e = omega arith
 
--- where no message has a buffer none goes
+-- if no message has a buffer none goes
 no_buffer : (s : Source) (turned : ℕ) → first_buffer s ≡ None → turned ≤ length (due_buffer s) → (without_first s ≡ s) × (turned ≡ 0)
 no_buffer (Posted []) turned none few = (refl, none_left turned few)
 no_buffer (Posted (x ∷ xs)) turned none few = absurd (none-some _ (sym none))

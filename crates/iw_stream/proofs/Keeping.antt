@@ -5,6 +5,7 @@ use Rattle.std.specs.Option.{option_map_or}
 use Rattle.iw_fpdu.specs.declared.fpdu.Mismatch.{Mismatch}
 use Rattle.std.proofs.lemmas.Bool.{false≢true, true≢false}
 use Rattle.std.proofs.lemmas.Bool.Decides.{nat_tests}
+use Rattle.iw_octets.specs.declared.constants.TheConstants.{MAX_UNANSWERED}
 use Rattle.iw_octets.specs.declared.fault.Fault.{Fault}
 use Rattle.iw_octets.specs.declared.segment.Segment.{Segment}
 use Rattle.iw_octets.specs.declared.segment.Segment.TheVariants.{Tagged, Untagged}
@@ -182,7 +183,7 @@ keeps_past s frame place after r queue reads asked left base running p there mov
       awaited = λ e. awaited;
     }
 
--- which takes no buffer away, but where a message is handed out the oldest
+-- which takes no buffer away, except the oldest if a message is handed out
 turned_stays : (r : Receiving) (n : ℕ) (o : Option (Segment (List ℕ))) → StaysThere r (turned_by r n o)
 turned_stays r n None = stays_same r r refl
 turned_stays r n (Some (Tagged head payload)) = stays_same r r refl
@@ -408,7 +409,7 @@ passes : {A : Type 0} (o : Option Fault) (x y : A) → fault_or o x ≡ Ok y →
 passes None x y e = (refl, let w = e in cc)
 passes (Some fault) x y e = absurd (let no : ⊥ = cc in no)
 
--- where a frame was placed
+-- if a frame was placed
 abbrev pub IsPlacing : Landing → Type 0
 IsPlacing (landings.Write at) = Unit {0}
 IsPlacing (landings.Response at) = Unit {0}
@@ -526,7 +527,7 @@ keeps_judged s table found after x running n ok placing there over k =
       awaited = k.awaited;
     }
 
--- what may be judged before its turn is placed, where it passes
+-- what may be judged before its turn is placed, if it passes
 pub early_placing : (at : Standing) (head : Head) (n : ℕ) (x : Landing) → is_early head ≡ true → place_verdict at head n ≡ Ok x → IsPlacing x
 early_placing at (heads.Write head) n x early e = subst IsPlacing (passes _ _ _ e).1 tt
 early_placing at (heads.Response head) n x early e = subst IsPlacing (passes _ _ _ e).1 tt
@@ -534,10 +535,10 @@ early_placing at (heads.Send head) n x early e = subst IsPlacing (passes _ _ _ e
 early_placing at (heads.Request head request) n x early e = absurd (false≢true early)
 early_placing at (heads.Terminate head word) n x early e = absurd (false≢true early)
 
--- one more request may wait where one was judged, and its source has a range
+-- one more request may wait if one was judged, and its source has a range
 pub record MayTake (asked : Requested) (u : List ℕ) (request : ReadRequest) : Type 0 where
   pub header : length (header_in u) ≡ 18
-  pub room : length asked.unanswered < 16
+  pub room : length asked.unanswered < MAX_UNANSWERED
   pub range : IsInRange request
 
 pub may_take : (at : Standing) (found : Found) (request : ReadRequest) → verdict at (frame_by found) ≡ Ok (landings.Request request) → MayTake at.asked (ulpdu found) request

@@ -3,6 +3,7 @@ use Rattle.std.proofs.Common.{◌≡◌, ℕ, ◌+◌, ◌-◌, ◌<◌, Bool, t
 use Rattle.std.specs.Prelude.{◌==◌}
 use Rattle.std.proofs.lemmas.Bool.Decides.{nat_tests}
 use Rattle.iw_octets.specs.declared.fault.Fault.{Fault}
+use Rattle.iw_octets.specs.declared.constants.TheConstants.{MAX_UNANSWERED}
 use Rattle.iw_octets.specs.declared.fault.TheConstants.Fault as faults
 use Rattle.iw_octets.specs.declared.head.TaggedHead.{TaggedHead}
 use Rattle.iw_octets.specs.declared.head.UntaggedHead.{UntaggedHead}
@@ -37,12 +38,12 @@ pub record IsUntagged (u : List ℕ) (head : UntaggedHead) : Type 0 where
   pub payload : List ℕ
   pub is : read_segment u ≡ Some (Untagged head payload)
 
--- and a Read Request comes only where one more may wait
+-- and a Read Request comes only if one more may wait
 abbrev pub Judges : List ℕ → ℕ → Head → Type 0
 Judges u unanswered (heads.Write head) = IsTagged u head
 Judges u unanswered (heads.Response head) = IsTagged u head
 Judges u unanswered (heads.Send head) = IsUntagged u head
-Judges u unanswered (heads.Request head request) = IsUntagged u head × (unanswered < 16)
+Judges u unanswered (heads.Request head request) = IsUntagged u head × (unanswered < MAX_UNANSWERED)
 Judges u unanswered (heads.Terminate head word) = IsUntagged u head
 
 tagged_chain : (P : Head → Type 0) (a b d e : Bool) (head : TaggedHead) (x : Head) →
@@ -70,10 +71,10 @@ untagged_chain P false false false false true g o w head request terminate x h s
 untagged_chain P false false false false false true o w head request terminate x h s r t = passed P w terminate x h t
 untagged_chain P false false false false false false o w head request terminate x h s r t = absurd (let no : ⊥ = cc in no)
 
-few_wait : (head : UntaggedHead) (n next unanswered : ℕ) → request_fault head n next unanswered ≡ None → unanswered < 16
-few_wait head n next unanswered e = go (not (head.msn == next)) (nat_le 16 unanswered) refl _ e
+few_wait : (head : UntaggedHead) (n next unanswered : ℕ) → request_fault head n next unanswered ≡ None → unanswered < MAX_UNANSWERED
+few_wait head n next unanswered e = go (not (head.msn == next)) (nat_le MAX_UNANSWERED unanswered) refl _ e
   where
-    go : (a b : Bool) → nat_le 16 unanswered ≡ b → (o : Option Fault) → (if a then Some faults.UNTAGGED_MSN_RANGE else if b then Some faults.UNTAGGED_NO_BUFFER else o) ≡ None → unanswered < 16
+    go : (a b : Bool) → nat_le MAX_UNANSWERED unanswered ≡ b → (o : Option Fault) → (if a then Some faults.UNTAGGED_MSN_RANGE else if b then Some faults.UNTAGGED_NO_BUFFER else o) ≡ None → unanswered < MAX_UNANSWERED
     go true b is o h = absurd (let no : ⊥ = cc in no)
     go false true is o h = absurd (let no : ⊥ = cc in no)
     go false false is o h = grind (arith, nat_tests)

@@ -8,6 +8,7 @@ pub mod Fronts
 pub mod Reading
 pub mod Keeping
 pub mod Opening
+pub mod Negotiated
 pub mod Started
 pub mod Tasks
 pub mod Dues

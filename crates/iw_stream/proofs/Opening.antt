@@ -1,5 +1,5 @@
 -- What a stream keeps of its start-up.
-use Rattle.std.proofs.Common.{◌≡◌, ℕ, ◌-◌, ◌<◌, ◌%◌, Bool, true, false, max, List, [], ◌∷◌, Contains, length, Option, Some, None, refl, sym, ap, ◌∙◌, subst, arith}
+use Rattle.std.proofs.Common.{◌≡◌, ℕ, ◌-◌, ◌<◌, ◌%◌, Bool, true, false, not, cond, max, List, [], ◌∷◌, Contains, length, Option, Some, None, refl, sym, ap, ◌∙◌, subst, arith}
 use Rattle.std.specs.Prelude.{IfSome, is_some}
 use Rattle.std.specs.Option.{option_map_or}
 use Rattle.std.proofs.lemmas.Bool.{true≢false, false≢true}
@@ -11,44 +11,34 @@ use Rattle.iw_fpdu.specs.Laws.{IsBetween}
 use Rattle.iw_fpdu.proofs.Follows.{frames_follow}
 use Rattle.iw_queues.specs.Queue.{Queue, nothing_posted}
 use Rattle.iw_reads.specs.declared.reads.Outstanding.{Outstanding}
+use Rattle.iw_reads.specs.Outstanding.{most_reads}
 use Rattle.iw_reads.specs.Requests.{Requested}
 use Rattle.iw_queues.specs.Segments.{Numbers}
 use Rattle.iw_startup.specs.declared.progress.Progress.TheVariants as progress
 use Rattle.iw_startup.specs.declared.side.Reply.{Reply}
-use Rattle.iw_startup.specs.declared.side.Reply.TheVariants.{Accept, Reject}
+use Rattle.iw_startup.specs.declared.side.Reply.TheVariants.{Reject}
+use Rattle.iw_startup.specs.declared.config.Agreed.{Agreed}
 use Rattle.iw_startup.specs.declared.config.Config.{Config}
+use Rattle.iw_startup.specs.declared.config.Establishment.{Establishment}
 use Rattle.iw_startup.specs.declared.side.Side.{Side}
 use Rattle.iw_startup.specs.declared.side.Side.TheVariants as sides
-use Rattle.iw_startup.specs.Frame.{flags, start_frame, request_key, reply_key}
 use Rattle.iw_startup.specs.Peer.{progress_of}
-use Rattle.iw_startup.specs.State.{StartupState, frame_of, agreed_of, agreement, awaits_answer, is_asked, answered, pushed}
+use Rattle.iw_startup.specs.State.{StartupState, frame_of, own_frame, agreed_of, agreement, awaits_answer, is_answered, is_asked, answered, pushed}
 use Rattle.iw_startup.proofs.Ends.{least_end}
 use Rattle.iw_startup.proofs.Reached.{progress_of-short}
-use Rattle.iw_startup.proofs.Heard.{agreed_of-pushed, frame_of-pushed, octets-pushed}
+use Rattle.iw_startup.proofs.Heard.{agreed_of-pushed, octets-pushed}
 use Rattle.iw_untagged.specs.Receiving.{Receiving}
+use Rattle.iw_stream.specs.declared.answer.AnswerRefusal.TheVariants.{NotAsked, PrivateTooLong}
 use Rattle.iw_stream.specs.declared.answer.Role.{Role}
 use Rattle.iw_stream.specs.declared.answer.Role.TheVariants.{Preset, Initiator, Responder}
 use Rattle.iw_stream.specs.declared.starting.Start.TheInside.{Inside}
 use Rattle.iw_stream.specs.Fields.{IsStart, start_of}
 use Rattle.iw_stream.specs.Frames.{EarlyRecord}
 use Rattle.iw_stream.specs.Kept.{IsPlaced, NoneReachesOver, Keeps}
-use Rattle.iw_stream.specs.Starting.{StartState, AtOnce, Unheard, Heard, IsFresh, start_by, start_at_first, is_open, expecting, own_frame, awaits_frame, heard, answered_with, agreed_in, agreement_in, first_place_in, first_place_out}
+use Rattle.iw_stream.specs.Starting.{StartState, AtOnce, Unheard, Heard, IsFresh, start_by, start_at_first, is_open, expecting, most_reads_in, awaits_frame, heard, answered_with, agreed_in, agreement_in, first_place_in, first_place_out}
 use Rattle.iw_stream.specs.Starting as starting
 use Rattle.iw_stream.specs.declared.ending.Ending.TheVariants.{Runs}
 use Rattle.iw_stream.specs.Stream.{StreamState}
-
--- ---- lengths of start-up frames
-request_long : (fl : ℕ) (private : List ℕ) → 0 < length (start_frame request_key fl private)
-unfolding start_frame
-request_long fl private = omega arith
-
-reply_long : (fl : ℕ) (private : List ℕ) → 0 < length (start_frame reply_key fl private)
-unfolding start_frame
-reply_long fl private = omega arith
-
-answered_long : (u : StartupState) (reply : Reply) → 0 < length (frame_of (answered u reply))
-answered_long u (Accept private) = reply_long (flags u.config.markers u.config.crc false) private.items
-answered_long u (Reject private) = reply_long (flags u.config.markers u.config.crc true) private.items
 
 -- ---- a Request that waits for an answer
 pub record Waits (u : StartupState) : Type 0 where
@@ -56,14 +46,14 @@ pub record Waits (u : StartupState) : Type 0 where
   pub mute : frame_of u ≡ []
   pub whole : 0 < length u.octets
 
-is_whole : (side : Side) (octets : List ℕ) → is_asked (progress_of side octets) ≡ true → 0 < length octets
-is_whole side [] e = absurd (let more : progress_of side [] ≡ progress.More = progress_of-short side [] (omega (arith, least_end side [])) in true≢false (sym e ∙ ap is_asked more))
-is_whole side (x ∷ octets) e = omega arith
+is_whole : (est : Establishment) (side : Side) (octets : List ℕ) → is_asked (progress_of est side octets) ≡ true → 0 < length octets
+is_whole est side [] e = absurd (let more : progress_of est side [] ≡ progress.More = progress_of-short est side [] (omega (arith, least_end est side [])) in true≢false (sym e ∙ ap is_asked more))
+is_whole est side (x ∷ octets) e = omega arith
 
 waits_at : (config : Config) (side : Side) (octets : List ℕ) → awaits_answer (record { config = config; side = side; octets = octets }) ≡ true → Waits (record { config = config; side = side; octets = octets })
 unfolding agreed_of
 waits_at config sides.Initiator octets e = cc
-waits_at config (sides.Responder None) octets e = record { closed = refl; mute = refl; whole = is_whole (sides.Responder None) octets e }
+waits_at config (sides.Responder None) octets e = record { closed = refl; mute = refl; whole = is_whole config.establishment (sides.Responder None) octets e }
 waits_at config (sides.Responder (Some reply)) octets e = cc
 
 pub waits : (u : StartupState) → awaits_answer u ≡ true → Waits u
@@ -170,15 +160,15 @@ awaits_closed (AtOnce layout) e = absurd (false≢true e)
 awaits_closed (Unheard u) e = refl
 awaits_closed (Heard u) e = absurd (false≢true e)
 
-hears : (s : StreamState) (u : StartupState) (octets : List ℕ) → s.start ≡ Unheard u → Keeps s
+hears : (s : StreamState) (u : StartupState) (octets : List ℕ) → s.start ≡ Unheard u → first_place_out (Heard (pushed u octets)) ≡ first_place_out s.start → Keeps s
     → Keeps (record s { start = Heard (pushed u octets); arrived = advanced s.arrived (length (pushed u octets).octets) })
-hears s u octets is k =
+hears s u octets is out k =
     let closed : is_open s.start ≡ false = ap is_open is in
     let rest = k.started.unopened closed in
     let begin : s.arrived.floor ≡ 0 = rest.0 ∙ ap first_place_in is in
     let n : ℕ = length (pushed u octets).octets in
     let floor : (advanced s.arrived n).floor ≡ max s.arrived.floor n = floor_moves s.arrived n in
-    let own : first_place_out s.start ≡ length (frame_of (pushed u octets)) = ap first_place_out is ∙ ap length (sym (frame_of-pushed u octets)) in
+    let own : first_place_out s.start ≡ length (frame_of (pushed u octets)) = sym out in
     record {
       started = record {
         unopened = λ e. (omega (arith, floor, begin), rest.1, rest.2);
@@ -200,9 +190,9 @@ hears s u octets is k =
     }
 
 pub keeps_heard : (s : StreamState) (octets : List ℕ) (start : StartState) (arrived : Arrived) (early : List EarlyRecord) → awaits_frame s.start ≡ true
-    → start ≡ heard s.start octets → arrived ≡ advanced s.arrived (first_place_in start) → early ≡ [] → Keeps s
+    → start ≡ heard s.start octets → first_place_out start ≡ first_place_out s.start → arrived ≡ advanced s.arrived (first_place_in start) → early ≡ [] → Keeps s
     → Keeps (record s { start = start; arrived = arrived; early = early })
-keeps_heard s octets start arrived early awaits now moved none k =
+keeps_heard s octets start arrived early awaits now out moved none k =
     subst (λ es. Keeps (record s { start = start; arrived = arrived; early = es })) (k.unopened (awaits_closed s.start awaits) ∙ sym none) (go s.start refl awaits now)
   where
     go : (x : StartState) → s.start ≡ x → awaits_frame x ≡ true → start ≡ heard x octets → Keeps (record s { start = start; arrived = arrived })
@@ -210,13 +200,28 @@ keeps_heard s octets start arrived early awaits now moved none k =
     go (Heard u) is e n = absurd (false≢true e)
     go (Unheard u) is e n =
         subst (λ a. Keeps (record s { start = start; arrived = a })) (sym moved)
-        (subst (λ x. Keeps (record s { start = x; arrived = advanced s.arrived (first_place_in x) })) (sym n) (hears s u octets is k))
+        (subst (λ x. Keeps (record s { start = x; arrived = advanced s.arrived (first_place_in x) })) (sym n) (hears s u octets is (ap first_place_out (sym n) ∙ out) k))
 
 -- ---- what is kept of a start-up
 pub fresh_octets : (frames : Option StartupState) (was : Bool) (layout : Layout) (u : StartupState) → frames ≡ Some u → awaits_frame (start_by frames was layout) ≡ true → IsFresh (start_by frames was layout) → u.octets ≡ []
 fresh_octets None was layout u is awaits f = absurd (false≢true awaits)
 fresh_octets (Some v) true layout u is awaits f = absurd (false≢true awaits)
-fresh_octets (Some v) false layout u is awaits f = let same : v ≡ u = cc in ap (λ (x : StartupState). x.octets) (sym same) ∙ f
+fresh_octets (Some v) false layout u is awaits f = let same : v ≡ u = cc in ap (λ (x : StartupState). x.octets) (sym same) ∙ f.0
+
+-- what is read changes nothing of this end's own frame
+own_pushed : (config : Config) (side : Side) (before after : List ℕ) → is_answered side ≡ false → own_frame config side after ≡ own_frame config side before
+own_pushed config sides.Initiator before after e = refl
+own_pushed config (sides.Responder None) before after e = refl
+own_pushed config (sides.Responder (Some reply)) before after e = absurd (true≢false e)
+
+frame_pushed : (u : StartupState) (octets : List ℕ) → is_answered u.side ≡ false → frame_of (pushed u octets) ≡ frame_of u
+unfolding pushed
+frame_pushed u octets e = own_pushed u.config u.side u.octets (pushed u octets).octets e
+
+pub out_heard : (start : StartState) (octets : List ℕ) → IsFresh start → first_place_out (heard start octets) ≡ first_place_out start
+out_heard (AtOnce layout) octets f = refl
+out_heard (Unheard u) octets f = ap length (frame_pushed u octets f.1)
+out_heard (Heard u) octets f = refl
 
 no_some : {A : Type 0} (o : Option A) → is_some o ≡ false → o ≡ None
 no_some None e = refl
@@ -238,6 +243,7 @@ start_rejected s u v private was is asked now k =
       running_is = k.running_is ∙ ap is_open before ∙ ap is_some (sym gone) ∙ ap is_open (sym after);
       sending_is = k.sending_is ∙ ap starting.sending before ∙ ap (λ o. option_map_or starting.layout_out o starting.plain) (sym gone) ∙ ap starting.sending (sym after);
       expecting_is = k.expecting_is ∙ ap expecting before ∙ ap (λ o. option_map_or starting.layout_in o starting.plain) (sym gone) ∙ ap expecting (sym after);
+      most_reads_is = k.most_reads_is ∙ ap most_reads_in before ∙ ap (λ (o : Option Agreed). option_map_or (λ agreed. agreed.ord) o most_reads) (sym gone) ∙ ap most_reads_in (sym after);
     }
 
 -- what an initiator learns is what was agreed on
@@ -245,7 +251,7 @@ pub told : (start : StartState) (octets : List ℕ) → IsFresh start → starti
 unfolding pushed
 told (AtOnce layout) octets f e = absurd (let no : ⊥ = cc in no)
 told (Heard u) octets f e = absurd (let no : ⊥ = cc in no)
-told (Unheard u) octets f e = agreed_of-pushed u octets f e ∙ ap (λ xs. Some (agreement u.config xs)) (sym (octets-pushed u octets f))
+told (Unheard u) octets f e = agreed_of-pushed u octets f.0 e ∙ ap (λ xs. Some (agreement u.config xs)) (sym (octets-pushed u octets f.0))
 
 pub heard_is : (frames : Option StartupState) (was : Bool) (layout : Layout) (u : StartupState) (octets : List ℕ) → frames ≡ Some u → awaits_frame (start_by frames was layout) ≡ true → heard (start_by frames was layout) octets ≡ Heard (pushed u octets)
 heard_is None was layout u octets is awaits = absurd (false≢true awaits)
@@ -275,3 +281,11 @@ pub asked_closed : (start : StartState) → starting.is_asked start ≡ true →
 asked_closed (AtOnce layout) e = absurd (false≢true e)
 asked_closed (Unheard u) e = absurd (false≢true e)
 asked_closed (Heard u) e = (waits u e).closed
+
+-- an answer that is not refused is one to a Request that waits
+pub asked_of : (start : StartState) (private : List ℕ) → None ≡ starting.answer_refusal start private → starting.is_asked start ≡ true
+asked_of start private e = go (starting.is_asked start) (starting.exceeds_answer start private) e
+  where
+    go : (asked exceeds : Bool) → None ≡ cond (not asked) (Some NotAsked) (cond exceeds (Some PrivateTooLong) None) → asked ≡ true
+    go true exceeds e = refl
+    go false exceeds e = cc

@@ -37,12 +37,12 @@ use Rattle.iw_stream.specs.Kept.{AreOthers, AreAwaited}
 use Rattle.iw_stream.specs.Stream.{reads_with}
 
 -- ---- Reads that are awaited
--- they stay so where each does
+-- they stay so if each does
 each_still : (c d : completions.Outstanding) (reads : List Outstanding) → ((ticket : ℕ) → ticket < 2 ^ 64 → IsAwaited c ticket → IsAwaited d ticket) → AreAwaited c reads → AreAwaited d reads
 each_still c d [] still a = tt
 each_still c d (read ∷ reads) still a = (a.0, still read.ticket a.0 a.1, a.2, each_still c d reads still a.3)
 
--- where one message is handed out
+-- if one message is handed out
 pub awaited_handed : (q : Queue) (reads : List Outstanding) → q.sent.first < 2 ^ 64 → AreAwaited q.sent reads → AreAwaited (handed_from q (done_in q)).sent reads
 awaited_handed q reads first a = each_still q.sent (handed_from q (done_in q)).sent reads (λ ticket small h. awaits.handed_out q ticket first small h) a
 
@@ -54,7 +54,7 @@ first_handed q (Some done) first = go q.sent.messages
     go [] = omega arith
     go (m ∷ ms) = omega arith
 
--- where a part is sent
+-- if a part is sent
 pub first_sent : (q : Queue) (part : Option (Part (Request (List ℕ)))) → q.sent.first < 2 ^ 64 → (part_sent q part).sent.first < 2 ^ 64
 first_sent q None first = first
 first_sent q (Some part) first = go part.last
@@ -109,7 +109,7 @@ awaited_sent q max part reads limits first e a = go part.message refl
         (awaits.sent q max part limits first e (ap kind_of is))
         (subst (λ t. AreOthers t reads) same (new_ticket q.sent reads first (omega (arith, limits.posted)) a))
 
--- where the oldest is finished, and is no more
+-- if the oldest is finished, and is no more
 pub awaited_finished : (c : completions.Outstanding) (reads : List Outstanding) (head : TaggedHead) (n ticket : ℕ) → c.first < 2 ^ 64 → AreAwaited c reads → finished_read reads head ≡ Some ticket
     → AreAwaited (completions.finished c ticket) (reads_turned reads head n)
 awaited_finished c [] head n ticket first a e = tt
@@ -132,7 +132,7 @@ awaits_oldest c (read ∷ reads) head ticket a e = go head.last e
     go true h = subst (IsAwaited c) (let same : read.ticket ≡ ticket = cc in same) a.1
     go false h = absurd (let no : ⊥ = cc in no)
 
--- where a segment had its turn, and none is finished
+-- if a segment had its turn, and none is finished
 pub awaited_turned : (c : completions.Outstanding) (reads : List Outstanding) (head : TaggedHead) (n : ℕ) → AreAwaited c reads → AreAwaited c (reads_turned reads head n)
 awaited_turned c [] head n a = tt
 awaited_turned c (read ∷ reads) head n a = go head.last

@@ -49,7 +49,7 @@ least false s = span_low true s
 
 -- ---- what is held
 module _ (v : Scene (ArrayVec ℕ)) (only : GivesUpOnlyPlaced v) where
-  -- all of it, where there is no record
+  -- all of it, if there is no record
   pub all_held : v.base ≤ v.arrived.floor → v.records ≡ [] → IsHeld v.arrived
   all_held based none p low =
       not_gone (cell_at v.arrived p) (λ gone.

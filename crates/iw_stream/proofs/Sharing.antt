@@ -4,6 +4,7 @@ use Rattle.iw_octets.specs.declared.fault.Fault.{Fault}
 use Rattle.iw_octets.specs.declared.segment.Segment.{Segment}
 use Rattle.iw_octets.specs.declared.segment.Segment.TheVariants.{Tagged, Untagged}
 use Rattle.iw_memory.specs.Table.{Table}
+use Rattle.iw_startup.specs.declared.enhanced.Mismatch.{Mismatch}
 use Rattle.iw_startup.specs.declared.progress.Progress.{Progress}
 use Rattle.iw_startup.specs.declared.progress.Progress.TheVariants as progress
 use Rattle.iw_untagged.specs.Receiving.{Source, Posted, Pooled, Receiving, bound_to, exchanged, is_shared, seeing, shares_pool, shifted, without_first, written_in}
@@ -14,9 +15,9 @@ use Rattle.iw_stream.specs.declared.judging.Turning.{Turning}
 use Rattle.iw_stream.specs.declared.judging.Turning.TheVariants.{Passed, Completed, Answered}
 use Rattle.iw_stream.specs.Frames.{Frame, payload_len, payload_of, segment_in, head_in}
 use Rattle.iw_stream.specs.Judging.{early_verdict, receiving_landed, turn_of, turned_by, verdict}
-use Rattle.iw_stream.specs.Starting.{progress_in}
+use Rattle.iw_stream.specs.Starting.{heard, mismatch_in, progress_in}
 use Rattle.iw_stream.specs.Stream.{StreamState, sees, shares}
-use Rattle.iw_stream.specs.Work.{Task, HandOut, GiveUp, GiveBack, Hear, Turn, Clash, Judge, Try, Rest, after_hearing, after_judging, after_trying, after_turn, inbox, left_by, standing, task, worked}
+use Rattle.iw_stream.specs.Work.{Task, HandOut, GiveUp, GiveBack, Hear, Turn, Clash, Judge, Try, Rest, after_hearing, after_judging, after_opening, after_trying, after_turn, hears, inbox, left_by, standing, task, worked}
 
 shifted_shares : (s : Source) → shares_pool (shifted s) ≡ shares_pool s
 shifted_shares (Posted xs) = refl
@@ -47,10 +48,14 @@ turned_shares r n None = refl
 turned_shares r n (Some (Tagged head payload)) = refl
 turned_shares r n (Some (Untagged head payload)) = refl
 
+opening_shares : (s : StreamState) (o : Option Mismatch) → shares (after_opening s o) ≡ shares s
+opening_shares s None = refl
+opening_shares s (Some mismatch) = refl
+
 hearing_shares : (s : StreamState) (p : Progress) → shares (after_hearing s p) ≡ shares s
 hearing_shares s progress.More = refl
 hearing_shares s progress.Asked = refl
-hearing_shares s progress.Agreed = refl
+hearing_shares s progress.Agreed = opening_shares (hears s) (mismatch_in (heard s.start (inbox s)))
 hearing_shares s (progress.Faulted fault) = refl
 
 turn_shares : (s : StreamState) (frame : PlacedFrame) (turning : Result Turning Fault) → shares (after_turn s frame turning) ≡ shares s
@@ -82,10 +87,10 @@ left_shares table s (Judge frame) = judged_shares s frame (verdict (standing tab
 left_shares table s (Try frame) = tried_shares s frame (early_verdict (standing table s) frame)
 left_shares table s Rest = refl
 
-work_shares : (table : Table) (s : StreamState) → shares (worked table s) ≡ shares s
+pub work_shares : (table : Table) (s : StreamState) → shares (worked table s) ≡ shares s
 work_shares table s = left_shares table s (task s)
 
--- whether the step is done or wants memory
+-- whether the step is done or out of memory
 still_shares : {A E : Type 0} (table after : Table) (s new : StreamState) (r : Result A E) → OnOk r (new ≡ worked table s) → OnErr r ((new ≡ s) × (after ≡ table)) → shares new ≡ shares s
 still_shares table after s new (Ok step) ok err = ap shares ok ∙ work_shares table s
 still_shares table after s new (Err e) ok err = ap shares err.0

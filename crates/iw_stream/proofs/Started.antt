@@ -43,12 +43,12 @@ part_is a from end octets kept is come missing same =
     sym (back octets) ∙ ap (map octet_of) (same ∙ (λ i. cells_between a (is i) (missing_is a end kept come missing i)) ∙ sym (stands a)) ∙ back (in_order a)
 
 -- ---- the frame that is taken
-pub used_part : (u : StartupState) (octets : List ℕ) → u.octets ≡ [] → used u octets ≡ length (frame_part u.side octets)
+pub used_part : (u : StartupState) (octets : List ℕ) → u.octets ≡ [] → used u octets ≡ length (frame_part u.config.establishment u.side octets)
 unfolding used frame_part
 used_part u octets fresh =
-    let bare : frame_end u.side (u.octets ++ octets) ≡ frame_end u.side octets = ap (λ xs. frame_end u.side (xs ++ octets)) fresh in
-    omega (arith, bare, ap length fresh, length-take (frame_end u.side octets) octets)
+    let bare : frame_end u.config.establishment u.side (u.octets ++ octets) ≡ frame_end u.config.establishment u.side octets = ap (λ xs. frame_end u.config.establishment u.side (xs ++ octets)) fresh in
+    omega (arith, bare, ap length fresh, length-take (frame_end u.config.establishment u.side octets) octets)
 
-pub part_short : (u : StartupState) (octets : List ℕ) → length (frame_part u.side octets) ≤ length octets
+pub part_short : (u : StartupState) (octets : List ℕ) → length (frame_part u.config.establishment u.side octets) ≤ length octets
 unfolding frame_part
-part_short u octets = omega (arith, length-take (frame_end u.side octets) octets)
+part_short u octets = omega (arith, length-take (frame_end u.config.establishment u.side octets) octets)

@@ -134,14 +134,14 @@ tagged_early at u head p = ap may_be_early (tagged_judged u head (length u) at.a
 pub lands_early : (at : Standing) (frame : Frame) (head : TaggedHead) (r : Result Landing Fault) → Passes frame.ulpdu head → r ≡ verdict at frame → landing_in r ≡ early_verdict at frame
 lands_early at frame head r p e = ap landing_in e ∙ ap (λ b. if b then landing_in (verdict at frame) else None) (sym (tagged_early at frame.ulpdu head p))
 
--- what a placement leaves, where it was one
+-- what a placement leaves, if it was one
 pub put_there : (r : Result Placed Fault) (o : Option Fault) (p : Placed) (table new : Table) (payload octets : List ℕ) → r ≡ fault_or o p → payload ≡ octets → OnOk r (new ≡ put table p.stag p.to octets)
     → IfOk r (λ at. new ≡ put table at.stag at.to payload)
 put_there (Err fault) o p table new payload octets is same done = tt
 put_there (Ok x) (Some fault) p table new payload octets is same done = absurd (let no : ⊥ = cc in no)
 put_there (Ok x) None p table new payload octets is same done = let at : x ≡ p = cc in done ∙ (λ i. put table (sym at i).stag (sym at i).to (sym same i))
 
--- ---- where it was placed
+-- ---- if it was placed
 pub is_placing : (response : Bool) (at : Placed) → IsPlacing (landing_of response at)
 is_placing true at = tt
 is_placing false at = tt

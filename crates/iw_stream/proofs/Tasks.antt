@@ -39,7 +39,7 @@ task_turns s none running heard started placed = task_frame s none running heard
     go (Some frame) e = refl
     go None e = absurd (false≢true e)
 
--- where no frame waits for its turn, and none is whole at the in-order point
+-- if no frame waits for its turn, and none is whole at the in-order point
 pub task_tries : (s : StreamState) → waiting s ≡ None → next_frame s ≡ None → frame_task s ≡ option_map_or Try (early_frame s) Rest
 task_tries s none lacks = (λ i. option_map_or Turn (none i) (option_map_or (front_task s) (lacks i) (option_map_or Try (early_frame s) Rest)))
 

@@ -193,7 +193,7 @@ module _ (s : StreamState) (k : Keeps s) (kept : keeping.Keeps (scene s)) (apart
       let from : span_start true frame.start ≡ s.arrived.floor - first_place_in s.start = ap (span_start true) begins_ ∙ span_point e_m in
       absurd (true≢false (sym ((overlaps_are_told s.early frame.start (frame_end (expecting s.start).markers frame.start frame.len)).1 (x, within, placed, (before, omega (arith, from, kept.records x within, some x within)))) ∙ clear))
 
-  -- where nothing came at the in-order point, none that was placed begins there
+  -- if nothing came at the in-order point, none that was placed begins there
   pub none_begins : (missing : ℕ) → missing ≤ s.arrived.floor → overlaps_placed s.early (front_of (scene s)) (missing - first_place_in s.start) ≡ false
   none_begins missing low = elim (cases_Bool (overlaps_placed s.early (front_of (scene s)) (missing - first_place_in s.start))) [
     | inl over ↦

@@ -33,7 +33,7 @@ frame_by found = record { start = found.start; mismatch = mismatch found; ulpdu 
 abbrev pub standing_at : ℕ → Carried → Frame
 standing_at start carried = record { start = start; mismatch = carried.mismatch; ulpdu = carried.ulpdu }
 
--- the frame that begins at a frame place, where it is whole; frame place 0 is place `base` of the stream
+-- the frame that begins at a frame place, if it is whole; frame place 0 is place `base` of the stream
 abbrev pub frame_at : Layout → Arrived → ℕ → ℕ → Option Frame
 frame_at layout arrived base start = if is_whole arrived layout.markers base start then Some (frame_by (found_at arrived layout base start)) else None
 
@@ -74,7 +74,7 @@ payload_len frame = frame.len - length frame.header.items
 
 -- ---- what is kept of one that was judged before its turn
 
--- its place, and where it was placed the octets of its DDP header
+-- its place, and if it was placed the octets of its DDP header
 abbrev pub EarlyRecord : Type 0
 EarlyRecord = Record (ArrayVec ℕ)
 
@@ -89,17 +89,17 @@ state_tried frame (Some at) = Placed (placed frame).header
 abbrev pub record_tried : {A : Type 0} → Frame → Option A → EarlyRecord
 record_tried frame at = record_of frame (state_tried frame at)
 
--- what is kept of the frame for its turn, where it was placed
+-- what is kept of the frame for its turn, if it was placed
 abbrev pub kept_by : EarlyRecord → State (ArrayVec ℕ) → Option PlacedFrame
 kept_by r Tried = None
 kept_by r (Placed header) = Some (record { start = r.start; len = r.length; header = header })
 
--- the frame that begins at a place, where it was placed early
+-- the frame that begins at a place, if it was placed early
 abbrev pub placed_at : List EarlyRecord → ℕ → Option PlacedFrame
 placed_at [] start = None
 placed_at (r ∷ rs) start = if r.start == start then kept_by r r.state else placed_at rs start
 
--- what came, without the octets of the frame, where it was placed: they are given up, and their places still count as come
+-- what came, without the octets of the frame if it was placed: they are given up, and their places still count as come
 abbrev pub without : ℕ → Arrived → EarlyRecord → State (ArrayVec ℕ) → Arrived
 without base arrived r Tried = arrived
 without base arrived r (Placed header) = released arrived (base + from_of r) (base + r.end)

@@ -29,7 +29,7 @@ scene_in c = scene_of c.layout c.base c.arrived c.early
 abbrev pub frame_in : Coming → ℕ → Frame
 frame_in c start = frame_by (found_at c.arrived c.layout c.base start)
 
--- no frame that was placed early lies over the one that begins at a frame place, where that is whole
+-- no frame that was placed early lies over the one that begins at a frame place, if that is whole
 abbrev pub IsClearAt : Coming → ℕ → Type 0
 IsClearAt c start = (frame : Frame) → frame_at c.layout c.arrived c.base start ≡ Some frame
     → overlaps_placed c.early frame.start (frame_end c.layout.markers frame.start (length frame.ulpdu)) ≡ false

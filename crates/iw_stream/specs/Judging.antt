@@ -27,6 +27,7 @@ use Rattle.iw_rdmap.specs.declared.head.Head.{Head}
 use Rattle.iw_rdmap.specs.declared.head.Head.TheVariants as heads
 use Rattle.iw_rdmap.specs.Head.{is_early}
 use Rattle.iw_rdmap.specs.Judging.{judged}
+pub use Rattle.iw_rdmap.specs.Judging.{fault_or}
 use Rattle.iw_reads.specs.declared.reads.Outstanding.{Outstanding}
 use Rattle.iw_reads.specs.Outstanding.{sink_fault, response_turn_fault, reads_turned, finished_read}
 use Rattle.iw_reads.specs.Requests.{Requested}
@@ -54,10 +55,6 @@ pub record Standing : Type 0 where
 abbrev pub or_else : Option Fault → Option Fault → Option Fault
 or_else None later = later
 or_else (Some fault) later = Some fault
-
-abbrev pub fault_or : {A : Type 0} → Option Fault → A → Result A Fault
-fault_or None x = Ok x
-fault_or (Some fault) x = Err fault
 
 -- ---- judged
 
@@ -238,7 +235,7 @@ table_turned table (Completed solicited None) = table
 table_turned table (Completed solicited (Some stag)) = invalidated table stag
 table_turned table (Answered ticket) = table
 
--- what it leaves of the message that is due, where that is not complete
+-- what it leaves of the message that is due, if that is not complete
 abbrev pub turned_by : Receiving → ℕ → Option (Segment (List ℕ)) → Receiving
 turned_by r n None = r
 turned_by r n (Some (Tagged head payload)) = r

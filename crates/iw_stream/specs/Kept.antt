@@ -38,7 +38,7 @@ HasBuffer r n None = ⊥
 HasBuffer r n (Some (Tagged head payload)) = Unit {0}
 HasBuffer r n (Some (Untagged head payload)) = HasRoomAt r (ahead_of r.due head.msn) (head.mo + n)
 
--- at its turn: where a Send's message is the one that is due, the oldest buffer has room for the segment
+-- at its turn: if a Send's message is the one that is due, the oldest buffer has room for the segment
 abbrev pub HasRoomInTurn : Receiving → ℕ → Option (Segment (List ℕ)) → Type 0
 HasRoomInTurn r n None = ⊥
 HasRoomInTurn r n (Some (Tagged head payload)) = Unit {0}

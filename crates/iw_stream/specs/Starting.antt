@@ -1,16 +1,26 @@
--- What the start-up of a stream has come to (RFC 5044 7.1).
-use Rattle.std.specs.Prelude.{◌≡◌, ℕ, Bool, true, false, List, [], length, is_some, Option, Some, None}
+-- How far the start-up of a stream is (RFC 5044 7.1).
+use Rattle.std.specs.Prelude.{◌≡◌, ℕ, ◌&&◌, Bool, true, false, not, nat_lt, List, [], length, is_some, Option, Some, None, if◌then◌else◌}
 use Rattle.std.specs.Option.{option_map_or}
 use Rattle.iw_fpdu.specs.declared.layout.Layout.{Layout}
 use Rattle.iw_startup.specs.declared.config.Agreed.{Agreed}
+use Rattle.iw_octets.specs.declared.fault.Fault.{Fault}
+use Rattle.iw_reads.specs.Outstanding.{most_reads}
 use Rattle.iw_startup.specs.declared.config.Config.{Config}
+use Rattle.iw_startup.specs.declared.enhanced.EnhancedData.{EnhancedData}
+use Rattle.iw_startup.specs.declared.enhanced.Mismatch.{Mismatch}
+use Rattle.iw_startup.specs.declared.enhanced.Mismatch.TheVariants.{InsufficientIrd, NoMatchingRtr}
 use Rattle.iw_startup.specs.declared.progress.Progress.{Progress}
 use Rattle.iw_startup.specs.declared.progress.Progress.TheVariants as progress
 use Rattle.iw_startup.specs.declared.side.Reply.{Reply}
 use Rattle.iw_startup.specs.declared.side.Side.TheVariants as sides
+use Rattle.iw_startup.specs.Enhanced.{at_responder, asked_revision}
+use Rattle.iw_startup.specs.Frame.{is_enhanced, has_word}
 use Rattle.iw_startup.specs.Peer.{progress_of}
-use Rattle.iw_startup.specs.State.{StartupState, begun, pushed, frame_of, agreed_of, agreement, awaits_answer, answered}
+use Rattle.iw_startup.specs.State.{StartupState, begun, pushed, frame_of, told_of, agreed_of, agreement, mismatch_of, awaits_answer, answered}
 use Rattle.iw_startup.specs.State as startups
+use Rattle.iw_stream.specs.declared.answer.AnswerRefusal.{AnswerRefusal}
+use Rattle.iw_stream.specs.declared.answer.AnswerRefusal.TheVariants.{NotAsked, PrivateTooLong}
+use Rattle.iw_stream.specs.declared.answer.TheConstants.{INSUFFICIENT_IRD, NO_MATCHING_RTR}
 use Rattle.iw_stream.specs.declared.answer.Role.{Role}
 use Rattle.iw_stream.specs.declared.answer.Role.TheVariants.{Preset, Initiator, Responder}
 
@@ -19,11 +29,21 @@ pub data StartState : Type 0 where
   Unheard : StartupState → StartState  -- the peer's start-up frame was not read yet
   Heard : StartupState → StartState  -- it was read, and frames go both ways once both ends agree
 
+-- no RTR is sent: the peer-to-peer model is not asked for
+abbrev pub without_rtr : Config → Config
+without_rtr config = record config { establishment = at_responder config.establishment }
+
 -- how a stream begins: open at once, with the layout that is asked for, or with start-up frames
 abbrev pub start_at_first : Role → Config → StartState
 start_at_first Preset config = AtOnce (record { markers = config.markers; crc = config.crc })
-start_at_first Initiator config = Unheard (begun sides.Initiator config)
+start_at_first Initiator config = Unheard (begun sides.Initiator (without_rtr config))
 start_at_first Responder config = Unheard (begun (sides.Responder None) config)
+
+-- an enhanced Request has no room for the private data (RFC 6581 9)
+abbrev pub exceeds_request : Role → Config → Bool
+exceeds_request Preset config = false
+exceeds_request Initiator config = is_enhanced (asked_revision config.establishment) && nat_lt 508 (length config.private.items)
+exceeds_request Responder config = false
 
 -- what both ends agree on, once they do
 abbrev pub agreed_in : StartState → Option Agreed
@@ -58,7 +78,7 @@ expecting (AtOnce layout) = layout
 expecting (Unheard u) = plain
 expecting (Heard u) = option_map_or layout_in (agreed_of u) plain
 
--- the start-up frame that this end sends: none where the stream has none, or a responder's user has not answered
+-- the start-up frame that this end sends: none if the stream has none, or a responder's user has not answered
 abbrev pub own_frame : StartState → List ℕ
 own_frame (AtOnce layout) = []
 own_frame (Unheard u) = frame_of u
@@ -89,7 +109,7 @@ awaits_frame (Heard u) = false
 -- what it comes to by these octets, as far as they go
 abbrev pub progress_in : StartState → List ℕ → Progress
 progress_in (AtOnce layout) octets = progress.More
-progress_in (Unheard u) octets = progress_of u.side octets
+progress_in (Unheard u) octets = progress_of u.config.establishment u.side octets
 progress_in (Heard u) octets = progress.More
 
 -- it is read off these octets
@@ -104,11 +124,34 @@ private_in (AtOnce layout) = []
 private_in (Unheard u) = []
 private_in (Heard u) = startups.private_of u
 
+-- its word of IRD and ORD, if it has one
+abbrev pub told_in : StartState → Option EnhancedData
+told_in (AtOnce layout) = None
+told_in (Unheard u) = None
+told_in (Heard u) = told_of u
+
 -- what both ends ask for come to
 abbrev pub agreement_in : StartState → Agreed
-agreement_in (AtOnce layout) = record { send_markers = layout.markers; expect_markers = layout.markers; crc = layout.crc }
+agreement_in (AtOnce layout) = record { send_markers = layout.markers; expect_markers = layout.markers; crc = layout.crc; ord = most_reads; rtr = None }
 agreement_in (Unheard u) = agreement u.config u.octets
 agreement_in (Heard u) = agreement u.config u.octets
+
+-- how many Reads of this end are outstanding at most (RFC 6581 9.1)
+abbrev pub most_reads_in : StartState → ℕ
+most_reads_in (AtOnce layout) = most_reads
+most_reads_in (Unheard u) = most_reads
+most_reads_in (Heard u) = option_map_or (λ agreed. agreed.ord) (agreed_of u) most_reads
+
+-- what a Reply that accepts wants and this end does not have
+abbrev pub mismatch_in : StartState → Option Mismatch
+mismatch_in (AtOnce layout) = None
+mismatch_in (Unheard u) = None
+mismatch_in (Heard u) = mismatch_of u
+
+-- the error of MPA that it is (RFC 6581 8)
+abbrev pub negotiation_fault : Mismatch → Fault
+negotiation_fault InsufficientIrd = INSUFFICIENT_IRD
+negotiation_fault NoMatchingRtr = NO_MATCHING_RTR
 
 -- ---- a responder's answer
 
@@ -117,6 +160,16 @@ abbrev pub is_asked : StartState → Bool
 is_asked (AtOnce layout) = false
 is_asked (Unheard u) = false
 is_asked (Heard u) = awaits_answer u
+
+-- the answer to an enhanced Request has no room for this private data (RFC 6581 9)
+abbrev pub exceeds_answer : StartState → List ℕ → Bool
+exceeds_answer (AtOnce layout) private = false
+exceeds_answer (Unheard u) private = false
+exceeds_answer (Heard u) private = has_word u.config.establishment u.octets && nat_lt 508 (length private)
+
+-- why an answer with this private data is refused, if it is
+abbrev pub answer_refusal : StartState → List ℕ → Option AnswerRefusal
+answer_refusal s private = if not (is_asked s) then Some NotAsked else if exceeds_answer s private then Some PrivateTooLong else None
 
 abbrev pub answered_with : StartState → Reply → StartState
 answered_with (AtOnce layout) reply = AtOnce layout
@@ -131,8 +184,8 @@ start_by None heard layout = AtOnce layout
 start_by (Some u) false layout = Unheard u
 start_by (Some u) true layout = Heard u
 
--- nothing was taken for the peer's frame before that was read
+-- nothing was taken for the peer's frame before that was read, and it was not answered
 abbrev pub IsFresh : StartState → Type 0
 IsFresh (AtOnce layout) = Unit {0}
-IsFresh (Unheard u) = u.octets ≡ []
+IsFresh (Unheard u) = (u.octets ≡ []) × (startups.is_answered u.side ≡ false)
 IsFresh (Heard u) = Unit {0}

@@ -27,12 +27,14 @@ use Rattle.iw_queues.specs.Segments.{Numbers, first_numbers, segment_of, numbers
 use Rattle.iw_rdmap.specs.Laws.{terminate_head}
 use Rattle.iw_reads.specs.declared.reads.Outstanding.{Outstanding}
 use Rattle.iw_reads.specs.declared.response.ResponsePart.{ResponsePart}
-use Rattle.iw_reads.specs.Outstanding.{most_reads, asked_for}
+use Rattle.iw_reads.specs.Outstanding.{asked_for}
 use Rattle.iw_reads.specs.Requests.{Requested, nothing_asked, response_part, part_fetched}
 use Rattle.iw_reads.specs.Response.{fetch_fault, fetched_octets}
 use Rattle.arrayvec.specs.ArrayVec.{ArrayVec}
 use Rattle.iw_startup.specs.declared.config.Config.{Config}
 use Rattle.iw_startup.specs.declared.side.Reply.TheVariants.{Accept, Reject}
+use Rattle.iw_stream.specs.declared.answer.AnswerRefusal.{AnswerRefusal}
+use Rattle.iw_stream.specs.declared.answer.AnswerRefusal.TheVariants.{NotAsked}
 use Rattle.iw_stream.specs.declared.answer.Role.{Role}
 use Rattle.iw_stream.specs.declared.answer.Emission.{Emission}
 use Rattle.iw_stream.specs.declared.answer.Emission.TheVariants as emissions
@@ -51,12 +53,13 @@ use Rattle.iw_stream.specs.Ending.{has_ended, is_broken, last_word, with_last_wo
 use Rattle.iw_stream.specs.Frames.{EarlyRecord}
 use Rattle.iw_stream.specs.Judging.{fault_or}
 use Rattle.iw_stream.specs.Terminating.{terminate_fetched}
-use Rattle.iw_stream.specs.Starting.{StartState, start_at_first, is_open, sending, own_frame, first_place_in, first_place_out, is_responder, is_asked, answered_with}
+use Rattle.iw_stream.specs.Starting.{StartState, start_at_first, is_open, sending, most_reads_in, own_frame, first_place_in, first_place_out, is_responder, is_asked, answered_with}
+use Rattle.iw_stream.specs.Starting as starting
 
 pub record StreamState : Type 0 where
   pub domain : ℕ
-  pub start : StartState  -- what its start-up has come to
-  pub mulpdu : ℕ  -- the maximum ULPDU: the most octets that one has which is sent
+  pub start : StartState  -- how far its start-up is
+  pub mulpdu : ℕ  -- the maximum ULPDU: how many octets one that is sent has at most
   pub queue : Queue  -- what was posted and not handed out
   pub numbers : Numbers  -- the message sequence numbers of the next messages
   pub sent : ℕ  -- octets emitted
@@ -134,6 +137,10 @@ breaks s = record s { ending = Broken }
 abbrev pub may_answer : StreamState → Bool
 may_answer s = not (ended s) && is_asked s.start
 
+-- why an answer with this private data is refused, if it is
+abbrev pub answer_refusal : StreamState → List ℕ → Option AnswerRefusal
+answer_refusal s private = if ended s then Some NotAsked else starting.answer_refusal s.start private
+
 abbrev pub accepted : StreamState → ArrayVec ℕ → StreamState
 accepted s private = record s { start = answered_with s.start (Accept private) }
 
@@ -155,14 +162,14 @@ abbrev pub is_read : Request (List ℕ) → Bool
 is_read (requests.Message m) = false
 is_read (requests.Read request) = true
 
--- a Read is not begun while 16 are outstanding, and all after it wait too
-abbrev pub may_go : List Outstanding → Option (Part (Request (List ℕ))) → Option (Part (Request (List ℕ)))
-may_go reads None = None
-may_go reads (Some part) = if is_read part.message && nat_le most_reads (length reads) then None else Some part
+-- a Read is not begun while as many are outstanding as may be, and all after it wait too
+abbrev pub may_go : ℕ → List Outstanding → Option (Part (Request (List ℕ))) → Option (Part (Request (List ℕ)))
+may_go most reads None = None
+may_go most reads (Some part) = if is_read part.message && nat_le most (length reads) then None else Some part
 
 -- the part of what was posted that is to be sent next
 abbrev pub part_due : StreamState → Option (Part (Request (List ℕ)))
-part_due s = may_go s.reads (next_part s.queue s.mulpdu)
+part_due s = may_go (most_reads_in s.start) s.reads (next_part s.queue s.mulpdu)
 
 -- the part of a response that is to be sent next, the peer's oldest request first; none while a message is begun, since the parts of two
 -- messages never mingle
@@ -270,7 +277,7 @@ first_refusal s = if s.answered then Some Late else None
 abbrev pub with_first : StreamState → ℕ → StreamState
 with_first s number = record s { first = number }
 
--- the place of the first octet of a delivery, by its sequence number: the one nearest to the in-order point, or 0 where that lies before the stream
+-- the place of the first octet of a delivery, by its sequence number: the one nearest to the in-order point, or 0 if that lies before the stream
 abbrev pub place_of : StreamState → ℕ → ℕ
 place_of s number = place_near number s.first s.arrived.floor
 
@@ -297,7 +304,9 @@ post_refusal_of refusals.NoMemory = post_refusals.NoMemory
 -- why a posting is refused, if it is
 abbrev pub post_refusal : StreamState → Request (List ℕ) → Option PostRefusal
 post_refusal s request =
-    if ended s || not (is_open s.start) then Some post_refusals.NotOpen else option_map post_refusal_of (queues.post_refusal s.queue request)
+    if ended s || not (is_open s.start) then Some post_refusals.NotOpen
+    else if is_read request && (most_reads_in s.start == 0) then Some post_refusals.NoReads
+    else option_map post_refusal_of (queues.post_refusal s.queue request)
 
 abbrev pub with_request : StreamState → Request (List ℕ) → StreamState
 with_request s request = record s { queue = posted s.queue request }

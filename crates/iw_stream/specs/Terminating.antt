@@ -1,5 +1,5 @@
 -- The payload of the Terminate that a fault makes due: what comes of the segment that is found to have it (RFC 5040 4.8).
-use Rattle.std.specs.Prelude.{ℕ, Bool, true, false, List, length, take, Result, Ok, Err}
+use Rattle.std.specs.Prelude.{ℕ, Bool, true, false, List, [], length, take, Result, Ok, Err}
 use Rattle.iw_octets.specs.declared.fault.Fault.{Fault}
 use Rattle.iw_rdmap.specs.declared.head.Head.{Head}
 use Rattle.iw_rdmap.specs.Head.{is_request}
@@ -20,6 +20,10 @@ is_request_of asked ulpdu = asks (judged ulpdu (length ulpdu) asked.next (length
 -- of a frame that was judged: its ULPDU's first octets, as they came
 abbrev pub terminate_judged : Requested → Frame → Fault → List ℕ
 terminate_judged asked frame fault = terminate_octets fault (take 46 frame.ulpdu) (length frame.ulpdu) (is_request_of asked frame.ulpdu)
+
+-- of no frame
+abbrev pub terminate_alone : Fault → List ℕ
+terminate_alone fault = terminate_octets fault [] 0 false
 
 -- of a frame that had its turn: what is kept of it
 abbrev pub terminate_turned : PlacedFrame → Fault → List ℕ

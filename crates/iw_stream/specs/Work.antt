@@ -18,6 +18,7 @@ use Rattle.iw_octets.specs.declared.payload.ReadRequest.{ReadRequest}
 use Rattle.iw_queues.specs.Completions as completions
 use Rattle.iw_queues.specs.Queue.{sent_with, done_in, oldest_in, handed_from}
 use Rattle.iw_reads.specs.Requests.{taken_up}
+use Rattle.iw_startup.specs.declared.enhanced.Mismatch.{Mismatch}
 use Rattle.iw_startup.specs.declared.progress.Progress.{Progress}
 use Rattle.iw_startup.specs.declared.progress.Progress.TheVariants as progress
 use Rattle.iw_untagged.specs.Receiving.{Receiving, exchanged, finished, first_buffer, flushed, oldest}
@@ -30,15 +31,15 @@ use Rattle.iw_stream.specs.declared.judging.Turning.{Turning}
 use Rattle.iw_stream.specs.declared.judging.Turning.TheVariants.{Passed, Completed, Answered}
 use Rattle.iw_stream.specs.Frames.{Frame, frame_by, frame_at, segment_in, payload_of, placed, payload_len, record_tried, state_tried, placed_at, without}
 use Rattle.iw_stream.specs.Judging.{Standing, verdict, early_verdict, table_landed, receiving_landed, turn_of, table_turned, receiving_turned, reads_left, table_tried, receiving_tried}
-use Rattle.iw_stream.specs.Starting.{StartState, is_open, expecting, first_place_in, awaits_frame, progress_in, heard, agreement_in}
+use Rattle.iw_stream.specs.Starting.{StartState, is_open, expecting, first_place_in, awaits_frame, progress_in, heard, agreement_in, mismatch_in, negotiation_fault}
 use Rattle.iw_stream.specs.Stream.{StreamState, sees, ended, ends, ends_by}
-use Rattle.iw_stream.specs.Terminating.{terminate_judged, terminate_turned}
+use Rattle.iw_stream.specs.Terminating.{terminate_alone, terminate_judged, terminate_turned}
 
 -- the octets that came without a gap from the in-order point on
 abbrev pub inbox : StreamState → List ℕ
 inbox s = in_order s.arrived
 
--- the frame at the in-order point, where it is whole
+-- the frame at the in-order point, if it is whole
 abbrev pub next_frame : StreamState → Option Frame
 next_frame s =
     let base = first_place_in s.start in
@@ -49,7 +50,7 @@ next_frame s =
 abbrev pub scene : StreamState → Scene (ArrayVec ℕ)
 scene s = scene_of (expecting s.start) (first_place_in s.start) s.arrived s.early
 
--- what is kept of the frame at the in-order point, where it was placed, there or before its turn
+-- what is kept of the frame at the in-order point, if it was placed, there or before its turn
 abbrev pub waiting : StreamState → Option PlacedFrame
 waiting s = option_or s.front (placed_at s.early (front_of (scene s)))
 
@@ -92,7 +93,7 @@ IsTry Rest = ⊥
 abbrev pub front_task : StreamState → Frame → Task
 front_task s frame = if clashes s frame then Clash frame else Judge frame
 
--- of the frames of an open stream that at the in-order point is the first
+-- of the frames of an open stream, the one at the in-order point comes first
 abbrev pub frame_task : StreamState → Task
 frame_task s = option_map_or Turn (waiting s) (option_map_or (front_task s) (next_frame s) (option_map_or Try (early_frame s) Rest))
 
@@ -110,10 +111,15 @@ standing table s = record { table = table; domain = s.domain; receiving = s.rece
 
 -- ---- what is answered
 
+-- an initiator's stream is open, unless the Reply wants what this end does not have
+abbrev pub opened_step : StartState → Option Mismatch → Step (List ℕ)
+opened_step start None = steps.Opened (agreement_in start)
+opened_step start (Some mismatch) = steps.Fault (negotiation_fault mismatch)
+
 abbrev pub heard_step : StartState → List ℕ → Progress → Step (List ℕ)
 heard_step start octets progress.More = steps.Idle
 heard_step start octets progress.Asked = steps.Asked
-heard_step start octets progress.Agreed = steps.Opened (agreement_in (heard start octets))
+heard_step start octets progress.Agreed = opened_step (heard start octets) (mismatch_in (heard start octets))
 heard_step start octets (progress.Faulted fault) = steps.Closed fault
 
 abbrev pub turned_step : Receiving → PlacedFrame → Result Turning Fault → Step (List ℕ)
@@ -156,10 +162,15 @@ step_of table s Rest = steps.Idle
 abbrev pub hears : StreamState → StreamState
 hears s = record s { start = heard s.start (inbox s); arrived = advanced s.arrived (first_place_in (heard s.start (inbox s))) }
 
+-- the stream ends with a Terminate if there is a mismatch
+abbrev pub after_opening : StreamState → Option Mismatch → StreamState
+after_opening s None = s
+after_opening s (Some mismatch) = ends_by s (terminate_alone (negotiation_fault mismatch))
+
 abbrev pub after_hearing : StreamState → Progress → StreamState
 after_hearing s progress.More = s
 after_hearing s progress.Asked = hears s
-after_hearing s progress.Agreed = hears s
+after_hearing s progress.Agreed = after_opening (hears s) (mismatch_in (heard s.start (inbox s)))
 after_hearing s (progress.Faulted fault) = ends (hears s)
 
 -- the place past a frame
@@ -203,7 +214,7 @@ after_judging s frame (Ok (Request request)) = takes_up s (placed frame) request
 after_judging s frame (Ok (Terminate fault)) = ends (beyond s (placed frame))
 after_judging s frame (Err fault) = ends_by s (terminate_judged s.asked frame fault)
 
--- a frame that was judged early leaves its record; where it was placed its octets are given up, and else nothing more changes
+-- a frame that was judged early leaves its record; if it was placed its octets are given up, and else nothing more changes
 abbrev pub after_trying : StreamState → Frame → Option Landing → StreamState
 after_trying s frame at = record s {
   arrived = without (first_place_in s.start) s.arrived (record_tried frame at) (state_tried frame at);
@@ -254,7 +265,7 @@ worked table s = left_by table s (task s)
 abbrev pub table_worked : Table → StreamState → Table
 table_worked table s = table_left table s (task s)
 
--- the same where a pool is lent to the stream for the call: what is left of the stream, and of the pool
+-- the same if a pool is lent to the stream for the call: what is left of the stream, and of the pool
 abbrev pub worked_with : Table → StreamState → List (List ℕ) → StreamState
 worked_with table s pool = sees (worked table (sees s pool)) (exchanged s.receiving.source pool)
 

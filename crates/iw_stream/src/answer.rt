@@ -4,6 +4,20 @@ use iw_queues::Kind;
 use iw_startup::{Agreed, StartupFault};
 use thiserror::Error;
 
+/// The fault of a stream whose peer's Reply has an ORD of over 16 (RFC 6581 8, 9.1).
+pub const INSUFFICIENT_IRD: Fault = Fault {
+    layer: 2,
+    kind: 0,
+    code: 6,
+};
+
+/// The fault of a stream whose peer's Reply offers no RTR that this end can send (RFC 6581 8, 9.2).
+pub const NO_MATCHING_RTR: Fault = Fault {
+    layer: 2,
+    kind: 0,
+    code: 7,
+};
+
 /// Why a stream is not opened: the first reason that holds.
 #[derive(Clone, Copy, Debug, PartialEq, Eq, Error)]
 pub enum OpenRefusal {
@@ -16,12 +30,15 @@ pub enum OpenRefusal {
     /// The domain was not added.
     #[error("the domain was not added")]
     NoDomain,
+    /// An initiator that asks for revision 2 has over 508 octets of private data (RFC 6581 9).
+    #[error("the private data has more than 508 octets")]
+    PrivateTooLong,
     #[error("no memory")]
     NoMemory,
 }
 
-/// Why a message or a Read is not posted: the first reason that holds, in the order `NotOpen`, `Full`, `TooLong`,
-/// `NoMemory`.
+/// Why a message or a Read is not posted: the first reason that holds, in the order `NotOpen`, `NoReads`, `Full`,
+/// `TooLong`, `NoMemory`.
 #[derive(Clone, Copy, Debug, PartialEq, Eq, Error)]
 pub enum PostRefusal {
     /// 256 messages are posted and not yet handed out.
@@ -33,8 +50,22 @@ pub enum PostRefusal {
     /// The stream is not open yet, or has ended.
     #[error("the stream is not open")]
     NotOpen,
+    /// The peer takes no Reads: its IRD is 0 (RFC 6581 9.1).
+    #[error("the peer takes no Reads")]
+    NoReads,
     #[error("no memory")]
     NoMemory,
+}
+
+/// Why a Request is not answered: the first reason that holds.
+#[derive(Clone, Copy, Debug, PartialEq, Eq, Error)]
+pub enum AnswerRefusal {
+    /// This end is an initiator, the Request is not whole, or it is answered already; or the stream has ended.
+    #[error("no Request waits for an answer")]
+    NotAsked,
+    /// The answer to an enhanced Request has over 508 octets of private data (RFC 6581 9).
+    #[error("the private data has more than 508 octets")]
+    PrivateTooLong,
 }
 
 /// Why a receive buffer is not posted: the first reason that holds, in the order `Shared`, `Ended`, `Full`,
@@ -77,7 +108,7 @@ pub enum Emission {
         from: u64,
         len: usize,
     },
-    /// A frame of the response to a Read, as `Frame`. Its payload are the `n` octets of region `stag` from tagged offset `to` on.
+    /// A frame of the response to a Read, as `Frame`. Its payload is the `n` octets of region `stag` from tagged offset `to` on.
     Fetched {
         from: u64,
         len: usize,

@@ -5,9 +5,10 @@ ghost use Rattle.iw_octets.specs.Segment.{segment_octets};
 ghost use Rattle.iw_fpdu.specs.Frame.{frame_octets, max_sent};
 ghost use Rattle.iw_queues.specs.Request.{payload, header_len};
 ghost use Rattle.iw_queues.specs.Segments.{first_numbers, segment_of, numbers_beyond};
+ghost use Rattle.iw_queues.specs.Segments.{write_head, send_head, request_head};
 ghost use Rattle.iw_queues.specs.Shown.{shown_part};
 ghost use Rattle.iw_rdmap.specs.Laws.{terminate_head};
-ghost use Rattle.iw_stream.specs.Emitting.{numbers_of, write_head, send_head, request_head};
+ghost use Rattle.iw_stream.specs.Emitting.{numbers_of};
 
 use bytes::Bytes;
 use iw_fpdu::{Layout, write_segment};
@@ -88,7 +89,7 @@ fn send_head(
         ddp_version: DDP_VERSION,
         control: operation.control(),
         tail: invalidate.map_or(0, u32::from),
-        queue: 0,
+        queue: operation.queue(),
         msn,
         mo: offset as u32,
     }
@@ -103,7 +104,7 @@ fn request_head(msn: u32) -> UntaggedHead
         ddp_version: DDP_VERSION,
         control: UntaggedOperation::ReadRequest.control(),
         tail: 0,
-        queue: 1,
+        queue: UntaggedOperation::ReadRequest.queue(),
         msn,
         mo: 0,
     }
@@ -111,7 +112,7 @@ fn request_head(msn: u32) -> UntaggedHead
 
 /// Appends the frame of a tagged segment, to stand at frame place `at`.
 ///
-/// An `Err` is want of memory, comes only where `out` has no room for the frame, and leaves `out` as it was.
+/// An `Err` means out of memory, comes only if `out` has no room for the frame, and leaves `out` as it was.
 #[tactic(auto, unfolding(iw_octets::specs::Segment::segment_octets))]
 #[inline(never)]
 pub(crate) fn write_tagged<A: Allocator>(
@@ -155,9 +156,9 @@ fn write_untagged<A: Allocator>(
     write_segment(layout, at, head.write(), payload, out)
 }
 
-/// Appends the frame of a part, to stand at frame place `at`, where the next messages have these numbers.
+/// Appends the frame of a part, to stand at frame place `at`, if the next messages have these numbers.
 ///
-/// An `Err` is want of memory, comes only where `out` has no room for the frame, and leaves `out` as it was.
+/// An `Err` means out of memory, comes only if `out` has no room for the frame, and leaves `out` as it was.
 #[inline(always)]
 pub(crate) fn write_part<A: Allocator, B: Allocator>(
     layout: Layout,
@@ -227,7 +228,7 @@ fn terminate_head() -> UntaggedHead
 
 /// Appends the frame of a Terminate with this payload, to stand at frame place `at`.
 ///
-/// An `Err` is want of memory, comes only where `out` has no room for the frame, and leaves `out` as it was.
+/// An `Err` means out of memory, comes only if `out` has no room for the frame, and leaves `out` as it was.
 pub(crate) fn write_terminate<A: Allocator>(
     layout: Layout,
     at: u64,

@@ -27,7 +27,7 @@ use std::marker::Model;
 pub(crate) struct Incoming<A: Allocator> {
     islands: Islands<A>,
     judged: Judged<Header, A>,
-    // What has to be looked at for a frame that can be judged early.
+    // What must be searched for a frame that can be judged early.
     unsearched: Unsearched,
     // How the peer's frames are laid out, and where the first of them begins.
     locator: Locator,
@@ -69,7 +69,7 @@ impl<A: Allocator> Incoming<A> {
         &self.islands
     }
 
-    /// What is so of what came, and of the records, at any time.
+    /// What always holds of what came, and of the records.
     #[inline(always)]
     pub(crate) fn limits(&self)
         ensures arrived { IsWithinLimits self.now.arrived }
@@ -113,8 +113,8 @@ impl<A: Allocator> Incoming<A> {
         place != self.islands.missing() && self.islands.came(place, place.saturating_add(n as u64))
     }
 
-    /// Takes in octets that came, or drops them, as [`Islands::add`] does. Of octets that all came before nothing need be
-    /// searched again.
+    /// Takes in octets that came, or drops them, as [`Islands::add`] does. If all of them came before, nothing need be searched
+    /// again.
     pub(crate) fn add(&mut self, place: u64, octets: &[u8]) -> Result<Delivery, AllocError>
         ensures answer { IfOk result (λ answer. answer ≡ delivery self.old.arrived place (length octets.now)) }
         ensures ok { OnOk result (self.new.arrived ≡ delivered self.old.arrived place octets.now) }
@@ -140,7 +140,7 @@ impl<A: Allocator> Incoming<A> {
         }
     }
 
-    /// The peer's start-up frame ends at `place`, and its frames begin there, laid out so.
+    /// The peer's start-up frame ends at `place`, and its frames begin there, with this layout.
     pub(crate) fn begin(&mut self, layout: Layout, place: u64)
         requires none { self.old.early ≡ [] }
         requires first { self.old.arrived.floor ≡ 0 }
@@ -156,7 +156,7 @@ impl<A: Allocator> Incoming<A> {
         self.locator = Locator::new(layout, place);
     }
 
-    /// Both ends agreed that the peer's frames are laid out so; none of them had its turn.
+    /// Both ends agreed that the peer's frames have this layout; none of them had its turn.
     pub(crate) fn lay_out(&mut self, layout: Layout)
         requires none { self.old.early ≡ [] }
         requires first { self.old.arrived.floor ≡ self.old.base }
@@ -184,7 +184,7 @@ impl<A: Allocator> Incoming<A> {
         self.judged.drop_to(frame_place);
     }
 
-    /// What is kept of the frame that begins at frame place `start`, where it was placed early.
+    /// What is kept of the frame that begins at frame place `start`, if it was placed early.
     pub(crate) fn placed_at(&self, start: u64) -> Option<PlacedFrame>
         ensures { result ≡ placed_at self.now.early start }
     {
@@ -209,7 +209,8 @@ impl<A: Allocator> Incoming<A> {
         self.judged.overlaps_placed(start, end)
     }
 
-    /// Whether it is plain without a search that none can be judged early. `false` may come at any time: it costs speed alone.
+    /// Whether it is clear without a search that no frame can be judged early. `false` is always a right answer: it only costs
+    /// time.
     #[inline(always)]
     pub(crate) fn is_quiet(&self) -> bool
         requires low { self.now.arrived.floor ≤ 2 ^ 62 }
@@ -220,7 +221,7 @@ impl<A: Allocator> Incoming<A> {
             .is_quiet(&self.islands, &self.judged, &self.unsearched)
     }
 
-    /// The frame at the lowest place where one can be judged early, where that at the in-order point is not whole.
+    /// The frame at the lowest place where one can be judged early, if the frame at the in-order point is not whole.
     pub(crate) fn next_early(&mut self) -> Option<Frame>
         requires low { self.old.arrived.floor ≤ 2 ^ 62 }
         requires turn { IsFrontUnplaced (scene_in self.old) }
@@ -236,7 +237,7 @@ impl<A: Allocator> Incoming<A> {
             .early_since(&self.islands, &self.judged, &mut self.unsearched)
     }
 
-    /// Makes room for one record and one release. An `Err` is want of memory, and comes only where there is no room for one of
+    /// Makes room for one record and one release. An `Err` means out of memory, and comes only if there is no room for one of
     /// them.
     pub(crate) fn ready(&mut self) -> Result<(), AllocError>
         requires { length self.old.early < max_records }
@@ -273,8 +274,8 @@ impl<A: Allocator> Incoming<A> {
         )
     }
 
-    /// Adds the record of the frame that can be judged early. Where it was placed, its octets are given up: its record has
-    /// what its turn needs. It takes the room that one `ready` made.
+    /// Adds the record of the frame that can be judged early. If it was placed, its octets are given up: its record has what
+    /// its turn needs. This takes the room that one `ready` made.
     pub(crate) fn keep(&mut self, frame: Frame, state: State<Header>)
         requires room { 0 < self.old.room }
         requires releases { 0 < self.old.releases }
@@ -290,7 +291,7 @@ impl<A: Allocator> Incoming<A> {
         self.pass_judged();
     }
 
-    /// No frame need be looked for among those with a record: to leave what has to be looked at as it is costs speed alone.
+    /// No frame need be searched for among those with a record. Leaving what must be searched as it is would only cost time.
     #[inline(always)]
     fn pass_judged(&mut self)
         ensures same { IsSameScene self.old self.new }
@@ -298,7 +299,7 @@ impl<A: Allocator> Incoming<A> {
         self.unsearched.pass_judged(&self.judged);
     }
 
-    /// The same; what has to be looked at begins where the frame ends, though one with a record may begin there.
+    /// The same; what must be searched begins where the frame ends, though a frame with a record may begin there.
     #[inline(always)]
     fn add_record(&mut self, frame: Frame, state: State<Header>)
         requires room { 0 < self.old.room }
@@ -324,8 +325,8 @@ impl<A: Allocator> Incoming<A> {
         }
     }
 
-    /// The header that is kept of the frame that begins at frame place `start`, where it was placed early, and the length of
-    /// its ULPDU.
+    /// The header that is kept of the frame that begins at frame place `start`, and the length of its ULPDU, if it was placed
+    /// early.
     #[inline(always)]
     pub(crate) fn placed_header(&self, start: u64) -> Option<(&Header, u16)>
         ensures { MatchOption result (placed_at self.now.early start ≡ None)
@@ -342,8 +343,8 @@ impl<A: Allocator> Incoming<A> {
     }
 }
 
-/// The frame that begins at frame place `start`, that of the in-order point, where it is whole; frame place 0 is place
-/// `base` of the stream.
+/// The frame that begins at frame place `start`, which is the in-order point, if it is whole; frame place 0 is place `base`
+/// of the stream.
 #[inline(always)]
 pub(crate) fn frame_at<'a, A: Allocator>(
     layout: Layout,
@@ -360,14 +361,14 @@ pub(crate) fn frame_at<'a, A: Allocator>(
     ensures next { IfSome result (λ found. IsNextFrame layout arrived.now.arrived base found) }
 {
     arrived.limits();
-    // Nothing of it came, as past the last frame that did.
+    // Nothing of it came, as is so behind the last frame that came.
     if arrived.missing() <= base + start {
         return None;
     }
     Fpdu::read(layout, base, start, arrived.islands())
 }
 
-/// The same, where no frame that was placed early lies over it: none of its octets was given up.
+/// The same, if no frame that was placed early lies over it, so that none of its octets was given up.
 #[inline(always)]
 pub(crate) fn held_at<'a, A: Allocator>(
     layout: Layout,

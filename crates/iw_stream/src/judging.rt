@@ -138,7 +138,7 @@ pub(crate) fn first_octets<A: Allocator>(fpdu: &Fpdu<'_, A>) -> ArrayVec<u8, FIR
     first
 }
 
-// The octets of a ULPDU up to the first marker among them: none where it has none.
+// The octets of a ULPDU up to the first marker among them; none if the ULPDU has none.
 #[inline(always)]
 fn front<'a, A: Allocator>(fpdu: &Fpdu<'a, A>) -> Option<&'a [u8]>
     requires { HoldsSpan fpdu.now }
@@ -147,7 +147,7 @@ fn front<'a, A: Allocator>(fpdu: &Fpdu<'a, A>) -> Option<&'a [u8]>
     fpdu.pieces(0).next()
 }
 
-/// The octets of a ULPDU that are the header of a tagged segment, and the payload past them, where more octets than the header's
+/// The octets of a ULPDU that are the header of a tagged segment, and the payload past them, if more octets than the header's
 /// stand before the first marker.
 #[inline(always)]
 pub(crate) fn tagged_parts<'a, A: Allocator>(fpdu: &Fpdu<'a, A>) -> Option<(&'a [u8], Pieces<'a>)>
@@ -157,7 +157,7 @@ pub(crate) fn tagged_parts<'a, A: Allocator>(fpdu: &Fpdu<'a, A>) -> Option<(&'a 
     fpdu.pieces(0).split_front(TAGGED_HEADER)
 }
 
-// The octets at which a header is judged, where they lie in one piece among those that came.
+// The octets at which a header is judged, if they lie in one piece among those that came.
 fn first_piece<'a, A: Allocator>(fpdu: &Fpdu<'a, A>) -> Option<&'a [u8]>
     requires { HoldsSpan fpdu.now }
     ensures { IfSome result (λ first. IsFirst (ulpdu fpdu.now) first.now) }
@@ -291,7 +291,7 @@ fn place_write<A: Allocator, B: Allocator>(
     }
 }
 
-// Places the payload of a segment of a Read Response, where a Read asked for it. An `Err` changes nothing.
+// Places the payload of a segment of a Read Response, if a Read asked for it. An `Err` changes nothing.
 fn place_response<A: Allocator, B: Allocator>(
     head: TaggedHead,
     fpdu: &Fpdu<'_, A>,
@@ -449,7 +449,7 @@ pub(crate) fn landing_of(response: bool, placed: Placed) -> Landing
 }
 
 // Judges a whole frame that begins with this header of a Write or a Read Response before its turn, and places its payload
-// where it passes every check.
+// if it passes every check.
 #[inline(always)]
 fn land_tagged_early<A: Allocator, B: Allocator>(
     head: TaggedHead,
@@ -541,7 +541,7 @@ fn append_header(header: &mut ArrayVec<u8, 18>, octets: &[u8])
     }
 }
 
-// Appends the first `N` of these octets, or all where they are fewer.
+// Appends the first `N` of these octets, or all if they are fewer.
 #[inline(always)]
 fn append_front<const N: usize>(header: &mut ArrayVec<u8, 18>, octets: &[u8])
     requires empty { header.old.items ≡ [] }
@@ -583,7 +583,7 @@ pub(crate) fn placed_frame<A: Allocator>(fpdu: &Fpdu<'_, A>, start: u64) -> Plac
     }
 }
 
-/// Keeps what is kept of a frame that was placed, in place of what was kept; it begins at frame place `start`.
+/// Keeps what is kept of a frame that was placed, in place of what was kept before; the frame begins at frame place `start`.
 #[inline(always)]
 pub(crate) fn keep_frame<A: Allocator>(
     kept: &mut Option<PlacedFrame>,
@@ -602,8 +602,8 @@ pub(crate) fn keep_frame<A: Allocator>(
     keep_header(&mut frame.header, fpdu);
 }
 
-/// Keeps what is kept of a tagged frame that was placed, in place of what was kept. It begins at frame place `start`, and
-/// its ULPDU with these octets, the header among them.
+/// Keeps what is kept of a tagged frame that was placed, in place of what was kept before. The frame begins at frame place
+/// `start`, and its ULPDU with these octets, which include the header.
 #[inline(always)]
 pub(crate) fn keep_tagged<A: Allocator>(
     kept: &mut Option<PlacedFrame>,

@@ -1,23 +1,23 @@
-//! One stream of an endpoint: its start-up, messages and Reads posted, frames emitted, octets that came, and the
-//! frames in them judged, in order or before their turn.
+//! One stream of an endpoint: its start-up, the messages and Reads that are posted, the frames that are emitted, the octets
+//! that came, and the frames in them, which are judged in order or before their turn.
 //!
 //! A [`Stream`] belongs to a protection domain and has a [`Role`]: open at once, or opened by MPA's start-up frames
-//! (RFC 5044 7.1). Its owner
+//! (RFC 5044 7.1, RFC 6581). Its owner
 //!
 //! 1. posts receive buffers (`post_recv`) and, once the stream is open, messages and Reads (`post`);
 //! 2. sends what `emit` appends, until it answers [`Emission::Nothing`];
 //! 3. hands in octets that came, with their sequence number (`deliver`; `first_number` sets that of the peer's first octet), in
 //!    any order;
-//! 4. calls `work` until it answers [`Step::Idle`]: each call does one step and says what it did. Where it is
+//! 4. calls `work` until it answers [`Step::Idle`]: each call does one step and says what it did. If it answers
 //!    [`Step::Asked`], the owner accepts or rejects the peer's Request.
 //!
-//! A stream ends by a fault, by the peer's Terminate, in its start-up, or where its owner says that the link broke
-//! (`break_link`). After a fault `emit` appends one Terminate, behind a start-up frame that is still owed, and nothing more; a
+//! A stream ends by a fault, by the peer's Terminate, in its start-up, or when its owner says that the link broke
+//! (`break_link`). After a fault `emit` appends one Terminate, behind a start-up frame that is still due, and nothing more; a
 //! responder at which no frame of the peer had its turn sends none (RFC 5044 7.1.2). `work` hands back what was posted.
 //!
 //! After 3 and 4 there may be more to emit. The regions that the peer may use are an `iw_memory::Memory`, lent to each call
-//! of `work`, and of `emit`, which answers the peer's Reads from them. No call does input or output; `post`, `post_recv`,
-//! `deliver` and `emit` may want memory, and `work` where it judges a frame before its turn; a call that wants memory changes
+//! of `work`, and of `emit`, which answers the peer's Reads from them. No call does input or output. `post`, `post_recv`,
+//! `deliver` and `emit` may be out of memory, and so may `work` when it judges a frame before its turn; such a call changes
 //! nothing.
 #![tactic(auto)]
 
@@ -32,12 +32,16 @@ mod terminating;
 mod turning;
 
 pub use answer::{
-    Emission, FirstRefusal, OpenRefusal, PostRefusal, RecvRefusal, Role, SizeRefusal, Step,
+    AnswerRefusal, Emission, FirstRefusal, INSUFFICIENT_IRD, NO_MATCHING_RTR, OpenRefusal,
+    PostRefusal, RecvRefusal, Role, SizeRefusal, Step,
 };
 pub use ending::Ending;
 pub use iw_queues::{Kind, Request};
 pub use iw_ranges::Delivery;
 pub use iw_reads::{Asked, Outstanding, ResponsePart};
-pub use iw_startup::{Agreed, Config, NotAsked, PrivateData, StartupFault};
+pub use iw_startup::{
+    Agreed, Config, EnhancedData, Establishment, MAX_ENHANCED_PRIVATE, PrivateData, StartupFault,
+};
 pub use judging::{Landing, PlacedFrame, Turning};
+pub use starting::exceeds_request;
 pub use stream::Stream;

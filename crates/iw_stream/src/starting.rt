@@ -1,15 +1,23 @@
-ghost use Rattle.std.specs.Prelude.{◌≡◌, ◌+◌, ◌≤◌, ◌^◌, ◌++◌, [], length, true, is_ok, Some, IfOk, IfSome, OnOk, OnErr, IsOk};
+ghost use Rattle.std.specs.Prelude.{◌≡◌, ◌+◌, ◌≤◌, ◌^◌, ◌++◌, [], length, true, false, Some, IfOk, OnOk, OnErr, IsOk};
 ghost use Rattle.std.specs.Prelude.{vec_len, vec_capacity};
 ghost use Rattle.iw_ranges.specs.Arrived.{advanced, in_order};
 ghost use Rattle.iw_startup.specs.declared.side.Reply.TheVariants.{Accept, Reject};
 ghost use Rattle.std.specs.Option.{option_map_or};
-ghost use Rattle.iw_startup.specs.State.{agreed_of};
-ghost use Rattle.iw_stream.specs.Starting.{plain, layout_out, layout_in};
+ghost use Rattle.std.specs.Result.{result_err};
+ghost use Rattle.iw_rdmap.specs.Terminate.{FitsFault, has_segment};
+ghost use Rattle.iw_reads.specs.Outstanding.{most_reads};
+ghost use Rattle.iw_startup.specs.declared.side.Side.TheVariants as sides;
+ghost use Rattle.iw_startup.specs.State.{agreed_of, begun, is_answered};
+ghost use Rattle.iw_stream.specs.Starting.{Heard, plain, layout_out, layout_in, without_rtr, exceeds_request, answer_refusal, negotiation_fault};
 
-use crate::answer::Role;
+use crate::answer::{AnswerRefusal, INSUFFICIENT_IRD, NO_MATCHING_RTR, Role};
 use crate::incoming::Incoming;
 use iw_fpdu::Layout;
-use iw_startup::{Agreed, Config, MAX_FRAME, NotAsked, PrivateData, Progress, Startup};
+use iw_octets::{Fault, MAX_UNANSWERED};
+use iw_startup::{
+    Agreed, Config, EnhancedData, Establishment, MAX_ENHANCED_PRIVATE, MAX_FRAME, Mismatch,
+    PrivateData, Progress, Startup,
+};
 use std::alloc::{AllocError, Allocator};
 use std::marker::Model;
 
@@ -18,7 +26,7 @@ const PLAIN: Layout = Layout {
     crc: false,
 };
 
-/// What the start-up of a stream has come to (RFC 5044 7.1).
+/// How far the start-up of a stream is (RFC 5044 7.1).
 #[derive(Drop)]
 pub(crate) struct Start {
     // Frames go both ways.
@@ -26,9 +34,11 @@ pub(crate) struct Start {
     // How this end's frames are laid out, and the peer's: plain before both ends agree.
     sending: Layout,
     expecting: Layout,
+    // How many Reads of this end are outstanding at most.
+    most_reads: usize,
     // The peer's start-up frame was read.
     heard: bool,
-    // The exchange of start-up frames, where the stream begins with one.
+    // The exchange of start-up frames, if the stream begins with one.
     frames: Option<Startup>,
 }
 
@@ -74,15 +84,77 @@ fn layout_agreed(startup: &Startup) -> Layout
     }
 }
 
+fn without_rtr(config: Config) -> Config
+    ensures { result ≡ without_rtr config }
+{
+    let establishment = match config.establishment {
+        Establishment::Plain => Establishment::Plain,
+        Establishment::Enhanced | Establishment::PeerToPeer => Establishment::Enhanced,
+    };
+    Config {
+        markers: config.markers,
+        crc: config.crc,
+        establishment,
+        private: config.private,
+    }
+}
+
+// An initiator's start-up frames. No RTR is sent: the peer-to-peer model is not asked for.
+fn asking(config: Config) -> Startup
+    requires { exceeds_request Role.Initiator config ≡ false }
+    ensures { result ≡ begun sides.Initiator (without_rtr config) }
+{
+    let _room = config.private.len();
+    Startup::initiator(without_rtr(config))
+}
+
+/// Whether an initiator has too much private data for its Request: an enhanced one has room for 508 octets (RFC 6581 9).
+pub fn exceeds_request(role: Role, config: &Config) -> bool
+    ensures { result ≡ exceeds_request role config.now }
+{
+    match (role, config.establishment) {
+        (Role::Initiator, Establishment::Enhanced | Establishment::PeerToPeer) => {
+            config.private.len() > MAX_ENHANCED_PRIVATE
+        }
+        _ => false,
+    }
+}
+
+// Why an answer to the peer's frame, which was read, is refused if it has this private data.
+fn answer_refusal(startup: &Startup, private: &PrivateData) -> Option<AnswerRefusal>
+    ensures { result ≡ answer_refusal (Heard startup.now) private.now.items }
+{
+    if !startup.awaits_answer() {
+        return Some(AnswerRefusal::NotAsked);
+    }
+    if private.len() > startup.answer_room() {
+        return Some(AnswerRefusal::PrivateTooLong);
+    }
+    None
+}
+
+/// The fault of a stream at which the peer's Reply wants what this end does not have.
+pub(crate) fn negotiation_fault(mismatch: Mismatch) -> Fault
+    ensures fault { result ≡ negotiation_fault mismatch }
+    ensures fits { FitsFault result }
+    ensures alone { has_segment result ≡ false }
+{
+    match mismatch {
+        Mismatch::InsufficientIrd => INSUFFICIENT_IRD,
+        Mismatch::NoMatchingRtr => NO_MATCHING_RTR,
+    }
+}
+
 impl Start {
-    ghost use Rattle.iw_stream.specs.Starting.{Unheard, start_at_first, is_open, sending, expecting};
+    ghost use Rattle.iw_stream.specs.Starting.{Unheard, start_at_first, is_open, sending, expecting, most_reads_in};
     ghost use Rattle.iw_stream.specs.Starting.{own_frame, first_place_in, first_place_out, is_responder};
-    ghost use Rattle.iw_stream.specs.Starting.{awaits_frame, progress_in, heard, private_in};
-    ghost use Rattle.iw_stream.specs.Starting.{agreed_in, agreement_in, is_asked, answered_with};
+    ghost use Rattle.iw_stream.specs.Starting.{awaits_frame, progress_in, heard, private_in, told_in};
+    ghost use Rattle.iw_stream.specs.Starting.{agreed_in, agreement_in, mismatch_in, answered_with};
 
     /// Open at once, with the markers and CRCs that `config` asks for in both directions, or with start-up frames, which
     /// agree on them.
     pub(crate) fn new(role: Role, config: Config) -> Start
+        requires { exceeds_request role config ≡ false }
         ensures { result ≡ start_at_first role config }
     {
         match role {
@@ -95,24 +167,27 @@ impl Start {
                     running: true,
                     sending: layout,
                     expecting: layout,
+                    most_reads: MAX_UNANSWERED,
                     heard: false,
                     frames: None,
                 }
             }
-            Role::Initiator => Start::with_frames(Startup::initiator(config)),
+            Role::Initiator => Start::with_frames(asking(config)),
             Role::Responder => Start::with_frames(Startup::responder(config)),
         }
     }
 
     // With start-up frames, none of which was read.
     fn with_frames(startup: Startup) -> Start
-        requires { startup.octets ≡ [] }
+        requires none { startup.octets ≡ [] }
+        requires unanswered { is_answered startup.side ≡ false }
         ensures { result ≡ Unheard startup }
     {
         Start {
             running: false,
             sending: PLAIN,
             expecting: PLAIN,
+            most_reads: MAX_UNANSWERED,
             heard: false,
             frames: Some(startup),
         }
@@ -140,6 +215,15 @@ impl Start {
         ensures { result ≡ expecting self.now }
     {
         self.expecting
+    }
+
+    /// How many Reads of this end are outstanding at most.
+    #[inline(always)]
+    pub(crate) fn most_reads(&self) -> usize
+        ensures most { result ≡ most_reads_in self.now }
+        ensures fits { result ≤ most_reads }
+    {
+        self.most_reads
     }
 
     /// How many octets this end's start-up frame has: its frames begin past it.
@@ -192,8 +276,28 @@ impl Start {
         }
     }
 
-    /// Appends this end's start-up frame, and tells its length. An `Err` is want of memory, comes only where `out` has no room
-    /// for it, and leaves `out` as it was.
+    /// The word of IRD and ORD in the peer's start-up frame, once that was read, if it has one.
+    pub(crate) fn told(&self) -> Option<EnhancedData>
+        ensures { result ≡ told_in self.now }
+    {
+        match &self.frames {
+            Some(startup) if self.heard => startup.told(),
+            _ => None,
+        }
+    }
+
+    /// What the peer's Reply, which was read and accepts, wants and this end does not have.
+    pub(crate) fn mismatch(&self) -> Option<Mismatch>
+        ensures { result ≡ mismatch_in self.now }
+    {
+        match &self.frames {
+            Some(startup) if self.heard => startup.mismatch(),
+            _ => None,
+        }
+    }
+
+    /// Appends this end's start-up frame; the answer is its length. An `Err` means out of memory, comes only if `out` has no
+    /// room for it, and leaves `out` as it was.
     pub(crate) fn append_frame<A: Allocator>(
         &self,
         out: &mut Vec<u8, A>,
@@ -212,45 +316,54 @@ impl Start {
         Ok(frame.len())
     }
 
-    /// Accepts the peer's Request with this private data. An `Err` changes nothing, and comes where no Request waits for an
-    /// answer.
-    pub(crate) fn accept(&mut self, private: PrivateData) -> Result<Agreed, NotAsked>
-        ensures asked { is_ok result ≡ is_asked self.old }
+    /// Accepts the peer's Request with this private data. An `Err` changes nothing.
+    pub(crate) fn accept(&mut self, private: PrivateData) -> Result<Agreed, AnswerRefusal>
+        ensures refused { result_err result ≡ answer_refusal self.old private.items }
         ensures agreed { IfOk result (λ agreed. agreed ≡ agreement_in self.old) }
         ensures ok { OnOk result (self.new ≡ answered_with self.old (Accept private)) }
         ensures err { OnErr result (self.new ≡ self.old) }
     {
         if !self.heard {
-            return Err(NotAsked);
+            return Err(AnswerRefusal::NotAsked);
         }
         let Some(startup) = &mut self.frames else {
-            return Err(NotAsked);
+            return Err(AnswerRefusal::NotAsked);
         };
-        let agreed = startup.accept(private)?;
+        if let Some(refusal) = answer_refusal(startup, &private) {
+            return Err(refusal);
+        }
+        let Ok(agreed) = startup.accept(private) else {
+            return Err(AnswerRefusal::NotAsked);
+        };
         self.running = true;
         self.sending = layout_out(agreed);
         self.expecting = layout_in(agreed);
+        self.most_reads = agreed.ord;
         Ok(agreed)
     }
 
-    /// Rejects the peer's Request with this private data. An `Err` changes nothing, and comes where no Request waits for an
-    /// answer.
-    pub(crate) fn reject(&mut self, private: PrivateData) -> Result<(), NotAsked>
-        ensures asked { is_ok result ≡ is_asked self.old }
+    /// Rejects the peer's Request with this private data. An `Err` changes nothing.
+    pub(crate) fn reject(&mut self, private: PrivateData) -> Result<(), AnswerRefusal>
+        ensures refused { result_err result ≡ answer_refusal self.old private.items }
         ensures ok { OnOk result (self.new ≡ answered_with self.old (Reject private)) }
         ensures err { OnErr result (self.new ≡ self.old) }
     {
         if !self.heard {
-            return Err(NotAsked);
+            return Err(AnswerRefusal::NotAsked);
         }
         let Some(startup) = &mut self.frames else {
-            return Err(NotAsked);
+            return Err(AnswerRefusal::NotAsked);
         };
-        startup.reject(private)?;
+        if let Some(refusal) = answer_refusal(startup, &private) {
+            return Err(refusal);
+        }
+        let Ok(()) = startup.reject(private) else {
+            return Err(AnswerRefusal::NotAsked);
+        };
         Ok(())
     }
 
-    /// What the peer's start-up frame comes to by these octets, as far as they go. It only looks.
+    /// What the peer's start-up frame comes to by these octets, as far as they go. Nothing changes.
     pub(crate) fn progress(&self, octets: &[u8]) -> Progress
         ensures { result ≡ progress_in self.now octets.now }
     {
@@ -266,6 +379,7 @@ impl Start {
         requires awaits { awaits_frame self.old ≡ true }
         requires begin { arrived.old.arrived.floor ≡ 0 }
         ensures after { self.new ≡ heard self.old (in_order arrived.old.arrived) }
+        ensures out { first_place_out self.new ≡ first_place_out self.old }
         ensures arrived { arrived.new.arrived ≡ advanced arrived.old.arrived (first_place_in self.new) }
         ensures early { arrived.new.early ≡ [] }
         ensures layout { arrived.new.layout ≡ expecting self.new }
@@ -283,17 +397,17 @@ impl Start {
             self.running = true;
             self.sending = layout_out(agreed);
             self.expecting = layout_in(agreed);
+            self.most_reads = agreed.ord;
         }
     }
 
-    /// What both ends agree on, where they do and the stream began with start-up frames.
-    pub(crate) fn agreed(&self) -> Agreed
-        ensures { IfSome (agreed_in self.now) (λ agreed. result ≡ agreed) }
+    /// What both ends agree on, if they do and the stream began with start-up frames.
+    pub(crate) fn agreed(&self) -> Option<Agreed>
+        ensures { result ≡ agreed_in self.now }
     {
-        Agreed {
-            send_markers: self.sending.markers,
-            expect_markers: self.expecting.markers,
-            crc: self.expecting.crc,
+        match &self.frames {
+            Some(startup) if self.heard => startup.agreed(),
+            _ => None,
         }
     }
 }

@@ -1,7 +1,7 @@
-ghost use Rattle.std.specs.Prelude.{◌≡◌, ◌-◌, length, false, is_ok, IfSome, IfNone, IfOk, IfErr, IsErr, OnOk, OnErr};
+ghost use Rattle.std.specs.Prelude.{◌≡◌, ◌-◌, length, false, IfSome, IfNone, IfOk, IfErr, IsErr, OnOk, OnErr};
 ghost use Rattle.std.specs.Result.{result_err};
 ghost use Rattle.iw_ranges.specs.Arrived.{BringsOctets};
-ghost use Rattle.iw_stream.specs.Starting.{private_in, agreement_in};
+ghost use Rattle.iw_stream.specs.Starting.{exceeds_request, private_in, told_in, agreement_in};
 ghost use Rattle.iw_stream.specs.Stream.{post_refusal_of, recv_refusal_of};
 
 mod emission;
@@ -10,7 +10,8 @@ mod room;
 mod tasks;
 mod turns;
 
-use crate::answer::{FirstRefusal, PostRefusal, RecvRefusal, Role, SizeRefusal};
+use self::emission::is_read;
+use crate::answer::{AnswerRefusal, FirstRefusal, PostRefusal, RecvRefusal, Role, SizeRefusal};
 use crate::emitting::Numbers;
 use crate::ending::Ending;
 use crate::incoming::Incoming;
@@ -22,7 +23,7 @@ use iw_queues::{Refusal, Request, SendQueue};
 use iw_ranges::Delivery;
 use iw_ranges::nearest::near;
 use iw_reads::{Reads, Requests};
-use iw_startup::{Agreed, Config, NotAsked, PrivateData};
+use iw_startup::{Agreed, Config, EnhancedData, PrivateData};
 use iw_untagged::{BufferRefusal, RecvQueue};
 use std::alloc::{AllocError, Allocator, Global};
 use std::marker::Model;
@@ -90,7 +91,7 @@ fn recv_refusal_of(refusal: BufferRefusal) -> RecvRefusal
 }
 
 impl<A: Allocator> Stream<A> {
-    ghost use Rattle.iw_stream.specs.Stream.{opened, opened_shared, shares, ended, breaks, may_answer, accepted, rejected};
+    ghost use Rattle.iw_stream.specs.Stream.{opened, opened_shared, shares, ended, breaks, answer_refusal, accepted, rejected};
     ghost use Rattle.iw_stream.specs.Stream.{post_refusal, with_request, recv_refusal, with_buffer};
     ghost use Rattle.iw_stream.specs.Stream.{first_refusal, with_first, place_of, left_out};
     ghost use Rattle.iw_stream.specs.Stream.{delivery_of, after_deliver, size_refusal, with_mulpdu};
@@ -99,10 +100,14 @@ impl<A: Allocator> Stream<A> {
     /// A stream of this domain with a ULPDU size of 1,400 octets, which begins as its role says: open at once, with the
     /// markers and CRCs that `config` asks for in both directions, or with start-up frames, which agree on them.
     ///
-    /// An `Err` is want of memory.
+    /// An initiator that asks for revision 2 has at most 508 octets of private data ([`exceeds_request`](crate::exceeds_request)).
+    /// It sends no RTR: one that is `PeerToPeer` begins as if it were `Enhanced`.
+    ///
+    /// An `Err` means out of memory.
     pub fn new(alloc: A, domain: u8, role: Role, config: Config) -> Result<Stream<A>, AllocError>
     where
         A: Copy,
+        requires { exceeds_request role config ≡ false }
         ensures { IfOk result (λ stream. stream ≡ opened domain role config) }
     {
         let receiving = RecvQueue::new(alloc)?;
@@ -112,7 +117,7 @@ impl<A: Allocator> Stream<A> {
     /// The same, of a stream whose receive buffers come from a pool that it shares with others of its domain
     /// ([`Stream::work_shared`]).
     ///
-    /// An `Err` is want of memory.
+    /// An `Err` means out of memory.
     pub fn new_shared(
         alloc: A,
         domain: u8,
@@ -121,6 +126,7 @@ impl<A: Allocator> Stream<A> {
     ) -> Result<Stream<A>, AllocError>
     where
         A: Copy,
+        requires { exceeds_request role config ≡ false }
         ensures { IfOk result (λ stream. stream ≡ opened_shared domain role config) }
     {
         let receiving = RecvQueue::shared(alloc)?;
@@ -137,6 +143,7 @@ impl<A: Allocator> Stream<A> {
     ) -> Result<Stream<A>, AllocError>
     where
         A: Copy,
+        requires { exceeds_request role config ≡ false }
         ensures { IfOk result (λ stream. stream ≡ record (opened domain role config) { receiving = receiving }) }
     {
         let start = Start::new(role, config);
@@ -204,15 +211,15 @@ impl<A: Allocator> Stream<A> {
     /// Accepts the peer's Request; the Reply carries this private data. The stream is open from then on, and as a responder
     /// sends its first frame once one of the peer's had its turn (RFC 5044 7.1.2).
     ///
-    /// An `Err` changes nothing. It comes where no Request waits for an answer, and where the stream has ended.
-    pub fn accept(&mut self, private: PrivateData) -> Result<Agreed, NotAsked>
-        ensures asked { is_ok result ≡ may_answer self.old }
+    /// An `Err` changes nothing: a Request that waits for an answer goes on waiting.
+    pub fn accept(&mut self, private: PrivateData) -> Result<Agreed, AnswerRefusal>
+        ensures refused { result_err result ≡ answer_refusal self.old private.items }
         ensures agreed { IfOk result (λ agreed. agreed ≡ agreement_in self.old.start) }
         ensures ok { OnOk result (self.new ≡ accepted self.old private) }
         ensures err { OnErr result (self.new ≡ self.old) }
     {
         if self.ending.has_ended() {
-            return Err(NotAsked);
+            return Err(AnswerRefusal::NotAsked);
         }
         let agreed = self.start.accept(private)?;
         self.arrived.lay_out(self.start.expecting());
@@ -221,33 +228,40 @@ impl<A: Allocator> Stream<A> {
 
     /// Rejects the peer's Request; the Reply carries this private data. The stream has ended, and the Reply is still emitted.
     ///
-    /// An `Err` changes nothing. It comes where that of [`Stream::accept`] does.
-    pub fn reject(&mut self, private: PrivateData) -> Result<(), NotAsked>
-        ensures asked { is_ok result ≡ may_answer self.old }
+    /// An `Err` changes nothing. It comes when that of [`Stream::accept`] does.
+    pub fn reject(&mut self, private: PrivateData) -> Result<(), AnswerRefusal>
+        ensures refused { result_err result ≡ answer_refusal self.old private.items }
         ensures ok { OnOk result (self.new ≡ rejected self.old private) }
         ensures err { OnErr result (self.new ≡ self.old) }
     {
         if self.ending.has_ended() {
-            return Err(NotAsked);
+            return Err(AnswerRefusal::NotAsked);
         }
         self.start.reject(private)?;
         self.ending = Ending::Over(None);
         Ok(())
     }
 
-    /// The private data of the peer's start-up frame: empty before that was read, and where there is none.
+    /// The private data of the peer's start-up frame; empty before it was read, and if there is none.
     pub fn private(&self) -> &[u8]
         ensures { result.now ≡ private_in self.now.start }
     {
         self.start.private()
     }
 
-    /// Posts a message or a Read after the others. An `Err` changes nothing, and has what was to be posted.
+    /// What the peer told in its start-up frame by the word of IRD and ORD (RFC 6581 9), once that was read, if it has one.
+    pub fn told(&self) -> Option<EnhancedData>
+        ensures { result ≡ told_in self.now.start }
+    {
+        self.start.told()
+    }
+
+    /// Posts a message or a Read after the others. An `Err` changes nothing, and hands back what was to be posted.
     pub fn post(
         &mut self,
         request: Request<Bytes<A>>,
     ) -> Result<(), (PostRefusal, Request<Bytes<A>>)>
-        // The refusal, where one applies, and otherwise want of memory alone.
+        // The refusal if one applies, and otherwise out of memory alone.
         ensures refused { IfSome (post_refusal self.old request) (λ refusal. IfErr result (λ e. e.0 ≡ refusal) × IsErr result) }
         ensures memory { IfNone (post_refusal self.old request) (IfErr result (λ e. e.0 ≡ PostRefusal.NoMemory)) }
         ensures back { IfErr result (λ e. e.1 ≡ request) }
@@ -257,15 +271,18 @@ impl<A: Allocator> Stream<A> {
         if self.ending.has_ended() || !self.start.is_open() {
             return Err((PostRefusal::NotOpen, request));
         }
+        if is_read(&request) && self.start.most_reads() == 0 {
+            return Err((PostRefusal::NoReads, request));
+        }
         match self.queue.post(request) {
             Ok(_) => Ok(()),
             Err((refusal, request)) => Err((post_refusal_of(refusal), request)),
         }
     }
 
-    /// Posts a receive buffer after the others. An `Err` changes nothing, and has the vector.
+    /// Posts a receive buffer after the others. An `Err` changes nothing, and hands the vector back.
     pub fn post_recv(&mut self, buffer: Vec<u8, A>) -> Result<(), (RecvRefusal, Vec<u8, A>)>
-        // The refusal, where one applies, and otherwise want of memory alone.
+        // The refusal if one applies, and otherwise out of memory alone.
         ensures refused { IfSome (recv_refusal self.old) (λ refusal. IfErr result (λ e. e.0 ≡ refusal) × IsErr result) }
         ensures memory { IfNone (recv_refusal self.old) (IfErr result (λ e. e.0 ≡ RecvRefusal.NoMemory)) }
         ensures back { IfErr result (λ e. e.1 ≡ buffer) }
@@ -284,8 +301,8 @@ impl<A: Allocator> Stream<A> {
         }
     }
 
-    /// Sets the maximum ULPDU, the most octets that a ULPDU has which is sent: 128 to 64,512. It holds for each part that
-    /// is cut from then on. An `Err` changes nothing.
+    /// Sets the maximum ULPDU, which is how many octets a ULPDU that is sent has at most: 128 to 64,512. It holds for each
+    /// part that is cut from then on. An `Err` changes nothing.
     pub fn set_mulpdu(&mut self, size: u32) -> Result<(), SizeRefusal>
         ensures refused { result_err result ≡ size_refusal size }
         ensures ok { OnOk result (self.new ≡ with_mulpdu self.old size) }
@@ -298,7 +315,7 @@ impl<A: Allocator> Stream<A> {
         Ok(())
     }
 
-    /// Sets the sequence number of the peer's first octet, 0 where none was set. Of several calls the last counts.
+    /// Sets the sequence number of the peer's first octet, which is 0 if none is set. Of several calls the last counts.
     ///
     /// `Late`: octets were delivered before, and kept or dropped. An `Err` changes nothing.
     pub fn first_number(&mut self, number: u32) -> Result<(), FirstRefusal>
@@ -324,10 +341,9 @@ impl<A: Allocator> Stream<A> {
     /// of the peer's first octet ([`Stream::first_number`]). Of the places with that number it has the one nearest to the
     /// in-order point, less than 2^31 octets past it or at most 2^31 before it.
     ///
-    /// Octets before the in-order point are ignored, and so are those before the peer's first. They are dropped whole where one
-    /// of them lies 262,144 octets or more past the in-order point, or where they would make more than 1,024 islands; where the
-    /// stream has ended, they are dropped too. An `Err` is want of memory, comes only where they would be kept and one of them
-    /// is new, and changes nothing.
+    /// Octets before the in-order point are ignored, and so are those before the peer's first. All of them are dropped if one
+    /// lies 262,144 octets or more past the in-order point, if they would make more than 1,024 islands, or if the stream has
+    /// ended. An `Err` means out of memory, comes only if they would be kept and one of them is new, and changes nothing.
     pub fn deliver(&mut self, number: u32, octets: &[u8]) -> Result<Delivery, AllocError>
         ensures delivery { IfOk result (λ delivery. delivery ≡ delivery_of self.old number (length octets.now)) }
         ensures after { IfOk result (λ delivery. self.new ≡ after_deliver self.old number octets.now delivery) }
@@ -346,8 +362,8 @@ impl<A: Allocator> Stream<A> {
         Ok(delivery)
     }
 
-    /// The link broke: the stream has ended, and nothing more is emitted, a Terminate or a start-up frame that was due
-    /// neither. What was posted is handed back by [`Stream::work`].
+    /// Says that the link broke: the stream has ended, and nothing more is emitted, not even a Terminate or a start-up frame
+    /// that was due. [`Stream::work`] hands back what was posted.
     pub fn break_link(&mut self)
         ensures { self.new ≡ breaks self.old }
     {

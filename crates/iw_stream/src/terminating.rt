@@ -1,10 +1,10 @@
-ghost use Rattle.std.specs.Prelude.{◌≡◌, ◌<◌, ◌≤◌, length, take};
+ghost use Rattle.std.specs.Prelude.{◌≡◌, ◌<◌, ◌≤◌, length, take, false};
 ghost use Rattle.iw_fpdu.specs.Found.{HoldsSpan, ulpdu};
-ghost use Rattle.iw_rdmap.specs.Terminate.{FitsFault, HasCause, header_len};
+ghost use Rattle.iw_rdmap.specs.Terminate.{FitsFault, HasCause, header_len, has_segment};
 ghost use Rattle.iw_reads.specs.Requests.{Requested};
 ghost use Rattle.iw_stream.specs.Frames.{Frame, frame_by};
 ghost use Rattle.iw_stream.specs.Stream.{over};
-ghost use Rattle.iw_stream.specs.Terminating.{is_request_of, terminate_judged, terminate_turned, terminate_fetched};
+ghost use Rattle.iw_stream.specs.Terminating.{is_request_of, terminate_alone, terminate_judged, terminate_turned, terminate_fetched};
 ghost use Rattle.iw_stream.specs.Work.{clash_fault};
 
 use crate::ending::Ending;
@@ -21,7 +21,7 @@ use std::alloc::Allocator;
 /// The payload of a Terminate.
 pub(crate) type LastWord = ArrayVec<u8, MAX_TERMINATE>;
 
-/// The end by a fault, with the Terminate that is due then; of a responder at which no frame had its turn it is silent.
+/// The end by a fault, with the Terminate that is then due; a responder at which no frame had its turn ends without one.
 pub(crate) fn over<A: Allocator>(
     terminate: LastWord,
     start: &Start,
@@ -82,6 +82,15 @@ pub(crate) fn end_clashed<A: Allocator>(start: &Start, arrived: &Incoming<A>) ->
     )
 }
 
+/// The payload of the Terminate for a fault of no frame.
+pub(crate) fn terminate_alone(fault: Fault) -> LastWord
+    requires fits { FitsFault fault }
+    requires alone { has_segment fault ≡ false }
+    ensures { result.items ≡ terminate_alone fault }
+{
+    terminate(fault, &[], 0, false)
+}
+
 /// The payload of the Terminate for a frame whose turn has this fault.
 #[inline(never)]
 pub(crate) fn terminate_turned(frame: &PlacedFrame, fault: Fault) -> LastWord
@@ -92,7 +101,7 @@ pub(crate) fn terminate_turned(frame: &PlacedFrame, fault: Fault) -> LastWord
     terminate(fault, frame.header.as_slice(), frame.len, false)
 }
 
-/// The payload of the Terminate for the oldest Read Request, of whose source a part is denied by this fault.
+/// The payload of the Terminate for the oldest Read Request, if a part of its source is denied by this fault.
 #[inline(never)]
 pub(crate) fn terminate_fetched(asked: &Requests, fault: Fault) -> LastWord
     requires fits { FitsFault fault }

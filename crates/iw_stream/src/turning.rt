@@ -129,8 +129,8 @@ pub(crate) fn is_response(head: &TaggedHead) -> bool
     )
 }
 
-/// Gives a tagged segment with `n` octets that was placed its turn, and tells the ticket of the Read that it finishes. An
-/// `Err` changes nothing.
+/// Gives a tagged segment with `n` octets that was placed its turn; the answer is the ticket of the Read that it finishes, if
+/// it finishes one. An `Err` changes nothing.
 #[inline(always)]
 pub(crate) fn turn_reads<A: Allocator>(
     head: TaggedHead,

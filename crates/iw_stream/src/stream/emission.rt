@@ -23,14 +23,26 @@ use iw_queues::{Part, Request};
 use iw_reads::{Reads, ResponsePart, fetch};
 use std::alloc::{AllocError, Allocator};
 
-// A Read is not begun while 16 are outstanding.
-pub(super) fn must_wait<A: Allocator>(reads: &Reads<A>, request: &Request<Bytes<A>>) -> bool
-    ensures { result ≡ is_read request.now && nat_le most_reads (length reads.now) }
+pub(super) fn is_read<A: Allocator>(request: &Request<Bytes<A>>) -> bool
+    ensures { result ≡ is_read request.now }
 {
-    matches!(request, Request::Read(_)) && reads.is_full()
+    matches!(request, Request::Read(_))
 }
 
-// A Read is outstanding once its request was sent. An `Err` is want of memory, and comes only where none was.
+// A Read is not begun while `most` are outstanding.
+pub(super) fn must_wait<A: Allocator>(
+    most: usize,
+    reads: &Reads<A>,
+    request: &Request<Bytes<A>>,
+) -> bool
+    requires { most ≤ most_reads }
+    ensures waits { result ≡ is_read request.now && nat_le most (length reads.now) }
+    ensures room { result ≡ false → (is_read request.now && nat_le most_reads (length reads.now)) ≡ false }
+{
+    is_read(request) && reads.len() >= most
+}
+
+// A Read is outstanding once its request was sent. An `Err` means out of memory, and comes only if none was outstanding.
 fn read_sent<A: Allocator>(
     reads: &mut Reads<A>,
     ticket: u64,
@@ -48,7 +60,7 @@ fn read_sent<A: Allocator>(
 }
 
 // Counts a part that was sent: the numbers of the next messages go on, and a Read is outstanding. A Write changes neither.
-// An `Err` is want of memory, comes only where a Read is begun while none is outstanding, and changes nothing.
+// An `Err` means out of memory, comes only if a Read is begun while none is outstanding, and changes nothing.
 #[inline(always)]
 fn count_part<A: Allocator>(
     numbers: &mut Numbers,
@@ -76,35 +88,35 @@ impl<A: Allocator> Stream<A> {
     ghost use Rattle.iw_stream.specs.Stream.{octets_due, emission_due, left_due, emission_fetched, left_fetched};
     ghost use Rattle.iw_stream.specs.Stream.{due, emission_of, emitted, after_emit, BeginsReads};
 
-    // This end's start-up frame is to be emitted.
+    // Whether this end's start-up frame is to be emitted.
     pub(super) fn owes_frame(&self) -> bool
         ensures { result ≡ owes_frame self.now }
     {
         !self.ending.is_broken() && self.sent < self.start.first_place_out()
     }
 
-    // A responder sends no frame before a frame of the peer had its turn (RFC 5044 7.1.2).
+    // Whether this is a responder at which no frame of the peer had its turn: it sends no frame yet (RFC 5044 7.1.2).
     fn keeps_silent(&self) -> bool
         ensures { result ≡ keeps_silent self.now }
     {
         self.start.is_responder() && self.arrived.floor() == self.start.first_place_in()
     }
 
-    // No frame may be sent.
+    // Whether no frame may be sent.
     pub(super) fn is_mute(&self) -> bool
         ensures { result ≡ is_mute self.now }
     {
         self.ending.has_ended() || !self.start.is_open() || self.keeps_silent()
     }
 
-    /// Appends to `out` what is to be emitted next: this end's start-up frame, or else, where the stream has ended by a fault,
-    /// its Terminate, after which there is nothing more, or else, if frames may be sent, the frame of the next part of a message
-    /// that is begun, of the response to the peer's oldest Read Request, or of the next message. A Read is not begun while 16
-    /// are outstanding, and what was posted after it waits too.
+    /// Appends to `out` what is to be emitted next: this end's start-up frame; or else, if the stream has ended by a fault, its
+    /// Terminate, after which there is nothing more; or else, if frames may be sent, the frame of the next part of a message
+    /// that is begun, of the response to the peer's oldest Read Request, or of the next message, in this order. A Read is not
+    /// begun while as many are outstanding as the peer takes, 16 at most, and what was posted after it waits too.
     ///
-    /// The octets of a response are fetched as they are sent; where the peer may not read them, nothing is appended and the
-    /// stream has ended. An `Err` is want of memory, and changes nothing. It comes only where something is appended: where `out`
-    /// has no room for it, or where a Read is begun while none is outstanding, and memory is taken for 16 of them.
+    /// The octets of a response are fetched as they are sent; if the peer may not read them, nothing is appended and the
+    /// stream has ended. An `Err` means out of memory, and changes nothing. It comes only if something is to be appended, and
+    /// `out` has no room for it, or a Read is begun while none is outstanding, so that memory is taken for 16 of them.
     pub fn emit(&mut self, memory: &Memory<A>, out: &mut Vec<u8, A>) -> Result<Emission, AllocError>
         requires { self.old.sent ≤ 2 ^ 62 }
         ensures emission { IfOk result (λ emission. emission ≡ emission_of memory.now self.old) }
@@ -261,7 +273,7 @@ impl<A: Allocator> Stream<A> {
         let Some(part) = self.queue.next_part(self.mulpdu) else {
             return Ok(Emission::Nothing);
         };
-        if must_wait(&self.reads, part.message) {
+        if must_wait(self.start.most_reads(), &self.reads, part.message) {
             return Ok(Emission::Nothing);
         }
         let before = out.len();

@@ -9,9 +9,9 @@ ghost use Rattle.iw_stream.specs.Incoming.{IsSameStart, scene_in, frame_in};
 ghost use Rattle.iw_stream.specs.Judging.{early_verdict, table_tried, receiving_tried};
 ghost use Rattle.iw_stream.specs.Kept.{IsWithinBuffer};
 ghost use Rattle.iw_stream.specs.Work.{judged_step};
+ghost use Rattle.iw_octets.specs.declared.constants.TheConstants.{MAX_UNANSWERED};
 ghost use Rattle.std.specs.Option.{option_map_or};
 ghost use Rattle.iw_stream.specs.Starting.{is_open};
-ghost use Rattle.iw_reads.specs.Requests.{most_unanswered};
 ghost use Rattle.iw_reads.specs.Source.{IsInRange};
 
 use super::Stream;
@@ -34,7 +34,7 @@ use iw_tagged::Placed;
 use iw_untagged::RecvQueue;
 use std::alloc::{AllocError, Allocator};
 
-/// It is left to a call of its own.
+/// The step is left to a call of its own.
 #[derive(Clone, Copy, Debug, PartialEq, Eq)]
 pub(crate) struct Apart;
 
@@ -95,8 +95,8 @@ fn state_tried<A: Allocator>(landing: &Option<Landing>, fpdu: &Fpdu<'_, A>) -> S
     }
 }
 
-// Judges the frame that was found to be the one that can be judged early, places its payload where it may be placed, and
-// keeps its record. The octets of one that was placed are given up.
+// Judges the frame that was found to be the one that can be judged early, places its payload if that is allowed, and keeps its
+// record. The octets of a frame that was placed are given up.
 fn judge_early<A: Allocator, B: Allocator>(
     frame: EarlyFrame,
     arrived: &mut Incoming<A>,
@@ -134,8 +134,9 @@ impl<A: Allocator> Stream<A> {
     ghost use Rattle.iw_stream.specs.Work.{next_frame, early_frame, frame_task, step_of, left_by, table_left};
     ghost use Rattle.iw_stream.specs.Kept.{Stands, NoneReachesOver};
 
-    // Judges the frame at the in-order point, where it is whole, and places it, where it is of a Write or a Read Response and
-    // passes its checks: it tells where; `None` where it is not whole. An `Err` changes nothing, and comes of any other frame.
+    // Judges the frame at the in-order point, if it is whole, and places it, if it is of a Write or a Read Response and passes
+    // its checks. The answer is its place, or `None` if it is not whole. An `Err` changes nothing, and comes with any other
+    // frame.
     #[inline(always)]
     pub(crate) fn judge(&mut self, memory: &mut Memory<A>) -> Result<Option<Landing>, Apart>
         requires open { is_open self.old.start ≡ true }
@@ -185,7 +186,7 @@ impl<A: Allocator> Stream<A> {
         }
     }
 
-    // Judges the frame at the in-order point, whatever it is, where it is whole, in a call of its own.
+    // Judges the frame at the in-order point, whatever it is, if it is whole, in a call of its own.
     #[inline(always)]
     pub(crate) fn judge_aside(&mut self, memory: &mut Memory<A>) -> Step<Octets<A>>
         requires open { is_open self.old.start ≡ true }
@@ -267,7 +268,7 @@ impl<A: Allocator> Stream<A> {
         requires stands { Stands self.old frame }
         requires over { NoneReachesOver self.old frame }
         requires header { length frame.header.items ≡ UNTAGGED_HEADER }
-        requires room { length self.old.asked.unanswered < most_unanswered }
+        requires room { length self.old.asked.unanswered < MAX_UNANSWERED }
         requires range { IsInRange request }
         ensures step { result ≡ judged_step (Ok (Landing.Request request)) }
         ensures after { self.new ≡ takes_up self.old frame request }
@@ -315,7 +316,7 @@ impl<A: Allocator> Stream<A> {
         Step::Terminated(fault)
     }
 
-    // Does the step that has to do with frames, where some were judged early.
+    // Does the step that has to do with frames, if some were judged early.
     #[inline(never)]
     pub(crate) fn work_among(
         &mut self,
@@ -339,7 +340,7 @@ impl<A: Allocator> Stream<A> {
         }
     }
 
-    // Judges the frame at the in-order point, where it is whole, or else one before its turn.
+    // Judges the frame at the in-order point, if it is whole, or else one before its turn.
     fn judge_among(&mut self, memory: &mut Memory<A>) -> Result<Step<Octets<A>>, AllocError>
         requires open { is_open self.old.start ≡ true }
         requires runs { ended self.old ≡ false }
@@ -367,7 +368,8 @@ impl<A: Allocator> Stream<A> {
         Ok(self.judge_apart(memory))
     }
 
-    // Whether it is plain without a search that no frame can be judged early. `false` may come at any time: it costs speed alone.
+    // Whether it is clear without a search that no frame can be judged early. `false` is always a right answer: it only costs
+    // time.
     #[inline(always)]
     pub(crate) fn is_quiet(&self) -> bool
         requires place { self.now.arrived.floor ≤ 2 ^ 62 }
@@ -378,7 +380,7 @@ impl<A: Allocator> Stream<A> {
         self.arrived.is_quiet()
     }
 
-    // Judges the frame at the lowest place where one can be judged early, where that at the in-order point is not whole.
+    // Judges the frame at the lowest place where one can be judged early, if the frame at the in-order point is not whole.
     #[inline(always)]
     pub(crate) fn try_early(
         &mut self,

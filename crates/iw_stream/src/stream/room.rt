@@ -36,8 +36,8 @@ impl<A: Allocator> Stream<A> {
     ghost use Rattle.iw_stream.specs.Stream.{part_due, response_due, frame_of, octets_due, emitted};
     ghost use Rattle.iw_stream.specs.Stream.{NextPart, Response, NoneDue};
 
-    /// How many octets the next call of [`Stream::emit`] appends, where memory is not wanting: none where nothing is due,
-    /// and where the peer may not read what is to be fetched.
+    /// How many octets the next call of [`Stream::emit`] appends, unless it is out of memory: none if nothing is due, or if
+    /// the peer may not read what is to be fetched.
     pub fn due_len(&self, memory: &Memory<A>) -> usize
         requires { self.now.sent ≤ 2 ^ 62 }
         ensures { result ≡ length (emitted memory.now self.now) }
@@ -57,7 +57,7 @@ impl<A: Allocator> Stream<A> {
         }
     }
 
-    // The length of the frame that is sent next with a ULPDU of so many octets.
+    // The length of the frame that is sent next, if its ULPDU has `ulpdu` octets.
     fn frame_len(&self, ulpdu: usize) -> usize
         requires place { self.now.sent ≤ 2 ^ 62 }
         requires short { ulpdu ≤ max_sent }
@@ -89,7 +89,7 @@ impl<A: Allocator> Stream<A> {
         let Some(part) = self.queue.next_part(self.mulpdu) else {
             return 0;
         };
-        if must_wait(&self.reads, part.message) {
+        if must_wait(self.start.most_reads(), &self.reads, part.message) {
             return 0;
         }
         self.frame_len(ulpdu_len(&part))

@@ -1,12 +1,13 @@
 ghost use Rattle.std.specs.Prelude.{◌≡◌, ◌+◌, ◌≤◌, ◌^◌, true, false, Some, None, IfOk, OnOk, OnErr};
 ghost use Rattle.iw_memory.specs.Table.{Table};
-ghost use Rattle.iw_stream.specs.Starting.{is_open, awaits_frame};
+ghost use Rattle.iw_stream.specs.Starting.{is_open, awaits_frame, agreed_in, agreement_in, mismatch_in};
 
 use super::Stream;
 use super::judgement::landed_step;
 use crate::answer::Step;
 use crate::ending::Ending;
-use crate::starting::octets_in_order;
+use crate::starting::{negotiation_fault, octets_in_order};
+use crate::terminating::{over, terminate_alone};
 use iw_memory::Memory;
 use iw_octets::Octets;
 use iw_startup::Progress;
@@ -16,23 +17,23 @@ use std::alloc::{AllocError, Allocator};
 impl<A: Allocator> Stream<A> {
     ghost use Rattle.iw_stream.specs.Stream.{ended, shares, sees};
     ghost use Rattle.iw_untagged.specs.Receiving.{exchanged};
-    ghost use Rattle.iw_stream.specs.Work.{Hear, IsTry, task, frame_task, handing_back};
+    ghost use Rattle.iw_stream.specs.Work.{Hear, IsTry, task, frame_task, handing_back, opened_step, after_opening};
     ghost use Rattle.iw_stream.specs.Work.{step_of, left_by, table_left, work_step, worked, table_worked, worked_with, pool_left};
     ghost use Rattle.iw_stream.specs.Kept.{IsWithinBuffer};
 
     /// Does one step: hands out a finished message, or reads the peer's start-up frame, or gives the frame at the in-order
-    /// point, where it was placed, its turn, or judges and places it. A Read Request and a Terminate have their turn as they
-    /// are judged. A region that a Send invalidates goes out of use in the step that completes the Send.
+    /// point its turn, if it was placed, or judges and places it. A Read Request and a Terminate have their turn when they are
+    /// judged. A region that a Send invalidates goes out of use in the step that completes the Send.
     ///
-    /// Where the frame at the in-order point is not whole and the peer sends markers, a later frame that they tell of is judged
-    /// before its turn (RFC 5044 4.3): one of a Write, a Read Response or a Send that passes its checks is placed then, a Send's
-    /// in its receive buffer ([`Step::Buffered`]), and any other is left as it is ([`Step::Tried`]). A Send is complete once all
-    /// its frames, and all before them, had their turns.
+    /// If the frame at the in-order point is not whole and the peer sends markers, a later frame that they tell of is judged
+    /// before its turn (RFC 5044 4.3): that of a Write, a Read Response or a Send which passes its checks is then placed, a
+    /// Send's in its receive buffer ([`Step::Buffered`]), and any other is left as it is ([`Step::Tried`]). A Send is complete
+    /// once all its frames, and all frames before them, had their turns.
     ///
-    /// An `Err` is want of memory for the record of such a frame, or for the range of its octets that are given up, and changes
-    /// nothing.
+    /// An `Err` means out of memory for the record of such a frame, or for the range of its octets that are given up. It
+    /// changes nothing.
     ///
-    /// Where the stream has ended, each posted message is handed out in posting order, as finished or as given up, and then
+    /// Once the stream has ended, each posted message is handed out in posting order, as finished or as given up, and then
     /// each receive buffer.
     #[inline(always)]
     pub fn work(&mut self, memory: &mut Memory<A>) -> Result<Step<Octets<A>>, AllocError>
@@ -41,7 +42,7 @@ impl<A: Allocator> Stream<A> {
         ensures after { OnOk result (self.new ≡ worked memory.old self.old) }
         ensures memory { OnOk result (memory.new ≡ table_worked memory.old self.old) }
         ensures err { OnErr result ((self.new ≡ self.old) × (memory.new ≡ memory.old)) }
-        // It comes only where a frame is judged before its turn, whether or not it may be placed then.
+        // It comes only if a frame is judged before its turn, whether or not it may then be placed.
         ensures want { OnErr result (IsTry (task self.old)) }
         // The in-order point moves on by no more than may have come, and a message lies in its buffer.
         ensures reach { self.new.arrived.floor ≤ self.old.arrived.floor + 2 ^ 18 }
@@ -62,10 +63,10 @@ impl<A: Allocator> Stream<A> {
         Ok(Step::Idle)
     }
 
-    /// The same, of a stream that shares a pool ([`Stream::new_shared`]). The first segment of a Send that is placed, whichever
-    /// it is, has the pool's oldest buffer bound to its message; nothing else takes one. A bound buffer is handed out with its
-    /// message or, where the stream has ended, handed back; the others stay in the pool. A stream that shares none leaves the
-    /// pool alone.
+    /// The same, for a stream that shares a pool ([`Stream::new_shared`]). When the first segment of a Send is placed,
+    /// whichever segment that is, the pool's oldest buffer is bound to its message; nothing else takes a buffer. A bound buffer
+    /// is handed out with its message or, once the stream has ended, handed back; the others stay in the pool. A stream that
+    /// shares none leaves the pool alone.
     pub fn work_shared(
         &mut self,
         memory: &mut Memory<A>,
@@ -134,8 +135,8 @@ impl<A: Allocator> Stream<A> {
         Ok(landed_step(landing))
     }
 
-    // The step of frames where one that was placed early may be that at the in-order point, or lie over it, in a call of its
-    // own. Its answer has a place of its own, so that the others need none in memory; likewise each call named so.
+    // The step of frames if one that was placed early may be that at the in-order point, or lie over it, in a call of its
+    // own. Its answer has a place of its own, so that the others need none in memory; likewise in each call of such a name.
     #[inline(always)]
     fn work_aside(&mut self, memory: &mut Memory<A>) -> Result<Step<Octets<A>>, AllocError>
         requires open { is_open self.old.start ≡ true }
@@ -182,7 +183,7 @@ impl<A: Allocator> Stream<A> {
             }
             Progress::Agreed => {
                 self.start.hear(&mut self.arrived);
-                Step::Opened(self.start.agreed())
+                self.open()
             }
             Progress::Faulted(fault) => {
                 self.start.hear(&mut self.arrived);
@@ -190,6 +191,25 @@ impl<A: Allocator> Stream<A> {
                 Step::Closed(fault)
             }
         }
+    }
+
+    // The peer's Reply accepts: the stream is open, unless the Reply wants what this end does not have (RFC 6581 8).
+    fn open(&mut self) -> Step<Octets<A>>
+        requires { agreed_in self.old.start ≡ Some (agreement_in self.old.start) }
+        ensures step { result ≡ opened_step self.old.start (mismatch_in self.old.start) }
+        ensures after { self.new ≡ after_opening self.old (mismatch_in self.old.start) }
+        ensures floor { self.new.arrived.floor ≡ self.old.arrived.floor }
+        ensures within { IsWithinBuffer result }
+    {
+        if let Some(mismatch) = self.start.mismatch() {
+            let fault = negotiation_fault(mismatch);
+            self.ending = over(terminate_alone(fault), &self.start, &self.arrived);
+            return Step::Fault(fault);
+        }
+        let Some(agreed) = self.start.agreed() else {
+            unreachable!();
+        };
+        Step::Opened(agreed)
     }
 
     // Hands out the oldest message, which is not finished, or after them all the oldest receive buffer.

@@ -22,8 +22,8 @@ impl<A: Allocator> Stream<A> {
     ghost use Rattle.iw_stream.specs.Work.{Turn, Rest, waiting, next_frame, clashes, step_of, left_by, table_left};
     ghost use Rattle.iw_stream.specs.Kept.{IsWithinBuffer};
 
-    // Gives the frame of a Write at the in-order point, which was placed, its turn, which has no check, and tells whether it
-    // did. Of any other frame it changes nothing.
+    // Gives the frame of a Write at the in-order point, which was placed, its turn, which has no check; the answer is whether
+    // it did. If another kind of frame waits there, nothing changes.
     #[inline(always)]
     pub(crate) fn turn(&mut self) -> bool
         requires open { is_open self.old.start ≡ true }
@@ -52,8 +52,8 @@ impl<A: Allocator> Stream<A> {
     }
 
     // Gives the frame of a Write at the in-order point, which was placed before its turn, its turn, which has no check, and
-    // tells whether it did. Where it did not, none waits there, and none that was placed lies over the one there. An `Err`
-    // changes nothing, and comes where another kind of frame waits there, or one that was placed lies over the one there.
+    // tells whether it did. If it did not, none waits there, and none that was placed lies over the frame there. An `Err`
+    // changes nothing, and comes if another kind of frame waits there, or if one that was placed lies over the frame there.
     #[inline(always)]
     pub(crate) fn turn_early(&mut self) -> Result<bool, Apart>
         requires open { is_open self.old.start ≡ true }
@@ -74,14 +74,14 @@ impl<A: Allocator> Stream<A> {
         if self.arrived.records() == 0 {
             return Ok(false);
         }
-        // Nothing came at the in-order point, as where a window comes past a hole.
+        // Nothing came at the in-order point, as when a window comes past a hole.
         if self.arrived.missing() <= self.arrived.floor() {
             return Ok(false);
         }
         self.turn_placed()
     }
 
-    // The same, in a call of its own, where octets came there.
+    // The same, in a call of its own, if octets came there.
     #[inline(never)]
     fn turn_placed(&mut self) -> Result<bool, Apart>
         requires open { is_open self.old.start ≡ true }
@@ -120,7 +120,7 @@ impl<A: Allocator> Stream<A> {
         Ok(true)
     }
 
-    // Whether no frame that was placed early lies over the one at the in-order point, where that is whole.
+    // Whether no frame that was placed early lies over the one at the in-order point, if that is whole.
     #[inline(always)]
     fn is_clear(&self) -> bool
         requires none { waiting self.now ≡ None }
@@ -214,7 +214,7 @@ impl<A: Allocator> Stream<A> {
         self.turn_checked(frame, memory)
     }
 
-    // What is kept of the frame at the in-order point, where it was placed, there or before its turn.
+    // What is kept of the frame at the in-order point, if it was placed, there or before its turn.
     pub(crate) fn waiting(&self) -> Option<PlacedFrame>
         requires none { self.now.front ≡ None }
         requires place { self.now.arrived.floor ≤ 2 ^ 62 }

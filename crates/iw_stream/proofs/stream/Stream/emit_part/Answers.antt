@@ -30,7 +30,7 @@ returns-clause-after g c = λ table.
     let part = shown_part c.in-Some.part in
     let first = c.first_place_out.result in
     let u = segment_octets (segment_of s.numbers part) in
-    let due : part_due s ≡ Some part = ap (may_go s.reads) (sym c.in-Some.ensures.part) ∙ ap (λ b. cond b None (Some part)) (sym c.must_wait.ensures ∙ c.if-must_wait.false) in
+    let due : part_due s ≡ Some part = (λ i. may_go (sym c.most_reads.ensures.most i) s.reads (sym c.in-Some.ensures.part i)) ∙ ap (λ b. cond b None (Some part)) (sym c.must_wait.ensures.waits ∙ c.if-must_wait.false) in
     let queue : c.part_sent.new.self ≡ part_sent s.queue (Some part) =
     c.part_sent.ensures (record { max = s.mulpdu; least = c.self.invariant.keeps.enough; part = part; shown = sym c.in-Some.ensures.part; octets = refl; ends = refl }) in
     let frame : frame_octets c.sending.result (s.sent - first) u ≡ frame_of_part s part =

@@ -1,23 +1,24 @@
-use Rattle.std.proofs.Common.{◌≡◌, true, Some, None, refl, ap, sym, ◌∙◌, subst, arith}
-use Rattle.std.specs.Prelude.{IfSome}
+use Rattle.std.proofs.Common.{◌≡◌, true, None, refl, ap, sym, ◌∙◌, arith}
 use Rattle.iw_ranges.specs.Arrived.{in_order, advanced}
 use Rattle.iw_stream.specs.Fields.{state_of}
 use Rattle.iw_startup.specs.declared.progress.Progress.TheVariants as progress
-use Rattle.iw_stream.specs.declared.answer.Step.TheVariants as steps
-use Rattle.iw_stream.specs.Starting.{awaits_frame, first_place_in, progress_in, agreed_in, agreement_in}
-use Rattle.iw_stream.specs.Work.{Hear, heard_step, after_hearing, left_by}
+use Rattle.iw_stream.specs.Starting.{awaits_frame, first_place_in, progress_in, mismatch_in}
+use Rattle.iw_stream.specs.Work.{Hear, opened_step, heard_step, after_opening, after_hearing, left_by}
 use Rattle.iw_stream.specs.Stream.{StreamState}
 use Rattle.iw_stream.specs.declared.ending.Ending.TheVariants.{Over}
 use Rattle.iw_stream.proofs.Keeping.{keeps_ended, reaches}
 use Rattle.iw_stream.proofs.Opening.{keeps_heard, awaits_closed}
 use Rattle.iw_stream.proofs.stream.Stream.hear_apart.Goals as goal
 
+abbrev opened_by : StreamState → StreamState
+opened_by s = after_opening s (mismatch_in s.start)
+
 pub invariant_of-self : goal.invariant_of-self
 invariant_of-self g c = record {
   keeps =
       let s = state_of c.self.inside in
       let awaits : awaits_frame (state_of c.self.inside).start ≡ true = ap (λ (t : StreamState). awaits_frame t.start) c.self.view_is ∙ c.requires in
-      keeps_heard s (in_order s.arrived) c.hear.new.self c.hear.new.arrived.arrived c.hear.new.arrived.early awaits c.hear.ensures.after c.hear.ensures.arrived c.hear.ensures.early c.self.invariant.keeps;
+      keeps_heard s (in_order s.arrived) c.hear.new.self c.hear.new.arrived.arrived c.hear.new.arrived.early awaits c.hear.ensures.after c.hear.ensures.out c.hear.ensures.arrived c.hear.ensures.early c.self.invariant.keeps;
   layout = c.hear.ensures.layout;
   base = c.hear.ensures.base;
 }
@@ -27,7 +28,7 @@ invariant_of-self-in-Agreed g c = record {
   keeps =
       let s = state_of c.self.inside in
       let awaits : awaits_frame (state_of c.self.inside).start ≡ true = ap (λ (t : StreamState). awaits_frame t.start) c.self.view_is ∙ c.requires in
-      keeps_heard s (in_order s.arrived) c.hear-in-Agreed.new.self c.hear-in-Agreed.new.arrived.arrived c.hear-in-Agreed.new.arrived.early awaits c.hear-in-Agreed.ensures.after c.hear-in-Agreed.ensures.arrived c.hear-in-Agreed.ensures.early c.self.invariant.keeps;
+      keeps_heard s (in_order s.arrived) c.hear-in-Agreed.new.self c.hear-in-Agreed.new.arrived.arrived c.hear-in-Agreed.new.arrived.early awaits c.hear-in-Agreed.ensures.after c.hear-in-Agreed.ensures.out c.hear-in-Agreed.ensures.arrived c.hear-in-Agreed.ensures.early c.self.invariant.keeps;
   layout = c.hear-in-Agreed.ensures.layout;
   base = c.hear-in-Agreed.ensures.base;
 }
@@ -38,10 +39,17 @@ invariant_of-self-in-Faulted g c = record {
       let s = state_of c.self.inside in
       let awaits : awaits_frame (state_of c.self.inside).start ≡ true = ap (λ (t : StreamState). awaits_frame t.start) c.self.view_is ∙ c.requires in
       keeps_ended (record s { start = c.hear-in-Faulted.new.self; arrived = c.hear-in-Faulted.new.arrived.arrived; early = c.hear-in-Faulted.new.arrived.early }) (Over None) refl (λ e. refl)
-      (keeps_heard s (in_order s.arrived) c.hear-in-Faulted.new.self c.hear-in-Faulted.new.arrived.arrived c.hear-in-Faulted.new.arrived.early awaits c.hear-in-Faulted.ensures.after c.hear-in-Faulted.ensures.arrived c.hear-in-Faulted.ensures.early c.self.invariant.keeps);
+      (keeps_heard s (in_order s.arrived) c.hear-in-Faulted.new.self c.hear-in-Faulted.new.arrived.arrived c.hear-in-Faulted.new.arrived.early awaits c.hear-in-Faulted.ensures.after c.hear-in-Faulted.ensures.out c.hear-in-Faulted.ensures.arrived c.hear-in-Faulted.ensures.early c.self.invariant.keeps);
   layout = c.hear-in-Faulted.ensures.layout;
   base = c.hear-in-Faulted.ensures.base;
 }
+
+pub open-requires : goal.open-requires
+open-requires g c =
+    let s = state_of c.self.inside in
+    let comes : progress_in c.self.inside.start (in_order c.self.inside.arrived.arrived) ≡ progress.Agreed =
+    sym (c.progress.ensures ∙ ap (progress_in s.start) c.octets_in_order.ensures.octets) ∙ c.in-Agreed.is in
+    c.hear-in-Agreed.ensures.agreed comes
 
 pub returns-in-Agreed-clause-step : goal.returns-in-Agreed-clause-step
 returns-in-Agreed-clause-step g c = λ table.
@@ -49,9 +57,7 @@ returns-in-Agreed-clause-step g c = λ table.
     let octets = in_order s.arrived in
     let comes : progress_in c.self.inside.start (in_order c.self.inside.arrived.arrived) ≡ progress.Agreed =
     sym (c.progress.ensures ∙ ap (progress_in s.start) c.octets_in_order.ensures.octets) ∙ c.in-Agreed.is in
-    let agreed : agreed_in c.hear-in-Agreed.new.self ≡ Some (agreement_in c.hear-in-Agreed.new.self) = c.hear-in-Agreed.ensures.agreed comes in
-    let is : c.agreed.result ≡ agreement_in c.hear-in-Agreed.new.self = subst (λ o. IfSome o (λ a. c.agreed.result ≡ a)) agreed c.agreed.ensures in
-    ap steps.Opened (is ∙ ap agreement_in c.hear-in-Agreed.ensures.after) ∙ ap (heard_step s.start octets) (sym comes)
+    c.open.ensures.step ∙ ap (λ x. opened_step x (mismatch_in x)) c.hear-in-Agreed.ensures.after ∙ ap (heard_step s.start octets) (sym comes)
     ∙ ap (λ (t : StreamState). heard_step t.start (in_order t.arrived) (progress_in t.start (in_order t.arrived))) c.self.view_is
 
 pub returns-in-Asked-clause-reach : goal.returns-in-Asked-clause-reach
@@ -60,7 +66,8 @@ returns-in-Asked-clause-reach g c =
 
 pub returns-in-Agreed-clause-reach : goal.returns-in-Agreed-clause-reach
 returns-in-Agreed-clause-reach g c =
-    reaches (state_of c.self.inside) c.args.self.now c.hear-in-Agreed.new.arrived.arrived (first_place_in c.hear-in-Agreed.new.self) c.hear-in-Agreed.ensures.arrived (omega (arith, c.hear-in-Agreed.ensures.few)) c.self.view_is
+    let near = reaches (state_of c.self.inside) c.args.self.now c.hear-in-Agreed.new.arrived.arrived (first_place_in c.hear-in-Agreed.new.self) c.hear-in-Agreed.ensures.arrived (omega (arith, c.hear-in-Agreed.ensures.few)) c.self.view_is in
+    omega (arith, near, c.open.ensures.floor)
 
 pub returns-in-Faulted-clause-reach : goal.returns-in-Faulted-clause-reach
 returns-in-Faulted-clause-reach g c =
@@ -81,7 +88,8 @@ returns-in-Agreed-clause-after g c = λ table.
     let awaits : awaits_frame (state_of c.self.inside).start ≡ true = ap (λ (t : StreamState). awaits_frame t.start) c.self.view_is ∙ c.requires in
     let none = c.self.invariant.keeps.unopened (awaits_closed c.self.inside.start awaits) in
     let comes : progress_in s.start (in_order s.arrived) ≡ c.progress.result = sym (c.progress.ensures ∙ ap (progress_in s.start) c.octets_in_order.ensures.octets) in
-    (λ i. record s { start = c.hear-in-Agreed.ensures.after i; arrived = (c.hear-in-Agreed.ensures.arrived ∙ ap (λ x. advanced s.arrived (first_place_in x)) c.hear-in-Agreed.ensures.after) i; early = (c.hear-in-Agreed.ensures.early ∙ sym none) i })
+    c.open.ensures.after
+    ∙ (λ i. opened_by (record s { start = c.hear-in-Agreed.ensures.after i; arrived = (c.hear-in-Agreed.ensures.arrived ∙ ap (λ x. advanced s.arrived (first_place_in x)) c.hear-in-Agreed.ensures.after) i; early = (c.hear-in-Agreed.ensures.early ∙ sym none) i }))
     ∙ ap (after_hearing s) (sym (comes ∙ c.in-Agreed.is)) ∙ ap (λ (t : StreamState). left_by table t Hear) c.self.view_is
 
 pub returns-in-Faulted-clause-after : goal.returns-in-Faulted-clause-after

@@ -11,14 +11,14 @@ use Rattle.iw_stream.proofs.Waiting.{kept_scene}
 use Rattle.iw_stream.proofs.stream.Stream.judge_among.Given as given
 use Rattle.iw_stream.proofs.stream.Stream.judge_among.Goals as goal
 
--- the frame at the in-order point is whole; where it lies over a placed one
+-- the frame at the in-order point is whole; if it lies over a placed one
 over : (g : given.Over) (c : goal.After-self-1 g) → IsSeen c.args.self.now c.in-Some.fpdu c.overlaps_placed.result
 over g c =
     subst (λ t. IsSeen t c.in-Some.fpdu c.overlaps_placed.result) c.self.view_is
     (seen (state_of c.self.inside) c.expecting-layout.result c.first_place_in-base.result c.floor.result c.start_of-start.result c.end.result c.in-Some.fpdu c.overlaps_placed.result
     c.expecting-layout.ensures c.first_place_in-base.ensures.place c.floor.ensures c.start_of-start.ensures c.in-Some.ensures.frame c.in-Some.ensures.next c.end.ensures c.overlaps_placed.ensures)
 
--- and where it does not
+-- and if it does not
 clear : (g : given.Over) (c : goal.After-judge_apart g) → IsSeen c.args.self.now c.in-Some.fpdu c.overlaps_placed.result
 clear g c =
     subst (λ t. IsSeen t c.in-Some.fpdu c.overlaps_placed.result) c.self.view_is
