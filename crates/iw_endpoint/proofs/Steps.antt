@@ -11,14 +11,16 @@ use Rattle.iw_memory.specs.Table.{Table}
 use Rattle.iw_stream.specs.declared.answer.OpenRefusal.TheVariants.{NumberTaken, BadNumber, NoDomain}
 use Rattle.iw_ranges.specs.declared.Delivery.{Delivery}
 use Rattle.iw_ranges.specs.declared.Delivery.TheVariants.{Kept, Dropped}
-use Rattle.iw_stream.specs.Starting.{private_in, agreement_in}
+use Rattle.iw_startup.specs.declared.config.Config.{Config}
+use Rattle.iw_stream.specs.declared.answer.Role.{Role}
+use Rattle.iw_stream.specs.Starting.{private_in, told_in, agreement_in}
 use Rattle.iw_stream.specs.Stream as stream
 use Rattle.iw_untagged.specs.Receiving.{exchanged}
 use Rattle.iw_stream.specs.Stream.{StreamState, sees, emission_of, emitted, delivery_of}
 use Rattle.iw_stream.specs.Work.{work_step, table_worked}
-use Rattle.iw_endpoint.specs.Endpoint.{EndpointState, Pool, pool_of, with_pool, share_fault, share_refusal, pool_fault, pool_refusal, take_fault, take_refusal, taken, lent_to, left_of, pool_left, with_worked, stream_of, unopened, with_stream, with_table, answer_at, refusal_at, unasked, open_refusal, open_shared_refusal, open_shared_refusal_of, unshared, stream_numbers}
-use Rattle.iw_endpoint.specs.Isolation.{StreamCall, Accept, Reject, Post, PostRecv, Deliver, Work, Emit, BreakLink, SetMulpdu, Private, Sent, DueLen, InOrderPoint, Limits, AddDomain, Register, Deregister, Invalidate, Store, Facts, Local, LocalMut, Open, Share, PostShared, TakeShared, OpenShared, AtStream, FirstNumber, PeerFirst}
-use Rattle.iw_endpoint.specs.Isolation.{Accepted, Rejected, Posted, Buffered, Delivered, Worked, Emitted, Broke, Sized, Shown, Counted, Limited, Added, Registered, Octets, Invalidated, Found, Stored, Opened, Shared, Pooled, Taken, OpenedShared, OfStream, Numbered}
+use Rattle.iw_endpoint.specs.Endpoint.{EndpointState, Pool, pool_of, with_pool, share_fault, share_refusal, pool_fault, pool_refusal, take_fault, take_refusal, taken, lent_to, left_of, pool_left, with_worked, stream_of, unopened, with_stream, with_table, answer_at, refusal_at, number_refusal, request_refusal, open_refusal, open_shared_refusal, open_shared_refusal_of, unshared, stream_numbers}
+use Rattle.iw_endpoint.specs.Isolation.{StreamCall, Accept, Reject, Post, PostRecv, Deliver, Work, Emit, BreakLink, SetMulpdu, Private, Told, Sent, DueLen, InOrderPoint, Limits, AddDomain, Register, Deregister, Invalidate, Store, Facts, Local, LocalMut, Open, Share, PostShared, TakeShared, OpenShared, AtStream, FirstNumber, PeerFirst}
+use Rattle.iw_endpoint.specs.Isolation.{Accepted, Rejected, Posted, Buffered, Delivered, Worked, Emitted, Broke, Sized, Shown, Declared, Counted, Limited, Added, Registered, Octets, Invalidated, Found, Stored, Opened, Shared, Pooled, Taken, OpenedShared, OfStream, Numbered}
 use Rattle.iw_endpoint.specs.Isolation.{IsOwn, OwnStep, CallsConcernOneDomain, part_of, alone, stream_answer, after_stream, answer_or, unless}
 use Rattle.iw_endpoint.proofs.Tables.{AreAlike, KeepsOthers, step-alike, worked-alike, table_worked-alike, keeps-worked, emission-alike, emitted-alike, after_emit-alike, worked_domain, emit_domain}
 use Rattle.iw_endpoint.proofs.Parts.{AreSeenAlike, seen_alone, stream_alike, alone_own, with_alike, with_tables_alike, with_pool_alike, pool_alike, pool_other, pool_leaves, unless_alike, refusing_alike, changing_alike, region_alike, Leaves, leaves-all, leaves-with, leaves-changed, refusing_leaves, changing_leaves, region_leaves, one_step}
@@ -71,8 +73,8 @@ told_at d e f None at_e at_f own same = refl
 told_at d e f (Some s) at_e at_f own same = ap Ok (same s own)
 
 stream_answers : (d : ℕ) (e f : EndpointState) (n : ℕ) (call : StreamCall) → IsOwn d (stream_of e n) → stream_of e n ≡ stream_of f n → AreSeenAlike d e f → stream_answer e n call ≡ stream_answer f n call
-stream_answers d e f n (Accept private) own same h = ap (λ o. Accepted (answer_or (refusal_at o unasked) (agreement_in (unwrap_or o unopened).start))) same
-stream_answers d e f n (Reject private) own same h = ap (λ o. Rejected (refusal_at o unasked)) same
+stream_answers d e f n (Accept private) own same h = ap (λ o. Accepted (answer_or (refusal_at o (λ s. stream.answer_refusal s private.items)) (agreement_in (unwrap_or o unopened).start))) same
+stream_answers d e f n (Reject private) own same h = ap (λ o. Rejected (refusal_at o (λ s. stream.answer_refusal s private.items))) same
 stream_answers d e f n (Post request) own same h = ap (λ o. Posted (refusal_at o (λ s. stream.post_refusal s request))) same
 stream_answers d e f n (PostRecv buffer) own same h = ap (λ o. Buffered (refusal_at o stream.recv_refusal)) same
 stream_answers d e f n (FirstNumber first) own same h = ap (λ o. Numbered (refusal_at o stream.first_refusal)) same
@@ -88,6 +90,7 @@ stream_answers d e f n Emit own same h =
 stream_answers d e f n BreakLink own same h = ap (λ o. Broke (answer_at o (λ s. tt))) same
 stream_answers d e f n (SetMulpdu size) own same h = ap (λ o. Sized (refusal_at o (λ s. stream.size_refusal size))) same
 stream_answers d e f n Private own same h = ap (λ o. Shown (answer_at o (λ s. private_in (unwrap_or o unopened).start))) same
+stream_answers d e f n Told own same h = ap (λ o. Declared (answer_at o (λ s. told_in (unwrap_or o unopened).start))) same
 stream_answers d e f n PeerFirst own same h = ap (λ o. Counted (answer_at o (λ s. (unwrap_or o unopened).first))) same
 stream_answers d e f n Sent own same h = ap (λ o. Counted (answer_at o (λ s. (unwrap_or o unopened).sent))) same
 stream_answers d e f n DueLen own same h =
@@ -101,8 +104,8 @@ abbrev delivered : ℕ → List ℕ → StreamState → StreamState
 delivered from octets s = stream.after_deliver s from octets (delivery_of s from (length octets))
 
 stream_alikes : (d : ℕ) (e f : EndpointState) (n : ℕ) (call : StreamCall) → IsOwn d (stream_of e n) → stream_of e n ≡ stream_of f n → AreSeenAlike d e f → AreSeenAlike d (after_stream e n call) (after_stream f n call)
-stream_alikes d e f n (Accept private) own same h = refusing_alike unasked (λ s. stream.accepted s private) d e f n same h
-stream_alikes d e f n (Reject private) own same h = refusing_alike unasked (λ s. stream.rejected s private) d e f n same h
+stream_alikes d e f n (Accept private) own same h = refusing_alike (λ s. stream.answer_refusal s private.items) (λ s. stream.accepted s private) d e f n same h
+stream_alikes d e f n (Reject private) own same h = refusing_alike (λ s. stream.answer_refusal s private.items) (λ s. stream.rejected s private) d e f n same h
 stream_alikes d e f n (Post request) own same h = refusing_alike (λ s. stream.post_refusal s request) (λ s. stream.with_request s request) d e f n same h
 stream_alikes d e f n (PostRecv buffer) own same h = refusing_alike stream.recv_refusal (λ s. stream.with_buffer s buffer) d e f n same h
 stream_alikes d e f n (FirstNumber first) own same h = refusing_alike stream.first_refusal (λ s. stream.with_first s first) d e f n same h
@@ -116,6 +119,7 @@ stream_alikes d e f n Emit own same h = changing_alike (λ s e. with_stream e n 
 stream_alikes d e f n BreakLink own same h = changing_alike (λ s e. with_stream e n (stream.breaks s)) d e f n same h (λ s is. with_alike d e f n (stream.breaks s) (stream.breaks s) refl h)
 stream_alikes d e f n (SetMulpdu size) own same h = refusing_alike (λ s. stream.size_refusal size) (λ s. stream.with_mulpdu s size) d e f n same h
 stream_alikes d e f n Private own same h = h
+stream_alikes d e f n Told own same h = h
 stream_alikes d e f n PeerFirst own same h = h
 stream_alikes d e f n Sent own same h = h
 stream_alikes d e f n DueLen own same h = h
@@ -146,8 +150,8 @@ worked_leaves d e n IsNew s is own =
     }
 
 stream_leaves : (d : ℕ) (e : EndpointState) (n : ℕ) (call : StreamCall) (IsNew : ℕ → ℕ → Type 0) → IsOwn d (stream_of e n) → Leaves d e (after_stream e n call) IsNew
-stream_leaves d e n (Accept private) IsNew own = refusing_leaves unasked (λ s. stream.accepted s private) d e n IsNew own (λ s. refl)
-stream_leaves d e n (Reject private) IsNew own = refusing_leaves unasked (λ s. stream.rejected s private) d e n IsNew own (λ s. refl)
+stream_leaves d e n (Accept private) IsNew own = refusing_leaves (λ s. stream.answer_refusal s private.items) (λ s. stream.accepted s private) d e n IsNew own (λ s. refl)
+stream_leaves d e n (Reject private) IsNew own = refusing_leaves (λ s. stream.answer_refusal s private.items) (λ s. stream.rejected s private) d e n IsNew own (λ s. refl)
 stream_leaves d e n (Post request) IsNew own = refusing_leaves (λ s. stream.post_refusal s request) (λ s. stream.with_request s request) d e n IsNew own (λ s. refl)
 stream_leaves d e n (PostRecv buffer) IsNew own = refusing_leaves stream.recv_refusal (λ s. stream.with_buffer s buffer) d e n IsNew own (λ s. refl)
 stream_leaves d e n (FirstNumber first) IsNew own = refusing_leaves stream.first_refusal (λ s. stream.with_first s first) d e n IsNew own (λ s. refl)
@@ -160,6 +164,7 @@ stream_leaves d e n BreakLink IsNew own =
     changing_leaves (λ s. with_stream e n (stream.breaks s)) d e n IsNew own (λ s is own. leaves-changed d e n s (stream.breaks s) IsNew is own refl)
 stream_leaves d e n (SetMulpdu size) IsNew own = refusing_leaves (λ s. stream.size_refusal size) (λ s. stream.with_mulpdu s size) d e n IsNew own (λ s. refl)
 stream_leaves d e n Private IsNew own = leaves-all d e IsNew
+stream_leaves d e n Told IsNew own = leaves-all d e IsNew
 stream_leaves d e n PeerFirst IsNew own = leaves-all d e IsNew
 stream_leaves d e n Sent IsNew own = leaves-all d e IsNew
 stream_leaves d e n DueLen IsNew own = leaves-all d e IsNew
@@ -168,12 +173,16 @@ stream_leaves d e n Limits IsNew own = leaves-all d e IsNew
 
 -- ---- openings
 
-pub open_alike : (d : ℕ) (e f : EndpointState) (n : ℕ) → stream_of e n ≡ stream_of f n → AreSeenAlike d e f → open_refusal e n d ≡ open_refusal f n d
-open_alike d e f n same h =
+number_alike : (d : ℕ) (e f : EndpointState) (n : ℕ) → stream_of e n ≡ stream_of f n → AreSeenAlike d e f → number_refusal e n d ≡ number_refusal f n d
+number_alike d e f n same h =
     (λ i. if is_some (same i) then Some NumberTaken else if nat_le stream_numbers n then Some BadNumber else if not (is_some (h.table.part i)) then Some NoDomain else None)
 
-open_shared_alike : (d : ℕ) (e f : EndpointState) (n : ℕ) → stream_of e n ≡ stream_of f n → AreSeenAlike d e f → open_shared_refusal e n d ≡ open_shared_refusal f n d
-open_shared_alike d e f n same h = λ i. option_or (option_map open_shared_refusal_of (open_alike d e f n same h i)) (unshared (h.pool i))
+pub open_alike : (d : ℕ) (e f : EndpointState) (n : ℕ) (role : Role) (config : Config) → stream_of e n ≡ stream_of f n → AreSeenAlike d e f → open_refusal e n d role config ≡ open_refusal f n d role config
+open_alike d e f n role config same h = λ i. option_or (number_alike d e f n same h i) (request_refusal role config)
+
+open_shared_alike : (d : ℕ) (e f : EndpointState) (n : ℕ) (role : Role) (config : Config) → stream_of e n ≡ stream_of f n → AreSeenAlike d e f → open_shared_refusal e n d role config ≡ open_shared_refusal f n d role config
+open_shared_alike d e f n role config same h =
+    λ i. option_or (option_map open_shared_refusal_of (number_alike d e f n same h i)) (option_or (unshared (h.pool i)) (option_map open_shared_refusal_of (request_refusal role config)))
 
 open_leaves : {R : Type 0} (q : Option R) (d : ℕ) (e : EndpointState) (n : ℕ) (x : StreamState) (IsNew : ℕ → ℕ → Type 0) → x.domain ≡ d → IsOwn d (stream_of e n) → IsNew n x.domain → Leaves d e (unless q e (with_stream e n x)) IsNew
 open_leaves None d e n x IsNew here own is_new = leaves-with d e n x IsNew here own (inr is_new)
@@ -223,10 +232,10 @@ concerns_one d e (Open n pd role config) all here = subst (λ x. IsOwn x (stream
     let h = seen_alone pd e all in let f = alone pd (part_of pd e) in
     let same = stream_alike pd e f n own (alone_own pd e n) h in
     let x = stream.opened pd role config in
-    one_step pd e (Open n pd role config) all (ap Opened (open_alike pd e f n same h))
-    (subst (λ q. AreSeenAlike pd (unless (open_refusal e n pd) e (with_stream e n x)) (unless q f (with_stream f n x))) (open_alike pd e f n same h)
-    (unless_alike pd e f (with_stream e n x) (with_stream f n x) (open_refusal e n pd) h (with_alike pd e f n x x refl h)))
-    (open_leaves (open_refusal e n pd) pd e n x _ refl own (refl, refl))) here.1
+    one_step pd e (Open n pd role config) all (ap Opened (open_alike pd e f n role config same h))
+    (subst (λ q. AreSeenAlike pd (unless (open_refusal e n pd role config) e (with_stream e n x)) (unless q f (with_stream f n x))) (open_alike pd e f n role config same h)
+    (unless_alike pd e f (with_stream e n x) (with_stream f n x) (open_refusal e n pd role config) h (with_alike pd e f n x x refl h)))
+    (open_leaves (open_refusal e n pd role config) pd e n x _ refl own (refl, refl))) here.1
 concerns_one d e (Share pd) all here = subst (λ x. OwnStep x e (Share pd)) here
     (let h = seen_alone pd e all in let f = alone pd (part_of pd e) in
     one_step pd e (Share pd) all (λ i. Shared (share_fault (is_some (h.table.part i)) (h.pool i)))
@@ -247,10 +256,10 @@ concerns_one d e (OpenShared n pd role config) all here = subst (λ x. IsOwn x (
     let h = seen_alone pd e all in let f = alone pd (part_of pd e) in
     let same = stream_alike pd e f n own (alone_own pd e n) h in
     let x = stream.opened_shared pd role config in
-    one_step pd e (OpenShared n pd role config) all (ap OpenedShared (open_shared_alike pd e f n same h))
-    (subst (λ q. AreSeenAlike pd (unless (open_shared_refusal e n pd) e (with_stream e n x)) (unless q f (with_stream f n x))) (open_shared_alike pd e f n same h)
-    (unless_alike pd e f (with_stream e n x) (with_stream f n x) (open_shared_refusal e n pd) h (with_alike pd e f n x x refl h)))
-    (open_leaves (open_shared_refusal e n pd) pd e n x _ refl own (refl, refl))) here.1
+    one_step pd e (OpenShared n pd role config) all (ap OpenedShared (open_shared_alike pd e f n role config same h))
+    (subst (λ q. AreSeenAlike pd (unless (open_shared_refusal e n pd role config) e (with_stream e n x)) (unless q f (with_stream f n x))) (open_shared_alike pd e f n role config same h)
+    (unless_alike pd e f (with_stream e n x) (with_stream f n x) (open_shared_refusal e n pd role config) h (with_alike pd e f n x x refl h)))
+    (open_leaves (open_shared_refusal e n pd role config) pd e n x _ refl own (refl, refl))) here.1
 concerns_one d e (AtStream n call) all own =
     let h = seen_alone d e all in let f = alone d (part_of d e) in
     let same = stream_alike d e f n own (alone_own d e n) h in

@@ -36,14 +36,15 @@ use Rattle.iw_stream.specs.declared.judging.Landing.TheVariants.{Write, Response
 use Rattle.iw_stream.specs.declared.judging.PlacedFrame.{PlacedFrame}
 use Rattle.iw_stream.specs.declared.judging.Turning.{Turning}
 use Rattle.iw_stream.specs.declared.judging.Turning.TheVariants.{Passed, Completed, Answered}
+use Rattle.iw_startup.specs.declared.enhanced.Mismatch as enhanced
 use Rattle.iw_startup.specs.declared.progress.Progress.{Progress}
 use Rattle.iw_startup.specs.declared.progress.Progress.TheVariants as progress
 use Rattle.iw_stream.specs.Frames.{Frame, payload_of, segment_in, head_in, payload_len}
 use Rattle.iw_stream.specs.Judging.{or_else, fault_or, fault_told, place_in, place_verdict, head_verdict, judged_head, mismatch_fault, verdict, table_landed, send_turning, invalidate_fault, invalidation_fault, answering_by, is_response, segment_turn, turn_of, table_turned, early_verdict, landing_in, may_be_early, table_tried}
-use Rattle.iw_stream.specs.Starting.{first_place_in, progress_in}
+use Rattle.iw_stream.specs.Starting.{first_place_in, heard, mismatch_in, progress_in}
 use Rattle.iw_stream.specs.Stream.{StreamState, Due, frame_fetched, frame_of, octets_fetched, emission_fetched, left_fetched, octets_due, emission_due, left_due, due, emission_of, emitted, after_emit}
 use Rattle.iw_stream.specs.Stream.{StartUp, LastWord, NextPart, NoneDue, Response as ResponseDue}
-use Rattle.iw_stream.specs.Work.{Task, HandOut, GiveUp, GiveBack, Hear, Turn, Clash, Judge, Try, Rest, task, standing, step_of, left_by, table_left, table_judged, table_passed, judged_step, tried_step, turned_step, after_judging, after_trying, after_turn, after_hearing, inbox, work_step, worked, table_worked}
+use Rattle.iw_stream.specs.Work.{Task, HandOut, GiveUp, GiveBack, Hear, Turn, Clash, Judge, Try, Rest, task, standing, step_of, left_by, table_left, table_judged, table_passed, judged_step, tried_step, turned_step, after_judging, after_trying, after_turn, after_opening, after_hearing, hears, inbox, work_step, worked, table_worked}
 
 -- ---- two tables that are alike in one domain's part
 
@@ -384,10 +385,14 @@ after_emit-alike s t u h = go (due s)
 
 -- ---- a stream stays in its domain
 
+opening_domain : (s : StreamState) (o : Option enhanced.Mismatch) → (after_opening s o).domain ≡ s.domain
+opening_domain s None = refl
+opening_domain s (Some mismatch) = refl
+
 heard_domain : (s : StreamState) (p : Progress) → (after_hearing s p).domain ≡ s.domain
 heard_domain s progress.More = refl
 heard_domain s progress.Asked = refl
-heard_domain s progress.Agreed = refl
+heard_domain s progress.Agreed = opening_domain (hears s) (mismatch_in (heard s.start (inbox s)))
 heard_domain s (progress.Faulted fault) = refl
 
 turned_domain : (s : StreamState) (frame : PlacedFrame) (r : Result Turning Fault) → (after_turn s frame r).domain ≡ s.domain

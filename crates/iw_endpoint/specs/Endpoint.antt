@@ -1,4 +1,4 @@
--- The state of an endpoint, and what each call answers and leaves of it.
+-- The state of an endpoint, and what each call answers and makes of that state.
 use Rattle.std.specs.Prelude.{◌≡◌, ℕ, List, [], ◌∷◌, ◌++◌, length, drop, replicate, slice_get, slice_index_or, slice_set, Bool, false, not, nat_le, is_some, unwrap_or, if◌then◌else◌, Option, Some, None, Result, Ok, Err}
 use Rattle.std.specs.Option.{option_map, option_map_or, option_or}
 use Rattle.arrayvec.specs.ArrayVec.{ArrayVec}
@@ -15,23 +15,25 @@ use Rattle.iw_queues.specs.declared.request.Request.{Request}
 use Rattle.iw_ranges.specs.declared.Delivery.{Delivery}
 use Rattle.iw_startup.specs.declared.config.Agreed.{Agreed}
 use Rattle.iw_startup.specs.declared.config.Config.{Config}
-use Rattle.iw_startup.specs.declared.startup.NotAsked.{NotAsked}
+use Rattle.iw_startup.specs.declared.config.Establishment.TheVariants.{Plain}
+use Rattle.iw_startup.specs.declared.enhanced.EnhancedData.{EnhancedData}
 use Rattle.iw_untagged.specs.declared.queue.BufferRefusal.{BufferRefusal}
 use Rattle.iw_untagged.specs.declared.queue.BufferRefusal.TheVariants as buffer_refusals
 use Rattle.iw_untagged.specs.Receiving as receiving
+use Rattle.iw_stream.specs.declared.answer.AnswerRefusal.{AnswerRefusal}
 use Rattle.iw_stream.specs.declared.answer.FirstRefusal.{FirstRefusal}
 use Rattle.iw_stream.specs.declared.answer.Emission.{Emission}
 use Rattle.iw_stream.specs.declared.answer.OpenRefusal.{OpenRefusal}
-use Rattle.iw_stream.specs.declared.answer.OpenRefusal.TheVariants.{NumberTaken, BadNumber, NoDomain, NoMemory}
+use Rattle.iw_stream.specs.declared.answer.OpenRefusal.TheVariants.{NumberTaken, BadNumber, NoDomain, PrivateTooLong, NoMemory}
 use Rattle.iw_stream.specs.declared.answer.PostRefusal.{PostRefusal}
 use Rattle.iw_stream.specs.declared.answer.RecvRefusal.{RecvRefusal}
 use Rattle.iw_stream.specs.declared.answer.Role.{Role}
 use Rattle.iw_stream.specs.declared.answer.Role.TheVariants.{Preset}
 use Rattle.iw_stream.specs.declared.answer.SizeRefusal.{SizeRefusal}
 use Rattle.iw_stream.specs.declared.answer.Step.{Step}
-use Rattle.iw_stream.specs.Starting.{private_in, agreement_in}
+use Rattle.iw_stream.specs.Starting.{exceeds_request, private_in, told_in, agreement_in}
 use Rattle.iw_stream.specs.Stream as stream
-use Rattle.iw_stream.specs.Stream.{StreamState, sees, may_answer, emission_of, emitted, delivery_of}
+use Rattle.iw_stream.specs.Stream.{StreamState, sees, emission_of, emitted, delivery_of}
 use Rattle.iw_stream.specs.Work as work
 use Rattle.iw_stream.specs.Work.{work_step, worked, worked_with, table_worked}
 use Rattle.iw_endpoint.specs.declared.refusal.CallRefusal.{CallRefusal}
@@ -46,11 +48,11 @@ use Rattle.iw_endpoint.specs.declared.refusal.ShareRefusal.TheVariants as share_
 use Rattle.iw_endpoint.specs.declared.refusal.TakeRefusal.{TakeRefusal}
 use Rattle.iw_endpoint.specs.declared.refusal.TakeRefusal.TheVariants as take_refusals
 
--- streams have the numbers from 0 to 63
+-- stream numbers are 0 to 63
 abbrev pub stream_numbers : ℕ
 stream_numbers = 64
 
--- the buffers of a pool that were posted to it, and neither taken nor bound to a message, oldest first
+-- the buffers that were posted to a pool and neither taken nor bound to a message, oldest first
 abbrev pub Pool : Type 0
 Pool = List (List ℕ)
 
@@ -71,7 +73,7 @@ no_streams = replicate stream_numbers None
 unfoldable pub no_pools : List (Option Pool)
 no_pools = replicate domain_numbers None
 
--- an endpoint to which nothing has happened
+-- a new endpoint
 abbrev pub fresh : EndpointState
 fresh = record { table = empty; pools = no_pools; streams = no_streams }
 
@@ -84,23 +86,23 @@ stream_of e number = slice_index_or e.streams number None
 abbrev pub has_stream : EndpointState → ℕ → Bool
 has_stream e number = is_some (stream_of e number)
 
--- one to which nothing has happened, in no domain
+-- a new stream, in no domain
 abbrev pub unopened : StreamState
-unopened = stream.opened 0 Preset (record { markers = false; crc = false; private = record { items = [] } })
+unopened = stream.opened 0 Preset (record { markers = false; crc = false; establishment = Plain; private = record { items = [] } })
 
--- the stream of this number; where none was opened, one to which nothing has happened
+-- the stream of this number; if none was opened, a new one
 abbrev pub stream_at : EndpointState → ℕ → StreamState
 stream_at e number = unwrap_or (stream_of e number) unopened
 
 abbrev pub with_stream : EndpointState → ℕ → StreamState → EndpointState
 with_stream e number s = record e { streams = slice_set e.streams number (Some s) }
 
--- what is answered at a stream, or that there is none
+-- the answer of a stream, or that there is none
 abbrev pub answer_at : {R : Type 0} → Option StreamState → (StreamState → R) → Result R NoSuchStream
 answer_at None answer = Err (record {})
 answer_at (Some s) answer = Ok (answer s)
 
--- why a call at a stream is refused, if it is: that there is none comes before all else
+-- why a call on a stream is refused, if it is: NoSuchStream comes before any other refusal
 abbrev pub refusal_at : {R : Type 0} → Option StreamState → (StreamState → Option R) → Option (CallRefusal R)
 refusal_at None refusal = Some NoStream
 refusal_at (Some s) refusal = option_map Refused (refusal s)
@@ -119,7 +121,7 @@ added e pd = with_table e (tables.added e.table pd)
 abbrev pub registered : EndpointState → ℕ → ℕ → List ℕ → Rights → EndpointState
 registered e pd base octets rights = with_table e (tables.registered e.table pd (new_region base octets rights))
 
--- the octets of the region that is taken out
+-- the octets of the region that this STag names
 abbrev pub octets_of : EndpointState → Stag → Option (List ℕ)
 octets_of e stag = option_map (λ r. r.octets) (region_at e.table stag)
 
@@ -138,7 +140,7 @@ store_refusal e stag to n = tables.store_refusal e.table stag to n
 abbrev pub stored : EndpointState → Stag → ℕ → List ℕ → EndpointState
 stored e stag to octets = with_table e (put e.table stag to octets)
 
--- the owner has left these as the region's octets
+-- the owner has replaced the region's octets by these
 abbrev pub rewritten : EndpointState → Stag → List ℕ → EndpointState
 rewritten e stag octets = with_table e (overwritten e.table stag octets)
 
@@ -151,7 +153,7 @@ pool_of e pd = slice_index_or e.pools pd None
 abbrev pub with_pool : EndpointState → ℕ → Option Pool → EndpointState
 with_pool e pd pool = record e { pools = slice_set e.pools pd pool }
 
--- the refusals at a domain that was added or wasn't, and has this pool, if it has one
+-- the refusals, given whether the domain was added and the pool that it has
 abbrev pub share_fault : Bool → Option Pool → Option ShareRefusal
 share_fault added pool = if not added then Some share_refusals.NoDomain else option_map (λ pool. share_refusals.AlreadyShared) pool
 
@@ -178,7 +180,7 @@ shared e pd = with_pool e pd (Some [])
 abbrev pub pool_refusal : EndpointState → ℕ → Option PoolRefusal
 pool_refusal e pd = pool_fault (is_added e.table pd) (pool_of e pd)
 
--- the buffer stands after the others
+-- the buffer comes after the others
 abbrev pub pooled : EndpointState → ℕ → List ℕ → EndpointState
 pooled e pd buffer = with_pool e pd (option_map (λ pool. pool ++ buffer ∷ []) (pool_of e pd))
 
@@ -197,44 +199,52 @@ after_take e pd = with_pool e pd (option_map (drop 1) (pool_of e pd))
 
 -- ---- openings
 
-abbrev pub open_refusal : EndpointState → ℕ → ℕ → Option OpenRefusal
-open_refusal e number pd =
+-- why no stream is opened under this number in this domain
+abbrev pub number_refusal : EndpointState → ℕ → ℕ → Option OpenRefusal
+number_refusal e number pd =
     if has_stream e number then Some NumberTaken
     else if nat_le stream_numbers number then Some BadNumber
     else if not (is_added e.table pd) then Some NoDomain
     else None
 
+-- an initiator has too much private data
+abbrev pub request_refusal : Role → Config → Option OpenRefusal
+request_refusal role config = if exceeds_request role config then Some PrivateTooLong else None
+
+abbrev pub open_refusal : EndpointState → ℕ → ℕ → Role → Config → Option OpenRefusal
+open_refusal e number pd role config = option_or (number_refusal e number pd) (request_refusal role config)
+
 abbrev pub opened : EndpointState → ℕ → ℕ → Role → Config → EndpointState
 opened e number pd role config = with_stream e number (stream.opened pd role config)
 
--- of a stream that shares the domain's pool
+-- for a stream that shares the domain's pool
 abbrev pub open_shared_refusal_of : OpenRefusal → OpenSharedRefusal
 open_shared_refusal_of NumberTaken = open_shared_refusals.NumberTaken
 open_shared_refusal_of BadNumber = open_shared_refusals.BadNumber
 open_shared_refusal_of NoDomain = open_shared_refusals.NoDomain
+open_shared_refusal_of PrivateTooLong = open_shared_refusals.PrivateTooLong
 open_shared_refusal_of NoMemory = open_shared_refusals.NoMemory
 
--- that the domain has no pool comes after all else
+-- NotShared comes after the number and the domain
 abbrev pub unshared : Option Pool → Option OpenSharedRefusal
 unshared None = Some open_shared_refusals.NotShared
 unshared (Some pool) = None
 
-abbrev pub open_shared_refusal : EndpointState → ℕ → ℕ → Option OpenSharedRefusal
-open_shared_refusal e number pd = option_or (option_map open_shared_refusal_of (open_refusal e number pd)) (unshared (pool_of e pd))
+abbrev pub open_shared_refusal : EndpointState → ℕ → ℕ → Role → Config → Option OpenSharedRefusal
+open_shared_refusal e number pd role config =
+    option_or (option_map open_shared_refusal_of (number_refusal e number pd))
+    (option_or (unshared (pool_of e pd)) (option_map open_shared_refusal_of (request_refusal role config)))
 
 abbrev pub opened_shared : EndpointState → ℕ → ℕ → Role → Config → EndpointState
 opened_shared e number pd role config = with_stream e number (stream.opened_shared pd role config)
 
 -- ---- start-up
 
--- why a responder's user may not answer
-abbrev pub unasked : StreamState → Option NotAsked
-unasked s = if may_answer s then None else Some (record {})
+-- why a Request is not answered with this private data
+abbrev pub answer_refusal : EndpointState → ℕ → List ℕ → Option (CallRefusal AnswerRefusal)
+answer_refusal e number private = refusal_at (stream_of e number) (λ s. stream.answer_refusal s private)
 
-abbrev pub answer_refusal : EndpointState → ℕ → Option (CallRefusal NotAsked)
-answer_refusal e number = refusal_at (stream_of e number) unasked
-
--- what accepting tells
+-- what accept returns
 abbrev pub agreement : EndpointState → ℕ → Agreed
 agreement e number = agreement_in (stream_at e number).start
 
@@ -258,7 +268,7 @@ recv_refusal e number = refusal_at (stream_of e number) stream.recv_refusal
 abbrev pub with_buffer : EndpointState → ℕ → List ℕ → EndpointState
 with_buffer e number buffer = with_stream e number (stream.with_buffer (stream_at e number) buffer)
 
--- ---- octets that come and go
+-- ---- delivery and emission
 
 -- why the sequence number of the peer's first octet is not set
 abbrev pub first_refusal : EndpointState → ℕ → Option (CallRefusal FirstRefusal)
@@ -286,12 +296,12 @@ after_emit e number = with_stream e number (stream.after_emit e.table (stream_at
 
 -- ---- work
 
--- a stream at its step: the pool of its domain, if there is one, is lent to it
+-- a stream as it does a step: the pool of its domain, if there is one, is lent to it
 abbrev pub lent_to : Option Pool → StreamState → StreamState
 lent_to None s = s
 lent_to (Some pool) s = sees s pool
 
--- what the step leaves of it, and of the pool
+-- the stream after the step, and the pool
 abbrev pub left_of : Table → Option Pool → StreamState → StreamState
 left_of table None s = worked table s
 left_of table (Some pool) s = worked_with table s pool
@@ -303,7 +313,7 @@ pool_left table (Some pool) s = Some (work.pool_left table s pool)
 abbrev pub step_at : EndpointState → ℕ → Result (Step (List ℕ)) NoSuchStream
 step_at e number = answer_at (stream_of e number) (λ s. work_step e.table (lent_to (pool_of e s.domain) s))
 
--- what a step at this stream leaves
+-- the endpoint after a step at this stream
 abbrev pub with_worked : EndpointState → ℕ → StreamState → EndpointState
 with_worked e number s = record {
   table = table_worked e.table (lent_to (pool_of e s.domain) s);
@@ -328,12 +338,16 @@ size_refusal e number size = refusal_at (stream_of e number) (λ s. stream.size_
 abbrev pub with_mulpdu : EndpointState → ℕ → ℕ → EndpointState
 with_mulpdu e number size = with_stream e number (stream.with_mulpdu (stream_at e number) size)
 
--- ---- what is told of a stream
+-- ---- facts about a stream
 
 abbrev pub private_at : EndpointState → ℕ → List ℕ
 private_at e number = private_in (stream_at e number).start
 
--- how many octets it emitted, and how far it has come; 0 where there is none
+-- what the peer told in its start-up frame by the word of IRD and ORD
+abbrev pub told_at : EndpointState → ℕ → Option EnhancedData
+told_at e number = told_in (stream_at e number).start
+
+-- how many octets it emitted; 0 if there is no stream
 abbrev pub sent_at : EndpointState → ℕ → ℕ
 sent_at e number = (stream_at e number).sent
 
@@ -341,6 +355,7 @@ sent_at e number = (stream_at e number).sent
 abbrev pub first_at : EndpointState → ℕ → ℕ
 first_at e number = (stream_at e number).first
 
+-- its in-order point; 0 if there is no stream
 abbrev pub point_at : EndpointState → ℕ → ℕ
 point_at e number = (stream_at e number).arrived.floor
 

@@ -1,4 +1,4 @@
--- What one domain has of an endpoint, and that no call lets it see or change what is another's.
+-- One domain's part of an endpoint, and that no call lets a domain see or change another's.
 use Rattle.std.specs.Prelude.{◌≡◌, ◌≢◌, ◌⊎◌, ℕ, ◌==◌, List, [], ◌∷◌, length, map, filter, slice_set, if◌then◌else◌, Bool, is_some, Option, Some, None, IfSome, Result, Ok, Err}
 use Rattle.std.specs.Option.{option_map}
 use Rattle.arrayvec.specs.ArrayVec.{ArrayVec}
@@ -15,7 +15,8 @@ use Rattle.iw_queues.specs.declared.request.Request.{Request}
 use Rattle.iw_ranges.specs.declared.Delivery.{Delivery}
 use Rattle.iw_startup.specs.declared.config.Agreed.{Agreed}
 use Rattle.iw_startup.specs.declared.config.Config.{Config}
-use Rattle.iw_startup.specs.declared.startup.NotAsked.{NotAsked}
+use Rattle.iw_startup.specs.declared.enhanced.EnhancedData.{EnhancedData}
+use Rattle.iw_stream.specs.declared.answer.AnswerRefusal.{AnswerRefusal}
 use Rattle.iw_stream.specs.declared.answer.FirstRefusal.{FirstRefusal}
 use Rattle.iw_stream.specs.declared.answer.Emission.{Emission}
 use Rattle.iw_stream.specs.declared.answer.OpenRefusal.{OpenRefusal}
@@ -31,11 +32,11 @@ use Rattle.iw_endpoint.specs.declared.refusal.OpenSharedRefusal.{OpenSharedRefus
 use Rattle.iw_endpoint.specs.declared.refusal.PoolRefusal.{PoolRefusal}
 use Rattle.iw_endpoint.specs.declared.refusal.ShareRefusal.{ShareRefusal}
 use Rattle.iw_endpoint.specs.declared.refusal.TakeRefusal.{TakeRefusal}
-use Rattle.iw_endpoint.specs.Endpoint.{EndpointState, Pool, domain_numbers, no_pools, fresh, pool_of, share_refusal, shared, pool_refusal, pooled, take_refusal, taken_at, after_take, open_shared_refusal, opened_shared, stream_of, answer_at, domain_refusal, added, registered, octets_of, deregistered, invalidated, facts_at, store_refusal, stored, rewritten, open_refusal, opened, answer_refusal, agreement, accepted, rejected, post_refusal, with_request, recv_refusal, with_buffer, delivery_at, after_deliver, emission_at, emitted_at, after_emit, step_at, after_work, broken, size_refusal, with_mulpdu, private_at, sent_at, point_at, first_refusal, with_first, first_at}
+use Rattle.iw_endpoint.specs.Endpoint.{EndpointState, Pool, domain_numbers, no_pools, fresh, pool_of, share_refusal, shared, pool_refusal, pooled, take_refusal, taken_at, after_take, open_shared_refusal, opened_shared, stream_of, answer_at, domain_refusal, added, registered, octets_of, deregistered, invalidated, facts_at, store_refusal, stored, rewritten, open_refusal, opened, answer_refusal, agreement, accepted, rejected, post_refusal, with_request, recv_refusal, with_buffer, delivery_at, after_deliver, emission_at, emitted_at, after_emit, step_at, after_work, broken, size_refusal, with_mulpdu, private_at, told_at, sent_at, point_at, first_refusal, with_first, first_at}
 
 -- ---- calls, as values
 
--- at the stream of a number
+-- calls on the stream of a number
 pub data StreamCall : Type 0 where
   Accept : ArrayVec ℕ → StreamCall
   Reject : ArrayVec ℕ → StreamCall
@@ -48,6 +49,7 @@ pub data StreamCall : Type 0 where
   BreakLink : StreamCall
   SetMulpdu : ℕ → StreamCall
   Private : StreamCall
+  Told : StreamCall
   PeerFirst : StreamCall
   Sent : StreamCall
   DueLen : StreamCall
@@ -62,7 +64,7 @@ pub data Call : Type 0 where
   Store : Stag → ℕ → List ℕ → Call
   Facts : Stag → Call
   Local : Stag → Call
-  LocalMut : Stag → List ℕ → Call  -- with what is written through the part that it lends
+  LocalMut : Stag → List ℕ → Call  -- with what the owner then writes
   Open : ℕ → ℕ → Role → Config → Call
   Share : ℕ → Call
   PostShared : ℕ → List ℕ → Call
@@ -70,11 +72,11 @@ pub data Call : Type 0 where
   OpenShared : ℕ → ℕ → Role → Config → Call
   AtStream : ℕ → StreamCall → Call
 
--- ---- what is answered where memory is not wanting
+-- ---- what is answered, unless memory runs out
 
 pub data StreamAnswer : Type 0 where
-  Accepted : Result Agreed (CallRefusal NotAsked) → StreamAnswer
-  Rejected : Option (CallRefusal NotAsked) → StreamAnswer
+  Accepted : Result Agreed (CallRefusal AnswerRefusal) → StreamAnswer
+  Rejected : Option (CallRefusal AnswerRefusal) → StreamAnswer
   Posted : Option (CallRefusal PostRefusal) → StreamAnswer
   Buffered : Option (CallRefusal RecvRefusal) → StreamAnswer
   Numbered : Option (CallRefusal FirstRefusal) → StreamAnswer
@@ -84,13 +86,14 @@ pub data StreamAnswer : Type 0 where
   Broke : Result (Unit {0}) NoSuchStream → StreamAnswer
   Sized : Option (CallRefusal SizeRefusal) → StreamAnswer
   Shown : Result (List ℕ) NoSuchStream → StreamAnswer
+  Declared : Result (Option EnhancedData) NoSuchStream → StreamAnswer
   Counted : Result ℕ NoSuchStream → StreamAnswer
   Limited : Result (Unit {0}) NoSuchStream → StreamAnswer
 
 pub data Answer : Type 0 where
   Added : Option DomainRefusal → Answer
   Registered : Result Stag RegisterRefusal → Answer
-  Octets : Option (List ℕ) → Answer  -- the octets of a region; none where there is no region
+  Octets : Option (List ℕ) → Answer  -- the octets of a region; None if there is no region
   Invalidated : Bool → Answer  -- whether there is a region
   Found : Option facts.Facts → Answer
   Stored : Option StoreRefusal → Answer
@@ -105,19 +108,19 @@ abbrev pub answer_or : {A R : Type 0} → Option R → A → Result A R
 answer_or None x = Ok x
 answer_or (Some refusal) x = Err refusal
 
--- what a refused call leaves is what was there
+-- a refused call changes nothing
 abbrev pub unless : {R : Type 0} → Option R → EndpointState → EndpointState → EndpointState
 unless None e after = after
 unless (Some refusal) e after = e
 
--- and what one leaves of whose number there is no stream
+-- nor does a call whose number has no stream
 abbrev pub if_there : Option StreamState → EndpointState → EndpointState → EndpointState
 if_there None e after = e
 if_there (Some s) e after = after
 
 abbrev pub stream_answer : EndpointState → ℕ → StreamCall → StreamAnswer
-stream_answer e n (Accept private) = Accepted (answer_or (answer_refusal e n) (agreement e n))
-stream_answer e n (Reject private) = Rejected (answer_refusal e n)
+stream_answer e n (Accept private) = Accepted (answer_or (answer_refusal e n private.items) (agreement e n))
+stream_answer e n (Reject private) = Rejected (answer_refusal e n private.items)
 stream_answer e n (Post request) = Posted (post_refusal e n request)
 stream_answer e n (PostRecv buffer) = Buffered (recv_refusal e n)
 stream_answer e n (FirstNumber first) = Numbered (first_refusal e n)
@@ -127,6 +130,7 @@ stream_answer e n Emit = Emitted (answer_at (stream_of e n) (λ s. emission_at e
 stream_answer e n BreakLink = Broke (answer_at (stream_of e n) (λ s. tt))
 stream_answer e n (SetMulpdu size) = Sized (size_refusal e n size)
 stream_answer e n Private = Shown (answer_at (stream_of e n) (λ s. private_at e n))
+stream_answer e n Told = Declared (answer_at (stream_of e n) (λ s. told_at e n))
 stream_answer e n PeerFirst = Counted (answer_at (stream_of e n) (λ s. first_at e n))
 stream_answer e n Sent = Counted (answer_at (stream_of e n) (λ s. sent_at e n))
 stream_answer e n DueLen = Counted (answer_at (stream_of e n) (λ s. length (emitted_at e n)))
@@ -142,18 +146,18 @@ answer e (Store stag to octets) = Stored (store_refusal e stag to (length octets
 answer e (Facts stag) = Found (facts_at e stag)
 answer e (Local stag) = Octets (octets_of e stag)
 answer e (LocalMut stag octets) = Octets (octets_of e stag)
-answer e (Open n pd role config) = Opened (open_refusal e n pd)
+answer e (Open n pd role config) = Opened (open_refusal e n pd role config)
 answer e (Share pd) = Shared (share_refusal e pd)
 answer e (PostShared pd buffer) = Pooled (pool_refusal e pd)
 answer e (TakeShared pd) = Taken (answer_or (take_refusal e pd) (taken_at e pd))
-answer e (OpenShared n pd role config) = OpenedShared (open_shared_refusal e n pd)
+answer e (OpenShared n pd role config) = OpenedShared (open_shared_refusal e n pd role config)
 answer e (AtStream n call) = OfStream (stream_answer e n call)
 
 -- ---- what is left
 
 abbrev pub after_stream : EndpointState → ℕ → StreamCall → EndpointState
-after_stream e n (Accept private) = unless (answer_refusal e n) e (accepted e n private)
-after_stream e n (Reject private) = unless (answer_refusal e n) e (rejected e n private)
+after_stream e n (Accept private) = unless (answer_refusal e n private.items) e (accepted e n private)
+after_stream e n (Reject private) = unless (answer_refusal e n private.items) e (rejected e n private)
 after_stream e n (Post request) = unless (post_refusal e n request) e (with_request e n request)
 after_stream e n (PostRecv buffer) = unless (recv_refusal e n) e (with_buffer e n buffer)
 after_stream e n (FirstNumber first) = unless (first_refusal e n) e (with_first e n first)
@@ -163,6 +167,7 @@ after_stream e n Emit = if_there (stream_of e n) e (after_emit e n)
 after_stream e n BreakLink = if_there (stream_of e n) e (broken e n)
 after_stream e n (SetMulpdu size) = unless (size_refusal e n size) e (with_mulpdu e n size)
 after_stream e n Private = e
+after_stream e n Told = e
 after_stream e n PeerFirst = e
 after_stream e n Sent = e
 after_stream e n DueLen = e
@@ -178,16 +183,16 @@ after e (Store stag to octets) = unless (store_refusal e stag to (length octets)
 after e (Facts stag) = e
 after e (Local stag) = e
 after e (LocalMut stag octets) = rewritten e stag octets
-after e (Open n pd role config) = unless (open_refusal e n pd) e (opened e n pd role config)
+after e (Open n pd role config) = unless (open_refusal e n pd role config) e (opened e n pd role config)
 after e (Share pd) = unless (share_refusal e pd) e (shared e pd)
 after e (PostShared pd buffer) = unless (pool_refusal e pd) e (pooled e pd buffer)
 after e (TakeShared pd) = unless (take_refusal e pd) e (after_take e pd)
-after e (OpenShared n pd role config) = unless (open_shared_refusal e n pd) e (opened_shared e n pd role config)
+after e (OpenShared n pd role config) = unless (open_shared_refusal e n pd role config) e (opened_shared e n pd role config)
 after e (AtStream n call) = after_stream e n call
 
 -- ---- one domain's part
 
--- what a domain has of an endpoint: its slots, if it was added, its pool, if it has one, and its streams by number
+-- a domain's part of an endpoint: its slots, if it was added; its pool, if it has one; its streams, by number
 pub record Part : Type 0 where
   pub slots : slots.Part
   pub pool : Option Pool
@@ -201,11 +206,11 @@ own_stream d (Some s) = if s.domain == d then Some s else None
 abbrev pub part_of : ℕ → EndpointState → Part
 part_of d e = record { slots = tables.part_of e.table d; pool = pool_of e d; streams = map (own_stream d) e.streams }
 
--- an endpoint at which the domain has this, and no other domain has anything
+-- an endpoint with this part of the domain, and no other domain
 abbrev pub alone : ℕ → Part → EndpointState
 alone d part = record { table = with_part empty d part.slots; pools = slice_set no_pools d part.pool; streams = part.streams }
 
--- one step on one domain's part: what is answered, and what is left of it
+-- one call on one domain's part: its answer, and the part after it
 abbrev pub own_answer : ℕ → Part → Call → Answer
 own_answer d part call = answer (alone d part) call
 
@@ -260,7 +265,7 @@ Opens n d (AtStream m call) = ⊥
 abbrev pub owner : EndpointState → ℕ → Option ℕ
 owner e n = option_map (λ s. s.domain) (stream_of e n)
 
--- what a call that concerns a domain does is one step on that domain's part, and every other part stays
+-- a call that concerns a domain acts on that domain's part alone, and every other part stays as it is
 pub record OwnStep (d : ℕ) (e : EndpointState) (call : Call) : Type 0 where
   pub answered : answer e call ≡ own_answer d (part_of d e) call
   pub own : part_of d (after e call) ≡ own_after d (part_of d e) call
@@ -274,7 +279,7 @@ CallsConcernOneDomain = (d : ℕ) (e : EndpointState) (call : Call) → HasDomai
 
 -- ---- lists of calls
 
--- the domain that a call concerns, where this tells whose a stream number is
+-- the domain that a call concerns; `whose` gives the domain of a stream number
 abbrev pub concerned : (ℕ → ℕ) → Call → ℕ
 concerned whose (AddDomain pd) = pd
 concerned whose (Register pd base octets rights) = pd
@@ -295,7 +300,7 @@ concerned whose (AtStream n call) = whose n
 abbrev pub only : (ℕ → ℕ) → ℕ → List Call → List Call
 only whose d calls = filter (λ call. concerned whose call == d) calls
 
--- what is answered to them, beside all others
+-- the answers to them, among the calls of all domains
 abbrev pub view : (ℕ → ℕ) → ℕ → EndpointState → List Call → List Answer
 view whose d e [] = []
 view whose d e (call ∷ calls) =
@@ -305,7 +310,7 @@ abbrev pub after_all : EndpointState → List Call → EndpointState
 after_all e [] = e
 after_all e (call ∷ calls) = after_all (after e call) calls
 
--- and with no other domain at the endpoint
+-- the answers to them with no other domain at the endpoint
 abbrev pub own_answers : ℕ → Part → List Call → List Answer
 own_answers d part [] = []
 own_answers d part (call ∷ calls) = own_answer d part call ∷ own_answers d (own_after d part call) calls
@@ -314,7 +319,7 @@ abbrev pub own_after_all : ℕ → Part → List Call → Part
 own_after_all d part [] = part
 own_after_all d part (call ∷ calls) = own_after_all d (own_after d part call) calls
 
--- each number that is opened, or asked to be, is asked for in one domain alone
+-- each stream number is opened, or asked for, in one domain only
 abbrev pub OpensOwn : (ℕ → ℕ) → List Call → Type 0
 OpensOwn whose [] = Unit {0}
 OpensOwn whose (call ∷ calls) = ((n d : ℕ) → Opens n d call → whose n ≡ d) × OpensOwn whose calls
@@ -323,6 +328,6 @@ pub record IsAlone (whose : ℕ → ℕ) (d : ℕ) (calls : List Call) : Type 0 
   pub answers : view whose d fresh calls ≡ own_answers d (part_of d fresh) (only whose d calls)
   pub part : part_of d (after_all fresh calls) ≡ own_after_all d (part_of d fresh) (only whose d calls)
 
--- over any calls at a new endpoint, each domain is answered, and is left with, what it would be with no other domain there
+-- after any calls to a new endpoint, each domain has the answers and the part that it would have with no other domain
 abbrev pub DomainsAreAlone : Type 0
 DomainsAreAlone = (whose : ℕ → ℕ) (calls : List Call) → OpensOwn whose calls → (d : ℕ) → IsAlone whose d calls

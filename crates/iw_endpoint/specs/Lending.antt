@@ -1,4 +1,4 @@
--- What an endpoint ends as once a part of it was lent for writing.
+-- What an endpoint is after a part of it was lent for writing.
 use Rattle.std.specs.Prelude.{ℕ, List}
 use Rattle.std.specs.Borrow.{Lends, MutBor, Fml, RattleType, Array, u8}
 use Rattle.std.specs.declared.alloc.Allocator.{Ghosts}

@@ -24,15 +24,16 @@ use iw_memory::{
 };
 use iw_octets::Octets;
 use iw_stream::{
-    Agreed, Config, Delivery, Emission, FirstRefusal, NotAsked, OpenRefusal, PostRefusal,
-    PrivateData, RecvRefusal, Request, Role, SizeRefusal, Step, Stream,
+    Agreed, AnswerRefusal, Config, Delivery, Emission, EnhancedData, FirstRefusal, OpenRefusal,
+    PostRefusal, PrivateData, RecvRefusal, Request, Role, SizeRefusal, Step, Stream,
+    exceeds_request,
 };
 use iw_untagged::{BufferRefusal, SharedQueue};
 use std::alloc::{AllocError, Allocator, Global};
 use std::marker::Model;
 
-/// An endpoint: its registered regions, the pools of receive buffers that streams of a domain share, and its streams by
-/// number.
+/// An endpoint: its registered regions, the pools of receive buffers that streams of a domain share, and its streams,
+/// by number.
 #[derive(Drop)]
 pub struct Endpoint<A: Allocator = Global> {
     memory: Memory<A>,
@@ -64,6 +65,7 @@ fn open_shared_refusal_of(refusal: OpenRefusal) -> OpenSharedRefusal
         OpenRefusal::NumberTaken => OpenSharedRefusal::NumberTaken,
         OpenRefusal::BadNumber => OpenSharedRefusal::BadNumber,
         OpenRefusal::NoDomain => OpenSharedRefusal::NoDomain,
+        OpenRefusal::PrivateTooLong => OpenSharedRefusal::PrivateTooLong,
         OpenRefusal::NoMemory => OpenSharedRefusal::NoMemory,
     }
 }
@@ -74,15 +76,15 @@ impl<A: Allocator> Endpoint<A> {
     ghost use Rattle.iw_endpoint.specs.Endpoint.{invalidated, facts_at, store_refusal, stored};
     ghost use Rattle.iw_endpoint.specs.Endpoint.{share_refusal, shared, pool_refusal, pooled, take_refusal, taken_at, after_take};
     ghost use Rattle.iw_endpoint.specs.Endpoint.{pool_of, lent_to, open_shared_refusal, opened_shared};
-    ghost use Rattle.iw_endpoint.specs.Endpoint.{open_refusal, opened, answer_refusal, agreement, accepted};
-    ghost use Rattle.iw_endpoint.specs.Endpoint.{rejected, private_at, broken, size_refusal, with_mulpdu};
+    ghost use Rattle.iw_endpoint.specs.Endpoint.{number_refusal, open_refusal, opened, answer_refusal, agreement, accepted};
+    ghost use Rattle.iw_endpoint.specs.Endpoint.{rejected, private_at, told_at, broken, size_refusal, with_mulpdu};
     ghost use Rattle.iw_endpoint.specs.Endpoint.{post_refusal, with_request, recv_refusal, with_buffer};
     ghost use Rattle.iw_endpoint.specs.Endpoint.{first_refusal, with_first, first_at};
     ghost use Rattle.iw_endpoint.specs.Endpoint.{delivery_at, after_deliver, step_at, after_work, point_at};
     ghost use Rattle.iw_endpoint.specs.Endpoint.{emission_at, emitted_at, after_emit, sent_at};
     ghost use Rattle.iw_endpoint.specs.Lending.{LendsLocal};
 
-    /// An endpoint with no domain and no stream. An `Err` is want of memory.
+    /// An endpoint with no domain and no stream. An `Err` means out of memory.
     pub fn new(alloc: A) -> Result<Endpoint<A>, AllocError>
     where
         A: Copy,
@@ -95,14 +97,15 @@ impl<A: Allocator> Endpoint<A> {
         })
     }
 
-    /// The registered regions, to be looked at.
+    /// The registered regions, read-only.
     pub fn memory(&self) -> &Memory<A>
         ensures { result.now ≡ self.now.table }
     {
         &self.memory
     }
 
-    /// Adds a domain with no region and no stream: `pd` is 1 to 255. It takes no memory. An `Err` changes nothing.
+    /// Adds a protection domain with no region and no stream. `pd` must be 1 to 255. It allocates nothing. An `Err`
+    /// changes nothing.
     pub fn add_domain(&mut self, pd: u8) -> Result<(), DomainRefusal>
     where
         A: Copy,
@@ -113,9 +116,9 @@ impl<A: Allocator> Endpoint<A> {
         self.memory.add_domain(pd)
     }
 
-    /// Registers octets in a domain as a valid region, whose first octet has the tagged offset `base`, and tells the STag that
-    /// peers name it by. The octets stay where they are. `NoMemory` comes only where no other refusal applies. An `Err`
-    /// changes nothing, and has the octets.
+    /// Registers octets in a domain as a valid region and returns the STag by which peers name it. Its first octet has
+    /// the tagged offset `base`. The octets are not copied. An `Err` changes nothing and gives the octets back;
+    /// `NoMemory` comes only if no other refusal applies.
     pub fn register(
         &mut self,
         pd: u8,
@@ -123,7 +126,7 @@ impl<A: Allocator> Endpoint<A> {
         octets: Vec<u8, A>,
         rights: Rights,
     ) -> Result<Stag, (RegisterRefusal, Vec<u8, A>)>
-        // The refusal, where one applies, and otherwise want of memory alone.
+        // The first refusal that applies; if none does, only `NoMemory`.
         ensures refused { IfSome (register_refusal self.old.table pd base (length octets.items)) (λ refusal. IfErr result (λ e. e.0 ≡ refusal) × IsErr result) }
         ensures memory { IfNone (register_refusal self.old.table pd base (length octets.items)) (IfErr result (λ e. e.0 ≡ RegisterRefusal.NoMemory)) }
         ensures back { IfErr result (λ e. e.1 ≡ octets) }
@@ -135,7 +138,7 @@ impl<A: Allocator> Endpoint<A> {
         self.memory.register(pd, base, octets, rights)
     }
 
-    /// Takes a region out, valid or not, and gives its octets back: from then on its STag names nothing. An `Err` changes
+    /// Removes a region, valid or not, and returns its octets. From then on its STag names no region. An `Err` changes
     /// nothing.
     pub fn deregister(&mut self, stag: Stag) -> Result<Vec<u8, A>, NoRegion>
         ensures octets { option_map (λ v. v.items) (result_ok result) ≡ octets_of self.old stag }
@@ -145,7 +148,7 @@ impl<A: Allocator> Endpoint<A> {
         self.memory.deregister(stag)
     }
 
-    /// Ends the use of a region by peers, which stays registered for its owner. An `Err` changes nothing.
+    /// Makes a region invalid: peers can no longer use it. It stays registered for its owner. An `Err` changes nothing.
     pub fn invalidate(&mut self, stag: Stag) -> Result<(), NoRegion>
         ensures found { is_ok result ≡ is_some (region_at self.old.table stag) }
         ensures after { self.new ≡ invalidated self.old stag }
@@ -154,7 +157,7 @@ impl<A: Allocator> Endpoint<A> {
         self.memory.invalidate(stag)
     }
 
-    /// What is told of a region, valid or not; `None` where the STag names none.
+    /// The facts of a region, valid or not; `None` if the STag names no region.
     pub fn facts(&self, stag: Stag) -> Option<Facts>
         ensures facts { result ≡ facts_at self.now stag }
         ensures limits { IfSome result (λ facts. IsWithinLimits facts.base facts.len) }
@@ -162,14 +165,14 @@ impl<A: Allocator> Endpoint<A> {
         self.memory.facts(stag)
     }
 
-    /// A region's octets, for its owner; `None` where the STag names none.
+    /// A region's octets, for its owner; `None` if the STag names no region.
     pub fn local(&self, stag: Stag) -> Option<&[u8]>
         ensures { option_copied result ≡ octets_of self.now stag }
     {
         self.memory.local(stag)
     }
 
-    /// A region's octets for writing, for its owner. The STag must name a region, as `facts` tells.
+    /// A region's octets, for its owner to write. The STag must name a region: check with [`Endpoint::facts`].
     pub fn local_mut(&mut self, stag: Stag) -> &mut [u8]
         requires { IsSome (region_at self.old.table stag) }
         ensures* lends { sem 𝓛 (LendsLocal A.row A.Allocator self.entry stag result) }
@@ -178,7 +181,7 @@ impl<A: Allocator> Endpoint<A> {
         self.memory.local_mut(stag)
     }
 
-    /// Writes octets from tagged offset `to` on, for the region's owner. An `Err` changes nothing.
+    /// Writes octets into a region at tagged offset `to`, for its owner. An `Err` changes nothing.
     pub fn store(&mut self, stag: Stag, to: u64, octets: &[u8]) -> Result<(), StoreRefusal>
         ensures refused { result_err result ≡ store_refusal self.old stag to (length octets.now) }
         ensures ok { OnOk result (self.new ≡ stored self.old stag to octets.now) }
@@ -189,7 +192,7 @@ impl<A: Allocator> Endpoint<A> {
 
     // Why no stream is opened under this number in this domain, whether or not it shares a pool.
     fn refusal_to_open(&self, number: u8, pd: u8) -> Option<OpenRefusal>
-        ensures refused { result ≡ open_refusal self.now number pd }
+        ensures refused { result ≡ number_refusal self.now number pd }
         ensures within { IfNone result (number < stream_numbers) }
     {
         if self.streams.get(number).is_some() {
@@ -203,8 +206,10 @@ impl<A: Allocator> Endpoint<A> {
         }
     }
 
-    /// Opens a stream in a domain under a number from 0 to 63, as [`iw_stream::Stream::new`] says. The number stays taken,
-    /// also when the stream has ended. An `Err` opens nothing; `NoMemory` comes only where no other refusal applies.
+    /// Opens a stream in a domain under a number from 0 to 63 ([`iw_stream::Stream::new`]). The number stays taken,
+    /// even after the stream has ended. An `Err` opens nothing; `NoMemory` comes only if no other refusal applies.
+    ///
+    /// `PrivateTooLong` comes only at an initiator whose `config` asks for revision 2, with over 508 octets of private data.
     pub fn open(
         &mut self,
         number: u8,
@@ -214,14 +219,17 @@ impl<A: Allocator> Endpoint<A> {
     ) -> Result<(), OpenRefusal>
     where
         A: Copy,
-        // The refusal, where one applies, and otherwise want of memory alone.
-        ensures refused { IfSome (open_refusal self.old number pd) (λ refusal. result ≡ Err refusal) }
-        ensures memory { IfNone (open_refusal self.old number pd) (IfErr result (λ e. e ≡ OpenRefusal.NoMemory)) }
+        // The first refusal that applies; if none does, only `NoMemory`.
+        ensures refused { IfSome (open_refusal self.old number pd role config) (λ refusal. result ≡ Err refusal) }
+        ensures memory { IfNone (open_refusal self.old number pd role config) (IfErr result (λ e. e ≡ OpenRefusal.NoMemory)) }
         ensures ok { OnOk result (self.new ≡ opened self.old number pd role config) }
         ensures err { OnErr result (self.new ≡ self.old) }
     {
         if let Some(refusal) = self.refusal_to_open(number, pd) {
             return Err(refusal);
+        }
+        if exceeds_request(role, &config) {
+            return Err(OpenRefusal::PrivateTooLong);
         }
         match Stream::new(self.streams.allocator(), pd, role, config) {
             Ok(stream) => {
@@ -232,12 +240,12 @@ impl<A: Allocator> Endpoint<A> {
         }
     }
 
-    /// Makes the domain a pool of receive buffers, with none in it, that streams of the domain may share
-    /// ([`Endpoint::open_shared`]). An `Err` changes nothing; `NoMemory` comes only where no other refusal applies.
+    /// Gives the domain an empty pool of receive buffers, which its streams may share ([`Endpoint::open_shared`]). An
+    /// `Err` changes nothing; `NoMemory` comes only if no other refusal applies.
     pub fn share(&mut self, pd: u8) -> Result<(), ShareRefusal>
     where
         A: Copy,
-        // The refusal, where one applies, and otherwise want of memory alone.
+        // The first refusal that applies; if none does, only `NoMemory`.
         ensures refused { IfSome (share_refusal self.old pd) (λ refusal. result ≡ Err refusal) }
         ensures memory { IfNone (share_refusal self.old pd) (IfErr result (λ e. e ≡ ShareRefusal.NoMemory)) }
         ensures ok { OnOk result (self.new ≡ shared self.old pd) }
@@ -258,15 +266,16 @@ impl<A: Allocator> Endpoint<A> {
         }
     }
 
-    /// Posts a receive buffer to the domain's pool, after the others: at most 1,024. The oldest serves the next message of
-    /// which a segment is placed at one of the streams that share the pool; [`Step::Received`] gives it back. An `Err` changes
-    /// nothing, and has the vector; `NoMemory` comes only where no other refusal applies.
+    /// Posts a receive buffer to the domain's pool, after the others. A pool holds at most 1,024. When a stream that
+    /// shares the pool places a segment of a message that has no buffer yet, the oldest buffer is bound to that
+    /// message; [`Step::Received`] gives it back. An `Err` changes nothing and gives the buffer back; `NoMemory` comes
+    /// only if no other refusal applies.
     pub fn post_shared(
         &mut self,
         pd: u8,
         buffer: Vec<u8, A>,
     ) -> Result<(), (PoolRefusal, Vec<u8, A>)>
-        // The refusal, where one applies, and otherwise want of memory alone.
+        // The first refusal that applies; if none does, only `NoMemory`.
         ensures refused { IfSome (pool_refusal self.old pd) (λ refusal. IfErr result (λ e. e.0 ≡ refusal) × IsErr result) }
         ensures memory { IfNone (pool_refusal self.old pd) (IfErr result (λ e. e.0 ≡ PoolRefusal.NoMemory)) }
         ensures back { IfErr result (λ e. e.1 ≡ buffer) }
@@ -285,7 +294,7 @@ impl<A: Allocator> Endpoint<A> {
         }
     }
 
-    /// Takes the oldest buffer out of the domain's pool; `None` where the pool has none. An `Err` changes nothing.
+    /// Takes the oldest buffer out of the domain's pool; `None` if the pool is empty. An `Err` changes nothing.
     pub fn take_shared(&mut self, pd: u8) -> Result<Option<Vec<u8, A>>, TakeRefusal>
         ensures refused { result_err result ≡ take_refusal self.old pd }
         ensures buffer { IfOk result (λ buffer. option_map (λ v. v.items) buffer ≡ taken_at self.old pd) }
@@ -301,8 +310,8 @@ impl<A: Allocator> Endpoint<A> {
         }
     }
 
-    /// Opens a stream as [`Endpoint::open`] does, one that shares the domain's pool ([`iw_stream::Stream::new_shared`]):
-    /// [`Endpoint::post_recv`] is refused at it. An `Err` opens nothing; `NoMemory` comes only where no other refusal applies.
+    /// As [`Endpoint::open`], but the stream shares the domain's pool ([`iw_stream::Stream::new_shared`]):
+    /// [`Endpoint::post_recv`] is refused. An `Err` opens nothing; `NoMemory` comes only if no other refusal applies.
     pub fn open_shared(
         &mut self,
         number: u8,
@@ -312,9 +321,9 @@ impl<A: Allocator> Endpoint<A> {
     ) -> Result<(), OpenSharedRefusal>
     where
         A: Copy,
-        // The refusal, where one applies, and otherwise want of memory alone.
-        ensures refused { IfSome (open_shared_refusal self.old number pd) (λ refusal. result ≡ Err refusal) }
-        ensures memory { IfNone (open_shared_refusal self.old number pd) (IfErr result (λ e. e ≡ OpenSharedRefusal.NoMemory)) }
+        // The first refusal that applies; if none does, only `NoMemory`.
+        ensures refused { IfSome (open_shared_refusal self.old number pd role config) (λ refusal. result ≡ Err refusal) }
+        ensures memory { IfNone (open_shared_refusal self.old number pd role config) (IfErr result (λ e. e ≡ OpenSharedRefusal.NoMemory)) }
         ensures ok { OnOk result (self.new ≡ opened_shared self.old number pd role config) }
         ensures err { OnErr result (self.new ≡ self.old) }
     {
@@ -323,6 +332,9 @@ impl<A: Allocator> Endpoint<A> {
         }
         if self.pools.get(pd).is_none() {
             return Err(OpenSharedRefusal::NotShared);
+        }
+        if exceeds_request(role, &config) {
+            return Err(OpenSharedRefusal::PrivateTooLong);
         }
         match Stream::new_shared(self.streams.allocator(), pd, role, config) {
             Ok(stream) => {
@@ -333,17 +345,18 @@ impl<A: Allocator> Endpoint<A> {
         }
     }
 
-    /// Accepts the Request that waits for an answer, after [`Step::Asked`]; the Reply carries this private data, and is emitted
-    /// next. The stream is open from then on, and emits frames once one of the peer's had its turn (RFC 5044 7.1.2).
+    /// Accepts the pending MPA Request, after [`Step::Asked`]. The MPA Reply is emitted next and carries this private
+    /// data. The stream is open from then on, and emits frames once a frame of the peer's had its turn (RFC 5044
+    /// 7.1.2).
     ///
-    /// An `Err` changes nothing. It comes where no stream has the number, where no Request waits for an answer, and where the
-    /// stream has ended.
+    /// An `Err` changes nothing: a Request that is pending stays so. `NotAsked` comes if no Request is pending, or if the
+    /// stream has ended; then `PrivateTooLong` if an answer to an enhanced Request has over 508 octets of private data.
     pub fn accept(
         &mut self,
         number: u8,
         private: PrivateData,
-    ) -> Result<Agreed, CallRefusal<NotAsked>>
-        ensures refused { result_err result ≡ answer_refusal self.old number }
+    ) -> Result<Agreed, CallRefusal<AnswerRefusal>>
+        ensures refused { result_err result ≡ answer_refusal self.old number private.items }
         ensures agreed { IfOk result (λ agreed. agreed ≡ agreement self.old number) }
         ensures ok { OnOk result (self.new ≡ accepted self.old number private) }
         ensures err { OnErr result (self.new ≡ self.old) }
@@ -357,10 +370,14 @@ impl<A: Allocator> Endpoint<A> {
         }
     }
 
-    /// Rejects the Request that waits for an answer; the Reply carries this private data. The stream has ended, and the Reply
-    /// is still emitted. An `Err` changes nothing, and comes where that of [`Endpoint::accept`] does.
-    pub fn reject(&mut self, number: u8, private: PrivateData) -> Result<(), CallRefusal<NotAsked>>
-        ensures refused { result_err result ≡ answer_refusal self.old number }
+    /// Rejects the pending MPA Request. The stream has then ended, but the Reply, with this private data, is still
+    /// emitted. An `Err` changes nothing, and comes when that of [`Endpoint::accept`] does.
+    pub fn reject(
+        &mut self,
+        number: u8,
+        private: PrivateData,
+    ) -> Result<(), CallRefusal<AnswerRefusal>>
+        ensures refused { result_err result ≡ answer_refusal self.old number private.items }
         ensures ok { OnOk result (self.new ≡ rejected self.old number private) }
         ensures err { OnErr result (self.new ≡ self.old) }
     {
@@ -373,14 +390,15 @@ impl<A: Allocator> Endpoint<A> {
         }
     }
 
-    /// Posts a message or a Read after the others; `work` tells in posting order which are done. Its octets are shared, not
-    /// copied. An `Err` changes nothing, and has what was to be posted; `NoMemory` comes only where no other refusal applies.
+    /// Posts a message or a Read, after the others. [`Step::Done`] reports them in posting order. The octets are
+    /// shared, not copied. An `Err` changes nothing and gives the request back; `NoMemory` comes only if no other
+    /// refusal applies.
     pub fn post(
         &mut self,
         number: u8,
         request: Request<Bytes<A>>,
     ) -> Result<(), (CallRefusal<PostRefusal>, Request<Bytes<A>>)>
-        // The refusal, where one applies, and otherwise want of memory alone.
+        // The first refusal that applies; if none does, only `NoMemory`.
         ensures refused { IfSome (post_refusal self.old number request) (λ refusal. IfErr result (λ e. e.0 ≡ refusal) × IsErr result) }
         ensures memory { IfNone (post_refusal self.old number request) (IfErr result (λ e. e.0 ≡ CallRefusal.Refused PostRefusal.NoMemory)) }
         ensures back { IfErr result (λ e. e.1 ≡ request) }
@@ -396,14 +414,14 @@ impl<A: Allocator> Endpoint<A> {
         }
     }
 
-    /// Posts a receive buffer after the others, also before the stream is open; [`Step::Received`] gives it back. An `Err`
-    /// changes nothing, and has the vector; `NoMemory` comes only where no other refusal applies.
+    /// Posts a receive buffer, after the others. The stream need not be open yet. [`Step::Received`] gives the buffer
+    /// back. An `Err` changes nothing and gives the buffer back; `NoMemory` comes only if no other refusal applies.
     pub fn post_recv(
         &mut self,
         number: u8,
         buffer: Vec<u8, A>,
     ) -> Result<(), (CallRefusal<RecvRefusal>, Vec<u8, A>)>
-        // The refusal, where one applies, and otherwise want of memory alone.
+        // The first refusal that applies; if none does, only `NoMemory`.
         ensures refused { IfSome (recv_refusal self.old number) (λ refusal. IfErr result (λ e. e.0 ≡ refusal) × IsErr result) }
         ensures memory { IfNone (recv_refusal self.old number) (IfErr result (λ e. e.0 ≡ CallRefusal.Refused RecvRefusal.NoMemory)) }
         ensures back { IfErr result (λ e. e.1 ≡ buffer) }
@@ -419,10 +437,10 @@ impl<A: Allocator> Endpoint<A> {
         }
     }
 
-    /// Sets the sequence number of the peer's first octet at a stream, 0 where none was set: for a caller to which octets come
-    /// with numbers of their own, as TCP's (RFC 9293 3.4). Of several calls the last counts.
+    /// Sets the sequence number of the peer's first octet at a stream. It is 0 if never set. Use it if octets come with
+    /// sequence numbers of their own, such as TCP's (RFC 9293 3.4). Of several calls the last counts.
     ///
-    /// `Late`: octets were delivered there before, and kept or dropped. An `Err` changes nothing.
+    /// `Late`: octets were delivered to the stream before, whether kept or dropped. An `Err` changes nothing.
     pub fn first_number(&mut self, number: u8, first: u32) -> Result<(), CallRefusal<FirstRefusal>>
         ensures refused { result_err result ≡ first_refusal self.old number }
         ensures ok { OnOk result (self.new ≡ with_first self.old number first) }
@@ -434,7 +452,7 @@ impl<A: Allocator> Endpoint<A> {
         }
     }
 
-    /// The sequence number of the peer's first octet at a stream: the last that was set, 0 where none was.
+    /// The sequence number of the peer's first octet at a stream: the last that was set, 0 if none was.
     pub fn peer_first(&self, number: u8) -> Result<u32, NoSuchStream>
         ensures stream { is_ok result ≡ has_stream self.now number }
         ensures first { IfOk result (λ first. first ≡ first_at self.now number) }
@@ -445,16 +463,18 @@ impl<A: Allocator> Endpoint<A> {
         }
     }
 
-    /// Takes octets that came on a stream's connection, the first of which has the sequence number `from`: where none was set
-    /// ([`Endpoint::first_number`]), the number of octets that came before it, start-up frames included, modulo 2^32. A caller
-    /// that reads a socket counts them. Octets may come in any order, and again. To be followed by [`Endpoint::work`].
+    /// Takes octets that came on a stream's connection; `from` is the sequence number of the first. Unless
+    /// [`Endpoint::first_number`] was called, numbers count from 0, start-up frames included, modulo 2^32: a caller
+    /// that reads a socket passes how many octets it read before. Octets may come in any order, and more than once.
+    /// Call [`Endpoint::work`] next.
     ///
-    /// The first octet has that of the places with its number which is nearest to the in-order point, less than 2^31 octets
-    /// past it or at most 2^31 before it. Octets before the in-order point are ignored, and so are those before the peer's first.
+    /// A sequence number stands for the nearest place to the in-order point that has it: less than 2^31 octets past
+    /// that point, or at most 2^31 before it. Octets before the in-order point, and before the peer's first octet, are
+    /// ignored.
     ///
-    /// They are dropped whole where one of them lies 262,144 octets or more past the in-order point, where they would make
-    /// more than 1,024 islands, and where the stream has ended. `Refused` is want of memory, comes only where they would be
-    /// kept and one of them is new; an `Err` changes nothing.
+    /// The whole delivery is dropped if an octet of it lies 262,144 octets or more past the in-order point, if more
+    /// than 1,024 islands (runs of octets with gaps between them) would result, or if the stream has ended. `Refused`
+    /// means out of memory; it comes only if the octets would be kept and one of them is new. An `Err` changes nothing.
     pub fn deliver(
         &mut self,
         number: u8,
@@ -477,14 +497,14 @@ impl<A: Allocator> Endpoint<A> {
         }
     }
 
-    /// Does one step at a stream, and tells what it did; to be called until it answers [`Step::Idle`], after octets came,
-    /// after frames were emitted and after [`Endpoint::break_link`].
+    /// Does one step at a stream and returns what it did. Call it until it answers [`Step::Idle`]: after octets came,
+    /// after frames were emitted, and after [`Endpoint::break_link`].
     ///
-    /// Where the stream has ended, each posted message is handed out in posting order, as finished or as given up, and then
-    /// each receive buffer. A buffer that the stream has not taken from the pool of its domain stays there.
+    /// If the stream has ended, `work` hands back each posted message, in posting order ([`Step::Done`] or
+    /// [`Step::Flushed`]), and then each receive buffer. A pool keeps the buffers that were not bound to a message.
     ///
-    /// It asks that the in-order point ([`Endpoint::in_order_point`]) is at most 2^62: it never is more than the number of
-    /// octets that came. `Refused` is want of memory, and comes only where a frame is judged before its turn; an `Err`
+    /// The in-order point ([`Endpoint::in_order_point`]) must be at most 2^62; it never exceeds the number of octets
+    /// that came. `Refused` means out of memory, and comes only when a frame is judged before its turn. An `Err`
     /// changes nothing.
     pub fn work(&mut self, number: u8) -> Result<Step<Octets<A>>, CallRefusal<AllocError>>
         requires { point_at self.old number ≤ 2 ^ 62 }
@@ -493,7 +513,7 @@ impl<A: Allocator> Endpoint<A> {
         ensures after { OnOk result (self.new ≡ after_work self.old number) }
         ensures err { OnErr result (self.new ≡ self.old) }
         ensures want { has_stream self.old number ≡ true → OnErr result (IsTry (task (lent_to (pool_of self.old (stream_at self.old number).domain) (stream_at self.old number)))) }
-        // The in-order point moves on by no more than may have come, and a message lies in its buffer.
+        // The in-order point moves by at most the window, and a message lies within its buffer.
         ensures reach { point_at self.new number ≤ point_at self.old number + 2 ^ 18 }
         ensures within { IfOk result IsWithinBuffer }
     {
@@ -506,14 +526,15 @@ impl<A: Allocator> Endpoint<A> {
         }
     }
 
-    /// Appends to `out` what is to be written out next at a stream: to be called until it answers [`Emission::Nothing`], when
-    /// the socket is writable. A response to a Read is fetched from the regions as it is emitted; where the peer may not
-    /// read them, nothing is appended and the stream has ended. A stream that has ended by a fault emits one Terminate and
-    /// nothing more; a responder at which none of the peer's frames had its turn emits none (RFC 5044 7.1.2).
+    /// Appends to `out` what a stream is to send next. When the socket is writable, call it until it answers
+    /// [`Emission::Nothing`]. A Read Response is fetched from the region as it is emitted; if the peer may no longer
+    /// read there, nothing is appended and the stream has ended ([`Emission::Fault`]). A stream that has ended by a
+    /// fault emits one Terminate, after a start-up frame that is still due, and nothing more. A responder at which no
+    /// frame of the peer's had its turn emits no Terminate (RFC 5044 7.1.2).
     ///
-    /// It asks that at most 2^62 octets were emitted ([`Endpoint::sent`]). `Refused` is want of memory, and comes only where
-    /// something is appended: where `out` has no room for it, or where a Read is begun while none is outstanding, and memory is
-    /// taken for 16 of them. An `Err` changes nothing.
+    /// At most 2^62 octets may have been emitted before ([`Endpoint::sent`]). `Refused` means out of memory. It comes
+    /// only if something would be appended: if `out` has no room for it, or if it begins a Read while none is
+    /// outstanding (that takes memory for 16 of them). An `Err` changes nothing.
     pub fn emit(
         &mut self,
         number: u8,
@@ -539,8 +560,8 @@ impl<A: Allocator> Endpoint<A> {
         }
     }
 
-    /// How many octets the next call of [`Endpoint::emit`] appends, where memory is not wanting: none where nothing is due, and
-    /// where the peer may not read what is to be fetched. It asks what `emit` asks.
+    /// How many octets the next call of [`Endpoint::emit`] appends unless it runs out of memory: 0 if nothing is due,
+    /// or if the peer may not read what a Read asks for. As for `emit`, at most 2^62 octets may have been emitted.
     pub fn due_len(&self, number: u8) -> Result<usize, NoSuchStream>
         requires { sent_at self.now number ≤ 2 ^ 62 }
         ensures stream { is_ok result ≡ has_stream self.now number }
@@ -552,8 +573,8 @@ impl<A: Allocator> Endpoint<A> {
         }
     }
 
-    /// Tells that a stream's link broke, as when its connection closed: the stream has ended, and nothing more is emitted, a
-    /// Terminate or a start-up frame that was due neither. [`Endpoint::work`] hands back what was posted.
+    /// Reports that a stream's link broke, for example because its connection closed. The stream has ended, and nothing
+    /// more is emitted, not even a pending Terminate or start-up frame. [`Endpoint::work`] hands back what was posted.
     pub fn break_link(&mut self, number: u8) -> Result<(), NoSuchStream>
         ensures stream { is_ok result ≡ has_stream self.old number }
         ensures ok { OnOk result (self.new ≡ broken self.old number) }
@@ -568,8 +589,8 @@ impl<A: Allocator> Endpoint<A> {
         }
     }
 
-    /// Sets the maximum ULPDU of what a stream emits from then on: 128 to 64,512 octets, 1,400 where none was set. An `Err`
-    /// changes nothing.
+    /// Sets the maximum ULPDU of the frames that a stream emits from then on, 128 to 64,512 octets. It is 1,400 if
+    /// never set. An `Err` changes nothing.
     pub fn set_mulpdu(&mut self, number: u8, size: u32) -> Result<(), CallRefusal<SizeRefusal>>
         ensures refused { result_err result ≡ size_refusal self.old number size }
         ensures ok { OnOk result (self.new ≡ with_mulpdu self.old number size) }
@@ -584,7 +605,7 @@ impl<A: Allocator> Endpoint<A> {
         }
     }
 
-    /// The private data of the peer's start-up frame at a stream: empty before that was read, and where there is none.
+    /// The private data of the peer's start-up frame at a stream: empty if that frame has none or has not been read.
     pub fn private(&self, number: u8) -> Result<&[u8], NoSuchStream>
         ensures stream { is_ok result ≡ has_stream self.now number }
         ensures private { IfOk result (λ private. private.now ≡ private_at self.now number) }
@@ -595,7 +616,19 @@ impl<A: Allocator> Endpoint<A> {
         }
     }
 
-    /// How many octets a stream emitted: the stream place of the octet that it emits next.
+    /// What the peer told in its start-up frame by the word of IRD and ORD (RFC 6581 9), once that was read; `None` if it
+    /// has no word.
+    pub fn told(&self, number: u8) -> Result<Option<EnhancedData>, NoSuchStream>
+        ensures stream { is_ok result ≡ has_stream self.now number }
+        ensures told { IfOk result (λ told. told ≡ told_at self.now number) }
+    {
+        match self.streams.get(number) {
+            Some(stream) => Ok(stream.told()),
+            None => Err(NoSuchStream),
+        }
+    }
+
+    /// How many octets a stream has emitted, which is the stream place of the next one.
     pub fn sent(&self, number: u8) -> Result<u64, NoSuchStream>
         ensures stream { is_ok result ≡ has_stream self.now number }
         ensures sent { IfOk result (λ sent. sent ≡ sent_at self.now number) }
@@ -606,8 +639,8 @@ impl<A: Allocator> Endpoint<A> {
         }
     }
 
-    /// The place of the first octet that a stream is not done with: the end of the last frame that had its turn, or of the
-    /// peer's start-up frame. It is at most the number of octets that came in order.
+    /// The in-order point: where the last frame that had its turn ends, or the peer's start-up frame if none had. It is
+    /// at most the number of octets that came in order.
     pub fn in_order_point(&self, number: u8) -> Result<u64, NoSuchStream>
         ensures stream { is_ok result ≡ has_stream self.now number }
         ensures point { IfOk result (λ point. point ≡ point_at self.now number) }
@@ -618,7 +651,8 @@ impl<A: Allocator> Endpoint<A> {
         }
     }
 
-    /// The limits that a stream keeps, as [`iw_stream::Stream::limits`] says. There is a place for each of the numbers 0 to 63.
+    /// Does nothing; its clauses state the limits that a stream keeps ([`iw_stream::Stream::limits`]), and that there
+    /// is a place for each of the numbers 0 to 63.
     pub fn limits(&self, number: u8) -> Result<(), NoSuchStream>
         ensures stream { is_ok result ≡ has_stream self.now number }
         ensures within { OnOk result (IsWithin (stream_at self.now number)) }

@@ -1,13 +1,13 @@
 ghost use Rattle.iw_endpoint.specs.Isolation.{CallsConcernOneDomain, DomainsAreAlone};
 
-/// What a call answers, and what it leaves of the domain that it concerns, are one step on that domain's part alone; every
-/// other domain's part stays.
+/// What a call answers, and how it changes the domain that it concerns, depend only on that domain's part of the
+/// endpoint. The parts of all other domains stay as they are.
 pub fn calls_concern_one_domain()
     ensures { CallsConcernOneDomain }
 {}
 
-/// Over any list of calls, each domain's answers and what is left of it are those that it would have with no other domain at
-/// the endpoint.
+/// After any list of calls to a new endpoint, each domain has got the answers, and is left in the state, that it would
+/// have if there were no other domain. It holds if no two domains ask for the same stream number.
 pub fn domains_are_alone()
     ensures { DomainsAreAlone }
 {}

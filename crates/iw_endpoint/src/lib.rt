@@ -1,27 +1,79 @@
-//! An endpoint as an application holds it: its registered regions, and its streams by number.
+//! What an application uses: an [`Endpoint`] holds the registered regions of one end and its streams, by number.
 //!
-//! An [`Endpoint`] does no input or output. Each of its streams is one connection, over a socket that the application owns.
-//! The application
+//! An endpoint does no input or output. Each stream is one connection, over a socket that the application owns. The
+//! application
 //!
-//! 1. adds a domain (`add_domain`), registers the octets that peers may use (`register`, which tells the STag), and opens a
-//!    stream in the domain under a number from 0 to 63 (`open`);
-//! 2. posts receive buffers (`post_recv`) and, once the stream is open, messages and Reads (`post`). Streams of a domain may
-//!    have their buffers from one pool instead (`share`, `post_shared`, `take_shared`): those that `open_shared` opened;
-//! 3. when the socket is writable: calls `emit` until it answers [`Emission::Nothing`], and writes out what was appended;
-//! 4. when octets came: hands them in with their number (`deliver`), and then calls `work` until it answers
-//!    [`Step::Idle`], where each call does one step and tells what it did. Where it is [`Step::Asked`] it calls `accept` or
-//!    `reject` and goes on. Then there may be more to emit.
+//! 1. adds a protection domain (`add_domain`), registers the octets that peers may use (`register`, which returns the
+//!    STag), and opens a stream in the domain under a number from 0 to 63 (`open`);
+//! 2. posts receive buffers (`post_recv`) and, once the stream is open, messages and Reads (`post`). Streams opened
+//!    with `open_shared` take their receive buffers from their domain's pool instead (`share`, `post_shared`,
+//!    `take_shared`);
+//! 3. when the socket is writable, calls `emit` until it answers [`Emission::Nothing`], and writes out what was
+//!    appended;
+//! 4. when octets came, hands them in with their sequence number (`deliver`), then calls `work` until it answers
+//!    [`Step::Idle`]. Each call does one step and returns what it did. After [`Step::Asked`] the application calls
+//!    `accept` or `reject`, then `work` again. Afterwards there may be more to emit.
 //!
-//! A stream ends by a fault, by the peer's Terminate, in its start-up, or where the application says that its link broke
-//! (`break_link`), as when its connection closed. `emit` still appends the Terminate that a fault makes due, and `work`
-//! hands back what was posted.
+//! A stream ends by a fault, by the peer's Terminate, in its start-up, or when the application reports a broken link
+//! (`break_link`), for example because the connection closed. `emit` still appends the Terminate that a fault makes
+//! due, and `work` hands back what was posted.
 //!
-//! A stream whose number was never opened is answered with [`NoSuchStream`] before all else. A number stays taken once it was
-//! opened. What one domain is answered and what its calls leave do not depend on any other domain: [`domains_are_alone`].
+//! Frames are checked and placed when they come, some of them before earlier octets have come. A frame *has its turn*
+//! when all octets before it have been processed: messages complete only then, in order.
 //!
-//! `new`, `register`, `share`, `post_shared`, `open`, `open_shared`, `post`, `post_recv`, `deliver` and `emit` may be out of
-//! memory, and so may `work`, if it judges a frame before its turn. Then nothing has changed, what was handed in is given back,
-//! and the call may be made again. No other call takes memory.
+//! If no stream was opened under a number, calls answer [`NoSuchStream`] before any other refusal. A number stays taken
+//! once it was opened. What a domain's calls answer and change does not depend on any other domain
+//! ([`domains_are_alone`]).
+//!
+//! `new`, `register`, `share`, `post_shared`, `open`, `open_shared`, `post`, `post_recv`, `deliver` and `emit` can run
+//! out of memory; so can `work`, when it judges a frame before its turn. Then nothing has changed, what was handed in
+//! is given back, and the call may be made again. No other call allocates.
+//!
+//! # Example
+//!
+//! Parts of `crates/embedding`, which is the whole program: an endpoint with one domain and one stream; what the
+//! program does when octets came on the socket; and what it does, until the answer is `false`, when the socket is
+//! writable.
+//!
+//! ```text
+//! let mut endpoint = Endpoint::new(alloc)?;
+//! if let Err(refusal) = endpoint.add_domain(DOMAIN) {
+//!     bail!("add_domain: {refusal:?}");
+//! }
+//! let config = Config {
+//!     markers: true,
+//!     crc: true,
+//!     establishment: Establishment::Plain,
+//!     private: PrivateData::new(),
+//! };
+//! if let Err(refusal) = endpoint.open(STREAM, DOMAIN, role, config) {
+//!     bail!("open: {refusal:?}");
+//! }
+//!
+//! pub(crate) fn octets_came<R: Runtime + AllocGlobal>(&mut self, rt: &R, octets: &[u8]) -> Result<()> {
+//!     if let Err(refusal) = self.endpoint.deliver(STREAM, self.next, octets) {
+//!         bail!("deliver: {refusal:?}");
+//!     }
+//!     self.next = number_after(self.next, octets);
+//!     self.work(rt)
+//! }
+//!
+//! // Appends what is to be written next. Returns whether there was anything to do.
+//! fn emit(&mut self, out: &mut Vec<u8>) -> Result<bool> {
+//!     match self.endpoint.sent(STREAM) {
+//!         Ok(sent) if sent <= MAX_PLACE => {}
+//!         _ => bail!("too many octets were emitted"),
+//!     }
+//!     match self.endpoint.emit(STREAM, out) {
+//!         // After a fault the Terminate is due.
+//!         Ok(Emission::Frame { .. } | Emission::Fetched { .. } | Emission::Fault(_)) => Ok(true),
+//!         Ok(Emission::Nothing) => Ok(false),
+//!         Err(refusal) => bail!("emit: {refusal:?}"),
+//!     }
+//! }
+//! ```
+//!
+//! `self.work` calls [`Endpoint::work`] until it answers [`Step::Idle`], and acts on each step.
 #![tactic(auto)]
 
 mod endpoint;
@@ -36,7 +88,8 @@ pub use iw_memory::{
 };
 pub use iw_octets::{Fault, MAX_PLACE, MAX_PRIVATE, Message, Octets, ReadRequest};
 pub use iw_stream::{
-    Agreed, Config, Delivery, Emission, FirstRefusal, Kind, NotAsked, OpenRefusal, PostRefusal,
+    Agreed, AnswerRefusal, Config, Delivery, Emission, EnhancedData, Establishment, FirstRefusal,
+    INSUFFICIENT_IRD, Kind, MAX_ENHANCED_PRIVATE, NO_MATCHING_RTR, OpenRefusal, PostRefusal,
     PrivateData, RecvRefusal, Request, Role, SizeRefusal, StartupFault, Step,
 };
 pub use laws::{calls_concern_one_domain, domains_are_alone};

@@ -14,7 +14,7 @@ use std::marker::Model;
 // How many domains there may be.
 const DOMAINS: usize = 256;
 
-/// The pools of receive buffers by domain: a place for each domain, which is empty before a pool is made for it.
+/// The pools of receive buffers, by domain: a place for each domain, `None` until the domain has a pool.
 #[derive(Drop)]
 pub(crate) struct Pools<A: Allocator = Global> {
     places: Vec<Option<SharedQueue<A>>, A>,
@@ -35,7 +35,7 @@ impl<A: Allocator> Pools<A> {
     ghost use Rattle.iw_endpoint.specs.Endpoint.{no_pools, lent_to, left_of, pool_left};
     ghost use Rattle.iw_endpoint.specs.Places.{LendsPool};
 
-    /// No domain has a pool. An `Err` is want of memory.
+    /// No domain has a pool. An `Err` means out of memory.
     pub(crate) fn new(alloc: A) -> Result<Pools<A>, AllocError>
     where
         A: Copy,
@@ -56,14 +56,14 @@ impl<A: Allocator> Pools<A> {
         *self.places.allocator()
     }
 
-    /// The domain's pool.
+    /// The domain's pool, if it has one.
     pub(crate) fn get(&self, pd: u8) -> Option<&SharedQueue<A>>
         ensures { option_copied result ≡ slice_index_or self.now pd None }
     {
         self.places.get(pd as usize)?.as_ref()
     }
 
-    /// The same, to be changed.
+    /// As `get`, for changing it.
     pub(crate) fn get_mut(&mut self, pd: u8) -> Option<&mut SharedQueue<A>>
         ensures* lends { sem 𝓛 (LendsPool A.row A.Allocator self.entry pd result) }
         ensures found { option_copied_mut result ≡ slice_index_or self.old pd None }
@@ -71,14 +71,15 @@ impl<A: Allocator> Pools<A> {
         self.places.get_mut(pd as usize)?.as_mut()
     }
 
-    /// Puts a pool at its domain.
+    /// Sets the domain's pool.
     pub(crate) fn put(&mut self, pd: u8, pool: SharedQueue<A>)
         ensures { self.new ≡ slice_set self.old pd (Some pool) }
     {
         self.places[pd as usize] = Some(pool);
     }
 
-    /// Does one step at a stream, to which the pool of its domain is lent, if there is one.
+    /// Does one step at a stream, with the pool of its domain, if there is one. An `Err` means out of memory and
+    /// changes nothing.
     pub(crate) fn work(
         &mut self,
         stream: &mut Stream<A>,

@@ -6,7 +6,7 @@ use thiserror::Error;
 #[error("no stream was opened under this number")]
 pub struct NoSuchStream;
 
-/// Why a call at a stream is refused: the first reason that holds.
+/// Why a call on a stream is refused: the first reason that holds.
 #[derive(Clone, Copy, Debug, PartialEq, Eq, Error)]
 #[error_bound(R: Display)]
 pub enum CallRefusal<R> {
@@ -18,16 +18,16 @@ pub enum CallRefusal<R> {
     Refused(R),
 }
 
-/// Why no pool is made for a domain: the first reason that holds.
+/// Why a domain is not given a pool: the first reason that holds.
 #[derive(Clone, Copy, Debug, PartialEq, Eq, Error)]
 pub enum ShareRefusal {
     /// The domain was not added.
     #[error("the domain was not added")]
     NoDomain,
-    /// The domain has a pool.
+    /// The domain already has a pool.
     #[error("the domain has a pool")]
     AlreadyShared,
-    /// There is no memory.
+    /// Out of memory.
     #[error("no memory")]
     NoMemory,
 }
@@ -44,7 +44,7 @@ pub enum PoolRefusal {
     /// The pool has 1,024 buffers.
     #[error("as many buffers are posted as may be")]
     Full,
-    /// There is no memory.
+    /// Out of memory.
     #[error("no memory")]
     NoMemory,
 }
@@ -63,10 +63,10 @@ pub enum TakeRefusal {
 /// Why a stream that shares the pool of its domain is not opened: the first reason that holds.
 #[derive(Clone, Copy, Debug, PartialEq, Eq, Error)]
 pub enum OpenSharedRefusal {
-    /// The number was opened before.
+    /// A stream was opened under this number before.
     #[error("a stream with this number was opened before")]
     NumberTaken,
-    /// No stream has this number.
+    /// The number is greater than 63.
     #[error("no stream has this number")]
     BadNumber,
     /// The domain was not added.
@@ -75,7 +75,10 @@ pub enum OpenSharedRefusal {
     /// The domain has no pool.
     #[error("the domain has no pool")]
     NotShared,
-    /// There is no memory.
+    /// An initiator that asks for revision 2 has over 508 octets of private data (RFC 6581 9).
+    #[error("the private data has more than 508 octets")]
+    PrivateTooLong,
+    /// Out of memory.
     #[error("no memory")]
     NoMemory,
 }

@@ -9,7 +9,7 @@ use std::marker::Model;
 /// How many numbers there are for streams, from 0 on.
 pub const STREAM_NUMBERS: usize = 64;
 
-/// The streams by number: a place for each number, which is empty before a stream is opened under it.
+/// The streams, by number: a place for each number, `None` until a stream is opened under it.
 #[derive(Drop)]
 pub(crate) struct Streams<A: Allocator = Global> {
     places: Vec<Option<Stream<A>>, A>,
@@ -30,7 +30,7 @@ impl<A: Allocator> Streams<A> {
     ghost use Rattle.iw_endpoint.specs.Endpoint.{no_streams, stream_numbers};
     ghost use Rattle.iw_endpoint.specs.Places.{LendsStream};
 
-    /// No stream was opened. An `Err` is want of memory.
+    /// No stream was opened. An `Err` means out of memory.
     pub(crate) fn new(alloc: A) -> Result<Streams<A>, AllocError>
     where
         A: Copy,
@@ -43,7 +43,7 @@ impl<A: Allocator> Streams<A> {
         Ok(Streams { places })
     }
 
-    /// There is a place for each number.
+    /// Does nothing; its clause states that there is a place for each number.
     pub(crate) fn limits(&self)
         ensures { length self.now ≡ stream_numbers }
     {
@@ -58,14 +58,14 @@ impl<A: Allocator> Streams<A> {
         *self.places.allocator()
     }
 
-    /// The stream that was opened under this number.
+    /// The stream that was opened under this number, if one was.
     pub(crate) fn get(&self, number: u8) -> Option<&Stream<A>>
         ensures { option_copied result ≡ slice_index_or self.now number None }
     {
         self.places.get(number as usize)?.as_ref()
     }
 
-    /// The same, to be changed.
+    /// As `get`, for changing it.
     pub(crate) fn get_mut(&mut self, number: u8) -> Option<&mut Stream<A>>
         ensures* lends { sem 𝓛 (LendsStream A.row A.Allocator self.entry number result) }
         ensures found { option_copied_mut result ≡ slice_index_or self.old number None }
