@@ -3,12 +3,13 @@ use iw_endpoint::{OpenSharedRefusal, PoolRefusal, ShareRefusal, TakeRefusal};
 use iw_memory::{DomainRefusal, NoRegion, RegisterRefusal, Right, Rights, StoreRefusal};
 use iw_octets::{Fault, Stag};
 use iw_queues::Request;
-use iw_startup::{Agreed, NotAsked, StartupFault};
+use iw_startup::{Agreed, StartupFault};
 use iw_stream::{
-    Delivery, FirstRefusal, Kind, OpenRefusal, PostRefusal, RecvRefusal, Role, SizeRefusal,
+    AnswerRefusal, Delivery, FirstRefusal, Kind, OpenRefusal, PostRefusal, RecvRefusal, Role,
+    SizeRefusal,
 };
 
-/// What a call to emit gave, with its octets.
+/// What a call of `emit` appended, with the octets.
 #[derive(Drop)]
 pub enum Shown<O> {
     /// A frame, whose first octet has the stream place `from`.
@@ -16,8 +17,8 @@ pub enum Shown<O> {
         from: u64,
         octets: O,
     },
-    /// A frame of the response to a Read, whose first octet has the stream place `from`: its payload are these octets of
-    /// region `stag`, which stood there from tagged offset `to` on.
+    /// A frame of a Read Response, whose first octet has the stream place `from`. Its payload is what region `stag` had
+    /// at tagged offset `to`.
     Fetched {
         from: u64,
         frame: O,
@@ -25,54 +26,55 @@ pub enum Shown<O> {
         to: u64,
         octets: O,
     },
-    /// The source of the Read that is answered is denied: nothing was emitted, and the stream has ended by this fault.
+    /// The peer may not read what its Read asks for: nothing was emitted, and the stream has ended by this fault.
     Fault(Fault),
     /// Nothing was due.
     Nothing,
 }
 
-/// What a step of work did, with the octets that it placed or handed out.
+/// What one call of `work` did, with the octets that it placed or handed out.
 #[derive(Drop)]
 pub enum Seen<O> {
     /// The oldest posted message is finished.
     Done(Kind),
-    /// The stream has ended, and the oldest posted message, which is not finished, is given up.
+    /// The stream has ended: the oldest posted message, which is not finished, is given up.
     Flushed(Kind),
-    /// The stream has ended, and the oldest receive buffer is handed back: all its octets, those included that were placed in it.
+    /// The stream has ended: the oldest receive buffer is handed back. All its octets, with those that were placed in
+    /// it.
     FlushedRecv(O),
-    /// The peer's Request is complete: its private data.
+    /// The peer's MPA Request is complete, with this private data.
     Asked {
         private: O,
     },
-    /// The peer's Reply has accepted: what was agreed, and its private data.
+    /// The peer's MPA Reply has accepted: what was agreed, and the Reply's private data.
     Opened {
         agreed: Agreed,
         private: O,
     },
     /// The peer's start-up frame has closed the stream.
     Closed(StartupFault),
-    /// A tagged segment was placed: the octets now stand in the region from tagged offset `to` on.
+    /// A tagged segment was placed: the region now has these octets at tagged offset `to`.
     Placed {
         right: Right,
         stag: Stag,
         to: u64,
         octets: O,
     },
-    /// A Send's segment of `len` octets was placed in the buffer that its message sequence number names, from offset `mo` on.
+    /// A Send's segment of `len` octets was placed at offset `mo` in the buffer of the message `msn`.
     Buffered {
         msn: u32,
         mo: u32,
         len: usize,
     },
-    /// A Read Request was taken up: it asks for `size` octets of region `stag`, from tagged offset `to` on.
+    /// A Read Request was accepted: it asks for `size` octets of region `stag` at tagged offset `to`.
     Requested {
         size: u32,
         stag: Stag,
         to: u64,
     },
-    /// The frame whose first octet has this stream place was judged before its turn and is left for it.
+    /// The frame whose first octet has this stream place was judged before its turn, and is left until its turn.
     Tried(u64),
-    /// A frame had its turn, and there is nothing more to say of it.
+    /// A frame had its turn. It completed nothing.
     Passed,
     /// A Send is complete: its octets, whether it was solicited, and the STag that it invalidated.
     Received {
@@ -88,7 +90,7 @@ pub enum Seen<O> {
     Idle,
 }
 
-/// A call of a stream with its answer. Where a call may be refused, `refused: None` says that it was not.
+/// A call on a stream with its answer. `refused: None` means that the call was not refused.
 #[derive(Drop)]
 pub enum StreamAct<O> {
     Recv {
@@ -104,15 +106,15 @@ pub enum StreamAct<O> {
         number: u32,
         refused: Option<FirstRefusal>,
     },
-    /// The octets are those that were delivered, also if they were dropped. The first of them has the stream place `from`
-    /// at the other end, and was handed in with this sequence number.
+    /// Octets that the other end emitted, the first of them at stream place `from` there. It was delivered with this
+    /// sequence number. The octets are shown even if they were dropped.
     Deliver {
         from: u64,
         number: u32,
         octets: O,
         delivery: Delivery,
     },
-    /// Octets that nobody need have emitted.
+    /// Any octets, whether or not the other end emitted them.
     Raw {
         number: u32,
         octets: O,
@@ -124,14 +126,14 @@ pub enum StreamAct<O> {
     },
     Accept {
         private: O,
-        answer: Result<Agreed, NotAsked>,
+        answer: Result<Agreed, AnswerRefusal>,
     },
     Reject {
         private: O,
-        refused: Option<NotAsked>,
+        refused: Option<AnswerRefusal>,
     },
     Work(Seen<O>),
-    /// The link broke: this call is never refused.
+    /// The link broke. This call is never refused.
     Break,
 }
 
@@ -180,7 +182,7 @@ pub enum Act<O> {
         len: u32,
         refused: Option<PoolRefusal>,
     },
-    /// The buffer that was taken, or `None` where the pool has none.
+    /// The buffer that was taken; `None` if the pool was empty.
     Unpool {
         pd: u8,
         answer: Result<Option<O>, TakeRefusal>,

@@ -12,14 +12,14 @@ pub enum End {
 
 /// What an end asks for on a stream (RFC 5044 7.1): markers in what the peer sends, CRCs in both directions.
 ///
-/// With the role `Preset` they hold for both directions at once.
+/// With the role `Preset` both hold in both directions.
 #[derive(Clone, Copy, Debug, PartialEq, Eq)]
 pub struct Options {
     pub markers: bool,
     pub crc: bool,
 }
 
-/// A call of a stream.
+/// A call on a stream.
 #[derive(Drop)]
 pub enum StreamCall<O> {
     /// Posts a receive buffer of `len` zero octets.
@@ -28,25 +28,25 @@ pub enum StreamCall<O> {
     Post { message: Request<O> },
     /// Emits one frame.
     Emit,
-    /// Tells the sequence number of the peer's first octet (RFC 9293 3.4), before any delivery.
+    /// Sets the sequence number of the peer's first octet (RFC 9293 3.4), before any delivery.
     First { number: u32 },
-    /// Delivers `len` octets that the other end emitted, the first of them at the stream place `from` there.
+    /// Delivers `len` octets that the other end emitted, the first of them at stream place `from` there.
     Deliver { from: u64, len: u64 },
     /// Delivers any octets, the first of them with this sequence number.
     Raw { number: u32, octets: O },
-    /// Sets the maximum ULPDU, in octets: the most that a ULPDU has which is sent from then on.
+    /// Sets the maximum ULPDU, in octets, of the frames that are emitted from then on.
     Mulpdu { size: u32 },
-    /// Accepts the Request that came, with the private data of the Reply.
+    /// Accepts the pending MPA Request, with this private data in the Reply.
     Accept { private: O },
-    /// Rejects the Request that came, with the private data of the Reply.
+    /// Rejects the pending MPA Request, with this private data in the Reply.
     Reject { private: O },
     /// Does one step of work.
     Work,
-    /// Breaks the link: the stream ends, and no Terminate is due.
+    /// Reports that the link broke: the stream ends, and no Terminate is sent.
     Break,
 }
 
-/// A call at an end: of its memory or its pools, an opening, or a call of one of its streams.
+/// A call at an end: on its regions or its pools, the opening of a stream, or a call on a stream.
 #[derive(Drop)]
 pub enum Call<O> {
     /// Adds a protection domain.
@@ -60,21 +60,21 @@ pub enum Call<O> {
         rights: Rights,
         octets: O,
     },
-    /// Takes a region out, with its octets.
+    /// Removes a region and returns its octets.
     Deregister {
         stag: Stag,
     },
-    /// Ends the use of a region by peers; it stays registered.
+    /// Makes a region invalid: peers can no longer use it. It stays registered.
     Invalidate {
         stag: Stag,
     },
-    /// Writes octets into a region, for its owner, from tagged offset `to` on.
+    /// Writes octets into a region at tagged offset `to`, for its owner.
     Store {
         stag: Stag,
         to: u64,
         octets: O,
     },
-    /// Opens a stream in a domain. The private data is that of the Request, and is used for the role `Initiator` alone.
+    /// Opens a stream in a domain. The private data goes into the MPA Request; only the role `Initiator` uses it.
     Open {
         stream: u8,
         pd: u8,
@@ -82,7 +82,7 @@ pub enum Call<O> {
         options: Options,
         private: O,
     },
-    /// Makes a pool of receive buffers for a domain.
+    /// Gives a domain a pool of receive buffers.
     Share {
         pd: u8,
     },
@@ -95,7 +95,7 @@ pub enum Call<O> {
     Unpool {
         pd: u8,
     },
-    /// Opens a stream that shares the pool of its domain; otherwise as `Open`.
+    /// As `Open`, but the stream shares the pool of its domain.
     OpenShared {
         stream: u8,
         pd: u8,
@@ -103,7 +103,7 @@ pub enum Call<O> {
         options: Options,
         private: O,
     },
-    /// Calls a stream.
+    /// A call on a stream.
     Stream {
         stream: u8,
         call: StreamCall<O>,

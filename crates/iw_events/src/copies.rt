@@ -37,7 +37,7 @@ pub fn shared<A: Allocator>(request: &Request<Bytes<A>>) -> Result<Request<Bytes
     }
 }
 
-/// The octets of a region from tagged offset `to` on, `len` of them, as far as the region has them.
+/// The `len` octets of a region at tagged offset `to`, or as many of them as the region has.
 pub fn standing<A: Allocator + Copy>(
     alloc: A,
     memory: &Memory<A>,
@@ -55,7 +55,7 @@ pub fn standing<A: Allocator + Copy>(
     Bytes::copy_from_slice(alloc, &rest[..len.min(rest.len())])
 }
 
-/// Private data as a start-up frame has it: the first 512 octets.
+/// The private data of a start-up frame: the first 512 of these octets.
 pub fn private_data(octets: &[u8]) -> PrivateData
     ensures { result ≡ record { items = take MAX_PRIVATE octets.now } }
 {

@@ -1,7 +1,7 @@
-//! What can happen at the two ends of a connection, and what each of them answers.
+//! The calls that can be made at the two ends of a connection, and their answers.
 //!
-//! An event is a call at one end. An entry is the same call together with its answer; a trace is a list of entries.
-//! The type of the octets in them is the parameter. [`shared`], [`standing`] and the like make the copies for entries.
+//! An *event* is a call at one end. An *entry* is a call with its answer, and a *trace* is a list of entries. Their
+//! type parameter is the type of octets. [`shared`], [`standing`] and the like make the copies for entries.
 #![tactic(auto)]
 
 mod act;
@@ -12,4 +12,4 @@ pub use act::{Act, Entry, Seen, Shown, StreamAct};
 pub use call::{Call, End, Event, Options, StreamCall};
 pub use copies::{message_in, private_data, shared, standing, whole};
 pub use iw_queues::Request;
-pub use iw_stream::Role;
+pub use iw_stream::{AnswerRefusal, Role};

@@ -24,10 +24,14 @@ use Rattle.iw_stream.specs.declared.judging.Turning.TheVariants as turning
 use Rattle.iw_stream.specs.declared.judging.PlacedFrame.{PlacedFrame}
 use Rattle.iw_stream.specs.Frames.{Frame}
 use Rattle.iw_stream.specs.Judging.{verdict, early_verdict, table_tried, turn_of, fault_or}
-use Rattle.iw_stream.specs.Starting.{first_place_in, private_in, progress_in}
+use Rattle.iw_startup.specs.declared.enhanced.Mismatch.{Mismatch}
+use Rattle.iw_stream.specs.Starting.{StartState, first_place_in, private_in, progress_in, heard, mismatch_in}
 use Rattle.iw_stream.specs.Stream.{StreamState, sees, Due, StartUp, LastWord, NextPart, NoneDue, Response as ResponseDue, due, frame_of, frame_fetched, emission_of, emitted, emission_due, octets_due, emission_fetched, octets_fetched}
-use Rattle.iw_stream.specs.Work.{Task, HandOut, GiveUp, GiveBack, Hear, Turn, Clash, Judge, Try, Rest, task, inbox, standing, step_of, table_left, table_judged, table_passed, judged_step, tried_step, turned_step, heard_step, work_step, worked, table_worked}
-use Rattle.iw_endpoint.specs.Endpoint.{EndpointState, Pool as PoolOf, pool_of, lent_to, share_fault, pool_fault, take_fault, taken, open_shared_refusal_of, unshared, fresh, stream_of, unopened}
+use Rattle.iw_stream.specs.Work.{Task, HandOut, GiveUp, GiveBack, Hear, Turn, Clash, Judge, Try, Rest, task, inbox, standing, step_of, table_left, table_judged, table_passed, judged_step, tried_step, turned_step, heard_step, opened_step, work_step, worked, table_worked}
+use Rattle.iw_startup.specs.declared.config.Config.{Config}
+use Rattle.iw_stream.specs.declared.answer.Role.TheVariants.{Preset}
+use Rattle.iw_laws.proofs.Plain.{or_none}
+use Rattle.iw_endpoint.specs.Endpoint.{EndpointState, Pool as PoolOf, number_refusal, request_refusal, pool_of, lent_to, share_fault, pool_fault, take_fault, taken, open_shared_refusal_of, unshared, fresh, stream_of, unopened}
 use Rattle.iw_endpoint.specs.Isolation.{HasDomains, IsOwn, Concerns, OwnStep, OpensOwn, part_of, alone, answer_or, after, concerned}
 use Rattle.iw_endpoint.proofs.Tables.{AreAlike, worked-alike, verdict-alike, early-alike, turn-alike, judged-alike, fetched-alike, octets-alike, region-alike, none_taken, undenied}
 use Rattle.iw_endpoint.proofs.Parts.{AreSeenAlike, fresh_domains, seen_alone, stream_alike, alone_own}
@@ -42,7 +46,7 @@ use Rattle.iw_events.specs.declared.act.StreamAct.TheVariants.{Recv, Post, Emit,
 use Rattle.iw_events.specs.declared.act.Shown.TheVariants.{Fetched}
 use Rattle.iw_events.specs.declared.act.Seen.TheVariants as seen
 use Rattle.iw_events.specs.declared.act.Entry.{Entry}
-use Rattle.iw_laws.specs.Words.{Octets, acts, acts_if, deed}
+use Rattle.iw_laws.specs.Words.{Octets, acts, acts_if, config_for, deed}
 use Rattle.iw_laws.specs.Rules.{State, start, end_of, with_end, shown_of, seen_of, StreamRule, EndRule, call_made, end_after, after_entry, Follows}
 use Rattle.iw_laws.specs.Isolated.{calls_made, only_acts, AreOwn, Isolated}
 use Rattle.iw_laws.proofs.Whole.{follows_split}
@@ -117,10 +121,14 @@ module _ (s : StreamState) (t u : Table) (h : AreAlike s.domain t u) where
   turned_seen frame private (Ok (turning.Answered ticket)) = refl
   turned_seen frame private (Err fault) = refl
 
+  opened_seen : (private : Octets) (start : StartState) (m : Option Mismatch) → seen_of t private (opened_step start m) ≡ seen_of u private (opened_step start m)
+  opened_seen private x None = refl
+  opened_seen private x (Some mismatch) = refl
+
   heard_seen : (private : Octets) (p : Progress) → seen_of t private (heard_step s.start (inbox s) p) ≡ seen_of u private (heard_step s.start (inbox s) p)
   heard_seen private progress.More = refl
   heard_seen private progress.Asked = refl
-  heard_seen private progress.Agreed = refl
+  heard_seen private progress.Agreed = opened_seen private (heard s.start (inbox s)) (mismatch_in (heard s.start (inbox s)))
   heard_seen private (progress.Faulted fault) = refl
 
   seen_alike : seen_of (table_worked t s) (private_in (worked t s).start) (work_step t s) ≡ seen_of (table_worked u s) (private_in (worked u s).start) (work_step u s)
@@ -203,7 +211,7 @@ own_rule d e (Open n pd role options private refused) all here rule =
     (λ own.
     let h = seen_alone pd e all in
     let f = alone pd (part_of pd e) in
-    rule ∙ open_alike pd e f n (stream_alike pd e f n own (alone_own pd e n) h) h) here.1
+    rule ∙ open_alike pd e f n role (config_for options private) (stream_alike pd e f n own (alone_own pd e n) h) h) here.1
 own_rule d e (Share pd refused) all here rule =
     let h = seen_alone pd e all in
     subst (λ x. EndRule (alone x (part_of x e)) (Share pd refused)) here (rule ∙ (λ i. share_fault (is_some (h.table.part i)) (h.pool i)))
@@ -218,8 +226,10 @@ own_rule d e (OpenShared n pd role options private refused) all here rule =
     (λ own.
     let h = seen_alone pd e all in
     let f = alone pd (part_of pd e) in
-    let open_so = open_alike pd e f n (stream_alike pd e f n own (alone_own pd e n) h) h in
-    rule ∙ (λ i. option_or (option_map open_shared_refusal_of (open_so i)) (unshared (h.pool i)))) here.1
+    let config : Config = config_for options private in
+    -- by its number, and by its domain
+    let numbers : number_refusal e n pd ≡ number_refusal f n pd = sym (or_none (number_refusal e n pd)) ∙ open_alike pd e f n Preset config (stream_alike pd e f n own (alone_own pd e n) h) h ∙ or_none (number_refusal f n pd) in
+    rule ∙ (λ i. option_or (option_map open_shared_refusal_of (numbers i)) (option_or (unshared (h.pool i)) (option_map open_shared_refusal_of (request_refusal role config))))) here.1
 own_rule d e (Stream n act) all own rule =
     let h = seen_alone d e all in
     let f = alone d (part_of d e) in

@@ -11,7 +11,7 @@ use Rattle.iw_ranges.specs.declared.Delivery.TheVariants.{Kept, Dropped}
 use Rattle.iw_octets.specs.declared.fault.Fault.{Fault}
 use Rattle.iw_reads.specs.declared.response.ResponsePart.{ResponsePart}
 use Rattle.iw_untagged.specs.Receiving.{Source, Posted, Pooled, exchanged, nothing_received, sharing, shares_pool, with_last}
-use Rattle.iw_laws.proofs.Shares.{work_shares}
+use Rattle.iw_stream.proofs.Sharing.{work_shares}
 use Rattle.iw_stream.specs.Work.{worked}
 use Rattle.iw_stream.specs.Stream.{StreamState, shares, sees, after_emit, left_fetched, left_due, frame_fetched, Due, StartUp, LastWord, Response as ResponseDue, NextPart, NoneDue, due}
 use Rattle.iw_stream.specs.declared.answer.OpenRefusal.{OpenRefusal}
@@ -20,10 +20,12 @@ use Rattle.iw_events.specs.declared.act.Act.{Act}
 use Rattle.iw_events.specs.declared.act.Act.TheVariants.{Domain, Register, Deregister, Invalidate, Store, Open, Share, Pool, Unpool, OpenShared, Stream}
 use Rattle.iw_events.specs.declared.act.StreamAct.{StreamAct}
 use Rattle.iw_events.specs.declared.act.StreamAct.TheVariants.{Recv, Post, Emit, First, Deliver, Raw, Mulpdu, Accept, Reject, Work, Break}
+use Rattle.iw_startup.specs.declared.config.Config.{Config}
+use Rattle.iw_stream.specs.declared.answer.Role.{Role}
 use Rattle.iw_laws.specs.Words.{Octets, Opening, stream_acts, stream_acts_by, openings, openings_by, opening_in, opening_of, config_for, was_opened, domain_of, table_after, table_by}
 use Rattle.iw_endpoint.specs.declared.refusal.OpenSharedRefusal.{OpenSharedRefusal}
 use Rattle.iw_endpoint.specs.Endpoint as endpoint
-use Rattle.iw_endpoint.specs.Endpoint.{EndpointState, pool_of, left_of, open_shared_refusal, open_shared_refusal_of, unshared, stream_at, stream_numbers, unopened as no_stream, stream_of, has_stream, open_refusal}
+use Rattle.iw_endpoint.specs.Endpoint.{EndpointState, pool_of, left_of, open_shared_refusal, open_shared_refusal_of, number_refusal, request_refusal, unshared, stream_at, stream_numbers, unopened as no_stream, stream_of, has_stream, open_refusal}
 use Rattle.iw_endpoint.specs.Isolation.{HasDomains, IsOwn, after, unless}
 use Rattle.iw_endpoint.proofs.Steps.{concerns_one}
 use Rattle.iw_endpoint.proofs.Tables.{worked_domain, emit_domain}
@@ -62,8 +64,8 @@ pub record Opens (s : EndState) (n : ℕ) : Type 0 where
   pub fresh : has_stream s.endpoint n ≡ false
   pub number : n < 64
 
-pub opens : (s : EndState) (n pd : ℕ) → None ≡ open_refusal s.endpoint n pd → Opens s n
-opens s n pd e = go (has_stream s.endpoint n) (nat_le stream_numbers n) refl refl (is_added s.endpoint.table pd) e
+pub numbered : (s : EndState) (n pd : ℕ) → None ≡ number_refusal s.endpoint n pd → Opens s n
+numbered s n pd e = go (has_stream s.endpoint n) (nat_le stream_numbers n) refl refl (is_added s.endpoint.table pd) e
   where
     go : (has beyond : Bool) → has_stream s.endpoint n ≡ has → nat_le stream_numbers n ≡ beyond → (added : Bool)
         → None ≡ cond has (Some NumberTaken) (cond beyond (Some BadNumber) (cond (not added) (Some NoDomain) None)) → Opens s n
@@ -71,11 +73,18 @@ opens s n pd e = go (has_stream s.endpoint n) (nat_le stream_numbers n) refl ref
     go false true h z added e' = cc
     go false false h z added e' = record { fresh = h; number = grind (arith, nat_tests) }
 
--- of a stream that shares a pool
-pub opens_shared : (s : EndState) (n pd : ℕ) → None ≡ open_shared_refusal s.endpoint n pd → Opens s n
-opens_shared s n pd e = opens s n pd (go (open_refusal s.endpoint n pd) e)
+pub opens : (s : EndState) (n pd : ℕ) (role : Role) (config : Config) → None ≡ open_refusal s.endpoint n pd role config → Opens s n
+opens s n pd role config e = numbered s n pd (go (number_refusal s.endpoint n pd) e)
   where
-    go : (o : Option OpenRefusal) → None ≡ option_or (option_map open_shared_refusal_of o) (unshared (pool_of s.endpoint pd)) → None ≡ o
+    go : (o : Option OpenRefusal) → None ≡ option_or o (request_refusal role config) → None ≡ o
+    go None h = refl
+    go (Some r) h = absurd (none-some _ h)
+
+-- of a stream that shares a pool
+pub opens_shared : (s : EndState) (n pd : ℕ) (role : Role) (config : Config) → None ≡ open_shared_refusal s.endpoint n pd role config → Opens s n
+opens_shared s n pd role config e = numbered s n pd (go (number_refusal s.endpoint n pd) e)
+  where
+    go : (o : Option OpenRefusal) → None ≡ option_or (option_map open_shared_refusal_of o) (option_or (unshared (pool_of s.endpoint pd)) (option_map open_shared_refusal_of (request_refusal role config))) → None ≡ o
     go None h = refl
     go (Some r) h = absurd (none-some _ h)
 
@@ -215,9 +224,9 @@ number_after s peer done (Unpool pd answer) n k rule = keeps_number s done (Unpo
 number_after s peer done (Open m pd role options private (Some refusal)) n k rule = keeps_number s done (Open m pd role options private (Some refusal)) n k rule.0 refl refl refl
 number_after s peer done (OpenShared m pd role options private (Some refusal)) n k rule = keeps_number s done (OpenShared m pd role options private (Some refusal)) n k rule.0 refl refl refl
 number_after s peer done (Open m pd role options private None) n k rule =
-    number_opened s done (Open m pd role options private None) m n (opening_by false pd role options private) k rule.0 (opens s m pd rule.0) refl refl refl
+    number_opened s done (Open m pd role options private None) m n (opening_by false pd role options private) k rule.0 (opens s m pd role (config_for options private) rule.0) refl refl refl
 number_after s peer done (OpenShared m pd role options private None) n k rule =
-    number_opened s done (OpenShared m pd role options private None) m n (opening_by true pd role options private) k rule.0 (opens_shared s m pd rule.0) refl refl refl
+    number_opened s done (OpenShared m pd role options private None) m n (opening_by true pd role options private) k rule.0 (opens_shared s m pd role (config_for options private) rule.0) refl refl refl
 number_after s peer done (Stream m act) n k rule = go (eqb m n) refl
   where
     go : (b : Bool) → eqb m n ≡ b → KeepsNumber s done (Stream m act) n
@@ -262,12 +271,12 @@ domains_after e (Store stag to octets refused) rule all = (concerns_one stag.dom
 domains_after e (Share pd refused) rule all = (concerns_one pd e (call_made (Share pd refused)) all refl).domains
 domains_after e (Pool pd len refused) rule all = (concerns_one pd e (call_made (Pool pd len refused)) all refl).domains
 domains_after e (Unpool pd answer) rule all = (concerns_one pd e (call_made (Unpool pd answer)) all refl).domains
-domains_after e (Open n pd role options private refused) rule all = go (endpoint.open_refusal e n pd)
+domains_after e (Open n pd role options private refused) rule all = go (endpoint.open_refusal e n pd role (config_for options private))
   where
     go : (o : Option OpenRefusal) → HasDomains (unless o e (endpoint.opened e n pd role (config_for options private)))
     go None = all
     go (Some r) = all
-domains_after e (OpenShared n pd role options private refused) rule all = go (endpoint.open_shared_refusal e n pd)
+domains_after e (OpenShared n pd role options private refused) rule all = go (endpoint.open_shared_refusal e n pd role (config_for options private))
   where
     go : (o : Option OpenSharedRefusal) → HasDomains (unless o e (endpoint.opened_shared e n pd role (config_for options private)))
     go None = all

@@ -51,7 +51,7 @@ use Rattle.iw_events.specs.declared.act.Shown.{Shown}
 use Rattle.iw_events.specs.declared.act.Shown.TheVariants as shows
 use Rattle.iw_events.specs.declared.act.Seen.{Seen}
 use Rattle.iw_events.specs.declared.act.Seen.TheVariants as seen
-use Rattle.iw_laws.specs.Words.{Octets, Sent, deed, ended_after, received_by}
+use Rattle.iw_laws.specs.Words.{Octets, Sent, deed, ended_after, received_by, private_data}
 use Rattle.iw_laws.specs.Turns.{story_seen, in_order_point}
 use Rattle.iw_laws.proofs.Checks.{GoesTo, checked_buffer, has_bound, places_in, places_more, places_next, places_oldest, places_written}
 use Rattle.iw_laws.proofs.Joins.{Waits, begun, told, joined-append, joined_next, completed_told}
@@ -608,9 +608,9 @@ fill_after table s t act rule due_is over k f = by act rule (λ h. ran (ended s)
     by (Mulpdu size None) rule runs = calls (after_act s (Mulpdu size None)) (Mulpdu size None) refl refl refl (λ all of. of) refl (append-nil t.received) runs [] none
     by (First number (Some refusal)) rule runs = calls s (First number (Some refusal)) refl refl refl (λ all of. of) refl (append-nil t.received) runs [] none
     by (Mulpdu size (Some refusal)) rule runs = calls s (Mulpdu size (Some refusal)) refl refl refl (λ all of. of) refl (append-nil t.received) runs [] none
-    by (Accept private (Ok agreed)) rule runs = shut_filled s (after_act s (Accept private (Ok agreed))) t (tale_after t (Accept private (Ok agreed))) (not_answered s (accepting s agreed rule)) refl refl refl (append-nil t.received) k
+    by (Accept private (Ok agreed)) rule runs = shut_filled s (after_act s (Accept private (Ok agreed))) t (tale_after t (Accept private (Ok agreed))) (not_answered s (accepting s (private_data private).items agreed rule)) refl refl refl (append-nil t.received) k
     by (Accept private (Err refusal)) rule runs = calls s (Accept private (Err refusal)) refl refl refl (λ all of. of) refl (append-nil t.received) runs [] none
-    by (Reject private None) rule runs = shut_filled s (after_act s (Reject private None)) t (tale_after t (Reject private None)) (not_answered s (refusing s rule)) refl refl refl (append-nil t.received) k
+    by (Reject private None) rule runs = shut_filled s (after_act s (Reject private None)) t (tale_after t (Reject private None)) (not_answered s (refusing s (private_data private).items rule)) refl refl refl (append-nil t.received) k
     by (Reject private (Some refusal)) rule runs = calls s (Reject private (Some refusal)) refl refl refl (λ all of. of) refl (append-nil t.received) runs [] none
     by (Recv len None) rule runs = calls (after_act s (Recv len None)) (Recv len None) refl refl refl (λ all of. of) refl (append-nil t.received) runs (places_more s.receiving.source (replicate len 0)).0 (places_more s.receiving.source (replicate len 0)).1
     by (Recv len (Some refusal)) rule runs = calls s (Recv len (Some refusal)) refl refl refl (λ all of. of) refl (append-nil t.received) runs [] none

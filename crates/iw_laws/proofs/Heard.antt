@@ -15,7 +15,11 @@ use Rattle.iw_startup.specs.declared.side.Side.TheVariants as sides
 use Rattle.iw_startup.specs.declared.side.Reply.{Reply}
 use Rattle.iw_startup.specs.declared.side.Reply.TheVariants as replies
 use Rattle.iw_startup.specs.State.{StartupState, IsReached, own_frame, reply_frame, agreed_of, private_in, frame_of, is_answered}
+use Rattle.iw_startup.specs.Enhanced.{at_responder, asked_revision}
+use Rattle.iw_startup.specs.Frame.{private_room, revision_of}
+use Rattle.iw_startup.specs.Laws.{IsAskable, understands}
 use Rattle.iw_startup.proofs.Ends.{least_end}
+use Rattle.iw_startup.proofs.Written.{takes}
 use Rattle.iw_startup.proofs.Openings.{nothing_agreed, unanswered_not_agreed}
 use Rattle.iw_startup.proofs.Agreement.{IsAgreed, Asking, Accepting, is_agreed, HasRead, has_read, request_read, reply_read, rejection_read, Agree, both_agree}
 use Rattle.iw_stream.specs.declared.answer.Role.TheVariants.{Preset, Initiator, Responder}
@@ -27,6 +31,7 @@ use Rattle.iw_laws.specs.Words.{Octets, Opening}
 use Rattle.iw_laws.proofs.States.{Connected}
 use Rattle.iw_laws.specs.Safe.{Fits}
 use Rattle.iw_laws.proofs.Tales.{Tale}
+use Rattle.iw_laws.proofs.Plain.{AsksOne, IsRevisionOne}
 use Rattle.iw_laws.proofs.Tracks.{OnStart, start_octets, Track, IsBare}
 use Rattle.iw_laws.proofs.Reached.{reaches}
 use Rattle.iw_laws.proofs.Owns.{Own, out_of, IsFramed, Unspoken, Spoken, IsStartOf, StartsAs, IsSmall, role_of}
@@ -52,6 +57,7 @@ pub record Starts (o : Opening) (s : StreamState) (u : StartupState) : Type 0 wh
   pub is : Exchanges s.start u
   pub begun : StartsAs o u
   pub reached : IsReached u
+  pub one : AsksOne u
 
 role_not_preset : (side : Side) → role_of side ≡ Preset → ⊥
 role_not_preset sides.Initiator e = cc
@@ -59,12 +65,12 @@ role_not_preset (sides.Responder reply) e = cc
 
 -- a stream that is not open at once has a start-up
 starts : (o : Opening) (c : Connected) (t : Tale) → Own o c t → (o.role ≡ Preset → ⊥) → (u : StartupState) × Starts o c.stream u
-starts o c t own other = go c.stream.start refl own.starts own.track.begins.reached own.track.begins.fresh
+starts o c t own other = go c.stream.start refl own.starts own.track.begins.reached own.track.begins.plain own.track.begins.fresh
   where
-    go : (z : StartState) → c.stream.start ≡ z → IsStartOf o z → OnStart IsReached z → IsFresh z → (u : StartupState) × Starts o c.stream u
-    go (AtOnce layout) e h r f = absurd (other h.0)
-    go (Unheard u) e h r f = (u, record { is = subst (λ z. Exchanges z u) (sym e) (unheard_exchanges u f); begun = h; reached = r })
-    go (Heard u) e h r f = (u, record { is = subst (λ z. Exchanges z u) (sym e) (heard_exchanges u); begun = h; reached = r })
+    go : (z : StartState) → c.stream.start ≡ z → IsStartOf o z → OnStart IsReached z → IsRevisionOne z → IsFresh z → (u : StartupState) × Starts o c.stream u
+    go (AtOnce layout) e h r p f = absurd (other h.0)
+    go (Unheard u) e h r p f = (u, record { is = subst (λ z. Exchanges z u) (sym e) (unheard_exchanges u f.0); begun = h; reached = r; one = p })
+    go (Heard u) e h r p f = (u, record { is = subst (λ z. Exchanges z u) (sym e) (heard_exchanges u); begun = h; reached = r; one = p })
 
 -- and one that is has the layout that was asked for
 no_start : (o : Opening) (c : Connected) (t : Tale) → Own o c t → o.role ≡ Preset → c.stream.start ≡ AtOnce (record { markers = o.config.markers; crc = o.config.crc })
@@ -94,7 +100,7 @@ sent_first o c t own u is = go own.emits.framed
 
 -- nothing can be read where nothing was sent
 not_read : (u : StartupState) (more : Octets) → HasRead u → u.octets ++ more ≡ [] → ⊥
-not_read u more h e = omega (arith, ap length e, length-append u.octets more, h.whole, least_end u.side u.octets)
+not_read u more h e = omega (arith, ap length e, length-append u.octets more, h.whole, least_end u.config.establishment u.side u.octets)
 
 -- ---- both ends
 
@@ -142,23 +148,33 @@ module _ (a : Opening) (c : Connected) (t : Tale) (own : Own a c t) (w : Startup
   asked_few : length w.config.private.items ≤ 512
   asked_few = omega (arith, sw.begun.few, own.small)
 
-  frame_is : frame_of w ≡ own_frame w.config sides.Initiator
-  frame_is = ap (own_frame w.config) asks
+  -- a Request of revision 1, and an answer to it
+  room : (private : Octets) → length private ≤ 512 → length private ≤ private_room (asked_revision w.config.establishment)
+  room private few = subst (λ e. length private ≤ private_room (asked_revision e)) (sym sw.one) few
+
+  taken : takes (sides.Responder None) v.config.establishment (asked_revision w.config.establishment) ≡ true
+  taken = λ i. takes (sides.Responder None) (sv.one i) (asked_revision (sw.one i))
+
+  in_kind : revision_of v.config.establishment v.octets ≡ asked_revision w.config.establishment
+  in_kind = (λ i. revision_of (sv.one i) v.octets) ∙ (λ i. asked_revision (sym sw.one i))
+
+  frame_is : frame_of w ≡ own_frame w.config sides.Initiator []
+  frame_is = ap (λ side. own_frame w.config side w.octets) asks
 
   -- the responder has read the Request
-  has_request : (reply : Option Reply) → v.side ≡ sides.Responder reply → HasRead v → v.octets ≡ own_frame w.config sides.Initiator
+  has_request : (reply : Option Reply) → v.side ≡ sides.Responder reply → HasRead v → v.octets ≡ own_frame w.config sides.Initiator []
   has_request reply side h =
       let r = read_of b d u other v t.sent sv.is there in
       go r.0 r.1 (sent_first a c t own w sw.is)
     where
-      go : (more : Octets) → v.octets ++ more ≡ t.sent → (t.sent ≡ []) ⊎ (t.sent ≡ frame_of w ++ sequence (sending c.stream.start) 0 (map segment_octets (out_of c.stream t own.emits))) → v.octets ≡ own_frame w.config sides.Initiator
+      go : (more : Octets) → v.octets ++ more ≡ t.sent → (t.sent ≡ []) ⊎ (t.sent ≡ frame_of w ++ sequence (sending c.stream.start) 0 (map segment_octets (out_of c.stream t own.emits))) → v.octets ≡ own_frame w.config sides.Initiator []
       go more e (inl none) = absurd (not_read v more h (e ∙ none))
       go more e (inr first) =
-          request_read v reply w.config more (sequence (sending c.stream.start) 0 (map segment_octets (out_of c.stream t own.emits))) side h asked_few
+          request_read v reply w.config more (sequence (sending c.stream.start) 0 (map segment_octets (out_of c.stream t own.emits))) side h taken (room w.config.private.items asked_few)
           (e ∙ first ∙ ap (λ z. z ++ sequence (sending c.stream.start) 0 (map segment_octets (out_of c.stream t own.emits))) frame_is)
 
   -- the initiator has read the Reply
-  has_reply : (reply : Reply) → v.side ≡ sides.Responder (Some reply) → HasRead w → w.octets ≡ reply_frame v.config reply
+  has_reply : (reply : Reply) → v.side ≡ sides.Responder (Some reply) → HasRead w → w.octets ≡ reply_frame v.config reply v.octets
   has_reply reply side h =
       let r = read_of a c t own w u.sent sw.is back in
       go r.0 r.1 (sent_first b d u other v sv.is)
@@ -166,11 +182,20 @@ module _ (a : Opening) (c : Connected) (t : Tale) (own : Own a c t) (w : Startup
       few : length (private_in reply).items ≤ 512
       few = subst IsSmall side sv.begun.small
 
-      go : (more : Octets) → w.octets ++ more ≡ u.sent → (u.sent ≡ []) ⊎ (u.sent ≡ frame_of v ++ sequence (sending d.stream.start) 0 (map segment_octets (out_of d.stream u other.emits))) → w.octets ≡ reply_frame v.config reply
+      go : (more : Octets) → w.octets ++ more ≡ u.sent → (u.sent ≡ []) ⊎ (u.sent ≡ frame_of v ++ sequence (sending d.stream.start) 0 (map segment_octets (out_of d.stream u other.emits))) → w.octets ≡ reply_frame v.config reply v.octets
       go more e (inl none) = absurd (not_read w more h (e ∙ none))
       go more e (inr first) =
-          reply_read w v.config reply more (sequence (sending d.stream.start) 0 (map segment_octets (out_of d.stream u other.emits))) asks h few
-          (e ∙ first ∙ ap (λ z. own_frame v.config z ++ sequence (sending d.stream.start) 0 (map segment_octets (out_of d.stream u other.emits))) side)
+          reply_read w v.config reply v.octets more (sequence (sending d.stream.start) 0 (map segment_octets (out_of d.stream u other.emits))) asks h in_kind (room (private_in reply).items few)
+          (e ∙ first ∙ ap (λ z. own_frame v.config z v.octets ++ sequence (sending d.stream.start) 0 (map segment_octets (out_of d.stream u other.emits))) side)
+
+  responds_one : at_responder v.config.establishment ≡ v.config.establishment
+  responds_one = ap at_responder sv.one ∙ sym sv.one
+
+  askable : IsAskable w.config v.config
+  askable = record {
+    room = room w.config.private.items asked_few;
+    understood = subst (λ e. IsTrue (understands v.config.establishment e)) (sym sw.one) refl;
+  }
 
   -- without an answer there is no Reply
   no_reply : v.side ≡ sides.Responder None → HasRead w → ⊥
@@ -183,11 +208,11 @@ module _ (a : Opening) (c : Connected) (t : Tale) (own : Own a c t) (w : Startup
 
       unsent : (u.sent ≡ []) ⊎ (u.sent ≡ frame_of v ++ sequence (sending d.stream.start) 0 (map segment_octets (out_of d.stream u other.emits))) → u.sent ≡ []
       unsent (inl none) = none
-      unsent (inr first) = first ∙ (λ i. own_frame v.config (side i) ++ nothing_sent (sending d.stream.start) (out_of d.stream u other.emits) shut i)
+      unsent (inr first) = first ∙ (λ i. own_frame v.config (side i) v.octets ++ nothing_sent (sending d.stream.start) (out_of d.stream u other.emits) shut i)
 
   agree : (private : ArrayVec ℕ) → v.side ≡ sides.Responder (Some (replies.Accept private)) → HasRead w → HasRead v → Agree w v
   agree private side hw hv =
-      both_agree w v private asks side asked_few (subst IsSmall side sv.begun.small) (has_reply (replies.Accept private) side hw) (has_request (Some (replies.Accept private)) side hv)
+      both_agree w v private asks side responds_one askable (room private.items (subst IsSmall side sv.begun.small)) (has_reply (replies.Accept private) side hw) (has_request (Some (replies.Accept private)) side hv)
 
   -- an answer was given to a whole Request
   has_answered : (reply : Reply) → v.side ≡ sides.Responder (Some reply) → HasRead v
@@ -236,13 +261,13 @@ module _ (a : Opening) (c : Connected) (t : Tale) (own : Own a c t) (w : Startup
           let laid : (sending d.stream.start) ≡ (expecting c.stream.start) =
           sv.is.sends ∙ ap (λ z. option_map_or layout_out z plain) both.accepting ∙ sym (sw.is.expects ∙ ap (λ z. option_map_or layout_in z plain) both.asking) in
           first ∙ same_frames (sending d.stream.start) (expecting c.stream.start) (frame_of v) us (inr laid)
-          ∙ ap (λ z. z ++ sequence (expecting c.stream.start) 0 (map segment_octets us)) (ap (own_frame v.config) side ∙ sym (has_reply (replies.Accept private) side hw) ∙ sym (intro_is a c t own w sw.is))
+          ∙ ap (λ z. z ++ sequence (expecting c.stream.start) 0 (map segment_octets us)) (ap (λ z. own_frame v.config z v.octets) side ∙ sym (has_reply (replies.Accept private) side hw) ∙ sym (intro_is a c t own w sw.is))
 
       answered_by : (reply : Option Reply) → v.side ≡ sides.Responder reply → HasRead w → u.sent ≡ own.track.intro ++ sequence (expecting c.stream.start) 0 (map segment_octets us)
       answered_by None s hw = absurd (no_reply s hw)
       answered_by (Some (replies.Accept private)) s hw = said private s hw (sent_first b d u other v sv.is)
       answered_by (Some (replies.Reject private)) s hw =
-          let none = rejection_read w v.config private asks (subst IsSmall s sv.begun.small) (has_reply (replies.Reject private) s hw) in
+          let none = rejection_read w v.config v.octets private asks in_kind (room private.items (subst IsSmall s sv.begun.small)) (has_reply (replies.Reject private) s hw) in
           absurd (false≢true (ap is_some (sym none) ∙ sym (sw.is.open_is) ∙ started))
 
       go : IsAgreed w → u.sent ≡ own.track.intro ++ sequence (expecting c.stream.start) 0 (map segment_octets us)

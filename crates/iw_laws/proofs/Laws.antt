@@ -4,7 +4,7 @@ use Rattle.iw_ranges.specs.declared.Delivery.{Delivery}
 use Rattle.iw_stream.specs.declared.answer.FirstRefusal.TheVariants.{Late}
 use Rattle.std.proofs.Common.{◌≡◌, ◌⊎◌, ℕ, zero, suc, ◌+◌, ◌-◌, ◌%◌, ◌^◌, ◌<◌, ◌≤◌, List, [], ◌∷◌, ◌++◌, length, take, drop, length-take, length-drop, length-append, cond, map, Option, Some, None, Ok, Err, true, false, refl, sym, ap, ◌∙◌, subst, inl, inr, arith}
 use Rattle.std.proofs.lemmas.List.{append-nil, length-map}
-use Rattle.std.specs.Prelude.{option_map, is_some, not, nat_le, nat_lt, min, Bool, ◌&&◌, ◌||◌, Result, IfOk}
+use Rattle.std.specs.Prelude.{option_map, is_some, not, nat_eq, nat_le, nat_lt, min, Bool, ◌&&◌, ◌||◌, Result, IfOk}
 use Rattle.std.specs.Result.{result_err}
 use Rattle.std.specs.Option.{option_map, option_map_or, option_or}
 use Rattle.std.proofs.lemmas.Bool.{false≢true}
@@ -23,8 +23,8 @@ use Rattle.iw_queues.specs.Segments.{Numbers, first_numbers, segment_with, segme
 use Rattle.iw_octets.specs.declared.operation.TaggedOperation.TheVariants as tagged
 use Rattle.iw_octets.specs.declared.operation.UntaggedOperation.TheVariants as untagged
 use Rattle.iw_octets.specs.Operation.{control_of, tagged_opcode, untagged_opcode}
-use Rattle.iw_stream.specs.Starting.{is_asked, sending, own_frame, first_place_out, agreement_in}
-use Rattle.iw_stream.specs.Stream.{StreamState, is_read, may_go, part_due, response_due, owes_frame, recv_refusal, recv_refusal_of, post_refusal, post_refusal_of, may_answer, delivery_of, ended, place_of, left_out}
+use Rattle.iw_stream.specs.Starting.{is_asked, most_reads_in, sending, own_frame, first_place_out, agreement_in}
+use Rattle.iw_stream.specs.Stream.{StreamState, is_read, may_go, part_due, response_due, owes_frame, recv_refusal, recv_refusal_of, post_refusal, post_refusal_of, answer_refusal, may_answer, delivery_of, ended, place_of, left_out}
 use Rattle.iw_stream.specs.Ending.{has_ended, is_broken, last_word}
 use Rattle.iw_stream.specs.Work as work
 use Rattle.iw_stream.specs.declared.answer.PostRefusal.TheVariants as post_refusals
@@ -63,7 +63,15 @@ use Rattle.iw_fpdu.specs.Frame.{frame_octets}
 use Rattle.iw_ranges.specs.declared.Delivery.TheVariants.{Dropped}
 use Rattle.iw_ranges.specs.Arrived.{advanced, delivery}
 use Rattle.iw_startup.specs.declared.config.Agreed.{Agreed}
-use Rattle.iw_startup.specs.declared.startup.NotAsked.{NotAsked}
+use Rattle.iw_startup.specs.declared.config.Config.{Config}
+use Rattle.iw_startup.specs.declared.config.Establishment.TheVariants.{Plain}
+use Rattle.iw_stream.specs.declared.answer.AnswerRefusal.{AnswerRefusal}
+use Rattle.iw_stream.specs.declared.answer.AnswerRefusal.TheVariants.{NotAsked, PrivateTooLong}
+use Rattle.iw_stream.specs.declared.answer.OpenRefusal.{OpenRefusal}
+use Rattle.iw_stream.specs.declared.answer.OpenRefusal.TheVariants as open_refusals
+use Rattle.iw_stream.specs.declared.answer.Role.{Role}
+use Rattle.iw_laws.proofs.Plain.{most_plain, refusal_plain, request_fits, or_none}
+use Rattle.iw_endpoint.specs.declared.refusal.OpenSharedRefusal.{OpenSharedRefusal}
 use Rattle.iw_stream.specs.declared.answer.OpenRefusal.TheVariants.{NumberTaken, BadNumber, NoDomain}
 use Rattle.iw_events.specs.declared.call.End.{End}
 use Rattle.iw_events.specs.declared.call.Call.{Call}
@@ -77,18 +85,18 @@ use Rattle.iw_events.specs.declared.act.Shown.{Shown}
 use Rattle.iw_events.specs.declared.act.Seen.{Seen}
 use Rattle.iw_events.specs.declared.act.Seen.TheVariants as seen
 use Rattle.iw_events.specs.declared.act.Entry.{Entry}
-use Rattle.iw_laws.specs.Words.{Octets, other, acts, deed, handed_kinds, size_set, stream_acts, Opening, opening_in, opening_of, openings, was_opened, domain_of, posted, sends, received, ended as has_ended_by, sent, placings, written, sunk, finished_kinds, table_after}
+use Rattle.iw_laws.specs.Words.{Octets, other, acts, deed, private_data, config_for, handed_kinds, size_set, stream_acts, Opening, opening_in, opening_of, openings, was_opened, domain_of, posted, sends, received, ended as has_ended_by, sent, placings, written, sunk, finished_kinds, table_after}
 use Rattle.iw_laws.specs.Safe.{IsHonest, InOrder, CoversWrites, Covered, Fits, Within, WithinStream}
 use Rattle.iw_laws.specs.Merged.{AreMerged, posts_in, response_segment}
 use Rattle.iw_laws.specs.Faithful.{FetchShown, FetchStream, count_done, AnswersReads, Answering}
 use Rattle.iw_laws.specs.Sends.{farewells, terminate_segment, IsStartFrame, IsLastWord, AreFirstFrames, Emission, AreAllFrames, HasNothing, Over, Closed, AllSent, ReadWaits, MaySend, FewReads, NothingShown, NothingStream, NothingOnlyAtRest, FrameSized, SizedStream, Sized, FrameAllowed, SpeaksStream, Speaks, CanFinish, FinishedStream, Finished}
 use Rattle.iw_laws.specs.Sends.{Silent as Muted}
-use Rattle.iw_laws.specs.Turns.{Answer, Story, is_last, story, story_of, receiving_of, standing, TurnsSeen, TurnsStream, Turns, in_order_point}
+use Rattle.iw_laws.specs.Turns.{pool_by, Answer, Story, is_last, story, story_of, receiving_of, standing, TurnsSeen, TurnsStream, Turns, in_order_point}
 use Rattle.iw_laws.specs.Rest.{IdleStream, IdleOnlyAtRest}
 use Rattle.iw_laws.specs.Ends.{HoldsNoMessage, HoldsNothing, EndSeen, IsStartDue, EndShown, EndsStream, Ends}
-use Rattle.iw_laws.specs.Calls.{deregister_answer, invalidate_refusal, IsNew, open_refusal_by, EndAnswered, ShowsMemory, recv_refusal_by, post_refusal_by, may_answer_by, Accepted, Rejected, StreamAnswered, AnsweredStream, Answered, delivery_by, KeptStream, KeepsOctets, IsCarried, CarriedStream, CarriesOctets, OpenedStream, OpensFirst}
+use Rattle.iw_laws.specs.Calls.{deregister_answer, invalidate_refusal, IsNew, open_refusal_by, open_shared_refusal_by, EndAnswered, ShowsMemory, recv_refusal_by, post_refusal_by, may_answer_by, Accepted, Rejected, StreamAnswered, AnsweredStream, Answered, delivery_by, KeptStream, KeepsOctets, IsCarried, CarriedStream, CarriesOctets, OpenedStream, OpensFirst}
 use Rattle.iw_laws.specs.Words.{OnSome, OnStream, AtEach}
-use Rattle.iw_endpoint.specs.Endpoint.{stream_numbers, pool_of, stream_at, share_fault, pool_fault, take_fault, taken, open_shared_refusal_of, unshared, has_stream, open_refusal, unasked}
+use Rattle.iw_endpoint.specs.Endpoint.{stream_numbers, pool_of, stream_at, share_fault, pool_fault, take_fault, taken, open_shared_refusal_of, unshared, has_stream, number_refusal, request_refusal, open_refusal, open_shared_refusal}
 use Rattle.iw_endpoint.specs.Isolation.{answer_or}
 use Rattle.iw_laws.specs.Rules.{EndState, State, end_of, start, Rule, EndRule, PeerRule, WireRule, StreamRule, needs_peer, state_after, Follows, wire_at}
 use Rattle.iw_events.specs.Events.{stream_call_of}
@@ -100,7 +108,7 @@ use Rattle.iw_stream.proofs.Tasks.{IsResting, Ended as HasEnded, Unanswered, Wit
 use Rattle.iw_startup.specs.declared.progress.Progress.TheVariants as progresses
 use Rattle.iw_untagged.specs.Receiving.{Receiving, first_buffer, is_full, is_shared}
 use Rattle.iw_laws.proofs.Told.{told, Hears, Sees, sees}
-use Rattle.iw_laws.proofs.Tracks.{Track, sound, silent_is, point_is, accepting, refusing}
+use Rattle.iw_laws.proofs.Tracks.{Track, sound, silent_is, point_is}
 use Rattle.iw_laws.proofs.Answers.{answers, idles, idle_unfinished}
 use Rattle.iw_laws.proofs.Tales.{Tale, tale_of}
 use Rattle.iw_laws.proofs.Counts.{plain_part, message_at}
@@ -305,14 +313,14 @@ record WaitsFor (s : StreamState) : Type 0 where
   pub unsent : s.queue.unsent ≡ Read request ∷ messages
   pub full : most_reads ≤ length s.reads
 
-part_waits : (s : StreamState) → part_due s ≡ None → (s.queue.unsent ≡ []) ⊎ WaitsFor s
-part_waits s e = go (next_part s.queue s.mulpdu) refl e
+part_waits : (s : StreamState) → most_reads_in s.start ≡ most_reads → part_due s ≡ None → (s.queue.unsent ≡ []) ⊎ WaitsFor s
+part_waits s most e = go (next_part s.queue s.mulpdu) refl (ap (λ n. may_go n s.reads (next_part s.queue s.mulpdu)) (sym most) ∙ e)
   where
     read_of : (m : Request Octets) (ms : List (Request Octets)) → s.queue.unsent ≡ m ∷ ms → (is_read m && nat_le most_reads (length s.reads)) ≡ true → (s.queue.unsent ≡ []) ⊎ WaitsFor s
     read_of (Posted m) ms is b = absurd (false≢true b)
     read_of (Read request) ms is b = inr (record { request = request; messages = ms; unsent = is; full = (let le : nat_le most_reads (length s.reads) ≡ true = b in grind (arith, nat_tests)) })
 
-    go : (p : Option (Part (Request Octets))) → next_part s.queue s.mulpdu ≡ p → may_go s.reads p ≡ None → (s.queue.unsent ≡ []) ⊎ WaitsFor s
+    go : (p : Option (Part (Request Octets))) → next_part s.queue s.mulpdu ≡ p → may_go most_reads s.reads p ≡ None → (s.queue.unsent ≡ []) ⊎ WaitsFor s
     go None is h = inl (none_left s.queue s.mulpdu is)
     go (Some part) is h =
         let w = shows s.queue s.mulpdu part is in
@@ -366,7 +374,7 @@ nothing_stream o c done queue table (Emit Nothing) rule own =
 
     runs_or : (b : Bool) → ended c.stream ≡ b → owes_frame c.stream ≡ false → response_due c.stream ≡ None → part_due c.stream ≡ None → HasNothing (has_ended_by done) (story_with o done queue) (sent done) (posted done)
     runs_or true over owes quiet none = Over (sym own.ended ∙ over)
-    runs_or false running owes quiet none = all running owes quiet (part_waits c.stream none)
+    runs_or false running owes quiet none = all running owes quiet (part_waits c.stream (most_plain c.stream.start own.track.begins.plain) none)
 
     go : owes_frame c.stream ≡ false → Rests c.stream → HasNothing (has_ended_by done) (story_with o done queue) (sent done) (posted done)
     go owes (Ended over) = Over (sym own.ended ∙ over)
@@ -815,8 +823,27 @@ ended_told trace follows x n =
 -- ---- calls
 
 -- an opening is refused by what was done
-open_refused : (s : EndState) (done : List (Act Octets)) (n pd : ℕ) → EndKept s done → open_refusal s.endpoint n pd ≡ open_refusal_by done n pd
-open_refused s done n pd k = λ i. cond (k.opened n i) (Some NumberTaken) (cond (nat_le stream_numbers n) (Some BadNumber) (cond (not (is_added (k.table i) pd)) (Some NoDomain) None))
+number_refused : (s : EndState) (done : List (Act Octets)) (n pd : ℕ) → EndKept s done → number_refusal s.endpoint n pd ≡ open_refusal_by done n pd
+number_refused s done n pd k = λ i. cond (k.opened n i) (Some NumberTaken) (cond (nat_le stream_numbers n) (Some BadNumber) (cond (not (is_added (k.table i) pd)) (Some NoDomain) None))
+
+-- and never for its private data
+request_taken : (role : Role) (config : Config) → config.establishment ≡ Plain → request_refusal role config ≡ None
+request_taken role config plain = ap (λ b. cond b (Some open_refusals.PrivateTooLong) None) (request_fits role config plain)
+
+first_shared : (o : Option OpenRefusal) (p : Option OpenSharedRefusal) → option_or (option_map open_shared_refusal_of o) (option_or p None) ≡ option_or (option_map open_shared_refusal_of o) p
+first_shared (Some refusal) p = refl
+first_shared None None = refl
+first_shared None (Some refusal) = refl
+
+open_refused : (s : EndState) (done : List (Act Octets)) (n pd : ℕ) (role : Role) (config : Config) → config.establishment ≡ Plain → EndKept s done → open_refusal s.endpoint n pd role config ≡ open_refusal_by done n pd
+open_refused s done n pd role config plain k =
+    (λ i. option_or (number_refused s done n pd k i) (request_taken role config plain i)) ∙ or_none (open_refusal_by done n pd)
+
+open_shared_refused : (s : EndState) (done : List (Act Octets)) (n pd : ℕ) (role : Role) (config : Config) → config.establishment ≡ Plain → EndKept s done → PoolsSeen s done
+    → open_shared_refusal s.endpoint n pd role config ≡ open_shared_refusal_by done n pd
+open_shared_refused s done n pd role config plain k pools =
+    (λ i. option_or (option_map open_shared_refusal_of (number_refused s done n pd k i)) (option_or (unshared (pools pd i)) (option_map open_shared_refusal_of (request_taken role config plain i))))
+    ∙ first_shared (open_refusal_by done n pd) (unshared (pool_by pd done))
 
 -- the STag of the next region names nothing
 next_free : (table : Table) (pd base len : ℕ) (region : Region) → register_refusal table pd base len ≡ None → region_at table (next_stag table pd) ≡ None
@@ -842,11 +869,11 @@ end_answered done s (Register pd base rights octets answer) k pools rule =
 end_answered done s (Deregister stag answer) k pools rule = subst (λ t. answer ≡ deregister_answer t stag) k.table rule
 end_answered done s (Invalidate stag refused) k pools rule = subst (λ t. refused ≡ invalidate_refusal t stag) k.table rule
 end_answered done s (Store stag to octets refused) k pools rule = subst (λ t. refused ≡ store_refusal t stag to (length octets)) k.table rule
-end_answered done s (Open n pd role options private refused) k pools rule = rule ∙ open_refused s done n pd k
+end_answered done s (Open n pd role options private refused) k pools rule = rule ∙ open_refused s done n pd role (config_for options private) refl k
 end_answered done s (Share pd refused) k pools rule = rule ∙ (λ i. share_fault (is_added (k.table i) pd) (pools pd i))
 end_answered done s (Pool pd len refused) k pools rule = rule ∙ (λ i. pool_fault (is_added (k.table i) pd) (pools pd i))
 end_answered done s (Unpool pd answer) k pools rule = rule ∙ (λ i. answer_or (take_fault (is_added (k.table i) pd) (pools pd i)) (taken (pools pd i)))
-end_answered done s (OpenShared n pd role options private refused) k pools rule = rule ∙ (λ i. option_or (option_map open_shared_refusal_of (open_refused s done n pd k i)) (unshared (pools pd i)))
+end_answered done s (OpenShared n pd role options private refused) k pools rule = rule ∙ open_shared_refused s done n pd role (config_for options private) refl k pools
 end_answered done s (Stream n act) k pools rule = tt
 
 pub shows_memory : (trace : List (Entry Octets)) → Follows start trace → ShowsMemory trace
@@ -873,8 +900,14 @@ recv_refused o c done queue own =
 
 post_refused : (o : Opening) (c : Connected) (done : List (StreamAct Octets)) (queue : Receiving) (m : Request Octets) → Own o c (tale_with o done queue) → post_refusal c.stream m ≡ post_refusal_by (story_with o done queue) done m
 post_refused o c done queue m own =
-    (λ i. cond (own.ended i || not (sym (open_is c.stream (tale_with o done queue) own.track) i)) (Some post_refusals.NotOpen) (of_queue (nat_le 256 (held i)) (nat_lt 16777216 (size_of m)) i))
+    (λ i. cond (own.ended i || not (sym (open_is c.stream (tale_with o done queue) own.track) i)) (Some post_refusals.NotOpen)
+    (cond (readable m i) (Some post_refusals.NoReads) (of_queue (nat_le 256 (held i)) (nat_lt 16777216 (size_of m)) i)))
   where
+    -- sixteen Reads may be outstanding
+    readable : (m : Request Octets) → (is_read m && nat_eq (most_reads_in c.stream.start) 0) ≡ false
+    readable (Posted message) = refl
+    readable (Read request) = ap (λ n. nat_eq n 0) (most_plain c.stream.start own.track.begins.plain)
+
     q : Queue
     q = c.stream.queue
 
@@ -902,33 +935,49 @@ post_refused o c done queue m own =
 asked_is : (o : Opening) (c : Connected) (done : List (StreamAct Octets)) (queue : Receiving) → Own o c (tale_with o done queue) → may_answer c.stream ≡ may_answer_by (story_with o done queue) done
 asked_is o c done queue own = λ i. not (own.ended i) && is_asked (sym own.track.begins.start i)
 
-accepts_asked : (o : Opening) (c : Connected) (done : List (StreamAct Octets)) (queue : Receiving) (answer : Result Agreed NotAsked) → answer ≡ answer_or (unasked c.stream) (agreement_in c.stream.start) → Own o c (tale_with o done queue) → Accepted (story_with o done queue) done answer
-accepts_asked o c done queue (Ok agreed) rule own =
-    let e = accepting c.stream agreed rule in
-    let same : Ok agreed ≡ Ok (agreement_in c.stream.start) = rule ∙ ap (λ b. answer_or (cond {A = Option NotAsked} b None (Some (record {}))) (agreement_in c.stream.start)) e in
-    let is : agreed ≡ agreement_in c.stream.start = cc in
-    (sym (asked_is o c done queue own) ∙ e, is ∙ ap agreement_in (sym own.track.begins.start))
-accepts_asked o c done queue (Err refusal) rule own = sym (asked_is o c done queue own) ∙ go (may_answer c.stream) rule
-  where
-    go : (b : Bool) → Err refusal ≡ answer_or (cond {A = Option NotAsked} b None (Some (record {}))) (agreement_in c.stream.start) → b ≡ false
-    go true h = cc
-    go false h = refl
+-- a Request is refused an answer where none waits, and for no other reason
+refused_asked : (o : Opening) (c : Connected) (done : List (StreamAct Octets)) (queue : Receiving) (private : Octets) → Own o c (tale_with o done queue)
+    → answer_refusal c.stream private ≡ cond (may_answer_by (story_with o done queue) done) None (Some NotAsked)
+refused_asked o c done queue private own = refusal_plain c.stream private own.track.begins.plain ∙ ap (λ b. cond b None (Some NotAsked)) (asked_is o c done queue own)
 
-rejects_asked : (o : Opening) (c : Connected) (done : List (StreamAct Octets)) (queue : Receiving) (refused : Option NotAsked) → refused ≡ unasked c.stream → Own o c (tale_with o done queue) → Rejected (story_with o done queue) done refused
-rejects_asked o c done queue None rule own = sym (asked_is o c done queue own) ∙ refusing c.stream rule
-rejects_asked o c done queue (Some refusal) rule own = sym (asked_is o c done queue own) ∙ go (may_answer c.stream) rule
+accepts_asked : (o : Opening) (c : Connected) (done : List (StreamAct Octets)) (queue : Receiving) (private : Octets) (answer : Result Agreed AnswerRefusal) → answer ≡ answer_or (answer_refusal c.stream private) (agreement_in c.stream.start) → Own o c (tale_with o done queue)
+    → Accepted (story_with o done queue) done answer
+accepts_asked o c done queue private answer rule own =
+    go answer (may_answer_by (story_with o done queue) done) refl (rule ∙ (λ i. answer_or (refused_asked o c done queue private own i) (agreement_in (sym own.track.begins.start i))))
   where
-    go : (b : Bool) → Some refusal ≡ cond {A = Option NotAsked} b None (Some (record {})) → b ≡ false
-    go true h = cc
-    go false h = refl
+    t : Story
+    t = story_with o done queue
+
+    go : (answer : Result Agreed AnswerRefusal) (b : Bool) → may_answer_by t done ≡ b → answer ≡ answer_or (cond b None (Some NotAsked)) (agreement_in t.start) → Accepted t done answer
+    go (Ok agreed) true is e = (is, cc)
+    go (Ok agreed) false is e = cc
+    go (Err NotAsked) true is e = cc
+    go (Err NotAsked) false is e = is
+    go (Err PrivateTooLong) true is e = cc
+    go (Err PrivateTooLong) false is e = cc
+
+rejects_asked : (o : Opening) (c : Connected) (done : List (StreamAct Octets)) (queue : Receiving) (private : Octets) (refused : Option AnswerRefusal) → refused ≡ answer_refusal c.stream private → Own o c (tale_with o done queue)
+    → Rejected (story_with o done queue) done refused
+rejects_asked o c done queue private refused rule own = go refused (may_answer_by (story_with o done queue) done) refl (rule ∙ refused_asked o c done queue private own)
+  where
+    t : Story
+    t = story_with o done queue
+
+    go : (refused : Option AnswerRefusal) (b : Bool) → may_answer_by t done ≡ b → refused ≡ cond b None (Some NotAsked) → Rejected t done refused
+    go None true is e = is
+    go None false is e = cc
+    go (Some NotAsked) true is e = cc
+    go (Some NotAsked) false is e = is
+    go (Some PrivateTooLong) true is e = cc
+    go (Some PrivateTooLong) false is e = cc
 
 stream_answered : (o : Opening) (c : Connected) (done : List (StreamAct Octets)) (queue : Receiving) (table : Table) (act : StreamAct Octets) → StreamRule table c.stream act → Own o c (tale_with o done queue) → StreamAnswered (story_with o done queue) done act
 stream_answered o c done queue table (Recv len refused) rule own = rule ∙ recv_refused o c done queue own
 stream_answered o c done queue table (Post m refused) rule own = rule.1 ∙ post_refused o c done queue m own
 stream_answered o c done queue table (First number refused) rule own = rule ∙ (λ i. cond (sym own.numbered.delivered i) (Some Late) None)
 stream_answered o c done queue table (Mulpdu size refused) rule own = rule
-stream_answered o c done queue table (Accept private answer) rule own = accepts_asked o c done queue answer rule own
-stream_answered o c done queue table (Reject private refused) rule own = rejects_asked o c done queue refused rule own
+stream_answered o c done queue table (Accept private answer) rule own = accepts_asked o c done queue (private_data private).items answer rule own
+stream_answered o c done queue table (Reject private refused) rule own = rejects_asked o c done queue (private_data private).items refused rule own
 stream_answered o c done queue table (Emit shown) rule own = tt
 stream_answered o c done queue table (Deliver from number octets delivery) rule own = tt
 stream_answered o c done queue table (Raw number octets delivery) rule own = tt

@@ -67,7 +67,7 @@ module _ (s : StreamState) (t : Tale) (x y : Source) where
 
   -- ---- what came
   begins : (intro : Octets) → Begins s t intro → Begins (requeued s x) (retold t y) intro
-  begins intro k = record { start = k.start; reached = k.reached; fresh = k.fresh; octets = k.octets }
+  begins intro k = record { start = k.start; plain = k.plain; reached = k.reached; fresh = k.fresh; octets = k.octets }
 
   early : (shown : List Placing) → Early s t shown → Early (requeued s x) (retold t y) shown
   early shown k = record { records_are = k.records_are; unopened = k.unopened; judged = k.judged; clear = k.clear; written_are = k.written_are; sunk_are = k.sunk_are }

@@ -1,7 +1,7 @@
+pub mod Plain
 pub mod Nexts
 pub mod Tales
 pub mod Seeing
-pub mod Shares
 pub mod States
 pub mod Told
 pub mod Judged
@@ -50,3 +50,4 @@ pub mod Placements
 pub mod Laws
 pub mod Shorts
 pub mod RefusedEarly
+pub mod RefusedPools

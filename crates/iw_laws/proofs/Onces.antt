@@ -39,7 +39,7 @@ use Rattle.iw_events.specs.declared.act.Shown.{Shown}
 use Rattle.iw_events.specs.declared.act.Shown.TheVariants as shows
 use Rattle.iw_events.specs.declared.act.Seen.{Seen}
 use Rattle.iw_events.specs.declared.act.Seen.TheVariants as seen
-use Rattle.iw_laws.specs.Words.{Octets}
+use Rattle.iw_laws.specs.Words.{Octets, private_data}
 use Rattle.iw_laws.specs.Turns.{early_frame}
 use Rattle.iw_laws.specs.Once.{Span, span_of, judged_span, spans_by, AreOnce}
 use Rattle.iw_laws.proofs.Judged.{View, frame_in, Stands, IsFirstRecord, IsOpenAt, open_at}
@@ -327,9 +327,9 @@ once_after table s t (Post m (Some refusal)) spans rule k o = same_once s s span
 once_after table s t (Recv len None) spans rule k o = same_once s (after_act s (Recv len None)) spans refl refl refl refl o
 once_after table s t (Recv len (Some refusal)) spans rule k o = same_once s s spans refl refl refl refl o
 once_after table s t (Emit shown) spans rule k o = emits_once s spans shown o
-once_after table s t (Accept private (Ok agreed)) spans rule k o = shut_once s (after_act s (Accept private (Ok agreed))) spans (not_answered s (accepting s agreed rule)) o
+once_after table s t (Accept private (Ok agreed)) spans rule k o = shut_once s (after_act s (Accept private (Ok agreed))) spans (not_answered s (accepting s (private_data private).items agreed rule)) o
 once_after table s t (Accept private (Err refusal)) spans rule k o = same_once s s spans refl refl refl refl o
-once_after table s t (Reject private None) spans rule k o = shut_once s (after_act s (Reject private None)) spans (not_answered s (refusing s rule)) o
+once_after table s t (Reject private None) spans rule k o = shut_once s (after_act s (Reject private None)) spans (not_answered s (refusing s (private_data private).items rule)) o
 once_after table s t (Reject private (Some refusal)) spans rule k o = same_once s s spans refl refl refl refl o
 once_after table s t Break spans rule k o = same_once s (after_act s Break) spans refl refl refl refl o
 once_after table s t (Work (seen.Done kind)) spans rule k o = same_once s (after_act s (Work (seen.Done kind))) spans refl refl refl refl o

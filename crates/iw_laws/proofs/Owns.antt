@@ -80,9 +80,9 @@ use Rattle.iw_startup.specs.declared.side.Side.{Side}
 use Rattle.iw_startup.specs.declared.side.Side.TheVariants as sides
 use Rattle.iw_startup.specs.declared.side.Reply.{Reply}
 use Rattle.iw_startup.specs.declared.side.Reply.TheVariants as replies
-use Rattle.iw_startup.specs.State.{StartupState, pushed, answered, private_in}
+use Rattle.iw_startup.specs.State.{StartupState, IsReached, pushed, answered, private_in}
 use Rattle.iw_startup.specs.State as startups
-use Rattle.iw_startup.proofs.Heard.{frame_of-pushed}
+use Rattle.iw_startup.proofs.Reached.{frame_of-pushed}
 use Rattle.iw_startup.proofs.Openings.{unanswered_not_agreed}
 use Rattle.iw_stream.specs.declared.answer.Role.{Role}
 use Rattle.iw_stream.specs.declared.answer.Role.TheVariants.{Preset, Initiator, Responder}
@@ -113,7 +113,8 @@ use Rattle.iw_laws.proofs.Tales.{Tale, tale_after}
 use Rattle.iw_laws.proofs.Paid.{IsPaid, paying}
 use Rattle.iw_laws.proofs.Onces.{Onces, once_after}
 use Rattle.iw_laws.proofs.Fills.{Fills, fill_after}
-use Rattle.iw_laws.proofs.Tracks.{Track, by_ended, shown_stays, sound, silent_is, next_whole, next_none, next_reads_are, was_placed_is, tracking, MayAnswer, may, accepting, refusing, unanswered}
+use Rattle.iw_laws.proofs.Plain.{IsRevisionOne, most_plain}
+use Rattle.iw_laws.proofs.Tracks.{OnStart, Track, by_ended, shown_stays, sound, silent_is, next_whole, next_none, next_reads_are, was_placed_is, tracking, MayAnswer, may, accepting, refusing, unanswered}
 use Rattle.iw_laws.proofs.Lists.{Each, each-push, each-first, each-last}
 use Rattle.iw_laws.proofs.Counts.{marks, length-marks, count_reads-kinds, map-take, take-all, count_done-append, read_mark, message_at, Hands, Counts, Handing, handing_of, same_handing, one_handed, same_counts, posted_counts, part_counts, handed_counts, answered_counts, part_ticket, hands, one_for, count_last, count_last-append, last_of, plain_part, whole_of}
 use Rattle.iw_laws.proofs.Sending.{FitsNumbers, IsSendable, accepted, EmitsStart, EmitsLast, EmitsPart, EmitsResponse, emits_as, shown_good, response_good, shows, past_small, terminate_few, terminate_good}
@@ -771,8 +772,8 @@ unbegun s t e apart calm = elim apart [ inl zero_is ↦ by_waiting s.asked.unans
         absurd (none-some _ (sym calm ∙ (λ i. cond (nat_lt 0 (zero_is i)) None (part_for (is i) s.asked.fetched s.mulpdu))))
 
 -- a part is sent
-sends_part : (s : StreamState) (t : Tale) (from : ℕ) (octets : Octets) → (p : EmitsPart s from octets) → t.story.start ≡ s.start → s.sent ≡ length t.sent → Emits s t → Emits (left_frame s (NextPart p.part)) (tale_after t (Emit (Frame from octets)))
-sends_part s t from octets p start sent e =
+sends_part : (s : StreamState) (t : Tale) (from : ℕ) (octets : Octets) → (p : EmitsPart s from octets) → IsRevisionOne s.start → t.story.start ≡ s.start → s.sent ≡ length t.sent → Emits s t → Emits (left_frame s (NextPart p.part)) (tale_after t (Emit (Frame from octets)))
+sends_part s t from octets p one start sent e =
     let part : Part (Request Octets) = p.part in
     let loud = p.is_loud in
     let l = lives s t e loud.running in
@@ -803,7 +804,7 @@ sends_part s t from octets p start sent e =
         asked = e.asks.asked;
         fetched = e.asks.fetched;
         begun = e.asks.begun;
-        few = still_few s.reads part.ticket part.message e.asks.few loud.room;
+        few = still_few s.reads part.ticket part.message e.asks.few (ap (λ most. is_read part.message && nat_le most (length s.reads)) (sym (most_plain s.start one)) ∙ loud.room);
       };
       good = subst (Each IsSendable) (sym out) (each-push IsSendable e.segments segment l.good good);
       framed = subst (IsFramed s.start (t.sent ++ octets)) (sym out) (Spoken r.framed);
@@ -899,13 +900,13 @@ sends_last s t from octets p start sent e =
     })
 
 -- a frame is sent
-sends_frame : (table : Table) (s : StreamState) (t : Tale) (from : ℕ) (octets : Octets) → Frame from octets ≡ shown_of table (emission_of table s) (emitted table s) → t.story.start ≡ s.start → s.sent ≡ length t.sent → Emits s t → Emits (after_act s (Emit (Frame from octets))) (tale_after t (Emit (Frame from octets)))
-sends_frame table s t from octets rule start sent e = go (emits_as table s (Frame from octets) rule)
+sends_frame : (table : Table) (s : StreamState) (t : Tale) (from : ℕ) (octets : Octets) → Frame from octets ≡ shown_of table (emission_of table s) (emitted table s) → IsRevisionOne s.start → t.story.start ≡ s.start → s.sent ≡ length t.sent → Emits s t → Emits (after_act s (Emit (Frame from octets))) (tale_after t (Emit (Frame from octets)))
+sends_frame table s t from octets rule one start sent e = go (emits_as table s (Frame from octets) rule)
   where
     go : EmitsStart s from octets ⊎ (EmitsLast s from octets ⊎ EmitsPart s from octets) → Emits (left_frame s (due s)) (tale_after t (Emit (Frame from octets)))
     go (inl p) = subst (λ d. Emits (left_frame s d) (tale_after t (Emit (Frame from octets)))) (sym p.next) (sends_start s t from octets p start sent e)
     go (inr (inl p)) = subst (λ d. Emits (left_frame s d) (tale_after t (Emit (Frame from octets)))) (sym p.next) (sends_last s t from octets p start sent e)
-    go (inr (inr p)) = subst (λ d. Emits (left_frame s d) (tale_after t (Emit (Frame from octets)))) (sym p.next) (sends_part s t from octets p start sent e)
+    go (inr (inr p)) = subst (λ d. Emits (left_frame s d) (tale_after t (Emit (Frame from octets)))) (sym p.next) (sends_part s t from octets p one start sent e)
 
 -- of what is shown as a frame alone nothing is of a response
 abbrev IsPlain : Option (Segment Octets) → Type 0
@@ -1304,27 +1305,27 @@ sets_size s t size rule e =
 
 -- ---- start-up
 
-own_heard : (start : StartState) (xs : Octets) → own_frame (heard start xs) ≡ own_frame start
-own_heard (AtOnce layout) xs = refl
-own_heard (Unheard u) xs = frame_of-pushed u xs
-own_heard (Heard u) xs = refl
+own_heard : (start : StartState) (xs : Octets) → OnStart IsReached start → own_frame (heard start xs) ≡ own_frame start
+own_heard (AtOnce layout) xs r = refl
+own_heard (Unheard u) xs r = frame_of-pushed u xs r
+own_heard (Heard u) xs r = refl
 
 -- the peer's start-up frame is read
-hears_frame : (s s' : StreamState) (t : Tale) (act : StreamAct Octets) (p : Progress) → Hears s p → s'.start ≡ heard s.start (inbox s) → StaysQuiet s s' t act → (e : Emits s t) → Parts s' (story_after t.story act) e.segments → Emits s' (tale_after t act)
-hears_frame s s' t act p h start q e parts = restarts s s' t act (ap is_open h.is) q (inl (ap own_frame start ∙ own_heard s.start (inbox s))) e parts
+hears_frame : (s s' : StreamState) (t : Tale) (act : StreamAct Octets) (p : Progress) → OnStart IsReached s.start → Hears s p → s'.start ≡ heard s.start (inbox s) → StaysQuiet s s' t act → (e : Emits s t) → Parts s' (story_after t.story act) e.segments → Emits s' (tale_after t act)
+hears_frame s s' t act p reached h start q e parts = restarts s s' t act (ap is_open h.is) q (inl (ap own_frame start ∙ own_heard s.start (inbox s) reached)) e parts
 
 -- and the start-up goes on
-hears_on : (s s' : StreamState) (t : Tale) (act : StreamAct Octets) (p : Progress) → Hears s p → s'.start ≡ heard s.start (inbox s) → StaysQuiet s s' t act → StaysApart s s' t.story (story_after t.story act) → Emits s t → Emits s' (tale_after t act)
-hears_on s s' t act p h start q apart e = hears_frame s s' t act p h start q e (restart_parts s s' t.story (story_after t.story act) e.segments (ap is_open h.is) apart e.parts)
+hears_on : (s s' : StreamState) (t : Tale) (act : StreamAct Octets) (p : Progress) → OnStart IsReached s.start → Hears s p → s'.start ≡ heard s.start (inbox s) → StaysQuiet s s' t act → StaysApart s s' t.story (story_after t.story act) → Emits s t → Emits s' (tale_after t act)
+hears_on s s' t act p reached h start q apart e = hears_frame s s' t act p reached h start q e (restart_parts s s' t.story (story_after t.story act) e.segments (ap is_open h.is) apart e.parts)
 
 -- or the stream ends
-hears_end : (s s' : StreamState) (t : Tale) (act : StreamAct Octets) (p : Progress) → Hears s p → s'.start ≡ heard s.start (inbox s) → StaysQuiet s s' t act → s'.ending ≡ Over None → (story_after t.story act).ending ≡ Over None → Emits s t → Emits s' (tale_after t act)
-hears_end s s' t act p h start q ending told e =
+hears_end : (s s' : StreamState) (t : Tale) (act : StreamAct Octets) (p : Progress) → OnStart IsReached s.start → Hears s p → s'.start ≡ heard s.start (inbox s) → StaysQuiet s s' t act → s'.ending ≡ Over None → (story_after t.story act).ending ≡ Over None → Emits s t → Emits s' (tale_after t act)
+hears_end s s' t act p reached h start q ending told e =
     let none = (e.parts.shut (ap is_open h.is)).none in
-    hears_frame s s' t act p h start q e (quiet_parts s s' t.story (story_after t.story act) e.segments (Over None) ending told refl refl q.farewell e.parts (λ z. none) (λ z. none))
+    hears_frame s s' t act p reached h start q e (quiet_parts s s' t.story (story_after t.story act) e.segments (Over None) ending told refl refl q.farewell e.parts (λ z. none) (λ z. none))
 
 side_frame : (u : StartupState) → u.side ≡ sides.Responder None → startups.frame_of u ≡ []
-side_frame u e = ap (startups.own_frame u.config) e
+side_frame u e = ap (λ side. startups.own_frame u.config side u.octets) e
 
 unanswered_shut : (s : StreamState) → MayAnswer s → is_open s.start ≡ false
 unanswered_shut s m = ap is_open m.is ∙ ap is_some (unanswered_not_agreed m.startup (unanswered m.startup m.asked))
@@ -1567,7 +1568,7 @@ takes table s t size stag to rule k loud e =
 
 emitting : (table : Table) (s : StreamState) (t : Tale) (act : StreamAct Octets) → Told table s act → s.sent ≡ length t.sent → Track s t → Emits s t → Emits (after_act s act) (tale_after t act)
 emitting table s t (Post m None) rule sent k e = posts table s t m rule e
-emitting table s t (Emit (Frame from octets)) rule sent k e = sends_frame table s t from octets rule k.begins.start sent e
+emitting table s t (Emit (Frame from octets)) rule sent k e = sends_frame table s t from octets rule k.begins.plain k.begins.start sent e
 emitting table s t (Emit (Fetched from frame stag to octets)) rule sent k e = sends_response table s t from frame stag to octets (emits_as table s (Fetched from frame stag to octets) rule) k.begins.start sent e
 emitting table s t (Emit (Denied fault)) rule sent k e =
     let p = emits_as table s (Denied fault) rule in
@@ -1583,11 +1584,11 @@ emitting table s t (First number None) rule sent k e = quiet s (after_act s (Fir
 emitting table s t (Mulpdu size None) rule sent k e = sets_size s t size rule e
 emitting table s t (Work (seen.Done kind)) rule sent k e = hands_out s t kind rule.0 rule.1 rule.2 e
 emitting table s t (Work (seen.Flushed kind)) rule sent k e = gives_up s t kind rule e
-emitting table s t (Accept private (Ok agreed)) rule sent k e = accepts_frame s (after_act s (Accept private (Ok agreed))) t (Accept private (Ok agreed)) (may s (accepting s agreed rule)) (record { queue = refl; numbers = refl; mulpdu = refl; reads = refl; asked = refl; posted = refl; handed = refl; size = refl; sent = refl; said = record { whole = refl; reads = refl; answered = refl; asked = refl; answers = refl; begun = refl }; running = λ h. h; farewell = refl }) (record { ending = refl; told = refl; farewell = refl }) e
-emitting table s t (Reject private None) rule sent k e = rejects_frame s (after_act s (Reject private None)) t (Reject private None) (may s (refusing s rule)) (record { queue = refl; numbers = refl; mulpdu = refl; reads = refl; asked = refl; posted = refl; handed = refl; size = refl; sent = refl; said = record { whole = refl; reads = refl; answered = refl; asked = refl; answers = refl; begun = refl }; running = λ h. absurd (true≢false h); farewell = refl }) refl refl e
-emitting table s t (Work (seen.Asked private)) rule sent k e = hears_on s (after_act s (Work (seen.Asked private))) t (Work (seen.Asked private)) progresses.Asked rule.0 refl (record { queue = refl; numbers = refl; mulpdu = refl; reads = refl; asked = refl; posted = refl; handed = refl; size = refl; sent = refl; said = record { whole = refl; reads = refl; answered = refl; asked = refl; answers = refl; begun = refl }; running = λ h. h; farewell = refl }) (record { ending = refl; told = refl; farewell = refl }) e
-emitting table s t (Work (seen.Opened agreed private)) rule sent k e = hears_on s (after_act s (Work (seen.Opened agreed private))) t (Work (seen.Opened agreed private)) progresses.Agreed rule.0 refl (record { queue = refl; numbers = refl; mulpdu = refl; reads = refl; asked = refl; posted = refl; handed = refl; size = refl; sent = refl; said = record { whole = refl; reads = refl; answered = refl; asked = refl; answers = refl; begun = refl }; running = λ h. h; farewell = refl }) (record { ending = refl; told = refl; farewell = refl }) e
-emitting table s t (Work (seen.Closed fault)) rule sent k e = hears_end s (after_act s (Work (seen.Closed fault))) t (Work (seen.Closed fault)) (progresses.Faulted fault) rule refl (record { queue = refl; numbers = refl; mulpdu = refl; reads = refl; asked = refl; posted = refl; handed = refl; size = refl; sent = refl; said = record { whole = refl; reads = refl; answered = refl; asked = refl; answers = refl; begun = refl }; running = λ h. absurd (true≢false h); farewell = refl }) refl refl e
+emitting table s t (Accept private (Ok agreed)) rule sent k e = accepts_frame s (after_act s (Accept private (Ok agreed))) t (Accept private (Ok agreed)) (may s (accepting s (private_data private).items agreed rule)) (record { queue = refl; numbers = refl; mulpdu = refl; reads = refl; asked = refl; posted = refl; handed = refl; size = refl; sent = refl; said = record { whole = refl; reads = refl; answered = refl; asked = refl; answers = refl; begun = refl }; running = λ h. h; farewell = refl }) (record { ending = refl; told = refl; farewell = refl }) e
+emitting table s t (Reject private None) rule sent k e = rejects_frame s (after_act s (Reject private None)) t (Reject private None) (may s (refusing s (private_data private).items rule)) (record { queue = refl; numbers = refl; mulpdu = refl; reads = refl; asked = refl; posted = refl; handed = refl; size = refl; sent = refl; said = record { whole = refl; reads = refl; answered = refl; asked = refl; answers = refl; begun = refl }; running = λ h. absurd (true≢false h); farewell = refl }) refl refl e
+emitting table s t (Work (seen.Asked private)) rule sent k e = hears_on s (after_act s (Work (seen.Asked private))) t (Work (seen.Asked private)) progresses.Asked k.begins.reached rule.0 refl (record { queue = refl; numbers = refl; mulpdu = refl; reads = refl; asked = refl; posted = refl; handed = refl; size = refl; sent = refl; said = record { whole = refl; reads = refl; answered = refl; asked = refl; answers = refl; begun = refl }; running = λ h. h; farewell = refl }) (record { ending = refl; told = refl; farewell = refl }) e
+emitting table s t (Work (seen.Opened agreed private)) rule sent k e = hears_on s (after_act s (Work (seen.Opened agreed private))) t (Work (seen.Opened agreed private)) progresses.Agreed k.begins.reached rule.0 refl (record { queue = refl; numbers = refl; mulpdu = refl; reads = refl; asked = refl; posted = refl; handed = refl; size = refl; sent = refl; said = record { whole = refl; reads = refl; answered = refl; asked = refl; answers = refl; begun = refl }; running = λ h. h; farewell = refl }) (record { ending = refl; told = refl; farewell = refl }) e
+emitting table s t (Work (seen.Closed fault)) rule sent k e = hears_end s (after_act s (Work (seen.Closed fault))) t (Work (seen.Closed fault)) (progresses.Faulted fault) k.begins.reached rule refl (record { queue = refl; numbers = refl; mulpdu = refl; reads = refl; asked = refl; posted = refl; handed = refl; size = refl; sent = refl; said = record { whole = refl; reads = refl; answered = refl; asked = refl; answers = refl; begun = refl }; running = λ h. absurd (true≢false h); farewell = refl }) refl refl e
 emitting table s t (Work (seen.Terminated fault)) rule sent k e = ends_loud s (after_act s (Work (seen.Terminated fault))) t (Work (seen.Terminated fault)) refl (record { queue = refl; numbers = refl; mulpdu = refl; reads = refl; asked = refl; posted = refl; handed = refl; size = refl; sent = refl; said = record { whole = refl; reads = refl; answered = refl; asked = refl; answers = refl; begun = refl }; running = λ h. absurd (true≢false h); farewell = refl }) refl refl rule.1.fronts.started (loud table s t (Work (seen.Terminated fault)) rule e.asks.reads tt k refl) e
 emitting table s t Break rule sent k e = ends_broken s (after_act s Break) t Break refl (record { queue = refl; numbers = refl; mulpdu = refl; reads = refl; asked = refl; posted = refl; handed = refl; size = refl; sent = refl; said = record { whole = refl; reads = refl; answered = refl; asked = refl; answers = refl; begun = refl }; running = λ h. absurd (true≢false h); farewell = refl }) refl refl (λ h. h) e
 emitting table s t (Emit Nothing) rule sent k e = quiet s s t (Emit Nothing) refl (record { queue = refl; numbers = refl; mulpdu = refl; reads = refl; asked = refl; posted = refl; handed = refl; size = refl; sent = refl; said = record { whole = refl; reads = refl; answered = refl; asked = refl; answers = refl; begun = refl }; running = λ h. h; farewell = refl }) (record { ending = refl; told = refl; farewell = refl }) (λ h. h) e
@@ -1666,8 +1667,8 @@ answered_starts o s reply small m h =
 
 starting : (o : Opening) (table : Table) (s : StreamState) (act : StreamAct Octets) → Told table s act → IsStartOf o s.start → IsStartOf o (after_act s act).start
 starting o table s (Emit shown) rule h = subst (IsStartOf o) (sym (left_heard s shown).start) h
-starting o table s (Accept private (Ok agreed)) rule h = answered_starts o s (replies.Accept (private_data private)) (omega (arith, length-take 512 private)) (may s (accepting s agreed rule)) h
-starting o table s (Reject private None) rule h = answered_starts o s (replies.Reject (private_data private)) (omega (arith, length-take 512 private)) (may s (refusing s rule)) h
+starting o table s (Accept private (Ok agreed)) rule h = answered_starts o s (replies.Accept (private_data private)) (omega (arith, length-take 512 private)) (may s (accepting s (private_data private).items agreed rule)) h
+starting o table s (Reject private None) rule h = answered_starts o s (replies.Reject (private_data private)) (omega (arith, length-take 512 private)) (may s (refusing s (private_data private).items rule)) h
 starting o table s (Work (seen.Asked private)) rule h = heard_starts o s.start (inbox s) h
 starting o table s (Work (seen.Opened agreed private)) rule h = heard_starts o s.start (inbox s) h
 starting o table s (Work (seen.Closed fault)) rule h = heard_starts o s.start (inbox s) h

@@ -1,6 +1,6 @@
 -- How far an act can move the in-order point: at most 2^17 octets an act, those before counted in.
 use Rattle.std.proofs.Common.{◌≡◌, ℕ, ◌+◌, ◌-◌, ◌*◌, ◌<◌, ◌≤◌, [], length, take, drop, Option, Some, None, Ok, Err, Bool, true, false, cond, refl, sym, ap, ◌∙◌, subst, arith, length-append, length-take, inl, inr}
-use Rattle.std.specs.Prelude.{is_some, not, nat_lt, nat_eq, slice_index, ◌==◌, ◌||◌}
+use Rattle.std.specs.Prelude.{is_some, not, nat_lt, nat_eq, ◌&&◌, ◌||◌}
 use Rattle.std.proofs.lemmas.Bool.{true≢false}
 use Rattle.std.proofs.lemmas.Bool.Decides.{nat_tests}
 use Rattle.iw_octets.specs.declared.segment.Segment.{Segment}
@@ -17,9 +17,10 @@ use Rattle.iw_locate.specs.Free.{scene_of}
 use Rattle.iw_startup.specs.declared.side.Side.{Side}
 use Rattle.iw_startup.specs.declared.progress.StartupFault.{StartupFault}
 use Rattle.iw_startup.specs.declared.progress.StartupFault.TheVariants.{BadKey, BadRev, BadLength}
-use Rattle.iw_startup.specs.Frame.{private_len}
+use Rattle.iw_startup.specs.declared.config.Establishment.{Establishment}
+use Rattle.iw_startup.specs.Frame.{private_len, has_word}
 use Rattle.std.specs.List.{starts_with}
-use Rattle.iw_startup.specs.Peer.{peer_key, fixed_fault, frame_end, frame_part}
+use Rattle.iw_startup.specs.Peer.{peer_key, takes_revision, fixed_fault, frame_end, frame_part}
 use Rattle.iw_startup.specs.State.{StartupState}
 use Rattle.iw_startup.proofs.Heard.{octets-pushed}
 use Rattle.iw_startup.proofs.Openings.{unanswered_not_agreed}
@@ -40,7 +41,7 @@ use Rattle.iw_events.specs.declared.act.StreamAct.TheVariants.{Recv, Post, Emit,
 use Rattle.iw_events.specs.declared.act.Shown.{Shown}
 use Rattle.iw_events.specs.declared.act.Shown.TheVariants as shows
 use Rattle.iw_events.specs.declared.act.Seen.TheVariants as seen
-use Rattle.iw_laws.specs.Words.{Octets, deed, ended_after, listed}
+use Rattle.iw_laws.specs.Words.{Octets, deed, ended_after, listed, private_data}
 use Rattle.iw_laws.proofs.Tales.{Tale}
 use Rattle.iw_laws.proofs.Nexts.{fore, place_in, place_past, past_front}
 use Rattle.iw_laws.proofs.Judged.{segments_early, placed_by, more_come, one_counts, open_at, same_segments}
@@ -88,25 +89,26 @@ shut_charge s s' t k shut arrived front early =
     let few : length (segments_early (scene s') s'.early) ≡ 0 = ap (λ rs. length (segments_early (scene s') rs)) none in
     omega (arith, few, ap waiting_count front, arrived)
 
-frame_end_few : (side : Side) (xs : Octets) → frame_end side xs ≤ 532
+frame_end_few : (est : Establishment) (side : Side) (xs : Octets) → frame_end est side xs ≤ 532
 unfolding frame_end fixed_fault
-frame_end_few side xs = go (nat_lt (length xs) 20) (starts_with nat_eq xs (peer_key side)) (slice_index xs 17 == 1) (nat_lt 512 (private_len xs)) refl
+frame_end_few est side xs = go (nat_lt (length xs) 20) (starts_with nat_eq xs (peer_key side)) (takes_revision side est xs) (has_word est xs && nat_lt (private_len xs) 4) (nat_lt 512 (private_len xs)) refl
   where
-    go : (a b c d : Bool) → nat_lt 512 (private_len xs) ≡ d → cond (a || is_some (cond {A = Option StartupFault} (not b) (Some BadKey) (cond (not c) (Some BadRev) (cond d (Some BadLength) None)))) 20 (20 + private_len xs) ≤ 532
-    go true b c d e = omega arith
-    go false false c d e = omega arith
-    go false true false d e = omega arith
-    go false true true true e = omega arith
-    go false true true false e = grind (arith, nat_tests)
+    go : (a b c w d : Bool) → nat_lt 512 (private_len xs) ≡ d → cond (a || is_some (cond {A = Option StartupFault} (not b) (Some BadKey) (cond (not c) (Some BadRev) (cond (w || d) (Some BadLength) None)))) 20 (20 + private_len xs) ≤ 532
+    go true b c w d e = omega arith
+    go false false c w d e = omega arith
+    go false true false w d e = omega arith
+    go false true true true d e = omega arith
+    go false true true false true e = omega arith
+    go false true true false false e = grind (arith, nat_tests)
 
 hears_few : (s s' : StreamState) (t : Tale) (p : Progress) → Hears s p → s'.arrived ≡ advanced s.arrived (first_place_in (heard s.start (inbox s))) → s'.front ≡ s.front → s'.early ≡ s.early → Track s t → charge s' ≤ charge s + 131072
 unfolding frame_part
 hears_few s s' t p h arrived front early k =
     let u : StartupState = h.startup in
     let n = unread s t u k h.is in
-    let to : first_place_in (heard s.start (inbox s)) ≡ length (take (frame_end u.side (inbox s)) (inbox s)) = ap (λ z. first_place_in (heard z (inbox s))) h.is ∙ ap length (octets-pushed u (inbox s) n.octets) in
+    let to : first_place_in (heard s.start (inbox s)) ≡ length (take (frame_end u.config.establishment u.side (inbox s)) (inbox s)) = ap (λ z. first_place_in (heard z (inbox s))) h.is ∙ ap length (octets-pushed u (inbox s) n.octets) in
     let floor = ap (λ (a : Arrived). a.floor) arrived ∙ floor_moves s.arrived (first_place_in (heard s.start (inbox s))) in
-    shut_charge s s' t k (ap is_open h.is) (omega (arith, floor, to, length-take (frame_end u.side (inbox s)) (inbox s), frame_end_few u.side (inbox s))) front early
+    shut_charge s s' t k (ap is_open h.is) (omega (arith, floor, to, length-take (frame_end u.config.establishment u.side (inbox s)) (inbox s), frame_end_few u.config.establishment u.side (inbox s))) front early
 
 -- octets come
 comes_few : (s s' : StreamState) (t : Tale) (from : ℕ) (octets : Octets) → s'.start ≡ s.start → s'.arrived ≡ taken_in s.arrived from octets → s'.front ≡ s.front → s'.early ≡ s.early → Track s t → charge s' ≤ charge s + 131072
@@ -206,9 +208,9 @@ paying table s t act rule k n over p = by act rule (over_still s (after_act s ac
     by (Mulpdu size None) rule still over = same (after_act s (Mulpdu size None)) still refl refl refl refl
     by (First number (Some refusal)) rule still over = same s still refl refl refl refl
     by (Mulpdu size (Some refusal)) rule still over = same s still refl refl refl refl
-    by (Accept private (Ok agreed)) rule still over = answers (after_act s (Accept private (Ok agreed))) still (may s (accepting s agreed rule)) refl refl refl
+    by (Accept private (Ok agreed)) rule still over = answers (after_act s (Accept private (Ok agreed))) still (may s (accepting s (private_data private).items agreed rule)) refl refl refl
     by (Accept private (Err refusal)) rule still over = same s still refl refl refl refl
-    by (Reject private None) rule still over = answers (after_act s (Reject private None)) still (may s (refusing s rule)) refl refl refl
+    by (Reject private None) rule still over = answers (after_act s (Reject private None)) still (may s (refusing s (private_data private).items rule)) refl refl refl
     by (Reject private (Some refusal)) rule still over = same s still refl refl refl refl
     by (Recv len None) rule still over = same (after_act s (Recv len None)) still refl refl refl refl
     by (Recv len (Some refusal)) rule still over = same s still refl refl refl refl

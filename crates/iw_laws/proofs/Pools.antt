@@ -263,9 +263,9 @@ module _ (s : EndState) (done : List (Act Octets)) (n : ℕ) (own : shares (stre
   own_after (Work step) = own_left s.endpoint.table (pool_of s.endpoint (stream_at s.endpoint n).domain) (stream_at s.endpoint n) own
   own_after Break = refl
 
-  own_next : (act : StreamAct Octets) (queue : Receiving) → StreamRule s.endpoint.table (stream_for s.endpoint n act) act
-      → Holds (opening_of n done) (connected_at s n) (tale_of (opening_of n done) (stream_acts n done)) → NextAt s done n act false queue
-  own_next act queue rule h =
+  own_next : (act : StreamAct Octets) (next : Receiving) → StreamRule s.endpoint.table (stream_for s.endpoint n act) act
+      → Holds (opening_of n done) (connected_at s n) (tale_of (opening_of n done) (stream_acts n done)) → NextAt s done n act false next
+  own_next act next rule h =
       let o : Opening = opening_of n done in
       let those : List (StreamAct Octets) = stream_acts n done in
       let plain : StreamRule s.endpoint.table (stream_at s.endpoint n) act = subst (λ z. StreamRule s.endpoint.table z act) (own_seen act) rule in
@@ -397,8 +397,8 @@ pools_next s done act k pools rule holds d = by act rule ∙ sym (ap (λ (z : Po
     of_stream n (Post m refused) has rule = pools_kept s done n d k pools has (Post m refused) refl (pools_refused (endpoint.post_refusal s.endpoint n m) s.endpoint (endpoint.with_request s.endpoint n m) refl)
     of_stream n (First number refused) has rule = pools_kept s done n d k pools has (First number refused) refl (pools_refused (endpoint.first_refusal s.endpoint n) s.endpoint (endpoint.with_first s.endpoint n number) refl)
     of_stream n (Mulpdu size refused) has rule = pools_kept s done n d k pools has (Mulpdu size refused) refl (pools_refused (endpoint.size_refusal s.endpoint n size) s.endpoint (endpoint.with_mulpdu s.endpoint n size) refl)
-    of_stream n (Accept private answer) has rule = pools_kept s done n d k pools has (Accept private answer) refl (pools_refused (endpoint.answer_refusal s.endpoint n) s.endpoint (endpoint.accepted s.endpoint n (private_data private)) refl)
-    of_stream n (Reject private refused) has rule = pools_kept s done n d k pools has (Reject private refused) refl (pools_refused (endpoint.answer_refusal s.endpoint n) s.endpoint (endpoint.rejected s.endpoint n (private_data private)) refl)
+    of_stream n (Accept private answer) has rule = pools_kept s done n d k pools has (Accept private answer) refl (pools_refused (endpoint.answer_refusal s.endpoint n (private_data private).items) s.endpoint (endpoint.accepted s.endpoint n (private_data private)) refl)
+    of_stream n (Reject private refused) has rule = pools_kept s done n d k pools has (Reject private refused) refl (pools_refused (endpoint.answer_refusal s.endpoint n (private_data private).items) s.endpoint (endpoint.rejected s.endpoint n (private_data private)) refl)
     of_stream n (Emit shown) has rule = pools_kept s done n d k pools has (Emit shown) refl (pools_there (stream_of s.endpoint n) s.endpoint (endpoint.after_emit s.endpoint n) refl)
     of_stream n (Deliver from number octets delivery) has rule = pools_kept s done n d k pools has (Deliver from number octets delivery) refl (pools_there (stream_of s.endpoint n) s.endpoint (endpoint.after_deliver s.endpoint n number octets) refl)
     of_stream n (Raw number octets delivery) has rule = pools_kept s done n d k pools has (Raw number octets delivery) refl (pools_there (stream_of s.endpoint n) s.endpoint (endpoint.after_deliver s.endpoint n number octets) refl)
@@ -412,9 +412,9 @@ pools_next s done act k pools rule holds d = by act rule ∙ sym (ap (λ (z : Po
     by (Invalidate stag refused) rule = pools d
     by (Store stag to octets refused) rule = same (Store stag to octets refused) (pools_refused (endpoint.store_refusal s.endpoint stag to (length octets)) s.endpoint (endpoint.stored s.endpoint stag to octets) refl)
     by (Open n pd role options private refused) rule =
-        same (Open n pd role options private refused) (pools_refused (endpoint.open_refusal s.endpoint n pd) s.endpoint (endpoint.opened s.endpoint n pd role (config_for options private)) refl)
+        same (Open n pd role options private refused) (pools_refused (endpoint.open_refusal s.endpoint n pd role (config_for options private)) s.endpoint (endpoint.opened s.endpoint n pd role (config_for options private)) refl)
     by (OpenShared n pd role options private refused) rule =
-        same (OpenShared n pd role options private refused) (pools_refused (endpoint.open_shared_refusal s.endpoint n pd) s.endpoint (endpoint.opened_shared s.endpoint n pd role (config_for options private)) refl)
+        same (OpenShared n pd role options private refused) (pools_refused (endpoint.open_shared_refusal s.endpoint n pd role (config_for options private)) s.endpoint (endpoint.opened_shared s.endpoint n pd role (config_for options private)) refl)
     by (Share pd None) rule =
         ap (λ q. pool_of (unless q s.endpoint (endpoint.shared s.endpoint pd)) d) (sym rule)
         ∙ put_there s.endpoint.pools pd d (Some []) (added_there s.endpoint pd k.domains rule) ∙ ap (cond (eqb pd d) (Some [])) (pools d)

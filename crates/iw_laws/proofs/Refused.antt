@@ -238,7 +238,7 @@ refuses_kept_past_end h = let r = h (take 4 keeps_past_end) (b (raw 8 (0 ∷ [])
 pub refuses_unasked_accept : RefusesUnaskedAccept
 unfolding acts stream_acts openings story ended progress_of startup_end numbers_ahead place_near before_start
 refuses_unasked_accept h =
-    false≢true (h (take 2 accepts_unasked) (b (on (Accept [] (Ok (record { send_markers = false; expect_markers = false; crc = false }))))) [] refl).0
+    false≢true (h (take 2 accepts_unasked) (b (on (Accept [] (Ok (record { send_markers = false; expect_markers = false; crc = false; ord = 16; rtr = None }))))) [] refl).0
 
 pub refuses_wrong_refusal : RefusesWrongRefusal
 unfolding acts table_after empty

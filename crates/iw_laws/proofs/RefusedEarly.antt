@@ -28,7 +28,7 @@ use Rattle.iw_stream.specs.declared.judging.Landing.TheVariants as landing
 use Rattle.iw_stream.specs.declared.judging.Turning.TheVariants as turning
 use Rattle.arrayvec.specs.ArrayVec.{ArrayVec}
 use Rattle.iw_stream.specs.Frames.{Frame, EarlyRecord, standing_at, placed, placed_at}
-use Rattle.iw_untagged.specs.Receiving.{nothing_received, with_buffer, buffer_fault}
+use Rattle.iw_untagged.specs.Receiving.{Receiving, nothing_received, with_buffer, buffer_fault}
 use Rattle.iw_stream.specs.Judging.{Standing, verdict, fault_or, turn_of}
 use Rattle.iw_stream.specs.Starting.{AtOnce, plain, expecting, first_place_in}
 use Rattle.iw_events.specs.declared.call.End.TheVariants.{B}
@@ -87,7 +87,7 @@ refuses_second_check h =
 
 -- ---- a second placement
 
-overlaps_itself : (x : Span) (known : List Span) → x.from < x.to → Some x ∷ Some x ∷ [] ≡ map Some known → NoneOverlap known → ⊥
+pub overlaps_itself : (x : Span) (known : List Span) → x.from < x.to → Some x ∷ Some x ∷ [] ≡ map Some known → NoneOverlap known → ⊥
 overlaps_itself x [] some e apart = cc e
 overlaps_itself x (y ∷ []) some e apart = cc e
 overlaps_itself x (y ∷ z ∷ known) some e apart =
@@ -175,13 +175,13 @@ refuses_idle_while_free h =
 
 -- ---- a Send is left, though its buffer is posted
 
-layout_marked : Layout
+unfoldable pub layout_marked : Layout
 layout_marked = record { markers = true; crc = false }
 
-send_came : Arrived
+unfoldable pub send_came : Arrived
 send_came = taken_in (record { floor = 0; cells = [] }) 512 ((0 ∷ 0 ∷ 0 ∷ 0 ∷ []) ++ send_frame)
 
-send_ulpdu : Octets
+unfoldable pub send_ulpdu : Octets
 send_ulpdu = (0x41 ∷ 0x43 ∷ []) ++ replicate 11 0 ++ (1 ∷ 0 ∷ 0 ∷ 0 ∷ 0 ∷ 0x68 ∷ [])
 
 the_send : Frame
@@ -195,9 +195,13 @@ send_read : frame_in (scene_of {T = ArrayVec ℕ} layout_marked 0 send_came []) 
 unfolding the_send send_ulpdu send_came layout_marked taken_in data_at mismatch_at markers_agree crc_agrees marker_value span_start place_after data_place data_index
 send_read = refl
 
-send_lands : (s : Standing) → s.receiving ≡ with_buffer nothing_received (0 ∷ []) → verdict s the_send ≡ Ok (landing.Send 1 0 1)
-unfolding the_send send_ulpdu read_segment read_untagged
-send_lands s posted = ap (λ r. fault_or (buffer_fault r 1 0 1) (landing.Send 1 0 1)) posted
+pub send_judged : (s : Standing) (start : ℕ) → verdict s (record { start = start; mismatch = None; ulpdu = send_ulpdu }) ≡ fault_or (buffer_fault s.receiving 1 0 1) (landing.Send 1 0 1)
+unfolding send_ulpdu read_segment read_untagged
+send_judged s start = refl
+
+pub send_lands : (s : Standing) (r : Receiving) (start : ℕ) → s.receiving ≡ r → buffer_fault r 1 0 1 ≡ None → verdict s (record { start = start; mismatch = None; ulpdu = send_ulpdu }) ≡ Ok (landing.Send 1 0 1)
+send_lands s r start there room =
+    send_judged s start ∙ ap (λ z. fault_or (buffer_fault z 1 0 1) (landing.Send 1 0 1)) there ∙ ap (λ o. fault_or o (landing.Send 1 0 1)) room
 
 -- a frame that is tried stands where the step says
 tried_at : (t : Story) (s : Standing) (place : ℕ) → (j : IsJudgedEarly t s (seen.Tried place)) → place ≡ first_place_in t.start + j.frame.start
@@ -216,15 +220,18 @@ tried_at t s place j = go (verdict s j.frame) refl
     go (Ok (landing.Terminate fault)) e =
         tried (λ at is there. let same : Ok at ≡ Ok (landing.Terminate fault) = sym is ∙ e in let lands : at ≡ landing.Terminate fault = cc same in subst HasPlace lands there)
 
+pub never_tried : (t : Story) (s : Standing) (r : Receiving) → turns.scene t ≡ scene_of {T = ArrayVec ℕ} layout_marked 0 send_came [] → first_place_in t.start ≡ 0 → s.receiving ≡ r → buffer_fault r 1 0 1 ≡ None → IsJudgedEarly t s (seen.Tried 516) → ⊥
+unfolding the_send
+never_tried t s r scene_is first there room j =
+    let start : j.frame.start ≡ 516 = omega (arith, tried_at t s 516 j, first) in
+    let o = open_at (turns.scene t) j.frame (omega arith) j.lowest in
+    let frame : j.frame ≡ the_send = o.is ∙ (λ i. frame_in (scene_is i) (start i)) ∙ send_read in
+    let lands : verdict s j.frame ≡ Ok (landing.Send 1 0 1) = ap (verdict s) frame ∙ send_lands s r 516 there room in
+    let wrong : seen.Tried 516 ≡ seen.Buffered 1 0 1 = j.placed (landing.Send 1 0 1) lands tt in
+    cc wrong
+
 pub refuses_tried_send : RefusesTriedSend
 unfolding acts stream_acts openings story numbers_ahead place_near before_start
 refuses_tried_send h =
-    let t : Story = story_of 0 (acts B (take 4 tries_send)) in
-    let s : Standing = standing 0 (acts B (take 4 tries_send)) in
-    let j = h (take 4 tries_send) (b (works (seen.Tried 516))) [] refl in
-    let start : j.frame.start ≡ 516 = omega (arith, tried_at t s 516 j) in
-    let o = open_at (turns.scene t) j.frame (omega arith) j.lowest in
-    let frame : j.frame ≡ the_send = o.is ∙ (λ i. frame_in (send_scene i) (start i)) ∙ send_read in
-    let lands : verdict s j.frame ≡ Ok (landing.Send 1 0 1) = ap (verdict s) frame ∙ send_lands s refl in
-    let wrong : seen.Tried 516 ≡ seen.Buffered 1 0 1 = j.placed (landing.Send 1 0 1) lands tt in
-    cc wrong
+    never_tried (story_of 0 (acts B (take 4 tries_send))) (standing 0 (acts B (take 4 tries_send))) (with_buffer nothing_received (0 ∷ [])) send_scene refl refl refl
+    (h (take 4 tries_send) (b (works (seen.Tried 516))) [] refl)

@@ -1,4 +1,5 @@
 -- Each wrong run with Reads breaks its law.
+use Rattle.iw_startup.specs.declared.config.Establishment.TheVariants as establishments
 use Rattle.iw_ranges.specs.Nearest.{numbers_ahead, place_near, before_start}
 use Rattle.std.proofs.Common.{◌≡◌, ℕ, zero, suc, ◌+◌, ◌*◌, ◌%◌, ◌-◌, ◌^◌, ◌<◌, ◌≤◌, List, [], ◌∷◌, ◌++◌, length, take, drop, map, replicate, Option, Some, None, Err, Bool, true, false, cond, refl, sym, ap, ◌∙◌, subst, arith, inl, inr}
 use Rattle.std.specs.Prelude.{fold, nat_eq, nat_lt, slice_get}
@@ -83,7 +84,7 @@ goes_out t from segment start aligned fits short =
     ∙ read_segment-spelled segment fits
 
 -- the frame that came first is next
-comes_next : (t : Story) (u : Octets) → t.start ≡ AtOnce plain → t.turns ≡ 0 → in_order t.came ≡ frame_octets plain 0 u → length u ≤ max_sent → next_frame t ≡ Some (standing_at (frame_start false 0) (intact u))
+pub comes_next : (t : Story) (u : Octets) → t.start ≡ AtOnce plain → t.turns ≡ 0 → in_order t.came ≡ frame_octets plain 0 u → length u ≤ max_sent → next_frame t ≡ Some (standing_at (frame_start false 0) (intact u))
 comes_next t u start turns came short =
     let octets : Octets = frame_octets plain 0 u ++ [] in
     let all : in_order t.came ≡ octets = came ∙ sym (append-nil (frame_octets plain 0 u)) in
@@ -401,7 +402,7 @@ refuses_done_by_write h =
 -- ---- Reads of an honest stream
 
 unfoldable pub opened_at_once : Opening
-opened_at_once = record { domain = 1; role = Preset; config = record { markers = false; crc = false; private = record { items = [] } }; shared = false }
+opened_at_once = record { domain = 1; role = Preset; config = record { markers = false; crc = false; establishment = establishments.Plain; private = record { items = [] } }; shared = false }
 
 pub honest : (run : Run) → ((x : End) → openings 0 (acts x run) ≡ opened_at_once ∷ []) → ((x : End) → (story_of 0 (acts x run)).strays ≡ false) → IsHonest 0 run
 unfolding opened_at_once

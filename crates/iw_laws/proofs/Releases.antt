@@ -35,23 +35,24 @@ use Rattle.iw_stream.specs.Ending.{last_word, with_last_word}
 use Rattle.iw_stream.specs.declared.ending.Ending.TheVariants.{Over}
 use Rattle.iw_stream.specs.Frames.{Frame, EarlyRecord, placed, record_tried}
 use Rattle.iw_stream.specs.Judging.{verdict, early_verdict, turn_of}
-use Rattle.iw_stream.specs.Starting.{StartState, AtOnce, Unheard, Heard, is_open, awaits_frame, is_responder, expecting, first_place_in, progress_in, heard, private_in}
+use Rattle.iw_stream.specs.Starting.{StartState, AtOnce, Unheard, Heard, is_open, awaits_frame, is_responder, expecting, first_place_in, progress_in, heard, private_in, mismatch_in}
 use Rattle.iw_stream.specs.Stream.{StreamState, ended, ends_by, Due, StartUp, LastWord, Response, NextPart, NoneDue, due, owes_frame, response_due, part_due, emission_due, octets_due, left_due, left_fetched, frame_fetched, delivery_of, after_deliver, place_of, left_out}
 use Rattle.iw_stream.specs.Terminating.{terminate_judged, is_request_of}
-use Rattle.iw_stream.specs.Work.{Task, HandOut, GiveUp, GiveBack, Hear, Turn, Clash, Judge, Try, Rest, task, frame_task, front_task, handing_back, next_frame, waiting, clashes, clash_fault, early_frame, scene, inbox, standing, step_of, left_by, table_left, heard_step, after_hearing, after_turn, after_judging, after_trying, work_step, worked, table_worked}
+use Rattle.iw_stream.specs.Work.{Task, HandOut, GiveUp, GiveBack, Hear, Turn, Clash, Judge, Try, Rest, task, frame_task, front_task, handing_back, next_frame, waiting, clashes, clash_fault, early_frame, scene, inbox, standing, step_of, left_by, table_left, heard_step, after_hearing, after_opening, after_turn, after_judging, after_trying, work_step, worked, table_worked}
 use Rattle.iw_stream.specs.Work as work
 use Rattle.iw_untagged.specs.Receiving.{first_buffer}
 use Rattle.iw_stream.proofs.Fronts.{carried_by}
 use Rattle.iw_stream.proofs.Tasks.{IsRunning, IsResting, Ended, Unanswered, Without, by_task, task_hands_back, task_hears, task_frame}
 use Rattle.iw_events.specs.declared.act.StreamAct.{StreamAct}
 use Rattle.iw_events.specs.declared.act.StreamAct.TheVariants.{Recv, Post, Emit, First, Deliver, Raw, Mulpdu, Accept, Reject, Work, Break}
-use Rattle.iw_laws.specs.Words.{Octets}
+use Rattle.iw_laws.specs.Words.{Octets, private_data}
 use Rattle.iw_laws.specs.Rules.{StreamRule, seen_of, shown_of}
 use Rattle.iw_laws.proofs.States.{stream_after}
 use Rattle.iw_laws.proofs.Told.{after_act, left_told}
 use Rattle.iw_laws.proofs.Left.{HasLeft, all, same_waiting, frame_left, next_left, none_left, clash_left, judge_left, same_early, held, same_inbox}
 use Rattle.iw_laws.proofs.Nexts.{standing as stands_at, first_is_here}
 use Rattle.iw_laws.proofs.Tales.{Tale}
+use Rattle.iw_laws.proofs.Plain.{plain_heard, matches_plain}
 use Rattle.iw_laws.proofs.Tracks.{Track, sound, between_is, first_is, accepting, refusing}
 use Rattle.iw_laws.proofs.Onces.{not_answered, end_here, goes_judged, goes_turned, fore_end}
 
@@ -199,10 +200,16 @@ module _ (table : Table) (s : StreamState) (came : Arrived) (left : IsLeftOf s.a
         only = nothing_given (scene (work.hears s)) (held_moves s.arrived (first_place_in (heard s.start (inbox s))) (held s came left only k.early.judged between low none));
       }
 
+  opens_like : s.early ≡ [] → Like (after_hearing s progress.Agreed) (after_hearing w progress.Agreed)
+  opens_like none =
+      let matches : (octets : List ℕ) → mismatch_in (heard s.start octets) ≡ None = λ octets. matches_plain (heard s.start octets) (plain_heard s.start octets k.begins.plain) in
+      subst (λ m. Like (after_opening (work.hears s) m) (after_hearing w progress.Agreed)) (sym (matches (inbox s)))
+      (subst (λ m. Like (work.hears s) (after_opening (work.hears w) m)) (sym (matches (inbox w))) (hears_like none))
+
   hear_like : s.early ≡ [] → (p : Progress) → Like (after_hearing s p) (after_hearing w p)
   hear_like none progress.More = record { same = λ x. refl; left = left; only = only }
   hear_like none progress.Asked = hears_like none
-  hear_like none progress.Agreed = hears_like none
+  hear_like none progress.Agreed = opens_like none
   hear_like none (progress.Faulted fault) =
       let h = hears_like none in
       record { same = λ x i. record (h.same x i) { ending = Over None }; left = h.left; only = h.only }
@@ -383,9 +390,9 @@ module _ (table : Table) (s : StreamState) (came : Arrived) (left : IsLeftOf s.a
   acts_like (Mulpdu size None) rule = (rule, record { same = λ x. refl; left = left; only = only })
   acts_like (First number (Some refusal)) rule = (rule, stays_alike)
   acts_like (Mulpdu size (Some refusal)) rule = (rule, stays_alike)
-  acts_like (Accept private (Ok agreed)) rule = (rule, answers_like (stream_after table s (Accept private (Ok agreed))) (stream_after table v (Accept private (Ok agreed))) (not_answered s (accepting s agreed rule)) (λ x. refl) refl refl)
+  acts_like (Accept private (Ok agreed)) rule = (rule, answers_like (stream_after table s (Accept private (Ok agreed))) (stream_after table v (Accept private (Ok agreed))) (not_answered s (accepting s (private_data private).items agreed rule)) (λ x. refl) refl refl)
   acts_like (Accept private (Err refusal)) rule = (rule, stays_alike)
-  acts_like (Reject private None) rule = (rule, answers_like (stream_after table s (Reject private None)) (stream_after table v (Reject private None)) (not_answered s (refusing s rule)) (λ x. refl) refl refl)
+  acts_like (Reject private None) rule = (rule, answers_like (stream_after table s (Reject private None)) (stream_after table v (Reject private None)) (not_answered s (refusing s (private_data private).items rule)) (λ x. refl) refl refl)
   acts_like (Reject private (Some refusal)) rule = (rule, stays_alike)
   acts_like Break rule = (rule, record { same = λ x. refl; left = left; only = only })
 

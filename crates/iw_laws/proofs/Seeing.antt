@@ -41,10 +41,11 @@ use Rattle.iw_stream.specs.declared.judging.Turning.TheVariants as turning
 use Rattle.iw_startup.specs.declared.progress.Progress.{Progress}
 use Rattle.iw_startup.specs.declared.progress.Progress.TheVariants as progress
 use Rattle.iw_untagged.specs.Receiving.{Receiving, buffer_fault}
-use Rattle.iw_stream.specs.Starting.{StartState, first_place_in, progress_in}
+use Rattle.iw_startup.specs.declared.enhanced.Mismatch.{Mismatch as Unmatched}
+use Rattle.iw_stream.specs.Starting.{StartState, first_place_in, progress_in, heard, mismatch_in}
 use Rattle.iw_stream.specs.Stream.{StreamState, Due, StartUp, LastWord, Response, NextPart, NoneDue, due, emission_of, emitted, emission_due, octets_due, emission_fetched, octets_fetched, frame_fetched}
 use Rattle.iw_reads.specs.declared.response.ResponsePart.{ResponsePart}
-use Rattle.iw_stream.specs.Work.{Task, HandOut, GiveUp, GiveBack, Hear, Turn, Clash, Judge, Try, Rest, task, standing, judged_step, tried_step, turned_step, heard_step, step_of, table_judged, table_passed, table_left, inbox, work_step, table_worked}
+use Rattle.iw_stream.specs.Work.{Task, HandOut, GiveUp, GiveBack, Hear, Turn, Clash, Judge, Try, Rest, task, standing, judged_step, tried_step, turned_step, heard_step, opened_step, step_of, table_judged, table_passed, table_left, inbox, work_step, table_worked}
 use Rattle.iw_events.specs.declared.act.StreamAct.{StreamAct}
 use Rattle.iw_events.specs.declared.act.StreamAct.TheVariants.{Recv, Post, Emit, First, Deliver, Raw, Mulpdu, Accept, Reject, Work, Break}
 use Rattle.iw_events.specs.Events.{stream_call_of}
@@ -295,10 +296,14 @@ shown_tried at private frame place = go (early_verdict at frame) refl
 pub table_of_seen : (table : Table) (s : StreamState) (private : Octets) → table_worked table s ≡ table_seen table (seen_of (table_worked table s) private (work_step table s))
 table_of_seen table s private = go (task s)
   where
+    opens : (start : StartState) (m : Option Unmatched) → table ≡ table_seen table (seen_of table private (opened_step start m))
+    opens start None = refl
+    opens start (Some mismatch) = refl
+
     hears : (start : StartState) (octets : Octets) (p : Progress) → table ≡ table_seen table (seen_of table private (heard_step start octets p))
     hears start octets progress.More = refl
     hears start octets progress.Asked = refl
-    hears start octets progress.Agreed = refl
+    hears start octets progress.Agreed = opens (heard start octets) (mismatch_in (heard start octets))
     hears start octets (progress.Faulted fault) = refl
 
     turns : (r : Receiving) (frame : PlacedFrame) (o : Result Turning Fault) → table_passed table o ≡ table_seen table (seen_of (table_passed table o) private (turned_step r frame o))

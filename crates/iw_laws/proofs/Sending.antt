@@ -1,6 +1,6 @@
 -- The parts that an end sends, and their segments.
 use Rattle.std.proofs.Common.{◌≡◌, ℕ, zero, suc, ◌+◌, ◌-◌, ◌%◌, ◌^◌, ◌<◌, ◌≤◌, List, [], ◌∷◌, ◌++◌, length, take, drop, Option, Some, None, Bool, true, false, cond, refl, sym, subst, arith, length-append, length-take, inl, inr, ◌⊎◌, ◌||◌, ◌&&◌, not, ◌∙◌}
-use Rattle.std.specs.Prelude.{All, is_some, min, nat_le}
+use Rattle.std.specs.Prelude.{All, is_some, min, nat_eq, nat_le}
 use Rattle.std.proofs.lemmas.Bool.{true≢false}
 use Rattle.std.specs.Option.{option_map, option_map_or}
 use Rattle.std.proofs.lemmas.Option.{none-some, same_Some}
@@ -23,11 +23,10 @@ use Rattle.iw_queues.specs.Segments.{Numbers, numbers_after, numbers_beyond, seg
 use Rattle.iw_octets.specs.declared.operation.UntaggedOperation.TheVariants as untagged
 use Rattle.iw_octets.specs.Operation.{control_of, untagged_opcode}
 use Rattle.iw_stream.specs.declared.answer.PostRefusal.TheVariants as post_refusals
-use Rattle.iw_stream.specs.Starting.{is_open, own_frame}
+use Rattle.iw_stream.specs.Starting.{is_open, most_reads_in, own_frame}
 use Rattle.iw_stream.specs.Judging.{fault_or}
 use Rattle.iw_stream.specs.Stream.{StreamState, Due, StartUp, LastWord, Response, NextPart, NoneDue, ended, post_refusal, post_refusal_of, owes_frame, keeps_silent, is_read, may_go, part_due, response_due, due, frame_of, frame_of_part, frame_of_terminate, octets_due, octets_fetched, emission_due, emission_fetched, emission_of, emitted}
 use Rattle.iw_reads.specs.declared.response.ResponsePart.{ResponsePart}
-use Rattle.iw_reads.specs.Outstanding.{most_reads}
 use Rattle.iw_reads.specs.Response.{response_head, fetch_fault, fetched_octets}
 use Rattle.iw_memory.specs.Table.{Table, octets_at}
 use Rattle.iw_octets.specs.declared.fault.Fault.{Fault}
@@ -74,14 +73,15 @@ pub record IsAccepted (s : StreamState) (m : Request Octets) : Type 0 where
   pub posted : queues.post_refusal s.queue m ≡ None
 
 pub accepted : (s : StreamState) (m : Request Octets) → None ≡ post_refusal s m → IsAccepted s m
-accepted s m e = go (ended s) (is_open s.start) (queues.post_refusal s.queue m) refl refl refl e
+accepted s m e = go (ended s) (is_open s.start) (is_read m && nat_eq (most_reads_in s.start) 0) (queues.post_refusal s.queue m) refl refl refl e
   where
-    go : (over started : Bool) (o : Option Refusal) → ended s ≡ over → is_open s.start ≡ started → queues.post_refusal s.queue m ≡ o
-        → None ≡ cond (over || not started) (Some post_refusals.NotOpen) (option_map post_refusal_of o) → IsAccepted s m
-    go true started o a b c h = absurd (none-some _ h)
-    go false false o a b c h = absurd (none-some _ h)
-    go false true (Some refusal) a b c h = absurd (none-some _ h)
-    go false true None a b c h = record { running = a; started = b; posted = c }
+    go : (over started unread : Bool) (o : Option Refusal) → ended s ≡ over → is_open s.start ≡ started → queues.post_refusal s.queue m ≡ o
+        → None ≡ cond (over || not started) (Some post_refusals.NotOpen) (cond unread (Some post_refusals.NoReads) (option_map post_refusal_of o)) → IsAccepted s m
+    go true started unread o a b c h = absurd (none-some _ h)
+    go false false unread o a b c h = absurd (none-some _ h)
+    go false true true o a b c h = absurd (none-some _ h)
+    go false true false (Some refusal) a b c h = absurd (none-some _ h)
+    go false true false None a b c h = record { running = a; started = b; posted = c }
 
 -- ---- emissions
 
@@ -99,9 +99,9 @@ pub record MaySpeak (s : StreamState) : Type 0 where
   pub started : is_open s.start ≡ true
   pub loud : keeps_silent s ≡ false
 
--- a Read finds fewer than 16 outstanding
+-- a Read finds fewer outstanding than may be
 abbrev pub HasRoom : StreamState → Part (Request Octets) → Type 0
-HasRoom s part = (is_read part.message && nat_le most_reads (length s.reads)) ≡ false
+HasRoom s part = (is_read part.message && nat_le (most_reads_in s.start) (length s.reads)) ≡ false
 
 -- and this part is due
 pub record IsLoud (s : StreamState) (part : Part (Request Octets)) : Type 0 where
@@ -124,11 +124,11 @@ IsDue s NoneDue = (owes_frame s ≡ false) × (last_word s.ending ≡ None) × R
 goes : (s : StreamState) (part : Part (Request Octets)) → part_due s ≡ Some part → (next_part s.queue s.mulpdu ≡ Some part) × HasRoom s part
 goes s part e = go (next_part s.queue s.mulpdu) refl e
   where
-    go : (o : Option (Part (Request Octets))) → next_part s.queue s.mulpdu ≡ o → may_go s.reads o ≡ Some part → (next_part s.queue s.mulpdu ≡ Some part) × HasRoom s part
+    go : (o : Option (Part (Request Octets))) → next_part s.queue s.mulpdu ≡ o → may_go (most_reads_in s.start) s.reads o ≡ Some part → (next_part s.queue s.mulpdu ≡ Some part) × HasRoom s part
     go None is h = absurd (none-some _ h)
-    go (Some p) is h = by (is_read p.message && nat_le most_reads (length s.reads)) refl h
+    go (Some p) is h = by (is_read p.message && nat_le (most_reads_in s.start) (length s.reads)) refl h
       where
-        by : (b : Bool) → (is_read p.message && nat_le most_reads (length s.reads)) ≡ b → cond b None (Some p) ≡ Some part → (next_part s.queue s.mulpdu ≡ Some part) × HasRoom s part
+        by : (b : Bool) → (is_read p.message && nat_le (most_reads_in s.start) (length s.reads)) ≡ b → cond b None (Some p) ≡ Some part → (next_part s.queue s.mulpdu ≡ Some part) × HasRoom s part
         by true c h = absurd (none-some _ h)
         by false c h = let same : p ≡ part = same_Some _ _ h in (is ∙ h, subst (HasRoom s) same c)
 

@@ -18,12 +18,12 @@ use Rattle.iw_stream.specs.declared.answer.Role.{Role}
 use Rattle.iw_stream.specs.Starting.{private_in, agreement_in}
 use Rattle.iw_stream.specs.declared.answer.RecvRefusal.TheVariants as recv_refusals
 use Rattle.iw_stream.proofs.Sharing.{left_alone}
-use Rattle.iw_laws.proofs.Shares.{work_shares}
-use Rattle.iw_stream.specs.Stream.{StreamState, shares, sees, ended, recv_refusal_of, Due, StartUp, LastWord, Response as ResponseDue, NextPart, NoneDue, due, emission_of, emitted, emission_due, octets_due, emission_fetched, octets_fetched, frame_fetched, opened, with_buffer, with_request, with_mulpdu, accepted, rejected, breaks, after_emit, after_deliver, recv_refusal, post_refusal, size_refusal, with_first, first_refusal}
+use Rattle.iw_stream.proofs.Sharing.{work_shares}
+use Rattle.iw_stream.specs.Stream.{StreamState, shares, sees, ended, recv_refusal_of, Due, StartUp, LastWord, Response as ResponseDue, NextPart, NoneDue, due, emission_of, emitted, emission_due, octets_due, emission_fetched, octets_fetched, frame_fetched, opened, with_buffer, with_request, with_mulpdu, accepted, rejected, breaks, after_emit, after_deliver, recv_refusal, post_refusal, size_refusal, answer_refusal, with_first, first_refusal}
 use Rattle.iw_stream.specs.Work.{worked}
 use Rattle.iw_endpoint.specs.declared.refusal.CallRefusal.TheVariants.{Refused}
 use Rattle.iw_endpoint.specs.Endpoint as endpoint
-use Rattle.iw_endpoint.specs.Endpoint.{EndpointState, pool_of, lent_to, left_of, pool_left, stream_of, stream_at, has_stream, unopened, refusal_at, unasked}
+use Rattle.iw_endpoint.specs.Endpoint.{EndpointState, pool_of, lent_to, left_of, pool_left, stream_of, stream_at, has_stream, unopened, refusal_at}
 use Rattle.iw_endpoint.specs.Isolation.{answer_or, unless, if_there, after}
 use Rattle.iw_events.specs.declared.call.Options.{Options}
 use Rattle.iw_events.specs.declared.act.Act.{Act}
@@ -239,11 +239,11 @@ stream_left e n (Mulpdu size None) there rule = ap (λ (z : EndpointState). z.st
 stream_left e n (First number (Some r)) there rule = ap (λ (z : EndpointState). z.streams) (asked e (endpoint.with_first e n number) n first_refusal (Some r) there rule) ∙ put_back e.streams n there
 stream_left e n (Mulpdu size (Some r)) there rule = ap (λ (z : EndpointState). z.streams) (asked e (endpoint.with_mulpdu e n size) n (λ s. size_refusal size) (Some r) there rule) ∙ put_back e.streams n there
 stream_left e n (Accept private (Ok agreed)) there rule =
-    ap (λ (z : EndpointState). z.streams) (asked e (endpoint.accepted e n (private_data private)) n unasked None there (granted (unasked (stream_at e n)) agreed (agreement_in (stream_at e n).start) rule).0)
+    ap (λ (z : EndpointState). z.streams) (asked e (endpoint.accepted e n (private_data private)) n (λ s. answer_refusal s (private_data private).items) None there (granted (answer_refusal (stream_at e n) (private_data private).items) agreed (agreement_in (stream_at e n).start) rule).0)
 stream_left e n (Accept private (Err r)) there rule =
-    ap (λ (z : EndpointState). z.streams) (asked e (endpoint.accepted e n (private_data private)) n unasked (Some r) there (denied (unasked (stream_at e n)) r (agreement_in (stream_at e n).start) rule)) ∙ put_back e.streams n there
-stream_left e n (Reject private None) there rule = ap (λ (z : EndpointState). z.streams) (asked e (endpoint.rejected e n (private_data private)) n unasked None there rule)
-stream_left e n (Reject private (Some r)) there rule = ap (λ (z : EndpointState). z.streams) (asked e (endpoint.rejected e n (private_data private)) n unasked (Some r) there rule) ∙ put_back e.streams n there
+    ap (λ (z : EndpointState). z.streams) (asked e (endpoint.accepted e n (private_data private)) n (λ s. answer_refusal s (private_data private).items) (Some r) there (denied (answer_refusal (stream_at e n) (private_data private).items) r (agreement_in (stream_at e n).start) rule)) ∙ put_back e.streams n there
+stream_left e n (Reject private None) there rule = ap (λ (z : EndpointState). z.streams) (asked e (endpoint.rejected e n (private_data private)) n (λ s. answer_refusal s (private_data private).items) None there rule)
+stream_left e n (Reject private (Some r)) there rule = ap (λ (z : EndpointState). z.streams) (asked e (endpoint.rejected e n (private_data private)) n (λ s. answer_refusal s (private_data private).items) (Some r) there rule) ∙ put_back e.streams n there
 stream_left e n (Emit shown) there rule = ap (λ (z : EndpointState). z.streams) (found (stream_of e n) e (endpoint.after_emit e n) there)
 stream_left e n (Deliver from number octets delivery) there rule =
     ap (λ (z : EndpointState). z.streams) (found (stream_of e n) e (endpoint.after_deliver e n number octets) there)
@@ -288,8 +288,8 @@ stream_table e n (Recv len refused) there rule = same_table (endpoint.recv_refus
 stream_table e n (Post m refused) there rule = same_table (endpoint.post_refusal e n m) e (endpoint.with_request e n m) refl
 stream_table e n (First number refused) there rule = same_table (endpoint.first_refusal e n) e (endpoint.with_first e n number) refl
 stream_table e n (Mulpdu size refused) there rule = same_table (endpoint.size_refusal e n size) e (endpoint.with_mulpdu e n size) refl
-stream_table e n (Accept private answer) there rule = same_table (endpoint.answer_refusal e n) e (endpoint.accepted e n (private_data private)) refl
-stream_table e n (Reject private refused) there rule = same_table (endpoint.answer_refusal e n) e (endpoint.rejected e n (private_data private)) refl
+stream_table e n (Accept private answer) there rule = same_table (endpoint.answer_refusal e n (private_data private).items) e (endpoint.accepted e n (private_data private)) refl
+stream_table e n (Reject private refused) there rule = same_table (endpoint.answer_refusal e n (private_data private).items) e (endpoint.rejected e n (private_data private)) refl
 stream_table e n (Emit shown) there rule = same_there (stream_of e n) e (endpoint.after_emit e n) refl
 stream_table e n (Deliver from number octets delivery) there rule = same_there (stream_of e n) e (endpoint.after_deliver e n number octets) refl
 stream_table e n (Raw number octets delivery) there rule = same_there (stream_of e n) e (endpoint.after_deliver e n number octets) refl
@@ -314,11 +314,11 @@ table_left e (Invalidate stag None) rule = refl
 table_left e (Invalidate stag (Some r)) rule = with_region-none e.table stag _ (missing (region_at e.table stag) r rule)
 table_left e (Store stag to octets None) rule = ap (λ q. (unless q e (endpoint.stored e stag to octets)).table) (sym rule)
 table_left e (Store stag to octets (Some r)) rule = ap (λ q. (unless q e (endpoint.stored e stag to octets)).table) (sym rule)
-table_left e (Open n pd role options private refused) rule = same_table (endpoint.open_refusal e n pd) e (endpoint.opened e n pd role (config_for options private)) refl
+table_left e (Open n pd role options private refused) rule = same_table (endpoint.open_refusal e n pd role (config_for options private)) e (endpoint.opened e n pd role (config_for options private)) refl
 table_left e (Share pd refused) rule = same_table (endpoint.share_refusal e pd) e (endpoint.shared e pd) refl
 table_left e (Pool pd len refused) rule = same_table (endpoint.pool_refusal e pd) e (endpoint.pooled e pd (replicate len 0)) refl
 table_left e (Unpool pd answer) rule = same_table (endpoint.take_refusal e pd) e (endpoint.after_take e pd) refl
-table_left e (OpenShared n pd role options private refused) rule = same_table (endpoint.open_shared_refusal e n pd) e (endpoint.opened_shared e n pd role (config_for options private)) refl
+table_left e (OpenShared n pd role options private refused) rule = same_table (endpoint.open_shared_refusal e n pd role (config_for options private)) e (endpoint.opened_shared e n pd role (config_for options private)) refl
 table_left e (Stream n act) rule = stream_table e n act rule.0 rule.1
 
 -- ---- its pools

@@ -1,6 +1,7 @@
 -- The right answer at a stream, with steps of work told apart by what is seen of them, and what each leaves of the stream.
 use Rattle.std.proofs.Common.{◌≡◌, ◌⊎◌, ℕ, ◌+◌, ◌-◌, List, [], length, take, Option, Some, None, Result, Ok, Err, Bool, true, false, cond, refl, sym, ap, ◌∙◌, subst, inl, inr, arith}
 use Rattle.std.specs.Option.{option_map, option_map_or, option_or}
+use Rattle.std.proofs.lemmas.Option.{none-some}
 use Rattle.iw_locate.specs.Free.{front_of}
 use Rattle.std.specs.Prelude.{is_some, replicate}
 use Rattle.std.proofs.lemmas.Bool.{false≢true, true≢false}
@@ -34,6 +35,7 @@ use Rattle.iw_reads.specs.Requests.{Requested, taken_up, part_fetched}
 use Rattle.iw_tagged.specs.declared.placing.Placed.{Placed}
 use Rattle.iw_startup.specs.declared.progress.Progress.{Progress}
 use Rattle.iw_startup.specs.declared.progress.Progress.TheVariants as progress
+use Rattle.iw_startup.specs.declared.enhanced.Mismatch.{Mismatch}
 use Rattle.iw_startup.specs.State.{StartupState}
 use Rattle.iw_untagged.specs.Receiving.{written, finished, first_buffer, flushed, oldest, turn_fault, buffer_fault}
 use Rattle.iw_ranges.specs.Arrived.{advanced}
@@ -54,9 +56,9 @@ use Rattle.iw_stream.specs.declared.ending.Ending.TheVariants.{Over}
 use Rattle.iw_stream.specs.Ending.{last_word}
 use Rattle.iw_stream.specs.Terminating.{terminate_judged, terminate_turned, terminate_fetched}
 use Rattle.iw_stream.specs.Judging.{or_else, fault_or, is_solicited, stag_to_invalidate, invalidation_fault, send_turning, early_verdict, table_tried, verdict, answering_by, is_response, tagged_turn, segment_turn, turn_of, receiving_turned, left_by_turn, reads_left, receiving_tried}
-use Rattle.iw_stream.specs.Starting.{StartState, AtOnce, Unheard, Heard, is_open, own_frame, awaits_frame, expecting, first_place_in, progress_in, heard, agreement_in, private_in}
+use Rattle.iw_stream.specs.Starting.{StartState, AtOnce, Unheard, Heard, is_open, own_frame, awaits_frame, expecting, first_place_in, progress_in, heard, agreement_in, private_in, mismatch_in}
 use Rattle.iw_stream.specs.Stream.{StreamState, Due, StartUp, LastWord, Response, NextPart, NoneDue, ended, ends, ends_by, due, owes_frame, is_mute, part_due, response_due, frame_of_part, frame_of_terminate, frame_fetched, reads_with, octets_due, octets_fetched, emission_due, emission_fetched, emission_of, emitted, left_due, left_fetched, with_buffer, with_request, with_mulpdu, after_emit, after_deliver, accepted, rejected, breaks, with_first}
-use Rattle.iw_stream.specs.Work.{Task, Hear, Turn, Clash, Judge, Try, inbox, scene, next_frame, early_frame, waiting, clashes, clash_fault, hears, heard_step, turned_step, judged_step, tried_step, step_of, after_hearing, after_turn, after_judging, after_trying, left_by, table_judged, table_passed, table_left, work_step, worked, table_worked}
+use Rattle.iw_stream.specs.Work.{Task, Hear, Turn, Clash, Judge, Try, inbox, scene, next_frame, early_frame, waiting, clashes, clash_fault, hears, heard_step, opened_step, turned_step, judged_step, tried_step, step_of, after_hearing, after_opening, after_turn, after_judging, after_trying, left_by, table_judged, table_passed, table_left, work_step, worked, table_worked}
 use Rattle.iw_stream.specs.Work as work
 use Rattle.iw_stream.proofs.Headers.{payload_kept, turn_kept, turned_kept, left_kept}
 use Rattle.iw_stream.proofs.Tasks.{IsRunning, IsResting, by_task}
@@ -70,6 +72,7 @@ use Rattle.iw_laws.specs.Words.{Octets, private_data}
 use Rattle.iw_laws.specs.Turns.{asked_in, seen_judged, seen_tried, seen_turned, front_verdict}
 use Rattle.iw_laws.specs.Rules.{StreamRule, seen_of, shown_of}
 use Rattle.iw_laws.proofs.States.{stream_after}
+use Rattle.iw_laws.proofs.Plain.{plain_heard, matches_plain}
 use Rattle.iw_laws.proofs.Nexts.{fore, place_past, segment_in, segment_at, turned_by, past_front, standing, Sound, none_first_here, first_is_here, past_is}
 use Rattle.iw_laws.specs.Early.{HasPlace}
 use Rattle.iw_laws.proofs.Left.{HasLeft, equal_has, trying_has}
@@ -746,10 +749,14 @@ module _ (table : Table) (s : StreamState) (k : Sound s) where
       hears_to : (p : Progress) → progress_in s.start (inbox s) ≡ p → Hears s p
       hears_to p e = let u = unheard_by s.start awaits in record { running = running; startup = u.0; is = u.1; comes = e }
 
+      opens : (m : Option Mismatch) → m ≡ None → progress_in s.start (inbox s) ≡ progress.Agreed → Given_by (opened_step (heard s.start (inbox s)) m) (after_opening (hears s) m) table
+      opens None none e = ((hears_to progress.Agreed e, refl, refl), refl)
+      opens (Some mismatch) some e = absurd (none-some _ (sym some))
+
       go : (p : Progress) → progress_in s.start (inbox s) ≡ p → Given_by (heard_step s.start (inbox s) p) (after_hearing s p) table
       go progress.More e = ((none, inl (hears_to progress.More e)), refl)
       go progress.Asked e = ((hears_to progress.Asked e, refl), refl)
-      go progress.Agreed e = ((hears_to progress.Agreed e, refl, refl), refl)
+      go progress.Agreed e = opens (mismatch_in (heard s.start (inbox s))) (matches_plain (heard s.start (inbox s)) (plain_heard s.start (inbox s) k.plain)) e
       go (progress.Faulted fault) e = (hears_to (progress.Faulted fault) e, refl)
 
   gives : (t : Task) → Given_by (step_of table s t) (left_by table s t) (table_left table s t) → Shows (step_of table s t) (left_by table s t) (table_left table s t)

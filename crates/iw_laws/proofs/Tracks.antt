@@ -5,7 +5,7 @@ use Rattle.std.specs.List.{Contains}
 use Rattle.std.specs.Option.{option_map, option_map_or, option_or}
 use Rattle.std.proofs.lemmas.Bool.{true≢false, false≢true, cases_lt}
 use Rattle.std.proofs.lemmas.Bool.Decides.{nat_tests}
-use Rattle.std.proofs.lemmas.List.{append-nil, map-append, length-map, take-append-drop, drop_at, drop-drop}
+use Rattle.std.proofs.lemmas.List.{append-nil, length-take, map-append, length-map, take-append-drop, drop_at, drop-drop}
 use Rattle.std.proofs.Math.Seq.{take-append_seam}
 use Rattle.iw_octets.specs.declared.head.TaggedHead.{TaggedHead}
 use Rattle.iw_octets.specs.declared.operation.TaggedOperation.TheVariants as tagged
@@ -41,12 +41,13 @@ use Rattle.iw_startup.specs.declared.side.Side.TheVariants.{Initiator, Responder
 use Rattle.iw_startup.specs.declared.side.Reply.{Reply}
 use Rattle.iw_startup.specs.declared.side.Reply.TheVariants as replies
 use Rattle.iw_startup.specs.declared.config.Agreed.{Agreed}
-use Rattle.iw_startup.specs.declared.startup.NotAsked.{NotAsked}
+use Rattle.iw_startup.specs.declared.config.Establishment.{Establishment}
+use Rattle.iw_stream.specs.declared.answer.AnswerRefusal.TheVariants.{NotAsked, PrivateTooLong}
 use Rattle.iw_startup.specs.declared.progress.StartupFault.{StartupFault}
 use Rattle.iw_startup.specs.declared.progress.Progress.{Progress}
 use Rattle.iw_startup.specs.declared.progress.Progress.TheVariants as progresses
 use Rattle.iw_startup.specs.Peer.{frame_end, frame_part, progress_of}
-use Rattle.iw_startup.specs.State.{StartupState, IsReached, pushed, answered, agreed_of, progress, is_unanswered, is_asked, awaits_answer}
+use Rattle.iw_startup.specs.State.{StartupState, IsReached, private_in, pushed, answered, agreed_of, progress, is_unanswered, is_asked, awaits_answer}
 use Rattle.iw_startup.proofs.Reached.{reached-pushed}
 use Rattle.iw_startup.proofs.Answered.{reached-answered}
 use Rattle.iw_startup.proofs.Heard.{octets-pushed}
@@ -62,7 +63,7 @@ use Rattle.iw_stream.specs.Judging.{receiving_turned, is_read_response, is_respo
 use Rattle.iw_stream.specs.Terminating.{terminate_fetched}
 use Rattle.iw_stream.specs.Starting.{StartState, AtOnce, Unheard, Heard, IsFresh, is_open, expecting, first_place_in, is_responder, progress_in, heard, agreement_in, answered_with, first_place_out}
 use Rattle.iw_stream.specs.Starting as starting
-use Rattle.iw_stream.specs.Stream.{StreamState, Due, StartUp, LastWord, Response, NextPart, NoneDue, ended, due, may_answer, keeps_silent, delivery_of, ends_by, place_of, left_out}
+use Rattle.iw_stream.specs.Stream.{StreamState, Due, StartUp, LastWord, Response, NextPart, NoneDue, ended, due, answer_refusal, may_answer, keeps_silent, delivery_of, ends_by, place_of, left_out}
 use Rattle.iw_stream.specs.declared.ending.Ending.TheVariants.{Over}
 use Rattle.iw_stream.specs.Ending.{has_ended, last_word, with_last_word}
 use Rattle.iw_stream.specs.Work.{inbox, scene, waiting, clashes}
@@ -88,8 +89,9 @@ use Rattle.iw_reads.specs.declared.requests.Asked.{Asked}
 use Rattle.iw_memory.specs.declared.rights.Right.TheVariants as rights
 use Rattle.iw_events.specs.declared.act.Shown.TheVariants as shows
 use Rattle.iw_laws.proofs.Located.{frames_at, located_are, located_first, located_none, past_last-push}
-use Rattle.iw_endpoint.specs.Endpoint.{unasked}
 use Rattle.iw_endpoint.specs.Isolation.{answer_or}
+use Rattle.iw_laws.proofs.Plain.{AsksOne, IsRevisionOne, plain_heard, room_plain}
+use Rattle.iw_laws.proofs.States.{granted}
 use Rattle.iw_laws.proofs.Nexts.{Front, fore, place_in, standing, segment_in, segment_at, place_past, past_front, past_is, first_is_here, IsFirstHere, turned_by, IsFore, Sound}
 use Rattle.iw_laws.proofs.Judged.{View, AreJudged, IsPlaceable, IsFirstRecord, Adds, frame_in, first_record, judges_one, more_come, moves_to, none_goes, none_in, none_judged, same_segments, one_counts, open_at, segments_early}
 use Rattle.iw_laws.proofs.Judged as judged
@@ -116,6 +118,7 @@ start_octets (Heard u) = u.octets
 
 pub record Begins (s : StreamState) (t : Tale) (intro : Octets) : Type 0 where
   pub start : t.story.start ≡ s.start
+  pub plain : IsRevisionOne s.start
   pub reached : OnStart IsReached s.start
   pub fresh : IsFresh s.start
   pub octets : intro ≡ start_octets s.start
@@ -212,6 +215,7 @@ between_is s t k = subst (IsBetween (expecting s.start).markers) (sym (place_is 
 
 bare_sound : (s : StreamState) (t : Tale) → Track s t → Sound (bare_state s)
 bare_sound s t k = record {
+  plain = k.begins.plain;
   low = omega (arith, k.point, first_is s t k.intro k.begins);
   between = between_is s t k;
   held = k.held;
@@ -246,6 +250,7 @@ early_fore s t k f w = go (frames.segment_in (frame_in (scene s) (front_of (scen
 
 pub sound : (s : StreamState) (t : Tale) → Track s t → Sound s
 sound s t k = record {
+  plain = k.begins.plain;
   low = omega (arith, k.point, first_is s t k.intro k.begins);
   between = between_is s t k;
   held = k.held;
@@ -364,6 +369,7 @@ pub record SameStart (s s' : StreamState) (t t' : Tale) : Type 0 where
 same_begins : (s s' : StreamState) (t t' : Tale) (intro : Octets) → SameStart s s' t t' → Begins s t intro → Begins s' t' intro
 same_begins s s' t t' intro same b = record {
   start = same.tale_start ∙ b.start ∙ sym same.start;
+  plain = subst IsRevisionOne (sym same.start) b.plain;
   reached = subst (OnStart IsReached) (sym same.start) b.reached;
   fresh = subst IsFresh (sym same.start) b.fresh;
   octets = b.octets ∙ ap start_octets (sym same.start);
@@ -677,13 +683,13 @@ pub record IsUnread (s : StreamState) (t : Tale) (u : StartupState) (k : Track s
 pub unread : (s : StreamState) (t : Tale) (u : StartupState) (k : Track s t) → s.start ≡ Unheard u → IsUnread s t u k
 unread s t u k is = record {
   intro = k.begins.octets ∙ ap start_octets is;
-  octets = subst IsFresh is k.begins.fresh;
+  octets = (subst IsFresh is k.begins.fresh).0;
   bare = k.shut (ap is_open is);
 }
 
-part_of : (side : Side) (xs : Octets) → frame_end side xs ≤ length xs → (length (frame_part side xs) ≡ frame_end side xs) × (frame_part side xs ++ drop (frame_end side xs) xs ≡ xs)
+part_of : (est : Establishment) (side : Side) (xs : Octets) → frame_end est side xs ≤ length xs → (length (frame_part est side xs) ≡ frame_end est side xs) × (frame_part est side xs ++ drop (frame_end est side xs) xs ≡ xs)
 unfolding frame_part
-part_of side xs whole = (omega (arith, length-take (frame_end side xs) xs, whole), take-append-drop (frame_end side xs) xs)
+part_of est side xs whole = (omega (arith, length-take (frame_end est side xs) xs, whole), take-append-drop (frame_end est side xs) xs)
 
 -- what a story keeps of what came, beside how it began
 pub record StaysRead (t t' : Story) : Type 0 where
@@ -701,7 +707,7 @@ same_tells e f k = record { answered_are = e ∙ k.answered_are; asked_are = f �
 -- the peer's start-up frame is read
 record Reads (s s' : StreamState) (t t' : Tale) (u : StartupState) : Type 0 where
   pub is : s.start ≡ Unheard u
-  pub whole : frame_end u.side (inbox s) ≤ length (inbox s)
+  pub whole : frame_end u.config.establishment u.side (inbox s) ≤ length (inbox s)
   pub start : s'.start ≡ heard s.start (inbox s)
   pub arrived : s'.arrived ≡ advanced s.arrived (first_place_in (heard s.start (inbox s)))
   pub front : s'.front ≡ s.front
@@ -714,9 +720,9 @@ reads : (s s' : StreamState) (t t' : Tale) (u : StartupState) → Reads s s' t t
     → Joins k.segments s'.receiving (is_some s'.front) (ended s') (segment_at (fore s)) t'.received k.shown → t'.placings ≡ t.placings → Track s' t'
 reads s s' t t' u r k joins placings =
     let n = unread s t u k r.is in
-    let part : Octets = frame_part u.side (inbox s) in
-    let split = part_of u.side (inbox s) r.whole in
-    let rest : Octets = drop (frame_end u.side (inbox s)) (inbox s) in
+    let part : Octets = frame_part u.config.establishment u.side (inbox s) in
+    let split = part_of u.config.establishment u.side (inbox s) r.whole in
+    let rest : Octets = drop (frame_end u.config.establishment u.side (inbox s)) (inbox s) in
     let came : in_order t.story.came ≡ inbox s = k.came ∙ (λ i. n.intro i ++ (n.bare.before i ++ inbox s)) in
     let here : s.arrived ≡ advanced t.story.came 0 = k.arrived ∙ (λ i. advanced t.story.came (length (n.intro i) + length (n.bare.before i))) in
     let start : s'.start ≡ Heard (pushed u (inbox s)) = r.start ∙ ap (λ z. heard z (inbox s)) r.is in
@@ -739,6 +745,7 @@ reads s s' t t' u r k joins placings =
       intro = part;
       begins = record {
         start = told ∙ sym start;
+        plain = subst IsRevisionOne (sym r.start) (plain_heard s.start (inbox s) k.begins.plain);
         reached = subst (OnStart IsReached) (sym start) (reached-pushed u (inbox s) (subst (OnStart IsReached) r.is k.begins.reached));
         fresh = subst IsFresh (sym start) tt;
         octets = sym octets ∙ ap start_octets (sym start);
@@ -1005,6 +1012,7 @@ same s s' t t' start arrived front early receiving story placings k joins =
 record Answers (s s' : StreamState) (t t' : Tale) (u : StartupState) (reply : Reply) : Type 0 where
   pub is : s.start ≡ Heard u
   pub asked : awaits_answer u ≡ true
+  pub small : length (private_in reply).items ≤ 512
   pub start : s'.start ≡ Heard (answered u reply)
   pub arrived : s'.arrived ≡ s.arrived
   pub front : s'.front ≡ s.front
@@ -1026,6 +1034,7 @@ answers : (s s' : StreamState) (t t' : Tale) (u : StartupState) (reply : Reply) 
 answers s s' t t' u reply r k joins placings =
     let none : agreed_of u ≡ None = unanswered_not_agreed u (unanswered u r.asked) in
     let bare : IsBare k.frames k.before (is_some s.front) = k.shut (ap is_open r.is ∙ ap is_some none) in
+    let one : AsksOne u = subst IsRevisionOne r.is k.begins.plain in
     let still : IsBare k.frames k.before (is_some s'.front) = record { frames = bare.frames; before = bare.before; placed = ap is_some r.front ∙ bare.placed } in
     let told : t'.story.start ≡ Heard (answered u reply) = r.told ∙ ap (λ z. answered_with z reply) (k.begins.start ∙ r.is) in
     let same_came : t'.story.came ≡ t.story.came = r.story.came in
@@ -1033,7 +1042,8 @@ answers s s' t t' u reply r k joins placings =
       intro = k.intro;
       begins = record {
         start = told ∙ sym r.start;
-        reached = subst (OnStart IsReached) (sym r.start) (reached-answered u reply r.asked (subst (OnStart IsReached) r.is k.begins.reached));
+        plain = subst IsRevisionOne (sym r.start) one;
+        reached = subst (OnStart IsReached) (sym r.start) (reached-answered u reply r.asked (omega (arith, r.small, room_plain u one)) (subst (OnStart IsReached) r.is k.begins.reached));
         fresh = subst IsFresh (sym r.start) tt;
         octets = k.begins.octets ∙ ap start_octets r.is ∙ ap start_octets (sym r.start);
       };
@@ -1068,25 +1078,25 @@ answers s s' t t' u reply r k joins placings =
     }
 
 -- what the peer's start-up frame comes to, by its side
-pub comes_to : (s : StreamState) (p : Progress) (h : Hears s p) → progress_of h.startup.side (inbox s) ≡ p
+pub comes_to : (s : StreamState) (p : Progress) (h : Hears s p) → progress_of h.startup.config.establishment h.startup.side (inbox s) ≡ p
 comes_to s p h = sym (ap (λ z. progress_in z (inbox s)) h.is) ∙ h.comes
 
 asks : (s : StreamState) (t : Tale) (private : Octets) → Hears s progresses.Asked → Track s t → Track (after_act s (Work (seen.Asked private))) (tale_after t (Work (seen.Asked private)))
 asks s t private h k =
     reads s (after_act s (Work (seen.Asked private))) t (tale_after t (Work (seen.Asked private))) h.startup
-    (record { is = h.is; whole = told_whole h.startup.side (inbox s) progresses.Asked (comes_to s progresses.Asked h) (λ e. cc); start = refl; arrived = refl; front = refl; early = refl; receiving = refl; told = refl; story = record { came = refl; turns = refl; placed = refl; early = refl; receiving = refl; answered = refl; asked = refl } })
+    (record { is = h.is; whole = told_whole h.startup.config.establishment h.startup.side (inbox s) progresses.Asked (comes_to s progresses.Asked h) (λ e. cc); start = refl; arrived = refl; front = refl; early = refl; receiving = refl; told = refl; story = record { came = refl; turns = refl; placed = refl; early = refl; receiving = refl; answered = refl; asked = refl } })
     k (quiet s t k) (append-nil t.placings)
 
 closes : (s : StreamState) (t : Tale) (fault : StartupFault) → Hears s (progresses.Faulted fault) → Track s t → Track (after_act s (Work (seen.Closed fault))) (tale_after t (Work (seen.Closed fault)))
 closes s t fault h k =
     reads s (after_act s (Work (seen.Closed fault))) t (tale_after t (Work (seen.Closed fault))) h.startup
-    (record { is = h.is; whole = told_whole h.startup.side (inbox s) (progresses.Faulted fault) (comes_to s (progresses.Faulted fault) h) (λ e. cc); start = refl; arrived = refl; front = refl; early = refl; receiving = refl; told = refl; story = record { came = refl; turns = refl; placed = refl; early = refl; receiving = refl; answered = refl; asked = refl } })
+    (record { is = h.is; whole = told_whole h.startup.config.establishment h.startup.side (inbox s) (progresses.Faulted fault) (comes_to s (progresses.Faulted fault) h) (λ e. cc); start = refl; arrived = refl; front = refl; early = refl; receiving = refl; told = refl; story = record { came = refl; turns = refl; placed = refl; early = refl; receiving = refl; answered = refl; asked = refl } })
     k (joins_end k.segments s.receiving (is_some s.front) (ended s) (segment_at (fore s)) (t.received ++ []) k.shown (quiet s t k)) (append-nil t.placings)
 
 opens : (s : StreamState) (t : Tale) (agreed : Agreed) (private : Octets) → Hears s progresses.Agreed → Track s t → Track (after_act s (Work (seen.Opened agreed private))) (tale_after t (Work (seen.Opened agreed private)))
 opens s t agreed private h k =
     reads s (after_act s (Work (seen.Opened agreed private))) t (tale_after t (Work (seen.Opened agreed private))) h.startup
-    (record { is = h.is; whole = told_whole h.startup.side (inbox s) progresses.Agreed (comes_to s progresses.Agreed h) (λ e. cc); start = refl; arrived = refl; front = refl; early = refl; receiving = refl; told = refl; story = record { came = refl; turns = refl; placed = refl; early = refl; receiving = refl; answered = refl; asked = refl } })
+    (record { is = h.is; whole = told_whole h.startup.config.establishment h.startup.side (inbox s) progresses.Agreed (comes_to s progresses.Agreed h) (λ e. cc); start = refl; arrived = refl; front = refl; early = refl; receiving = refl; told = refl; story = record { came = refl; turns = refl; placed = refl; early = refl; receiving = refl; answered = refl; asked = refl } })
     k (quiet s t k) (append-nil t.placings)
 
 -- the user may answer
@@ -1105,26 +1115,23 @@ may s e = go (ended s) s.start refl refl e
     go false (Unheard u) a b h = absurd (false≢true h)
     go false (Heard u) a b h = record { running = a; startup = u; is = b; asked = h }
 
-pub accepting : (s : StreamState) (agreed : Agreed) → Ok agreed ≡ answer_or (unasked s) (agreement_in s.start) → may_answer s ≡ true
-accepting s agreed e = go (may_answer s) e
+pub refusing : (s : StreamState) (private : Octets) → None ≡ answer_refusal s private → may_answer s ≡ true
+refusing s private e = go (ended s) (starting.is_asked s.start) e
   where
-    go : (b : Bool) → Ok agreed ≡ answer_or (cond {A = Option NotAsked} b None (Some (record {}))) (agreement_in s.start) → b ≡ true
-    go true h = refl
-    go false h = cc
+    go : (over asked : Bool) → None ≡ cond over (Some NotAsked) (cond (not asked) (Some NotAsked) (cond (starting.exceeds_answer s.start private) (Some PrivateTooLong) None)) → (not over && asked) ≡ true
+    go true asked h = absurd (none-some _ h)
+    go false false h = absurd (none-some _ h)
+    go false true h = refl
 
-pub refusing : (s : StreamState) → None ≡ unasked s → may_answer s ≡ true
-refusing s e = go (may_answer s) e
-  where
-    go : (b : Bool) → None ≡ cond {A = Option NotAsked} b None (Some (record {})) → b ≡ true
-    go true h = refl
-    go false h = absurd (none-some _ h)
+pub accepting : (s : StreamState) (private : Octets) (agreed : Agreed) → Ok agreed ≡ answer_or (answer_refusal s private) (agreement_in s.start) → may_answer s ≡ true
+accepting s private agreed e = refusing s private (granted (answer_refusal s private) agreed (agreement_in s.start) e).0
 
 accepts : (s : StreamState) (t : Tale) (private : Octets) (agreed : Agreed) → may_answer s ≡ true → Track s t → Track (after_act s (Accept private (Ok agreed))) (tale_after t (Accept private (Ok agreed)))
 accepts s t private agreed e k =
     let m = may s e in
     let reply : Reply = replies.Accept (private_data private) in
     answers s (after_act s (Accept private (Ok agreed))) t (tale_after t (Accept private (Ok agreed))) m.startup reply
-    (record { is = m.is; asked = m.asked; start = ap (λ z. answered_with z reply) m.is; arrived = refl; front = refl; early = refl; receiving = refl; told = refl; story = record { came = refl; turns = refl; placed = refl; early = refl; receiving = refl; answered = refl; asked = refl } })
+    (record { is = m.is; asked = m.asked; small = omega (arith, length-take 512 private); start = ap (λ z. answered_with z reply) m.is; arrived = refl; front = refl; early = refl; receiving = refl; told = refl; story = record { came = refl; turns = refl; placed = refl; early = refl; receiving = refl; answered = refl; asked = refl } })
     k (quiet s t k) (append-nil t.placings)
 
 rejects : (s : StreamState) (t : Tale) (private : Octets) → may_answer s ≡ true → Track s t → Track (after_act s (Reject private None)) (tale_after t (Reject private None))
@@ -1132,7 +1139,7 @@ rejects s t private e k =
     let m = may s e in
     let reply : Reply = replies.Reject (private_data private) in
     answers s (after_act s (Reject private None)) t (tale_after t (Reject private None)) m.startup reply
-    (record { is = m.is; asked = m.asked; start = ap (λ z. answered_with z reply) m.is; arrived = refl; front = refl; early = refl; receiving = refl; told = refl; story = record { came = refl; turns = refl; placed = refl; early = refl; receiving = refl; answered = refl; asked = refl } })
+    (record { is = m.is; asked = m.asked; small = omega (arith, length-take 512 private); start = ap (λ z. answered_with z reply) m.is; arrived = refl; front = refl; early = refl; receiving = refl; told = refl; story = record { came = refl; turns = refl; placed = refl; early = refl; receiving = refl; answered = refl; asked = refl } })
     k (joins_end k.segments s.receiving (is_some s.front) (ended s) (segment_at (fore s)) (t.received ++ []) k.shown (quiet s t k)) (append-nil t.placings)
 
 -- what goes out changes nothing of what came
@@ -1561,8 +1568,8 @@ tracking table s t (Mulpdu size None) rule r f k = same s (after_act s (Mulpdu s
 tracking table s t (Post m None) rule r f k = same s (after_act s (Post m None)) t (tale_after t (Post m None)) refl refl refl refl refl refl (append-nil t.placings) k (quiet s t k)
 tracking table s t (Work (seen.Done kind)) rule r f k = same s (after_act s (Work (seen.Done kind))) t (tale_after t (Work (seen.Done kind))) refl refl refl refl refl refl (append-nil t.placings) k (quiet s t k)
 tracking table s t (Emit shown) rule r f k = emits_any s t shown k
-tracking table s t (Accept private (Ok agreed)) rule r f k = accepts s t private agreed (accepting s agreed rule) k
-tracking table s t (Reject private None) rule r f k = rejects s t private (refusing s rule) k
+tracking table s t (Accept private (Ok agreed)) rule r f k = accepts s t private agreed (accepting s (private_data private).items agreed rule) k
+tracking table s t (Reject private None) rule r f k = rejects s t private (refusing s (private_data private).items rule) k
 tracking table s t (Work (seen.Asked private)) rule r f k = asks s t private rule.0 k
 tracking table s t (Work (seen.Opened agreed private)) rule r f k = opens s t agreed private rule.0 k
 tracking table s t (Work (seen.Closed fault)) rule r f k = closes s t fault rule k

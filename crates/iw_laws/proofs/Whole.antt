@@ -13,16 +13,14 @@ use Rattle.iw_ranges.specs.InOrder.{IsOf}
 use Rattle.iw_ranges.proofs.InOrder.{held_nothing, window_nothing, of_nothing, of_takes, of_more}
 use Rattle.std.proofs.lemmas.Option.{none-some}
 use Rattle.iw_startup.specs.declared.config.Config.{Config}
-use Rattle.iw_startup.specs.declared.side.Side.{Side}
-use Rattle.iw_startup.specs.declared.side.Side.TheVariants as sides
-use Rattle.iw_startup.specs.declared.side.Reply.TheVariants as replies
-use Rattle.iw_startup.specs.Frame.{flags}
-use Rattle.iw_startup.specs.State.{IsReached, own_frame}
+use Rattle.iw_startup.specs.declared.config.Establishment.TheVariants.{Plain}
+use Rattle.iw_startup.specs.Enhanced.{at_responder, asked_revision}
+use Rattle.iw_startup.specs.Frame.{private_room}
+use Rattle.iw_startup.specs.State.{IsReached}
 use Rattle.iw_startup.proofs.Reached.{reached-initiator, reached-responder}
-use Rattle.iw_startup.proofs.Handshake.{length-written}
 use Rattle.iw_stream.specs.declared.answer.Role.{Role}
 use Rattle.iw_stream.specs.declared.answer.Role.TheVariants.{Preset, Initiator, Responder}
-use Rattle.iw_stream.specs.Starting.{StartState, AtOnce, Unheard, Heard, IsFresh, start_at_first, sending, expecting}
+use Rattle.iw_stream.specs.Starting.{StartState, AtOnce, Unheard, Heard, IsFresh, start_at_first, without_rtr, sending, expecting}
 use Rattle.iw_stream.specs.Starting as starting
 use Rattle.iw_untagged.specs.Receiving.{Receiving, sharing}
 use Rattle.iw_stream.specs.Stream.{StreamState, shares, frame_of}
@@ -50,7 +48,7 @@ use Rattle.iw_events.specs.declared.act.Seen.TheVariants as seen
 use Rattle.iw_laws.specs.Turns.{story, in_order_point, is_near, first_queue, Pooling, pooling, pool_by}
 use Rattle.iw_laws.specs.Sends.{terminate_segment}
 use Rattle.std.specs.Prelude.{nat_lt}
-use Rattle.iw_laws.specs.Words.{Octets, other, acts, stream_acts, stream_acts_by, Opening, no_opening, opening_in, opening_of, domain_of, openings, openings_by, posted, finished_kinds, handed_kinds, size_set, received, ended, sent, sent_by, placings, table_after, OnSome, deed}
+use Rattle.iw_laws.specs.Words.{Octets, other, acts, stream_acts, stream_acts_by, Opening, config_for, no_opening, opening_in, opening_of, domain_of, openings, openings_by, posted, finished_kinds, handed_kinds, size_set, received, ended, sent, sent_by, placings, table_after, OnSome, deed}
 use Rattle.iw_endpoint.specs.Endpoint.{EndpointState, Pool as PoolOf, pool_of, stream_of, stream_at, unopened as no_stream, has_stream, no_pools, no_streams}
 use Rattle.iw_endpoint.proofs.Parts.{fresh_domains}
 use Rattle.iw_laws.specs.Rules.{EndState, State, end_of, with_end, at_first, start, Rule, EndRule, WireRule, StreamRule, stream_for, end_after, after_entry, state_after, Follows, wire_at, no_wires}
@@ -62,11 +60,12 @@ use Rattle.iw_laws.specs.Once.{spans_placed}
 use Rattle.iw_laws.proofs.Spent.{none_spent}
 use Rattle.iw_laws.proofs.Tales.{Tale, tale_of, tale_after, tale-push, stream_acts-push, openings-push, acts_mine, acts_other, pooled, pooling-push, queue_other, queue_unused}
 use Rattle.iw_laws.proofs.Sending.{shown_good, EmitsStart, EmitsLast, EmitsPart, emits_as, terminate_small}
+use Rattle.iw_laws.proofs.Plain.{plain_first}
 use Rattle.iw_laws.proofs.Tracks.{OnStart, start_octets, Track, shown_stays}
 use Rattle.iw_laws.proofs.Left.{equal_has}
 use Rattle.iw_laws.proofs.Releases.{IsLeft, nothing_given}
 use Rattle.iw_laws.proofs.Fills.{nothing_placed}
-use Rattle.iw_laws.proofs.Owns.{Own, answers_part, first_fits, Emits, out_of, lives, all_spoken, word_unbroken, runs_unbroken, Unspoken, IsSmall, IsStartOf, past_start}
+use Rattle.iw_laws.proofs.Owns.{Own, answers_part, first_fits, Emits, out_of, lives, all_spoken, word_unbroken, runs_unbroken, Unspoken, IsStartOf, past_start}
 use Rattle.iw_laws.proofs.Pools.{told_by, tale, tale_seen, Holds, PoolsSeen, HeldAt, next_held, pools_next, seen_held}
 use Rattle.iw_laws.proofs.Ends.{EndSeen, Opens, end_step, opens, opens_shared, opens_same, at_act, at_same, at_other, number_there, unopened, opening_none, opening_one}
 
@@ -167,16 +166,22 @@ nothing_moves : nothing ≡ advanced nothing 0
 unfolding advanced
 nothing_moves = refl
 
+-- what each opening asks for: revision 1, with little private data
+record OpensPlain (o : Opening) : Type 0 where
+  pub small : length o.config.private.items ≤ 512
+  pub plain : o.config.establishment ≡ Plain
+
 -- how a stream begins
-reached_at_first : (role : Role) (config : Config) → OnStart IsReached (start_at_first role config)
-reached_at_first Preset config = tt
-reached_at_first Initiator config = reached-initiator config
-reached_at_first Responder config = reached-responder config
+reached_at_first : (role : Role) (config : Config) → config.establishment ≡ Plain → length config.private.items ≤ 512 → OnStart IsReached (start_at_first role config)
+reached_at_first Preset config plain small = tt
+reached_at_first Initiator config plain small =
+    reached-initiator (without_rtr config) (subst (λ e. length config.private.items ≤ private_room (asked_revision (at_responder e))) (sym plain) small)
+reached_at_first Responder config plain small = reached-responder config
 
 fresh_at_first : (role : Role) (config : Config) → IsFresh (start_at_first role config)
 fresh_at_first Preset config = tt
-fresh_at_first Initiator config = refl
-fresh_at_first Responder config = refl
+fresh_at_first Initiator config = (refl, refl)
+fresh_at_first Responder config = (refl, refl)
 
 first_octets : (role : Role) (config : Config) → [] ≡ start_octets (start_at_first role config)
 first_octets Preset config = refl
@@ -232,13 +237,14 @@ no_emits o = record {
   whole = refl;
 }
 
-no_track : (o : Opening) → Track (connected o).stream (tale_of o [])
+no_track : (o : Opening) → OpensPlain o → Track (connected o).stream (tale_of o [])
 unfolding received placings story
-no_track o = record {
+no_track o asks = record {
   intro = [];
   begins = record {
     start = refl;
-    reached = reached_at_first o.role o.config;
+    plain = plain_first o.role o.config asks.plain;
+    reached = reached_at_first o.role o.config asks.plain asks.small;
     fresh = fresh_at_first o.role o.config;
     octets = first_octets o.role o.config;
   };
@@ -285,17 +291,17 @@ no_track o = record {
   tells = record { answered_are = refl; asked_are = refl };
 }
 
-no_own : (o : Opening) → length o.config.private.items ≤ 512 → Own o (connected o) (tale_of o [])
+no_own : (o : Opening) → OpensPlain o → Own o (connected o) (tale_of o [])
 unfolding sent received ended story finished_kinds handed_kinds spans_placed
-no_own o small = record {
+no_own o asks = record {
   wire = refl;
   sent = refl;
   due = refl;
   numbered = record { first = refl; delivered = refl };
   starts = starts_at_first o;
-  small = small;
+  small = asks.small;
   emits = no_emits o;
-  track = no_track o;
+  track = no_track o asks;
   doing = record { answered = omega arith; among = omega arith };
   ended = refl;
   paid = record { paid = omega arith };
@@ -306,8 +312,8 @@ no_own o small = record {
 nothing_left : (o : Opening) → IsLeft (connected o).stream (connected o).stream
 nothing_left o = record { has = equal_has refl; only = nothing_given (scene (connected o).stream) held_nothing }
 
-no_holds : (o : Opening) → length o.config.private.items ≤ 512 → Holds o (connected o) (tale_of o [])
-no_holds o small = record { stream = (connected o).stream; is_left = nothing_left o; own = no_own o small }
+no_holds : (o : Opening) → OpensPlain o → Holds o (connected o) (tale_of o [])
+no_holds o asks = record { stream = (connected o).stream; is_left = nothing_left o; own = no_own o asks }
 
 -- nothing came of it
 nothing_of : (o : Opening) (octets : List ℕ) → IsOf (tale_of o []).story.came octets
@@ -315,10 +321,10 @@ unfolding story
 nothing_of o octets = of_nothing octets
 
 -- a stream to which nothing has happened is opened
-reopened : (o l m : Opening) (c : Connected) (shared : Bool) (queue : Receiving) (done : List (StreamAct Octets)) (d : Connected) (u : Tale) → length o.config.private.items ≤ 512 → done ≡ []
+reopened : (o l m : Opening) (c : Connected) (shared : Bool) (queue : Receiving) (done : List (StreamAct Octets)) (d : Connected) (u : Tale) → OpensPlain o → done ≡ []
     → Pair l c (told_by shared l done queue) m d u → Pair o (connected o) (tale_of o []) m d u
-reopened o l m c shared queue done d u small none p = record {
-  own = no_holds o small;
+reopened o l m c shared queue done d u asks none p = record {
+  own = no_holds o asks;
   own_peer = p.own_peer;
   out = λ raw. subst (IsOf u.story.came) (ap sent none) (p.out raw);
   back = λ raw. nothing_of o u.sent;
@@ -364,10 +370,10 @@ unfolding sent
 nothing_sent = refl
 
 -- a stream is opened
-opened_pair : (s : EndState) (done : List (Act Octets)) (act : Act Octets) (m n : ℕ) (o l : Opening) (d : Connected) (u : Tale) → EndSeen s done → EndRule s.endpoint act → Opens s m → length o.config.private.items ≤ 512 → openings_by n act ≡ cond (eqb m n) (o ∷ []) []
+opened_pair : (s : EndState) (done : List (Act Octets)) (act : Act Octets) (m n : ℕ) (o l : Opening) (d : Connected) (u : Tale) → EndSeen s done → EndRule s.endpoint act → Opens s m → OpensPlain o → openings_by n act ≡ cond (eqb m n) (o ∷ []) []
     → streams_after s.endpoint act ≡ slice_set s.endpoint.streams m (Some (connected o).stream) → stream_acts_by n act ≡ [] → Pair (opening_of n done) (connected_at s n) (tale n done) l d u
     → Pair (opening_of n (done ++ act ∷ [])) (connected_at (end_after s act) n) (tale n (done ++ act ∷ [])) l d u
-opened_pair s done act m n o l d u k rule new small one left silent p = go (eqb m n) refl
+opened_pair s done act m n o l d u k rule new asks one left silent p = go (eqb m n) refl
   where
     go : (b : Bool) → eqb m n ≡ b → Pair (opening_of n (done ++ act ∷ [])) (connected_at (end_after s act) n) (tale n (done ++ act ∷ [])) l d u
     go false e = same_stream s act n done l d u rule (ap (λ xs. slice_index_or xs n None) left ∙ at_other s m n (Some (connected o).stream) e) (one ∙ opening_none (eqb m n) o e) silent p
@@ -383,7 +389,7 @@ opened_pair s done act m n o l d u k rule new small one left silent p = go (eqb 
         let queue : (pooling (done ++ act ∷ [])).queues n ≡ sharing = same_queue n done act silent ∙ queue_unused n done (k.unused n closed) in
         let quiet : [] ≡ wire_at (end_after s act) n = sym (wire_still s act n silent ∙ p.own.own.wire ∙ ap sent (k.unused n closed) ∙ nothing_sent) in
         moved l d u (sym now) (λ i. record { stream = unwrap_or (sym here i) no_stream; wire = quiet i }) (sym (first_told o) ∙ (λ i. told_by (sym now i).shared (sym now i) (sym none i) (sym queue i)))
-        (reopened o (opening_of n done) l (connected_at s n) (opening_of n done).shared ((pooling done).queues n) (stream_acts n done) d u small (k.unused n closed) p)
+        (reopened o (opening_of n done) l (connected_at s n) (opening_of n done).shared ((pooling done).queues n) (stream_acts n done) d u asks (k.unused n closed) p)
 
 -- an act of the stream itself
 acted_here : (s peer : EndState) (done : List (Act Octets)) (act : StreamAct Octets) (n : ℕ) (l : Opening) (u : Tale) → EndSeen s done → PoolsSeen s done → Rule s peer (Stream n act) → Pair (opening_of n done) (connected_at s n) (tale n done) l (connected_at peer n) u
@@ -424,9 +430,9 @@ acted s peer done (Unpool pd answer) n l u k pools rule p = same_stream s (Unpoo
 acted s peer done (Open m pd role options private (Some refusal)) n l u k pools rule p = same_stream s (Open m pd role options private (Some refusal)) n done l (connected_at peer n) u rule.0 refl refl refl p
 acted s peer done (OpenShared m pd role options private (Some refusal)) n l u k pools rule p = same_stream s (OpenShared m pd role options private (Some refusal)) n done l (connected_at peer n) u rule.0 refl refl refl p
 acted s peer done (Open m pd role options private None) n l u k pools rule p =
-    opened_pair s done (Open m pd role options private None) m n (opening_by false pd role options private) l (connected_at peer n) u k rule.0 (opens s m pd rule.0) (omega (arith, length-take 512 private)) refl refl refl p
+    opened_pair s done (Open m pd role options private None) m n (opening_by false pd role options private) l (connected_at peer n) u k rule.0 (opens s m pd role (config_for options private) rule.0) (record { small = omega (arith, length-take 512 private); plain = refl }) refl refl refl p
 acted s peer done (OpenShared m pd role options private None) n l u k pools rule p =
-    opened_pair s done (OpenShared m pd role options private None) m n (opening_by true pd role options private) l (connected_at peer n) u k rule.0 (opens_shared s m pd rule.0) (omega (arith, length-take 512 private)) refl refl refl p
+    opened_pair s done (OpenShared m pd role options private None) m n (opening_by true pd role options private) l (connected_at peer n) u k rule.0 (opens_shared s m pd role (config_for options private) rule.0) (record { small = omega (arith, length-take 512 private); plain = refl }) refl refl refl p
 acted s peer done (Stream m act) n l u k pools rule p = go (eqb m n) refl
   where
     go : (b : Bool) → eqb m n ≡ b → Pair (opening_of n (done ++ Stream m act ∷ [])) (connected_at (end_after s (Stream m act)) n) (tale n (done ++ Stream m act ∷ [])) l (connected_at peer n) u
@@ -438,16 +444,10 @@ acted s peer done (Stream m act) n l u k pools rule p = go (eqb m n) refl
 -- ---- what an act may emit
 
 -- a start-up frame is short
-few_side : (config : Config) (side : Side) → length config.private.items ≤ 512 → IsSmall side → length (own_frame config side) ≤ 532
-few_side config sides.Initiator few small = omega (arith, length-written (sides.Responder None) (flags config.markers config.crc false) config.private.items, few)
-few_side config (sides.Responder None) few small = omega arith
-few_side config (sides.Responder (Some (replies.Accept private))) few small = omega (arith, length-written sides.Initiator (flags config.markers config.crc false) private.items, small)
-few_side config (sides.Responder (Some (replies.Reject private))) few small = omega (arith, length-written sides.Initiator (flags config.markers config.crc true) private.items, small)
-
-few_start : (o : Opening) (start : StartState) → length o.config.private.items ≤ 512 → IsStartOf o start → length (starting.own_frame start) ≤ 532
-few_start o (AtOnce layout) few h = omega arith
-few_start o (Unheard u) few h = few_side u.config u.side (omega (arith, h.few, few)) h.small
-few_start o (Heard u) few h = few_side u.config u.side (omega (arith, h.few, few)) h.small
+few_start : (start : StartState) → OnStart IsReached start → length (starting.own_frame start) ≤ 532
+few_start (AtOnce layout) r = omega arith
+few_start (Unheard u) r = r.fits
+few_start (Heard u) r = r.fits
 
 few_frame : {opening : Opening} (c : Connected) (t : Tale) → Own opening c t → nat_lt c.stream.sent (starting.first_place_out c.stream.start) ≡ false → (segment : Segment Octets) → length (segment_octets segment) ≤ 64512 → length (frame_of c.stream segment) ≤ 2 ^ 17
 few_frame c t o spoken segment small =
@@ -465,7 +465,7 @@ pub emits_few : (opening : Opening) (table : Table) (c : Connected) (t : Tale) (
 emits_few opening table c t (Emit (Frame from octets)) rule o = go (emits_as table c.stream (Frame from octets) rule)
   where
     go : EmitsStart c.stream from octets ⊎ (EmitsLast c.stream from octets ⊎ EmitsPart c.stream from octets) → length octets ≤ 2 ^ 17
-    go (inl p) = omega (arith, ap length p.octets_are, few_start opening c.stream.start o.small o.starts)
+    go (inl p) = omega (arith, ap length p.octets_are, few_start c.stream.start o.track.begins.reached)
     go (inr (inl p)) =
         subst (λ z. length z ≤ 2 ^ 17) (sym p.octets_are)
         (few_frame c t o (all_spoken c.stream p.spoken (word_unbroken c.stream.ending p.payload p.is_due)) (terminate_segment p.payload) (omega (arith, terminate_small p.payload (o.emits.parts.short p.payload p.is_due))))
@@ -576,8 +576,8 @@ state_after-push (x ∷ xs) e w = state_after-push xs e (after_entry w x)
 
 no_pair : Pair no_opening unconnected (tale_of no_opening []) no_opening unconnected (tale_of no_opening [])
 no_pair = record {
-  own = no_holds no_opening (omega arith);
-  own_peer = no_holds no_opening (omega arith);
+  own = no_holds no_opening (record { small = omega arith; plain = refl });
+  own_peer = no_holds no_opening (record { small = omega arith; plain = refl });
   out = λ raw. nothing_of no_opening (tale_of no_opening []).sent;
   back = λ raw. nothing_of no_opening (tale_of no_opening []).sent;
 }

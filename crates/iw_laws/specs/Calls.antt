@@ -11,7 +11,8 @@ use Rattle.iw_ranges.specs.Arrived.{advanced, delivery}
 use Rattle.iw_queues.specs.declared.request.Request.{Request}
 use Rattle.iw_queues.specs.Request.{size_of}
 use Rattle.iw_startup.specs.declared.config.Agreed.{Agreed}
-use Rattle.iw_startup.specs.declared.startup.NotAsked.{NotAsked}
+use Rattle.iw_stream.specs.declared.answer.AnswerRefusal.{AnswerRefusal}
+use Rattle.iw_stream.specs.declared.answer.AnswerRefusal.TheVariants.{NotAsked, PrivateTooLong}
 use Rattle.iw_stream.specs.declared.answer.PostRefusal.{PostRefusal}
 use Rattle.iw_stream.specs.declared.answer.PostRefusal.TheVariants as posting
 use Rattle.iw_stream.specs.declared.answer.RecvRefusal.{RecvRefusal}
@@ -103,14 +104,16 @@ first_refusal_by t = if t.was_delivered then Some Late else None
 abbrev pub may_answer_by : Story → List (StreamAct Octets) → Bool
 may_answer_by t before = not (ended before) && is_asked t.start
 
--- what both ends asked for is agreed on
-abbrev pub Accepted : Story → List (StreamAct Octets) → Result Agreed NotAsked → Type 0
+-- what both ends asked for is agreed on; an answer of revision 1 has room for any private data
+abbrev pub Accepted : Story → List (StreamAct Octets) → Result Agreed AnswerRefusal → Type 0
 Accepted t before (Ok agreed) = (may_answer_by t before ≡ true) × (agreed ≡ agreement_in t.start)
-Accepted t before (Err refusal) = may_answer_by t before ≡ false
+Accepted t before (Err NotAsked) = may_answer_by t before ≡ false
+Accepted t before (Err PrivateTooLong) = ⊥
 
-abbrev pub Rejected : Story → List (StreamAct Octets) → Option NotAsked → Type 0
+abbrev pub Rejected : Story → List (StreamAct Octets) → Option AnswerRefusal → Type 0
 Rejected t before None = may_answer_by t before ≡ true
-Rejected t before (Some refusal) = may_answer_by t before ≡ false
+Rejected t before (Some NotAsked) = may_answer_by t before ≡ false
+Rejected t before (Some PrivateTooLong) = ⊥
 
 -- by what was done on the stream before
 abbrev pub StreamAnswered : Story → List (StreamAct Octets) → StreamAct Octets → Type 0

@@ -15,3 +15,4 @@ pub mod Isolated
 pub mod Stops
 pub mod Bounds
 pub mod EarlyRuns
+pub mod PoolRuns

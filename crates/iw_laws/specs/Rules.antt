@@ -13,7 +13,7 @@ use Rattle.iw_stream.specs.declared.answer.Step.TheVariants as steps
 use Rattle.iw_stream.specs.declared.answer.Emission.{Emission}
 use Rattle.iw_stream.specs.declared.answer.Emission.TheVariants as emissions
 use Rattle.iw_stream.specs.Starting.{private_in, agreement_in}
-use Rattle.iw_stream.specs.Stream.{StreamState, recv_refusal, post_refusal, size_refusal, emission_of, emitted, first_refusal, delivery_of}
+use Rattle.iw_stream.specs.Stream.{StreamState, recv_refusal, post_refusal, size_refusal, emission_of, emitted, first_refusal, answer_refusal, delivery_of}
 use Rattle.iw_stream.specs.Work.{work_step, worked, table_worked}
 use Rattle.iw_events.specs.declared.call.End.{End}
 use Rattle.iw_events.specs.declared.call.End.TheVariants.{A, B}
@@ -29,7 +29,7 @@ use Rattle.iw_events.specs.declared.act.Shown.TheVariants.{Frame, Fetched, Fault
 use Rattle.iw_events.specs.declared.act.Seen.{Seen}
 use Rattle.iw_events.specs.declared.act.Seen.TheVariants as seen
 use Rattle.iw_events.specs.declared.act.Entry.{Entry}
-use Rattle.iw_endpoint.specs.Endpoint.{EndpointState, fresh, has_stream, stream_at, stream_numbers, pool_of, lent_to, domain_refusal, store_refusal, open_refusal, share_refusal, pool_refusal, take_refusal, taken_at, open_shared_refusal, unasked}
+use Rattle.iw_endpoint.specs.Endpoint.{EndpointState, fresh, has_stream, stream_at, stream_numbers, pool_of, lent_to, domain_refusal, store_refusal, open_refusal, share_refusal, pool_refusal, take_refusal, taken_at, open_shared_refusal}
 use Rattle.iw_endpoint.specs.Isolation as calls
 use Rattle.iw_endpoint.specs.Isolation.{answer_or, after}
 use Rattle.iw_laws.specs.Words.{Octets, other, deed, octets_shown, config_for, private_data}
@@ -117,8 +117,8 @@ StreamRule table s (First number refused) = refused ≡ first_refusal s
 StreamRule table s (Deliver from number octets delivery) = (number ≡ (s.first + from) % 2 ^ 32) × (delivery ≡ delivery_of s number (length octets))
 StreamRule table s (Raw number octets delivery) = delivery ≡ delivery_of s number (length octets)
 StreamRule table s (Mulpdu size refused) = refused ≡ size_refusal size
-StreamRule table s (Accept private answer) = answer ≡ answer_or (unasked s) (agreement_in s.start)
-StreamRule table s (Reject private refused) = refused ≡ unasked s
+StreamRule table s (Accept private answer) = answer ≡ answer_or (answer_refusal s (private_data private).items) (agreement_in s.start)
+StreamRule table s (Reject private refused) = refused ≡ answer_refusal s (private_data private).items
 StreamRule table s (Work step) =
     step ≡ seen_of (table_worked table s) (private_in (worked table s).start) (work_step table s)
 StreamRule table s Break = Unit {0}
@@ -156,11 +156,11 @@ EndRule e (Register pd base rights octets answer) = answer ≡ answer_or (regist
 EndRule e (Deregister stag answer) = answer ≡ deregister_answer e.table stag
 EndRule e (Invalidate stag refused) = refused ≡ invalidate_refusal e.table stag
 EndRule e (Store stag to octets refused) = refused ≡ store_refusal e stag to (length octets)
-EndRule e (Open n pd role options private refused) = refused ≡ open_refusal e n pd
+EndRule e (Open n pd role options private refused) = refused ≡ open_refusal e n pd role (config_for options private)
 EndRule e (Share pd refused) = refused ≡ share_refusal e pd
 EndRule e (Pool pd len refused) = refused ≡ pool_refusal e pd
 EndRule e (Unpool pd answer) = answer ≡ answer_or (take_refusal e pd) (taken_at e pd)
-EndRule e (OpenShared n pd role options private refused) = refused ≡ open_shared_refusal e n pd
+EndRule e (OpenShared n pd role options private refused) = refused ≡ open_shared_refusal e n pd role (config_for options private)
 EndRule e (Stream n act) = (has_stream e n ≡ true) × StreamRule e.table (stream_for e n act) act
 
 -- what the other end has to do with it

@@ -19,11 +19,12 @@ use Rattle.iw_events.specs.declared.call.End.{End}
 use Rattle.iw_events.specs.declared.call.End.TheVariants.{A, B}
 use Rattle.iw_events.specs.declared.call.Options.{Options}
 use Rattle.arrayvec.specs.ArrayVec.{ArrayVec}
+use Rattle.iw_startup.specs.declared.config.Establishment.TheVariants as establishments
 use Rattle.iw_startup.specs.declared.config.Config.{Config}
 use Rattle.iw_startup.specs.declared.config.Agreed.{Agreed}
-use Rattle.iw_startup.specs.declared.startup.NotAsked.{NotAsked}
 use Rattle.iw_startup.specs.declared.side.Reply.{Reply}
 use Rattle.iw_startup.specs.declared.side.Reply.TheVariants as replies
+use Rattle.iw_stream.specs.declared.answer.AnswerRefusal.{AnswerRefusal}
 use Rattle.iw_stream.specs.declared.answer.Role.{Role}
 use Rattle.iw_stream.specs.declared.answer.Role.TheVariants.{Preset}
 use Rattle.iw_events.specs.declared.act.Act.{Act}
@@ -89,7 +90,7 @@ abbrev pub private_data : Octets → ArrayVec ℕ
 private_data private = record { items = take 512 private }
 
 abbrev pub config_for : Options → Octets → Config
-config_for options private = record { markers = options.markers; crc = options.crc; private = private_data private }
+config_for options private = record { markers = options.markers; crc = options.crc; establishment = establishments.Plain; private = private_data private }
 
 abbrev pub openings_by : ℕ → Act Octets → List Opening
 openings_by n (Open number pd role options private None) =
@@ -118,7 +119,7 @@ was_opened (opening ∷ others) = true
 
 -- what stands for an opening where there was none
 abbrev pub no_opening : Opening
-no_opening = record { domain = 0; role = Preset; config = record { markers = false; crc = false; private = record { items = [] } }; shared = false }
+no_opening = record { domain = 0; role = Preset; config = record { markers = false; crc = false; establishment = establishments.Plain; private = record { items = [] } }; shared = false }
 
 abbrev pub opening_in : List Opening → Opening
 opening_in [] = no_opening
@@ -211,7 +212,7 @@ abbrev pub unless : {R A : Type 0} → Option R → A → Option A
 unless None x = Some x
 unless (Some refusal) x = None
 
-abbrev pub acceptance : Octets → Result Agreed NotAsked → Option Reply
+abbrev pub acceptance : Octets → Result Agreed AnswerRefusal → Option Reply
 acceptance private (Ok agreed) = Some (replies.Accept (private_data private))
 acceptance private (Err refusal) = None
 

@@ -226,7 +226,7 @@ keeps_past_end =
 abbrev pub accepts_unasked : Run
 accepts_unasked =
     opens b Responder
-    ++ (b (on (Accept [] (Ok (record { send_markers = false; expect_markers = false; crc = false })))) ∷ [])
+    ++ (b (on (Accept [] (Ok (record { send_markers = false; expect_markers = false; crc = false; ord = 16; rtr = None })))) ∷ [])
 
 abbrev pub refuses_first_domain : Run
 refuses_first_domain = b (Domain 1 (Some DomainTaken)) ∷ []

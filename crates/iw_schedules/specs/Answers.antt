@@ -20,7 +20,8 @@ use Rattle.iw_queues.specs.declared.request.Kind.TheVariants as kinds
 use Rattle.iw_startup.specs.declared.config.Agreed.{Agreed}
 use Rattle.iw_startup.specs.declared.progress.StartupFault.{StartupFault}
 use Rattle.iw_startup.specs.declared.progress.StartupFault.TheVariants as startups
-use Rattle.iw_startup.specs.declared.startup.NotAsked.{NotAsked}
+use Rattle.iw_stream.specs.declared.answer.AnswerRefusal.{AnswerRefusal}
+use Rattle.iw_stream.specs.declared.answer.AnswerRefusal.TheVariants as answers
 use Rattle.iw_stream.specs.declared.answer.PostRefusal.{PostRefusal}
 use Rattle.iw_stream.specs.declared.answer.PostRefusal.TheVariants as posts
 use Rattle.iw_stream.specs.declared.answer.RecvRefusal.{RecvRefusal}
@@ -91,6 +92,7 @@ open_refusal opens.NumberTaken = (1, codes "NumberTaken")
 open_refusal opens.BadNumber = (2, codes "BadNumber")
 open_refusal opens.NoDomain = (3, codes "NoDomain")
 open_refusal opens.NoMemory = (4, codes "NoMemory")
+open_refusal opens.PrivateTooLong = (6, codes "PrivateTooLong")
 
 abbrev pub share_refusal : ShareRefusal → Numbered
 share_refusal shares.NoDomain = (1, codes "NoDomain")
@@ -113,6 +115,7 @@ open_shared_refusal shared_opens.BadNumber = (2, codes "BadNumber")
 open_shared_refusal shared_opens.NoDomain = (3, codes "NoDomain")
 open_shared_refusal shared_opens.NotShared = (4, codes "NotShared")
 open_shared_refusal shared_opens.NoMemory = (5, codes "NoMemory")
+open_shared_refusal shared_opens.PrivateTooLong = (6, codes "PrivateTooLong")
 
 abbrev pub recv_refusal : RecvRefusal → Numbered
 recv_refusal recvs.Full = (1, codes "Full")
@@ -125,6 +128,7 @@ post_refusal posts.Full = (1, codes "Full")
 post_refusal posts.TooLong = (2, codes "TooLong")
 post_refusal posts.NotOpen = (3, codes "NotOpen")
 post_refusal posts.NoMemory = (4, codes "NoMemory")
+post_refusal posts.NoReads = (5, codes "NoReads")
 
 abbrev pub size_refusal : SizeRefusal → Numbered
 size_refusal sizes.BadSize = (1, codes "BadSize")
@@ -133,8 +137,9 @@ abbrev pub first_refusal : FirstRefusal → Numbered
 first_refusal firsts.Late = (1, codes "Late")
 
 -- of `accept`, and of `reject`
-abbrev pub not_asked : Numbered
-not_asked = (1, codes "NotAsked")
+abbrev pub answer_refusal : AnswerRefusal → Numbered
+answer_refusal answers.NotAsked = (1, codes "NotAsked")
+answer_refusal answers.PrivateTooLong = (2, codes "PrivateTooLong")
 
 -- why a stream was closed before it was open
 abbrev pub startup_fault : StartupFault → Numbered
@@ -154,14 +159,14 @@ abbrev pub ok_or_refused : Option Numbered → Words
 ok_or_refused None = codes "ok" ∷ []
 ok_or_refused (Some refusal) = refused refusal
 
--- ---- what calls of a stream answer
+-- ---- what calls on a stream answer
 
 abbrev pub kind_text : Kind → List ℕ
 kind_text kinds.Write = codes "write"
 kind_text kinds.Send = codes "send"
 kind_text kinds.Read = codes "read"
 
--- the use that was made of a region
+-- how a region was used
 abbrev pub right_text : Right → List ℕ
 right_text rights.Write = codes "write"
 right_text rights.Read = codes "read"
@@ -182,9 +187,9 @@ letters_text (letter ∷ letters) = letter ∷ letters
 abbrev pub agreed_text : Agreed → List ℕ
 agreed_text agreed = letters_text (agreed_letters agreed)
 
-abbrev pub accepted_words : Result Agreed NotAsked → Words
+abbrev pub accepted_words : Result Agreed AnswerRefusal → Words
 accepted_words (Ok agreed) = codes "ok" ∷ agreed_text agreed ∷ []
-accepted_words (Err refusal) = refused not_asked
+accepted_words (Err refusal) = refused (answer_refusal refusal)
 
 -- a word, then the layer, type and code of a fault
 abbrev pub with_fault : List ℕ → Fault → Words
@@ -196,7 +201,7 @@ fault_words fault = with_fault (codes "fault") fault
 abbrev pub terminated_words : Fault → Words
 terminated_words fault = with_fault (codes "terminated") fault
 
--- a frame of the response to a Read, and the octets of a region that it carries
+-- a frame of a Read Response, and the octets of the region that it carries
 abbrev pub fetched_words : ℕ → List ℕ → Stag → ℕ → List ℕ → Words
 fetched_words from frame stag to octets =
     codes "fetched" ∷ decimal from ∷ octets_text frame ∷ stag_text stag ∷ decimal to ∷ octets_text octets ∷ []
@@ -229,7 +234,7 @@ requested_words size stag to = codes "requested" ∷ decimal size ∷ stag_text 
 abbrev pub received_words : List ℕ → Bool → Option Stag → Words
 received_words octets solicited invalidate = codes "received" ∷ octets_text octets ∷ send_text (kind_of solicited invalidate) ∷ optional_stag_text invalidate ∷ []
 
--- a frame that was judged before its turn, and left for it: the stream place of its first octet
+-- a frame that was judged before its turn and left until its turn: the stream place of its first octet
 abbrev pub tried_words : ℕ → Words
 tried_words place = codes "tried" ∷ decimal place ∷ []
 

@@ -29,7 +29,7 @@ use Rattle.iw_schedules.specs.Words.{role_word, call_word}
 abbrev pub Taken : Type 0 → Type 0
 Taken X = Result (X × List (List ℕ)) FaultName
 
--- a word that is missing is a bad one
+-- a missing word is a BadWord
 abbrev pub next_word : List (List ℕ) → Taken (List ℕ)
 next_word [] = Err BadWord
 next_word (word ∷ words) = Ok (word, words)
@@ -47,7 +47,7 @@ long_number word = number_word (2 ^ 64 - 1) word
 abbrev pub short_number : List ℕ → Result ℕ FaultName
 short_number word = number_word (2 ^ 32 - 1) word
 
--- how often, and once where the word is left out
+-- how often; once if the word is missing
 abbrev pub times_at : List (List ℕ) → Taken ℕ
 times_at [] = Ok (1, [])
 times_at (word ∷ words) = times_word word >>= λ n. Ok (n, words)

@@ -39,7 +39,7 @@ pub record IsNumber (most : ℕ) (word : Word) (n : ℕ) : Type 0 where
   pub value : digits_value 10 word ≡ n
   pub bound : n ≤ most
 
--- the number of an end's domain or stream
+-- the number of a domain or a stream
 abbrev pub IsOctetNumber : Word → ℕ → Type 0
 IsOctetNumber word n = IsNumber 255 word n
 
@@ -132,7 +132,7 @@ pub record IsLine (line : List ℕ) (events : Events) : Type 0 where
   pub call : IsCall others calls
   pub events_are : map (event_at end) calls ≡ events
 
--- lines and their events, in order; what is skipped has none
+-- lines and their events, in order; skipped lines have none
 pub data AreLines : List (List ℕ) → Events → Type 0 where
   no_lines : AreLines [] []
   skipped : {line : List ℕ} {others : List (List ℕ)} {events : Events} → is_skipped line ≡ true → AreLines others events → AreLines (line ∷ others) events

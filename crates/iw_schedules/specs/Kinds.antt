@@ -18,7 +18,7 @@ use Rattle.iw_schedules.specs.Pieces.{split_at_first}
 abbrev pub is_decimal : List ℕ → Bool
 is_decimal word = nat_lt 0 (length word) && list_all is_ascii_digit word
 
--- the number that decimal digits write, where it fits 64 bits
+-- the number that decimal digits stand for, if it fits 64 bits
 abbrev pub decimal_of : List ℕ → Option ℕ
 decimal_of word = if is_decimal word && nat_lt (digits_value 10 word) (2 ^ 64) then Some (digits_value 10 word) else None
 
@@ -45,7 +45,7 @@ hex_word word = do
   octets ← or_fault BadOctets (decode_of word)
   if nat_lt 0 (length octets) then Ok octets else Err BadOctets
 
--- how often the octets are repeated: once where no count is written
+-- how often the octets are repeated: once if there is no count
 abbrev pub count_word : Option (List ℕ) → Result ℕ FaultName
 count_word None = Ok 1
 count_word (Some word) = or_fault BadOctets (number_word MAX_WORD_OCTETS word)

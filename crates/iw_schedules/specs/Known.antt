@@ -1,4 +1,4 @@
--- Worked lines: what a line of a schedule stands for, and how an entry of a trace is printed.
+-- Lines written by hand: what a line of a schedule stands for, and how an entry of a trace is printed.
 use Rattle.std.specs.Prelude.{◌≡◌, ℕ, Bool, true, false, List, [], ◌∷◌, ◌++◌, Option, Some, None, Result, Ok, Err, codes}
 use Rattle.iw_octets.specs.declared.stag.Stag.{Stag}
 use Rattle.iw_octets.specs.declared.message.Message.TheVariants as messages
@@ -20,7 +20,7 @@ use Rattle.iw_schedules.specs.declared.fault.ScheduleFault.TheVariants.{Line}
 use Rattle.iw_schedules.specs.Schedule.{Events, schedule_of}
 use Rattle.iw_schedules.specs.Trace.{entry_text}
 
--- a call of stream 3 at `a`, alone
+-- a single call on stream 3 at `a`
 abbrev pub alone : StreamCall (List ℕ) → Result Events ScheduleFault
 alone call = Ok (record { end = A; call = calls.Stream 3 call } ∷ [])
 

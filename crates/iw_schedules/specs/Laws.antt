@@ -8,7 +8,7 @@ use Rattle.iw_schedules.specs.SendKind.{send_text, kind_of}
 use Rattle.iw_schedules.specs.Answers.{stag_text, optional_stag_text}
 use Rattle.iw_schedules.specs.Grammar.{IsStag, IsKind}
 
--- the separator does not stand in it
+-- the separator does not occur in it
 abbrev pub lacks : ℕ → List ℕ → Bool
 lacks separator piece = list_all (λ x. not (x == separator)) piece
 
@@ -20,7 +20,7 @@ Joined separator = (text : List ℕ) → join_with_byte separator (pieces separa
 abbrev pub Free : ℕ → Type 0
 Free separator = (text : List ℕ) → list_all (lacks separator) (pieces separator text) ≡ true
 
--- what was joined so has these pieces and no others
+-- a text joined from pieces has these pieces and no others
 abbrev pub OnlySo : ℕ → Type 0
 OnlySo separator = (first : List ℕ) (others : List (List ℕ)) → list_all (lacks separator) (first ∷ others) ≡ true → pieces separator (join_with_byte separator (first ∷ others)) ≡ first ∷ others
 
@@ -33,6 +33,6 @@ abbrev pub MayFit : Option Stag → Type 0
 MayFit None = Unit {0}
 MayFit (Some stag) = FitsStag stag
 
--- the words that are printed of a Send that came are those by which a schedule posts one of that kind
+-- a Send that came is printed in the words by which a schedule posts one of that kind
 abbrev pub SentAlike : Type 0
 SentAlike = (solicited : Bool) (invalidate : Option Stag) → MayFit invalidate → IsKind (send_text (kind_of solicited invalidate)) (optional_stag_text invalidate) solicited invalidate

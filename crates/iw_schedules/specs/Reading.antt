@@ -11,17 +11,17 @@ abbrev pub ◌>>=◌ : {A B : Type 0} → Result A FaultName → (A → Result B
 (Ok x) >>= f = f x
 (Err fault) >>= f = Err fault
 
--- what another crate's reading gives, any of its errors being this fault
+-- what another crate reads, with any error turned into this fault
 abbrev pub or_fault : {A E : Type 0} → FaultName → Result A E → Result A FaultName
 or_fault fault (Ok x) = Ok x
 or_fault fault (Err e) = Err fault
 
--- the fault of a schedule that has this one in its line of this number
+-- the fault of a schedule, given that of a line
 abbrev pub fault_at : ℕ → ReadError → ScheduleFault
 fault_at number (errors.Fault name) = faults.Line number name
 fault_at number errors.NoMemory = faults.NoMemory
 
--- what a function returned, seen by view, is what reading gives, unless memory ran out
+-- what a function returned is what reading gives, unless memory ran out
 abbrev pub Fails : {Y : Type 0} → ReadError → Result Y FaultName → Type 0
 Fails errors.NoMemory read = Unit {0}
 Fails (errors.Fault fault) read = read ≡ Err fault

@@ -18,7 +18,7 @@ use Rattle.iw_events.specs.declared.act.Entry.{Entry}
 use Rattle.iw_schedules.specs.declared.words.CallWord.{CallWord}
 use Rattle.iw_schedules.specs.declared.words.CallWord.TheVariants as named
 use Rattle.iw_schedules.specs.Words.{end_text, call_text}
-use Rattle.iw_schedules.specs.Answers.{Words, octets_text, stag_text, domain_refusal, register_refusal, no_region, store_refusal, open_refusal, share_refusal, pool_refusal, take_refusal, open_shared_refusal, recv_refusal, post_refusal, size_refusal, not_asked, refused, ok_or_refused, delivery_text, accepted_words, shown_words, seen_words, first_refusal}
+use Rattle.iw_schedules.specs.Answers.{Words, octets_text, stag_text, domain_refusal, register_refusal, no_region, store_refusal, open_refusal, share_refusal, pool_refusal, take_refusal, open_shared_refusal, recv_refusal, post_refusal, size_refusal, answer_refusal, refused, ok_or_refused, delivery_text, accepted_words, shown_words, seen_words, first_refusal}
 
 abbrev pub registered : Result Stag RegisterRefusal → Words
 registered (Ok stag) = stag_text stag ∷ []
@@ -48,7 +48,7 @@ call_on call n = call_text call ∷ decimal n ∷ []
 abbrev pub call_of_stag : CallWord → Stag → Words
 call_of_stag call stag = call_text call ∷ stag_text stag ∷ []
 
--- the word of a call of a stream
+-- the word of a call on a stream
 abbrev pub stream_word : StreamAct (List ℕ) → CallWord
 stream_word (Recv len refusal) = named.Recv
 stream_word (Post message refusal) = post_word message
@@ -71,7 +71,7 @@ stream_answer (Deliver from number octets delivery) = delivery_text delivery ∷
 stream_answer (Raw number octets delivery) = delivery_text delivery ∷ []
 stream_answer (Mulpdu size refusal) = ok_or_refused (option_map size_refusal refusal)
 stream_answer (Accept private answer) = accepted_words answer
-stream_answer (Reject private refusal) = ok_or_refused (option_map (λ missing. not_asked) refusal)
+stream_answer (Reject private refusal) = ok_or_refused (option_map answer_refusal refusal)
 stream_answer (Work seen) = seen_words seen
 stream_answer Break = codes "ok" ∷ []
 

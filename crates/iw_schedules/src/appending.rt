@@ -24,7 +24,7 @@ pub(crate) fn number<A: Allocator>(text: &mut String<A>, number: u64) -> Result<
     write!(text, " {number}")
 }
 
-/// Octets in hexadecimal digits, and `-` where there are none.
+/// Octets as hexadecimal digits, or `-` for none.
 pub(crate) fn octets<A: Allocator + Copy>(
     text: &mut String<A>,
     octets: &[u8],
@@ -60,7 +60,7 @@ pub(crate) fn optional_stag<A: Allocator + Copy>(
     }
 }
 
-/// A word, and a reason after it.
+/// A word, then a reason: its number and name.
 pub(crate) fn numbered<A: Allocator>(
     text: &mut String<A>,
     first: &str,

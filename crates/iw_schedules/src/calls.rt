@@ -1,4 +1,4 @@
-//! The words after a line's end: which calls they stand for.
+//! The calls that the words of a line stand for, after the word that names the end.
 
 ghost use Rattle.std.specs.Prelude.{◌≡◌, length};
 ghost use Rattle.iw_schedules.specs.Reading.{Gives};
@@ -27,7 +27,7 @@ use iw_memory::Rights;
 use iw_octets::{Message, ReadRequest, Stag};
 use std::alloc::Allocator;
 
-/// A call of a stream that a line may ask for many times.
+/// A call on a stream that a line may repeat.
 #[derive(Clone, Copy)]
 pub(crate) enum Step {
     Emit,
@@ -38,7 +38,7 @@ pub(crate) enum Step {
 #[derive(Drop)]
 pub(crate) enum Calls<O> {
     One(Call<O>),
-    /// Equal calls of a stream.
+    /// Equal calls on a stream.
     Many { stream: u8, step: Step, times: u64 },
 }
 
@@ -54,7 +54,7 @@ impl Step {
 }
 
 impl<A: Allocator> Calls<Bytes<A>> {
-    /// How many calls they are.
+    /// How many calls there are.
     pub(crate) fn len(&self) -> u64
         ensures { result ≡ length (calls_of self.now) }
     {
@@ -75,7 +75,7 @@ fn next<'a>(words: &mut Pieces<'a>) -> Result<&'a [u8], ReadError>
     }
 }
 
-// A number of an end's domains or streams.
+// The number of a domain or a stream.
 fn octet_number_in(words: &mut Pieces<'_>) -> Result<u8, ReadError>
     ensures { Gives (λ n. (n, words.new)) result (field octet_number words.old) }
 {
@@ -144,7 +144,7 @@ fn invalidated_in(kind: SendKind, words: &mut Pieces<'_>) -> Result<Option<Stag>
     Ok(kind.invalidated(next(words)?)?)
 }
 
-// How often, and once where the word is left out.
+// How often; once if the word is missing.
 fn times_in(words: &mut Pieces<'_>) -> Result<u64, ReadError>
     ensures { Gives (λ n. (n, words.new)) result (times_at words.old) }
 {
@@ -424,7 +424,7 @@ fn break_link<A: Allocator>(words: &mut Pieces<'_>) -> Result<Calls<Bytes<A>>, R
     Ok(Calls::One(Call::Stream { stream, call }))
 }
 
-// The calls that the words after this one stand for.
+// The calls that this word and the words after it stand for.
 fn calls_past<A: Allocator + Copy>(
     alloc: A,
     call: CallWord,
@@ -465,7 +465,7 @@ fn call_in(words: &mut Pieces<'_>) -> Result<CallWord, ReadError>
     Ok(CallWord::read(next(words)?)?)
 }
 
-/// The calls that the next words stand for, the first of which names them.
+/// The calls that the next words stand for. The first of them names the call.
 #[tactic(auto, unfolding(crate::specs::Calls::calls_at))]
 pub(crate) fn read_calls<A: Allocator + Copy>(
     alloc: A,

@@ -8,22 +8,22 @@ use std::fmt;
 /// What is wrong with a line of a schedule: the first fault from left to right.
 #[derive(Clone, Copy, Debug, PartialEq, Eq)]
 pub enum FaultName {
-    /// An unknown word, end, role or kind, or not as many words as belong there.
+    /// An unknown word, end, role or kind; or too few or too many words.
     BadWord,
-    /// No number, or one that is out of its range; or no STag.
+    /// A word that is no number, or no STag; or a number that is out of range.
     BadNumber,
-    /// No octets, or too many of them; or no rights or options.
+    /// A word that is no octets, no rights or no options; or too many octets.
     BadOctets,
-    /// The line's words are good, and its events pass the 1,000,000 that a schedule may have.
+    /// The line is right, but with its events the schedule has more than 1,000,000.
     TooMany,
 }
 
 /// Why a schedule was not read. It prints as `line N: NAME`, or as `no memory`.
 #[derive(Clone, Copy, Debug, PartialEq, Eq)]
 pub enum ScheduleFault {
-    /// The first line with a fault, counted from 1.
+    /// The first line with a fault, and the fault. Lines are counted from 1.
     Line { line: u64, name: FaultName },
-    /// There is no memory for the events.
+    /// Out of memory.
     NoMemory,
 }
 
@@ -35,7 +35,7 @@ pub(crate) enum ReadError {
 }
 
 impl ReadError {
-    /// The fault of a schedule that has this one in its line of this number.
+    /// The fault of a schedule, given that of a line.
     pub(crate) fn at(self, line: u64) -> ScheduleFault
         ensures { result ≡ fault_at line self }
     {

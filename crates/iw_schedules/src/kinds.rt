@@ -1,4 +1,4 @@
-//! The kinds of words of a schedule, and what each stands for.
+//! The kinds of words in a schedule, and what each stands for.
 
 ghost use Rattle.std.specs.Prelude.{◌≡◌, ◌+◌, ◌*◌, ◌^◌, ◌<◌, ◌≤◌, true, [], ◌∷◌, IfOk, IfSome, MatchOption};
 ghost use Rattle.std.specs.Char.{is_ascii_digit, digit_value};
@@ -21,7 +21,7 @@ pub(crate) const MAX_WORD_OCTETS: u64 = 20_000_000;
 /// The most events that a line stands for.
 pub(crate) const MAX_TIMES: u64 = 100_000;
 
-/// The number that decimal digits write, where it fits.
+/// The number that decimal digits stand for; `None` if it does not fit 64 bits or a character is not a digit.
 fn decimal(word: &[u8]) -> Option<u64>
     ensures { result ≡ decimal_of word.now }
 {
@@ -41,7 +41,7 @@ fn decimal(word: &[u8]) -> Option<u64>
     Some(number)
 }
 
-// The number with one more digit after it.
+// The number with one more digit.
 fn with_digit(number: u64, digit: u8) -> Option<u64>
     requires { is_ascii_digit digit ≡ true }
     ensures value { MatchOption result (2 ^ 64 ≤ number * 10 + digit_value digit)
@@ -113,7 +113,7 @@ fn count(word: Option<&[u8]>) -> Result<u64, FaultName>
     }
 }
 
-// The octets, so often one after the other.
+// The octets, repeated `count` times.
 fn repeated<A: Allocator + Copy>(octets: Vec<u8, A>, count: usize) -> Result<Vec<u8, A>, AllocError>
     ensures { IfOk result (λ all. all.items ≡ repeat count octets.items) }
 {
@@ -143,7 +143,7 @@ fn shared<A: Allocator + Copy>(octets: Vec<u8, A>) -> Result<Bytes<A>, ReadError
     Ok(Bytes::from_vec(octets)?)
 }
 
-/// Octets: `-` for none, or hexadecimal digits, which may be repeated.
+/// Octets: `-` for none, or hexadecimal digits, perhaps with a count.
 #[tactic(auto, unfolding(crate::specs::Kinds::octets_word))]
 pub(crate) fn octets<A: Allocator + Copy>(alloc: A, word: &[u8]) -> Result<Bytes<A>, ReadError>
     ensures { Gives (λ octets. octets) result (octets_word word.now) }
@@ -160,7 +160,7 @@ pub(crate) fn octets<A: Allocator + Copy>(alloc: A, word: &[u8]) -> Result<Bytes
     }
 }
 
-/// Private data: octets, of which there are not many.
+/// Private data: at most 512 octets.
 #[tactic(auto, unfolding(crate::specs::Kinds::private_word))]
 pub(crate) fn private<A: Allocator + Copy>(alloc: A, word: &[u8]) -> Result<Bytes<A>, ReadError>
     ensures { Gives (λ octets. octets) result (private_word word.now) }

@@ -1,4 +1,4 @@
-//! Laws of schedules: functions that do nothing, whose contracts are the laws.
+//! Laws of schedules. The functions do nothing; their clauses are the laws.
 
 ghost use Rattle.std.specs.Prelude.{◌≡◌, ℕ, List};
 ghost use Rattle.iw_schedules.specs.Schedule.{Events};
@@ -12,22 +12,21 @@ pub fn schedules_are_clear()
         → events ≡ others }
 {}
 
-/// A text is its lines with a line feed between each two, and a line is its words with a space between each two, in one
-/// way.
+/// A text is its lines with a line feed between each two, and a line is its words with a space between each two. There
+/// is only one way to split them so.
 pub fn pieces_are_clear()
     ensures joined { (separator : ℕ) → Joined separator }
     ensures free { (separator : ℕ) → Free separator }
     ensures only_so { (separator : ℕ) → OnlySo separator }
 {}
 
-/// What a trace prints of an STag, and of the kind of a Send that came and the STag that it invalidated, is what a
-/// schedule says of them.
+/// A trace prints an STag, the kind of a Send and the STag that it invalidates in the words that a schedule uses.
 pub fn words_are_alike()
     ensures named { NamedAlike }
     ensures sent { SentAlike }
 {}
 
-/// Breaks, Sends of all kinds and what an ended stream answers, worked by hand: as lines of a schedule and of a trace.
+/// Lines of a schedule and of a trace, written by hand: breaks, Sends of all kinds, and the answers of an ended stream.
 pub fn known_lines()
     ensures { KnownLines }
 {}

@@ -1,7 +1,7 @@
 //! Schedules read from text, and traces printed as text.
 //!
-//! [`read_schedule`] reads the events of a schedule, or says in which line the first fault is, and which;
-//! [`print_trace`] prints each entry of a trace as a line. docs/SCHEDULES.md has both texts.
+//! [`read_schedule`] reads the events of a schedule, or returns the first faulty line and its fault. [`print_trace`]
+//! prints each entry of a trace as a line. docs/SCHEDULES.md describes both texts.
 #![tactic(auto)]
 
 mod appending;

@@ -4,7 +4,7 @@ ghost use Rattle.iw_schedules.specs.Pieces.{split_at_first, pieces};
 
 use std::marker::Model;
 
-/// What stands between separators, from left to right.
+/// The pieces of a text between separators, from left to right.
 #[derive(Drop)]
 pub(crate) struct Pieces<'a> {
     separator: u8,
@@ -41,7 +41,7 @@ impl<'a> Pieces<'a> {
     }
 }
 
-/// What stands before the first separator, and what stands past it, if there is one.
+/// The text before the first separator, and the text after it, if there is a separator.
 pub(crate) fn split_at(text: &[u8], separator: u8) -> (&[u8], Option<&[u8]>)
     ensures front { result.0.now ≡ (split_at_first separator text.now).0 }
     ensures back { option_copied result.1 ≡ (split_at_first separator text.now).1 }
@@ -54,7 +54,7 @@ pub(crate) fn split_at(text: &[u8], separator: u8) -> (&[u8], Option<&[u8]>)
     }
 }
 
-// Where the first separator stands.
+// The index of the first separator.
 fn find(text: &[u8], separator: u8) -> Option<usize>
     ensures at { result ≡ position (λ octet. octet == separator) text.now }
     ensures within { IfSome result (λ at. at < length text.now) }

@@ -1,18 +1,18 @@
-//! The refusals of each call, with their numbers, and why a start-up closed a stream.
+//! The refusals of each call, and the faults that close a stream in its start-up, as traces print them.
 
 ghost use Rattle.std.specs.Prelude.{◌≡◌};
 ghost use Rattle.iw_schedules.specs.Answers.{domain_refusal, register_refusal, store_refusal, no_region};
-ghost use Rattle.iw_schedules.specs.Answers.{open_refusal, not_asked, startup_fault};
+ghost use Rattle.iw_schedules.specs.Answers.{open_refusal, answer_refusal, startup_fault};
 ghost use Rattle.iw_schedules.specs.Answers.{share_refusal, pool_refusal, take_refusal, open_shared_refusal};
 ghost use Rattle.iw_schedules.specs.Answers.{size_refusal, recv_refusal, post_refusal, first_refusal};
 ghost use Rattle.iw_schedules.specs.Shown.{shown_refusal};
 
 use iw_endpoint::{OpenSharedRefusal, PoolRefusal, ShareRefusal, TakeRefusal};
 use iw_memory::{DomainRefusal, NoRegion, RegisterRefusal, StoreRefusal};
-use iw_startup::{NotAsked, StartupFault};
-use iw_stream::{FirstRefusal, OpenRefusal, PostRefusal, RecvRefusal, SizeRefusal};
+use iw_startup::StartupFault;
+use iw_stream::{AnswerRefusal, FirstRefusal, OpenRefusal, PostRefusal, RecvRefusal, SizeRefusal};
 
-/// The number and the name of a refusal, or of what closed a stream.
+/// The number and the name of a refusal, or of a start-up fault.
 #[derive(Clone, Copy)]
 pub(crate) struct Refusal {
     pub(crate) number: u8,
@@ -49,7 +49,7 @@ pub(crate) fn of_register(refusal: RegisterRefusal) -> Refusal
     }
 }
 
-/// Of `deregister`, and of `invalidate`.
+/// The refusal of `deregister` and `invalidate`.
 pub(crate) fn of_missing(_refusal: NoRegion) -> Refusal
     ensures { shown_refusal result ≡ no_region }
 {
@@ -73,6 +73,7 @@ pub(crate) fn of_open(refusal: OpenRefusal) -> Refusal
         OpenRefusal::BadNumber => Refusal::new(2, "BadNumber"),
         OpenRefusal::NoDomain => Refusal::new(3, "NoDomain"),
         OpenRefusal::NoMemory => Refusal::new(4, "NoMemory"),
+        OpenRefusal::PrivateTooLong => Refusal::new(6, "PrivateTooLong"),
     }
 }
 
@@ -115,6 +116,7 @@ pub(crate) fn of_open_shared(refusal: OpenSharedRefusal) -> Refusal
         OpenSharedRefusal::NoDomain => Refusal::new(3, "NoDomain"),
         OpenSharedRefusal::NotShared => Refusal::new(4, "NotShared"),
         OpenSharedRefusal::NoMemory => Refusal::new(5, "NoMemory"),
+        OpenSharedRefusal::PrivateTooLong => Refusal::new(6, "PrivateTooLong"),
     }
 }
 
@@ -137,6 +139,7 @@ pub(crate) fn of_post(refusal: PostRefusal) -> Refusal
         PostRefusal::TooLong => Refusal::new(2, "TooLong"),
         PostRefusal::NotOpen => Refusal::new(3, "NotOpen"),
         PostRefusal::NoMemory => Refusal::new(4, "NoMemory"),
+        PostRefusal::NoReads => Refusal::new(5, "NoReads"),
     }
 }
 
@@ -156,14 +159,17 @@ pub(crate) fn of_first(refusal: FirstRefusal) -> Refusal
     }
 }
 
-/// Of `accept`, and of `reject`.
-pub(crate) fn of_unasked(_refusal: NotAsked) -> Refusal
-    ensures { shown_refusal result ≡ not_asked }
+/// The refusal of `accept` and `reject`.
+pub(crate) fn of_answer(refusal: AnswerRefusal) -> Refusal
+    ensures { shown_refusal result ≡ answer_refusal refusal }
 {
-    Refusal::new(1, "NotAsked")
+    match refusal {
+        AnswerRefusal::NotAsked => Refusal::new(1, "NotAsked"),
+        AnswerRefusal::PrivateTooLong => Refusal::new(2, "PrivateTooLong"),
+    }
 }
 
-/// Of a stream that is closed before it is open.
+/// Why a stream was closed before it was open.
 pub(crate) fn of_startup(fault: StartupFault) -> Refusal
     ensures { shown_refusal result ≡ startup_fault fault }
 {

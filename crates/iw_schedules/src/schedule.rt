@@ -44,7 +44,7 @@ fn read_line<A: Allocator + Copy>(
     ended((end, calls), &mut words)
 }
 
-// What was read, unless a word is left.
+// What was read; `BadWord` if a word is left.
 fn ended<X: Drop>(read: X, words: &mut Pieces<'_>) -> Result<X, ReadError>
     ensures { Gives (λ read. read) result (ended read words.old) }
 {
@@ -81,7 +81,7 @@ fn push<A: Allocator>(
     Ok(())
 }
 
-// Appends the events of a line, if a schedule may have so many.
+// Appends the events of a line; `TooMany` if the schedule would have too many.
 fn add_events<A: Allocator>(
     events: &mut Vec<Event<Bytes<A>>, A>,
     end: End,
@@ -138,17 +138,17 @@ fn read_lines<A: Allocator + Copy>(
 
 /// Reads a schedule: its events, in order.
 ///
-/// Each line stands for one event, or for as many as it says; empty lines and lines that begin with `#` stand for none.
-/// The fault is the first one, by lines and by words, or that there is no memory.
+/// Each line stands for one event, or for as many as it says. Empty lines and lines that begin with `#` stand for none.
+/// The `Err` is the first fault, by lines and then by words, or `NoMemory`.
 pub fn read_schedule<A: Allocator + Copy>(
     alloc: A,
     text: &[u8],
 ) -> Result<Vec<Event<Bytes<A>>, A>, ScheduleFault>
-    // What is read is in the grammar, and stands for these events.
+    // A text that is read is in the grammar, and stands for these events.
     ensures found { IfOk result (λ events. IsSchedule text.now events.items) }
-    // What is in the grammar is read, unless there is no memory.
+    // A text in the grammar is read, unless memory runs out.
     ensures only { (events : Events) → IsSchedule text.now events → Reads (λ read. read.items) result (Ok events) }
-    // Which fault it is.
+    // Which fault is returned.
     ensures first { IfErr result (FirstFault text.now) }
     ensures exact { Reads (λ events. events.items) result (schedule_of text.now) }
 {

@@ -1,4 +1,4 @@
-//! The kinds of Sends (RFC 5040 1.2): the one table from which they are read and printed.
+//! The kinds of Sends (RFC 5040 1.2): the table from which they are read and printed.
 
 ghost use Rattle.std.specs.Prelude.{◌≡◌};
 ghost use Rattle.iw_schedules.specs.Words.{one_of};
@@ -12,7 +12,7 @@ use iw_octets::Stag;
 /// The kind of a Send.
 #[derive(Clone, Copy)]
 pub(crate) enum SendKind {
-    /// It is not solicited and invalidates nothing.
+    /// Not solicited, and invalidates nothing.
     Plain,
     /// With Solicited Event.
     Solicited,
@@ -23,7 +23,7 @@ pub(crate) enum SendKind {
 }
 
 impl SendKind {
-    /// Every one of them.
+    /// All kinds.
     const ALL: [SendKind; 4] = [
         SendKind::Plain,
         SendKind::Solicited,
@@ -60,7 +60,7 @@ impl SendKind {
         SendKind::one_of(&SendKind::ALL, word)
     }
 
-    // The one of these that is written so.
+    // The one of these that the word names.
     fn one_of(all: &[SendKind], word: &[u8]) -> Result<SendKind, FaultName>
         ensures { result ≡ one_of send_text all.now word.now }
     {
@@ -81,7 +81,7 @@ impl SendKind {
         }
     }
 
-    /// The STag that such a Send invalidates, and `-` for none where its kind invalidates none.
+    /// The STag that a Send of this kind invalidates; the word must be `-` if the kind invalidates none.
     pub(crate) fn invalidated(self, word: &[u8]) -> Result<Option<Stag>, FaultName>
         ensures { result ≡ invalidated_word self word.now }
     {

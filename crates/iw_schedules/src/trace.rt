@@ -24,8 +24,8 @@ use iw_endpoint::{OpenSharedRefusal, PoolRefusal, ShareRefusal, TakeRefusal};
 use iw_events::{Act, Entry, Request, Seen, Shown, StreamAct};
 use iw_memory::{NoRegion, RegisterRefusal, Right};
 use iw_octets::{Fault, Message, Stag};
-use iw_startup::{Agreed, NotAsked};
-use iw_stream::{Delivery, Kind};
+use iw_startup::Agreed;
+use iw_stream::{AnswerRefusal, Delivery, Kind};
 use std::alloc::{AllocError, Allocator};
 
 fn kind_name(kind: Kind) -> &'static str
@@ -261,7 +261,7 @@ fn add_opened<A: Allocator + Copy>(
 
 fn add_accepted<A: Allocator>(
     text: &mut String<A>,
-    answer: Result<Agreed, NotAsked>,
+    answer: Result<Agreed, AnswerRefusal>,
 ) -> Result<(), AllocError>
     ensures { OnOk result (string_bytes text.new ≡ with_words (string_bytes text.old) (accepted_words answer)) }
 {
@@ -270,7 +270,7 @@ fn add_accepted<A: Allocator>(
             appending::word(text, "ok")?;
             appending::word(text, agreed_name(agreed))
         }
-        Err(refusal) => appending::refusal(text, refusals::of_unasked(refusal)),
+        Err(refusal) => appending::refusal(text, refusals::of_answer(refusal)),
     }
 }
 
@@ -332,7 +332,7 @@ fn add_named<A: Allocator + Copy>(
     appending::stag(text, stag)
 }
 
-// The word of a call of a stream.
+// The word of a call on a stream.
 fn stream_name<A: Allocator>(act: &StreamAct<Bytes<A>>) -> CallWord
     ensures { result ≡ stream_word act.now }
 {
@@ -375,7 +375,7 @@ fn add_stream_answer<A: Allocator + Copy>(
         }
         StreamAct::Accept { answer, .. } => add_accepted(text, *answer),
         StreamAct::Reject { refused, .. } => {
-            appending::outcome(text, refused.map(refusals::of_unasked))
+            appending::outcome(text, refused.map(refusals::of_answer))
         }
         StreamAct::Work(seen) => add_seen(text, seen),
         StreamAct::Break => appending::word(text, "ok"),
@@ -393,7 +393,7 @@ fn add_stream_act<A: Allocator + Copy>(
     add_stream_answer(text, act)
 }
 
-// A call that names a stream or a domain, and whether it was refused.
+// A call that names a stream or a domain, and `ok` or its refusal.
 fn add_call_outcome<A: Allocator>(
     text: &mut String<A>,
     call: CallWord,
@@ -407,7 +407,7 @@ fn add_call_outcome<A: Allocator>(
     appending::outcome(text, refused)
 }
 
-// A call that names a region, and whether it was refused.
+// A call that names a region, and `ok` or its refusal.
 fn add_named_outcome<A: Allocator + Copy>(
     text: &mut String<A>,
     call: CallWord,
@@ -557,10 +557,10 @@ fn add_entry<A: Allocator + Copy>(
     Ok(())
 }
 
-/// Prints a trace: one line for each entry.
+/// Prints a trace: one line for each entry, each ended by a line feed.
 ///
-/// Octets and STags print in lower case, no octets as `-`, and all other numbers in decimal; every line ends with a
-/// line feed.
+/// Octets and STags print as hexadecimal digits in lower case, no octets as `-`, and all other numbers in decimal. An
+/// `Err` means out of memory.
 #[tactic(auto, unfolding(crate::specs::Trace::trace_text))]
 pub fn print_trace<A: Allocator + Copy>(
     alloc: A,

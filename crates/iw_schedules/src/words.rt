@@ -1,4 +1,4 @@
-//! The fixed words of schedules and traces: the one table from which they are read and printed.
+//! The fixed words of schedules and traces: the table from which they are read and printed.
 
 ghost use Rattle.std.specs.Prelude.{◌≡◌};
 ghost use Rattle.iw_schedules.specs.Words.{one_of, end_text, end_word, role_text, role_word, call_text, call_word};
@@ -6,7 +6,7 @@ ghost use Rattle.iw_schedules.specs.Words.{one_of, end_text, end_word, role_text
 use crate::fault::FaultName;
 use iw_events::{End, Role};
 
-/// What a line calls: its second word.
+/// The call of a line: its second word.
 #[derive(Clone, Copy)]
 pub(crate) enum CallWord {
     Domain,
@@ -35,7 +35,7 @@ pub(crate) enum CallWord {
 }
 
 impl CallWord {
-    /// Every one of them.
+    /// All words.
     pub(crate) const ALL: [CallWord; 23] = [
         CallWord::Domain,
         CallWord::Register,
@@ -99,7 +99,7 @@ impl CallWord {
         CallWord::one_of(&CallWord::ALL, word)
     }
 
-    // The one of these that is written so.
+    // The one of these that the word names.
     fn one_of(all: &[CallWord], word: &[u8]) -> Result<CallWord, FaultName>
         ensures { result ≡ one_of call_text all.now word.now }
     {

@@ -1,4 +1,4 @@
-//! The calls of an end's streams.
+//! Calls on an end's streams.
 
 ghost use Rattle.std.specs.Prelude.{◌≡◌, ◌≢◌, ◌+◌, ◌%◌, ◌<◌, ◌≤◌, ◌^◌, true, false, length, take, is_some, IfOk, IfErr, OnOk};
 ghost use Rattle.iw_events.specs.declared.act.Seen.TheVariants.{Received};
@@ -24,7 +24,7 @@ impl<A: Allocator + Copy> Host<A> {
     ghost use Rattle.iw_laws.specs.Rules.{end_after, EndRule, PeerRule, WireRule};
     ghost use Rattle.iw_laws.specs.Bounds.{AsksOver, IsShortEnd, LacksStream, AsksTooMuch};
 
-    /// Calls a stream; peer is the other end.
+    /// Makes a call on a stream. `peer` is the other end.
     pub(crate) fn act_on(
         &mut self,
         alloc: A,
@@ -51,7 +51,7 @@ impl<A: Allocator + Copy> Host<A> {
         self.act_there(alloc, peer.wire(number), number, call)
     }
 
-    // Calls a stream that was opened; wire is what the other end has emitted on it.
+    // Makes a call on a stream that was opened. `wire` is what the other end has emitted on it.
     #[tactic(auto, using(iw_laws::proofs::Seeing::own_octets))]
     fn act_there(
         &mut self,
@@ -268,7 +268,7 @@ impl<A: Allocator + Copy> Host<A> {
     }
 }
 
-// Whether the call needs the stream at the other end too.
+// Whether the stream must be open at the other end too.
 fn needs_peer<A: Allocator>(call: &StreamCall<Bytes<A>>) -> bool
     ensures { result ≡ needs_peer call.now }
 {
@@ -287,7 +287,7 @@ fn needs_peer<A: Allocator>(call: &StreamCall<Bytes<A>>) -> bool
     }
 }
 
-// The sequence number of the octet at a place, where that at place 0 has `first`.
+// The sequence number of the octet at a place, given that of the octet at place 0.
 fn number_of(first: u32, place: u64) -> u32
     requires { place ≤ 2 ^ 62 }
     ensures { result ≡ (first + place) % 2 ^ 32 }
@@ -295,7 +295,7 @@ fn number_of(first: u32, place: u64) -> u32
     ((u64::from(first) + place) % (1 << 32)) as u32
 }
 
-// What is shown of a step that left the endpoint so.
+// What the trace shows of a step, given the endpoint after it.
 fn seen<A: Allocator + Copy>(
     alloc: A,
     endpoint: &Endpoint<A>,
@@ -344,7 +344,7 @@ fn seen<A: Allocator + Copy>(
     }
 }
 
-// What is shown of a message that was received.
+// What the trace shows of a message that was received.
 fn received<A: Allocator + Copy>(
     buffer: Octets<A>,
     len: usize,
@@ -360,7 +360,7 @@ fn received<A: Allocator + Copy>(
     })
 }
 
-// The private data of the peer's start-up frame, once that was read.
+// The private data of the peer's start-up frame.
 fn peers_private<A: Allocator + Copy>(
     alloc: A,
     endpoint: &Endpoint<A>,

@@ -14,7 +14,7 @@ use bytes::Bytes;
 use iw_endpoint::{Endpoint, STREAM_NUMBERS};
 use iw_events::{Act, Call, Options, private_data};
 use iw_memory::{RegisterRefusal, Rights, Stag};
-use iw_stream::{Config, OpenRefusal, Role};
+use iw_stream::{Config, Establishment, OpenRefusal, Role};
 use std::alloc::{AllocError, Allocator, Global};
 use std::marker::Model;
 
@@ -60,7 +60,7 @@ impl<A: Allocator + Copy> Host<A> {
         self.endpoint.sent(number).is_ok()
     }
 
-    /// What the stream of this number emitted: nothing where none was opened.
+    /// What the stream of this number emitted; nothing if none was opened.
     pub(crate) fn wire(&self, number: u8) -> &[u8]
         ensures { result.now ≡ wire_at self.now number }
     {
@@ -70,7 +70,7 @@ impl<A: Allocator + Copy> Host<A> {
         }
     }
 
-    /// Makes a call; peer is the other end.
+    /// Makes a call at this end. `peer` is the other end.
     pub(crate) fn act(
         &mut self,
         alloc: A,
@@ -230,7 +230,7 @@ impl<A: Allocator + Copy> Host<A> {
     }
 }
 
-// Registers octets: under which STag, or why not.
+// Registers octets: returns the STag, or why not.
 fn register<A: Allocator>(
     endpoint: &mut Endpoint<A>,
     pd: u8,
@@ -252,7 +252,7 @@ fn register<A: Allocator>(
     }
 }
 
-// Opens a stream in a domain, or tells why not.
+// Opens a stream in a domain: returns why not, if it is refused.
 fn open<A: Allocator + Copy>(
     endpoint: &mut Endpoint<A>,
     number: u8,
@@ -260,7 +260,7 @@ fn open<A: Allocator + Copy>(
     role: Role,
     config: Config,
 ) -> Result<Option<OpenRefusal>, Failure>
-    ensures rule { IfOk result (λ refused. refused ≡ open_refusal endpoint.old number pd) }
+    ensures rule { IfOk result (λ refused. refused ≡ open_refusal endpoint.old number pd role config) }
     ensures state { IfOk result (λ refused. endpoint.new ≡ after endpoint.old (calls.Open number pd role config)) }
     ensures failure { IfErr result (λ failure. failure ≡ Failure.NoMemory) }
 {
@@ -271,13 +271,14 @@ fn open<A: Allocator + Copy>(
     }
 }
 
-/// What an end asks for that opens a stream with these options and this private data.
+/// The configuration of a stream with these options and this private data.
 pub(crate) fn config_for(options: Options, private: &[u8]) -> Config
     ensures { result ≡ config_for options private.now }
 {
     Config {
         markers: options.markers,
         crc: options.crc,
+        establishment: Establishment::Plain,
         private: private_data(private),
     }
 }

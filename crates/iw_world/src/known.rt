@@ -1,4 +1,4 @@
-//! Facts that reading a value tells.
+//! Facts about the values in a trace.
 
 ghost use Rattle.iw_laws.specs.Rules.{FitsPosted};
 ghost use Rattle.iw_octets.specs.Payload.{FitsRequest};
@@ -10,14 +10,14 @@ use iw_octets::{Message, ReadRequest};
 use iw_stream::Request;
 use std::alloc::Allocator;
 
-// A number that was read fits its type.
+// The numbers of an STag fit their types.
 fn known_stag(stag: Stag)
     ensures { FitsStag stag }
 {
     stag.known();
 }
 
-// So do those of a Read.
+// So do the numbers of a Read.
 fn known_read(request: ReadRequest)
     ensures { FitsRequest request }
 {
@@ -32,7 +32,7 @@ fn known_read(request: ReadRequest)
     known_stag(source);
 }
 
-/// Tells that the numbers of a request fit their fields.
+/// Does nothing; its clause states that the numbers of a request fit their fields.
 pub(crate) fn known<A: Allocator>(request: &Request<Bytes<A>>)
     ensures { FitsPosted request.now }
 {

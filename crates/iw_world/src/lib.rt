@@ -1,8 +1,8 @@
 //! Two ends, and runs of events at them.
 //!
-//! [`World::run`] takes a list of events, each a call at one of two ends, and gives a trace: each call with its answer.
-//! Its clauses are the laws of the endpoint, in words of the trace alone, which stand in `iw_laws`; docs/DEFINITIONS.md
-//! says them in plain English.
+//! [`World::run`] takes a list of events, each a call at one of two ends, and returns a trace: each call with its
+//! answer. Its clauses are the laws of the endpoint. They speak of the trace alone, and are defined in `iw_laws`;
+//! docs/DEFINITIONS.md has them in plain English.
 #![tactic(auto)]
 
 mod acts;

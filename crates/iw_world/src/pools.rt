@@ -90,7 +90,7 @@ impl<A: Allocator + Copy> Host<A> {
     }
 }
 
-// Makes the domain a pool, or tells why not.
+// Gives the domain a pool: returns why not, if it is refused.
 fn share<A: Allocator + Copy>(
     endpoint: &mut Endpoint<A>,
     pd: u8,
@@ -106,7 +106,7 @@ fn share<A: Allocator + Copy>(
     }
 }
 
-// Posts a buffer to the domain's pool, or tells why not.
+// Posts a buffer to the domain's pool: returns why not, if it is refused.
 fn post_shared<A: Allocator>(
     endpoint: &mut Endpoint<A>,
     pd: u8,
@@ -123,7 +123,7 @@ fn post_shared<A: Allocator>(
     }
 }
 
-// Opens a stream that shares its domain's pool, or tells why not.
+// Opens a stream that shares its domain's pool: returns why not, if it is refused.
 fn open_shared<A: Allocator + Copy>(
     endpoint: &mut Endpoint<A>,
     number: u8,
@@ -131,7 +131,7 @@ fn open_shared<A: Allocator + Copy>(
     role: Role,
     config: Config,
 ) -> Result<Option<OpenSharedRefusal>, Failure>
-    ensures rule { IfOk result (λ refused. refused ≡ open_shared_refusal endpoint.old number pd) }
+    ensures rule { IfOk result (λ refused. refused ≡ open_shared_refusal endpoint.old number pd role config) }
     ensures state { IfOk result (λ refused. endpoint.new
         ≡ after endpoint.old (calls.OpenShared number pd role config)) }
     ensures failure { IfErr result (λ failure. failure ≡ Failure.NoMemory) }

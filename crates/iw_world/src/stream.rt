@@ -1,21 +1,21 @@
-//! The calls of a stream that was opened: what each is refused for, if it is.
+//! Calls on a stream that was opened, with the refusal of each.
 
 ghost use Rattle.std.specs.Prelude.{◌≡◌, true, length, IfOk, IfErr, OnOk};
-ghost use Rattle.iw_endpoint.specs.Endpoint.{has_stream, stream_at, unasked, after_work};
+ghost use Rattle.iw_endpoint.specs.Endpoint.{has_stream, stream_at, after_work};
 ghost use Rattle.iw_endpoint.specs.Isolation.{after, answer_or};
 ghost use Rattle.iw_endpoint.specs.Isolation as calls;
 ghost use Rattle.iw_stream.specs.Starting.{agreement_in};
 ghost use Rattle.iw_stream.specs.Work.{work_step};
 ghost use Rattle.iw_laws.specs.Bounds.{IsShort};
 ghost use Rattle.iw_laws.specs.Rules.{seen_at};
-ghost use Rattle.iw_stream.specs.Stream.{post_refusal, recv_refusal, size_refusal, first_refusal, delivery_of};
+ghost use Rattle.iw_stream.specs.Stream.{post_refusal, recv_refusal, size_refusal, first_refusal, answer_refusal, delivery_of};
 
 use crate::fault::Failure;
 use bytes::Bytes;
 use iw_endpoint::{CallRefusal, Endpoint};
 use iw_octets::Octets;
 use iw_stream::{
-    Agreed, Delivery, FirstRefusal, NotAsked, PostRefusal, PrivateData, RecvRefusal, Request,
+    Agreed, AnswerRefusal, Delivery, FirstRefusal, PostRefusal, PrivateData, RecvRefusal, Request,
     SizeRefusal, Step,
 };
 use std::alloc::Allocator;
@@ -53,8 +53,10 @@ pub(crate) fn post<A: Allocator>(
 {
     match endpoint.post(number, request) {
         Ok(()) => Ok(None),
-        Err((CallRefusal::Refused(PostRefusal::NoMemory), _)) => Err(Failure::NoMemory),
-        Err((CallRefusal::Refused(refusal), _)) => Ok(Some(refusal)),
+        Err((CallRefusal::Refused(refusal), _)) => match refusal {
+            PostRefusal::NoMemory => Err(Failure::NoMemory),
+            refusal => Ok(Some(refusal)),
+        },
         Err((CallRefusal::NoSuchStream, _)) => unreachable!(),
     }
 }
@@ -87,7 +89,7 @@ pub(crate) fn first_of<A: Allocator>(endpoint: &Endpoint<A>, number: u8) -> u32
     }
 }
 
-/// Delivers octets that came, the first of them with this sequence number.
+/// Delivers octets; the first has this sequence number.
 pub(crate) fn deliver<A: Allocator>(
     endpoint: &mut Endpoint<A>,
     number: u8,
@@ -125,15 +127,16 @@ pub(crate) fn set_mulpdu<A: Allocator>(
     }
 }
 
-/// Accepts the Request that came: what was agreed, or that there is none to answer.
+/// Accepts the pending Request: returns what was agreed, or why not.
 pub(crate) fn accept<A: Allocator>(
     endpoint: &mut Endpoint<A>,
     number: u8,
     private: PrivateData,
-) -> Result<Agreed, NotAsked>
+) -> Result<Agreed, AnswerRefusal>
     requires { has_stream endpoint.old number ≡ true }
     ensures rule { result
-        ≡ answer_or (unasked (stream_at endpoint.old number)) (agreement_in (stream_at endpoint.old number).start) }
+        ≡ answer_or (answer_refusal (stream_at endpoint.old number) private.items)
+        (agreement_in (stream_at endpoint.old number).start) }
     ensures state { endpoint.new ≡ after endpoint.old (calls.AtStream number (calls.Accept private)) }
 {
     match endpoint.accept(number, private) {
@@ -143,14 +146,14 @@ pub(crate) fn accept<A: Allocator>(
     }
 }
 
-/// Rejects the Request that came, or tells that there is none to answer.
+/// Rejects the pending Request: returns why not, if it is refused.
 pub(crate) fn reject<A: Allocator>(
     endpoint: &mut Endpoint<A>,
     number: u8,
     private: PrivateData,
-) -> Option<NotAsked>
+) -> Option<AnswerRefusal>
     requires { has_stream endpoint.old number ≡ true }
-    ensures rule { result ≡ unasked (stream_at endpoint.old number) }
+    ensures rule { result ≡ answer_refusal (stream_at endpoint.old number) private.items }
     ensures state { endpoint.new ≡ after endpoint.old (calls.AtStream number (calls.Reject private)) }
 {
     match endpoint.reject(number, private) {
@@ -178,7 +181,7 @@ pub(crate) fn work<A: Allocator>(
     }
 }
 
-/// Breaks its link.
+/// Reports that the stream's link broke.
 pub(crate) fn break_link<A: Allocator>(endpoint: &mut Endpoint<A>, number: u8)
     requires { has_stream endpoint.old number ≡ true }
     ensures { endpoint.new ≡ after endpoint.old (calls.AtStream number calls.BreakLink) }

@@ -1,4 +1,4 @@
-//! What one stream of an end emitted.
+//! The octets that one stream of an end emitted.
 
 ghost use Rattle.std.specs.Prelude.{◌≡◌, ◌≢◌, ◌++◌, [], true, IfOk, IfErr, OnOk};
 ghost use Rattle.iw_endpoint.specs.Endpoint.{has_stream, stream_at, emission_at, emitted_at, after_emit};
@@ -42,7 +42,7 @@ impl<A: Allocator + Copy> Wire<A> {
         self.octets.as_slice()
     }
 
-    /// Emits what is due at a stream, after what it emitted, and shows it.
+    /// Emits what is due at a stream, appends it, and returns what the trace shows of it.
     pub(crate) fn emit(
         &mut self,
         alloc: A,
@@ -61,7 +61,7 @@ impl<A: Allocator + Copy> Wire<A> {
     }
 }
 
-// Emits what is due at a stream, after these octets, and shows it.
+// Emits what is due at a stream, appends it to these octets, and returns what the trace shows of it.
 fn emit_to<A: Allocator + Copy>(
     alloc: A,
     endpoint: &mut Endpoint<A>,
@@ -81,7 +81,7 @@ fn emit_to<A: Allocator + Copy>(
     Ok(shown(alloc, endpoint.memory(), &wire[before..], emission)?)
 }
 
-// Emits what is due at a stream, after these octets.
+// Emits what is due at a stream, and appends it to these octets.
 fn emission<A: Allocator + Copy>(
     endpoint: &mut Endpoint<A>,
     number: u8,
@@ -101,7 +101,7 @@ fn emission<A: Allocator + Copy>(
     }
 }
 
-// What is shown of an emission of these octets, by the regions.
+// What the trace shows of an emission of these octets, given the regions.
 fn shown<A: Allocator + Copy>(
     alloc: A,
     memory: &Memory<A>,

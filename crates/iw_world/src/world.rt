@@ -25,7 +25,7 @@ use iw_laws::WorldFault;
 use std::alloc::{AllocError, Allocator, Global};
 use std::marker::Model;
 
-/// Two ends, whose streams of one number are connected.
+/// Two ends. Streams of the same number are connected.
 #[derive(Drop)]
 pub struct World<A: Allocator = Global> {
     a: Host<A>,
@@ -52,7 +52,7 @@ impl<A: Allocator + Copy> World<A> {
         })
     }
 
-    // Makes one event happen.
+    // Makes the call of one event.
     fn happen(&mut self, event: &Event<Bytes<A>>) -> Result<Entry<Bytes<A>>, Failure>
         requires { IsShortState self.old }
         ensures rule { IfOk result (λ e. Rule (end_of e.end self.old) (end_of (other e.end) self.old) e.act) }
@@ -75,63 +75,65 @@ impl<A: Allocator + Copy> World<A> {
         }
     }
 
-    /// The trace of these events, in order, at two ends that start with no domain, no region and no stream.
+    /// The trace of these events, in order, at two new ends, with no domain, region or stream.
     ///
-    /// Every event has one entry; a refused call is an entry too. Where an event names a stream that was never opened,
-    /// or delivers octets that were not emitted, there is no trace, and its number is told.
+    /// Every event has one entry, even if its call is refused. There is no trace if an event names a stream that was
+    /// never opened, or delivers octets that were not emitted (the `Err` has its number, counted from 1), or if memory
+    /// runs out.
     pub fn run(alloc: A, events: &[Event<Bytes<A>>]) -> Result<Vec<Entry<Bytes<A>>, A>, WorldFault>
         requires { length events.now ≤ 2 ^ 45 }
         ensures events { IfOk result (λ trace. map event_of trace.items ≡ events.now) }
         ensures follows { IfOk result (λ trace. Follows start trace.items) }
         // What was received is a prefix of what was sent.
         ensures in_order { IfOk result (λ trace. InOrder trace.items) }
-        // When a Send is received, each octet of the Writes before it was placed, and none too often.
+        // When a Send is received, each octet of the Writes before it was placed, and none more often than it was
+        // posted.
         ensures covered { IfOk result (λ trace. Covered trace.items) }
-        // What was sent is the frames of what was posted and of the responses to the peer's Reads, no two of them
-        // mingled; and past them a Terminate, where one went out.
+        // What was sent is the frames of the posted messages and of the responses to the peer's Reads, no two of them
+        // mingled; and after them a Terminate, if one was sent.
         ensures emission { IfOk result (λ trace. Emission trace.items) }
-        // Each frame stands past what was sent before, and has the size that was set last.
+        // Each frame follows what was sent before, and keeps to the maximum ULPDU that was set last.
         ensures sized { IfOk result (λ trace. Sized trace.items) }
-        // But for the start-up frame and the Terminate that is due, a frame is sent only where the stream is open, has
-        // not ended and need not keep silent.
+        // Start-up frame and Terminate aside, a frame is sent only if the stream is open, has not ended and need not
+        // keep silent.
         ensures speaks { IfOk result (λ trace. Speaks trace.items) }
-        // Nothing is emitted only where all was sent, or all before a Read that waits, and no Terminate is due.
+        // Emit answers nothing only if all was sent, or all before a Read that waits, and no Terminate is due.
         ensures nothing { IfOk result (λ trace. NothingOnlyAtRest trace.items) }
-        // A message that is finished is the oldest that was not handed back, and was sent to its last segment; a Read
-        // was answered.
+        // A message that is done is the oldest that was not handed back, and all its segments were sent; a Read that is
+        // done was answered.
         ensures finished { IfOk result (λ trace. Finished trace.items) }
         // Each act of a stream comes after its opening, and a delivery after both.
         ensures opened { IfOk result (λ trace. OpensFirst trace.items) }
-        // Octets that are delivered are those that the other end sent.
+        // The octets of a delivery from the other end are those that it sent.
         ensures carried { IfOk result (λ trace. CarriesOctets trace.items) }
-        // Octets that come are kept, but after the end of the stream and where there is no room for them.
+        // Octets that come are kept, unless the stream has ended or there is no room for them.
         ensures kept { IfOk result (λ trace. KeepsOctets trace.items) }
         // Each frame that came is judged, and has its turn, in order, while the stream is open and has not ended.
         ensures turns { IfOk result (λ trace. Turns trace.items) }
-        // There is nothing to do only where no frame can be judged or have its turn, and no message can be finished.
+        // Work answers idle only if no frame can be judged or have its turn, and no message can be handed back.
         ensures idle { IfOk result (λ trace. IdleOnlyAtRest trace.items) }
-        // Then no frame is left that could be judged before its turn; one that is judged so is placed at once, or left.
+        // Then no frame is left that could be judged before its turn. A frame judged so is placed at once, or left.
         ensures early { IfOk result (λ trace. JudgesEarly trace.items) }
-        // A frame that was placed is not checked again at its turn, but for the order of segments.
+        // A frame that was placed is not checked again at its turn, except for the order of segments.
         ensures no_second_check { IfOk result (λ trace. ChecksOnce trace.items) }
-        // Each placement is that of a frame of its own: no two of these frames overlap.
+        // Each placement is that of another frame, and no two of these frames overlap.
         ensures once { IfOk result (λ trace. PlacesOnce trace.items) }
-        // A stream that has ended hands back what was posted, the messages first, and sends only what is due.
+        // A stream that has ended hands back what was posted, the messages first, and sends only what is still due.
         ensures ended { IfOk result (λ trace. Ends trace.items) }
-        // What changed lay where it was allowed.
+        // Every octet that a stream changed lay where it was allowed to.
         ensures within { IfOk result (λ trace. Within trace.items) }
-        // A response has only octets that are fetched for it: the current contents of what the peer asked for, if the
-        // peer may read it.
+        // A Read Response has only octets that were fetched for it: the current contents of what the peer asked for, if
+        // it may read them.
         ensures faithful { IfOk result (λ trace. Faithful trace.items) }
         // When a Read is done, each octet of its response was placed, and none too often.
         ensures answering { IfOk result (λ trace. Answering trace.items) }
         // No Read goes out while 16 are outstanding.
         ensures few_reads { IfOk result (λ trace. FewReads trace.items) }
-        // Each call of an end is answered by what the entries made of its regions and streams.
+        // Each call at an end is answered by its regions, pools and streams, as the entries before it leave them.
         ensures memory { IfOk result (λ trace. ShowsMemory trace.items) }
-        // Each call of a stream is refused exactly where it must be.
+        // Each call on a stream is refused exactly when it must be.
         ensures answered { IfOk result (λ trace. Answered trace.items) }
-        // Each domain of an end is answered as where no other domain is.
+        // Each domain of an end gets the answers that it would get if there were no other domain.
         ensures isolated { IfOk result (λ trace. Isolated trace.items) }
         // Which event has no entry, and why.
         ensures refused { IfErr result (λ fault. StopsAt events.now fault) }
@@ -139,7 +141,7 @@ impl<A: Allocator + Copy> World<A> {
         World::trace_of(alloc, events)
     }
 
-    // The trace of these events, or which of them has no entry, and why.
+    // The trace of these events; or which of them has no entry, and why.
     fn trace_of(alloc: A, events: &[Event<Bytes<A>>]) -> Result<Vec<Entry<Bytes<A>>, A>, WorldFault>
         requires { length events.now ≤ 2 ^ 45 }
         ensures events { IfOk result (λ trace. map event_of trace.items ≡ events.now) }
@@ -152,7 +154,7 @@ impl<A: Allocator + Copy> World<A> {
         Ok(trace)
     }
 
-    // Makes the events happen at two ends that have just started, one after the other, and adds an entry for each.
+    // Makes the calls of the events at two new ends, one after the other, and appends an entry for each.
     fn happen_all(
         &mut self,
         events: &[Event<Bytes<A>>],

@@ -1,0 +1,5 @@
+use Rattle.iw_laws.proofs.RefusedPools.{refuses_bound_kept}
+use Rattle.iw_laws.proofs.pool_runs.refuses_bound_kept.Goals as goal
+
+pub returns : goal.returns
+returns c = refuses_bound_kept

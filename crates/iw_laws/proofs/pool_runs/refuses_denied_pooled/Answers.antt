@@ -1,0 +1,5 @@
+use Rattle.iw_laws.proofs.RefusedPools.{refuses_denied_pooled}
+use Rattle.iw_laws.proofs.pool_runs.refuses_denied_pooled.Goals as goal
+
+pub returns : goal.returns
+returns c = refuses_denied_pooled

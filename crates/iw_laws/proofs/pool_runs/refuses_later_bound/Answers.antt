@@ -1,0 +1,5 @@
+use Rattle.iw_laws.proofs.RefusedPools.{refuses_later_bound}
+use Rattle.iw_laws.proofs.pool_runs.refuses_later_bound.Goals as goal
+
+pub returns : goal.returns
+returns c = refuses_later_bound
