@@ -3,22 +3,27 @@
  * A handle holds the registered regions of one end and its streams, by numbers from 0 to 63. It does no input or
  * output, starts no thread, keeps no time and calls nothing of the program but malloc, realloc and free. The program
  *
- * 1. opens a handle (iwarp_new), adds a domain (iwarp_add_domain), and registers what peers may use (iwarp_register);
- * 2. opens a stream for each connection (iwarp_open), and posts receive buffers (iwarp_post_recv); or makes a pool of
- *    receive buffers (iwarp_share, iwarp_post_shared), and opens streams that share it (iwarp_open_shared);
+ * 1. opens a handle (iwarp_new), adds a protection domain (iwarp_add_domain), and registers what peers may use
+ *    (iwarp_register);
+ * 2. opens a stream for each connection (iwarp_open), and posts receive buffers (iwarp_post_recv); or gives the domain
+ *    a pool of receive buffers (iwarp_share, iwarp_post_shared), and opens streams that share it (iwarp_open_shared);
  * 3. when octets came: hands them in with the sequence number of the first of them, which is the number of octets that
- *    came before it, modulo 2^32 (iwarp_deliver), and calls iwarp_work_on, or iwarp_work, until it tells IWARP_IDLE. At
- *    IWARP_ASKED it calls iwarp_accept or iwarp_reject and goes on;
- * 4. when it may write: calls iwarp_emit until it tells IWARP_NOTHING, and writes out what each call gave;
- * 5. once IWARP_OPENED was told, or iwarp_accept was called: posts Writes, Sends and Reads (iwarp_post_write and so
- *    on), then does 4;
- * 6. when the connection closed: calls iwarp_break, and iwarp_work_on until IWARP_IDLE, which hands back what was
+ *    came before it, modulo 2^32 (iwarp_deliver), then calls iwarp_work_on, or iwarp_work, until it reports IWARP_IDLE.
+ *    At IWARP_ASKED it calls iwarp_accept or iwarp_reject and goes on;
+ * 4. when the socket is writable: calls iwarp_emit until it reports IWARP_NOTHING, and writes out what each call gave;
+ * 5. after IWARP_OPENED or a successful iwarp_accept: posts Writes, Sends and Reads (iwarp_post_write and so on), then
+ *    does 4;
+ * 6. when the connection closed: calls iwarp_break, then iwarp_work_on until IWARP_IDLE, which hands back what was
  *    posted.
  *
  * A caller must uphold, at each call:
  *
- * - `handle` points to a `struct iwarp` that is closed (`IWARP_CLOSED`), or as the last call on it left it. If a
- *   `struct iwarp` is copied, only one of the copies is used from then on. Nothing else writes its field.
+ * - `handle` points to a `struct iwarp` that is closed (`IWARP_CLOSED`), or as the last call on it left it; `buffer` to a
+ *   `struct iwarp_buffer` that is IWARP_NO_BUFFER, or as the last call on it left it. If one is copied, only one of the
+ *   copies is used from then on. Nothing else writes its field.
+ * - The program reads and writes the octets of its buffers and regions, at the addresses that iwarp_buffer_at and
+ *   iwarp_region_at tell, only between calls on that buffer or on that region's handle, and passes no pointer to them to
+ *   such a call.
  * - No pointer is null, even if its count is 0. `octets` and `private_data` point to `n` octets that can be read, and
  *   that nothing writes during the call; `out` points to `room` octets that can be written. What the pointers of one
  *   call point to does not overlap.
@@ -27,14 +32,19 @@
  * - No call from a signal handler, nor from the forked child of a process that has threads.
  * - The program's malloc, realloc and free are of one allocator, and align to 16.
  *
- * Each function except iwarp_free returns IWARP_OK, or the first reason why it did nothing. If it is not IWARP_OK, the
- * handle and all that the call may write are as they were, with two exceptions: a length that is told with
- * IWARP_NO_ROOM (by iwarp_emit with IWARP_NO_MEMORY too), and the steps that iwarp_work_on has done by then.
- * IWARP_NO_MEMORY means that malloc refused; the call may be made again. A call that copies octets copies them before
- * its other checks, so it may return IWARP_NO_MEMORY in place of another reason.
+ * Each function except iwarp_free, iwarp_buffer_free and iwarp_version returns IWARP_OK, or the first reason why it did
+ * nothing. If it does not return IWARP_OK, the handle, the buffer and all that the call may write are as they were, with two
+ * exceptions: a length is written with IWARP_NO_ROOM (by iwarp_emit with IWARP_NO_MEMORY too), and the steps that
+ * iwarp_work_on did before a refused one stay done. IWARP_NO_MEMORY means that malloc failed; the call may be made again. A
+ * call that copies octets, or allocates a receive buffer, does so first, so it may return IWARP_NO_MEMORY in place of a
+ * reason that the region, the stream or the pool has. A call that takes a buffer returns it only if no other reason holds.
  *
- * A peer's mistake is never a return code: iwarp_work tells IWARP_FAULT, or iwarp_emit IWARP_DENIED, and that stream
- * has ended. */
+ * A peer's mistake is never a return code: iwarp_work reports IWARP_FAULT, or iwarp_emit IWARP_DENIED, and that stream
+ * has ended.
+ *
+ * A frame has its turn when all octets before it have been processed; messages complete only then, in order. The
+ * in-order point is where the last frame that had its turn ends. A stream place is a count of octets, from the first
+ * of the connection. */
 #ifndef IWARP_H
 #define IWARP_H
 
@@ -54,6 +64,9 @@ typedef __UINT64_TYPE__ uint64_t;
 extern "C" {
 #endif
 
+/* The version of this header: 10,000 for each major number, 100 for each minor one, 1 for each revision. */
+#define IWARP_VERSION 900
+
 /* An endpoint, or none. */
 struct iwarp {
     void *at;
@@ -61,17 +74,24 @@ struct iwarp {
 
 #define IWARP_CLOSED { 0 }
 
+/* Octets that the library allocates, and that the program reads and writes where they stand; or none. */
+struct iwarp_buffer {
+    void *at;
+};
+
+#define IWARP_NO_BUFFER { 0 }
+
 /* Why a call did nothing. */
 enum {
     IWARP_OK = 0,
     IWARP_IS_CLOSED = 1, /* the handle has no endpoint */
     IWARP_ALREADY_OPEN = 2,
     IWARP_NO_MEMORY = 3,
-    IWARP_NO_ROOM = 4, /* the buffer is too short: the length that is needed was told */
+    IWARP_NO_ROOM = 4, /* the buffer is too short; `*n` is the length that is needed */
     IWARP_NO_SUCH_STREAM = 5, /* no stream was opened under this number */
     IWARP_NO_REGION = 6, /* the STag names no region */
     IWARP_OUTSIDE = 7, /* not all the octets lie in the region */
-    IWARP_BAD_DOMAIN = 8, /* 0 is no domain's number */
+    IWARP_BAD_DOMAIN = 8, /* 0, or a number above 255, is not a domain's number */
     IWARP_DOMAIN_TAKEN = 9,
     IWARP_NO_DOMAIN = 10, /* the domain was not added */
     IWARP_DOMAIN_FULL = 11, /* it has 1,024 regions */
@@ -80,32 +100,56 @@ enum {
     IWARP_NUMBER_TAKEN = 14, /* the stream's number was opened before */
     IWARP_BAD_NUMBER = 15, /* it is above 63 */
     IWARP_BAD_ROLE = 16,
-    IWARP_PRIVATE_TOO_LONG = 17, /* more than 512 octets */
-    IWARP_NOT_ASKED = 18, /* no Request waits for an answer */
+    IWARP_PRIVATE_TOO_LONG = 17, /* more than 512 octets; more than 508 in an enhanced start-up frame */
+    IWARP_NOT_ASKED = 18, /* no MPA Request is pending */
     IWARP_NOT_OPEN = 19, /* the stream is not open yet, or has ended */
     IWARP_MESSAGES_FULL = 20, /* 256 messages are posted and not yet done */
     IWARP_MESSAGE_TOO_LONG = 21, /* more than 16,777,216 octets */
     IWARP_BUFFERS_FULL = 22, /* 256 receive buffers are posted */
     IWARP_ENDED = 23, /* the stream has ended */
     IWARP_BAD_SIZE = 24, /* outside 128 to 64,512 */
-    IWARP_TOO_FAR = 25, /* the stream has gone through, or emitted, more than 2^62 octets */
+    IWARP_TOO_FAR = 25, /* the stream has taken in, or emitted, more than 2^62 octets */
     IWARP_LATE = 26, /* octets were delivered on the stream before */
-    IWARP_ALREADY_SHARED = 27, /* the domain has a pool already */
+    IWARP_ALREADY_SHARED = 27, /* the domain already has a pool */
     IWARP_NOT_SHARED = 28, /* the domain has no pool */
     IWARP_POOL_FULL = 29, /* the pool has 1,024 buffers */
-    IWARP_SHARED = 30 /* the stream takes its receive buffers from its domain's pool */
+    IWARP_SHARED = 30, /* the stream takes its receive buffers from its domain's pool */
+    IWARP_BUFFER_MISSING = 31, /* the buffer was not made, or was freed */
+    IWARP_BUFFER_EXISTS = 32, /* the buffer was made before, and not freed */
+    IWARP_BUFFER_TOO_LONG = 33, /* a receive buffer of more than 16,777,216 octets */
+    IWARP_BAD_BITS = 34, /* rights, options or flags have a bit that this header does not name */
+    IWARP_NO_READS = 35 /* the peer takes no Reads: its IRD is 0 */
 };
 
 /* ---- handles and domains */
 
-/* Opens a closed handle, with an endpoint that has no domain and no stream. */
+/* Tells the version of the library: IWARP_VERSION, as it was when the library was built. */
+uint32_t iwarp_version(void);
+
+/* Opens a closed handle with a new endpoint, which has no domain and no stream. */
 int32_t iwarp_new(struct iwarp *handle);
 
 /* Frees all that the handle has, and closes it. A closed handle stays closed, so a second call does nothing. */
 void iwarp_free(struct iwarp *handle);
 
 /* Adds a protection domain: `pd` is 1 to 255. Streams reach only regions of their own domain. */
-int32_t iwarp_add_domain(struct iwarp *handle, uint8_t pd);
+int32_t iwarp_add_domain(struct iwarp *handle, uint32_t pd);
+
+/* ---- buffers */
+
+/* Makes a buffer of `n` zero octets. They can become a region and come back, with nothing copied: they stay at their address
+ * until they are freed, or iwarp_emit_onto puts a frame behind them. */
+int32_t iwarp_buffer_new(size_t n, struct iwarp_buffer *buffer);
+
+/* Frees the buffer's octets: then it is IWARP_NO_BUFFER. A second call does nothing. */
+void iwarp_buffer_free(struct iwarp_buffer *buffer);
+
+/* Tells the address of the buffer's octets, and how many they are. With 0 octets the address is of no use. */
+int32_t iwarp_buffer_at(struct iwarp_buffer *buffer, uint8_t **at, size_t *n);
+
+/* Keeps the first `n` octets, or all if there are no more. The memory of the others stays with the buffer, for what is put
+ * behind those that are kept. */
+int32_t iwarp_buffer_truncate(struct iwarp_buffer *buffer, size_t n);
 
 /* ---- regions */
 
@@ -124,24 +168,41 @@ struct iwarp_facts {
     uint32_t valid; /* 1 if peers may use it, else 0 */
 };
 
-/* Registers a copy of the octets, the first of them at the tagged offset `base`, and tells by which STag peers name
- * them. */
-int32_t iwarp_register(struct iwarp *handle, uint8_t pd, uint64_t base, const uint8_t *octets, size_t n, uint32_t rights,
+/* Registers a copy of the octets as a region, the first of them at tagged offset `base`. `*stag` is the STag by which
+ * peers name it. */
+int32_t iwarp_register(struct iwarp *handle, uint32_t pd, uint64_t base, const uint8_t *octets, size_t n, uint32_t rights,
                        uint32_t *stag);
 
-/* Deregisters a region, valid or not, and copies its octets to the front of `out`: from then on its STag names nothing.
- * `*n` is how many octets it has, with IWARP_NO_ROOM too. */
+/* Deregisters a region, valid or not, and copies its octets to the front of `out`. From then on its STag names no
+ * region. `*n` is how many octets it has, with IWARP_NO_ROOM too. */
 int32_t iwarp_deregister(struct iwarp *handle, uint32_t stag, uint8_t *out, size_t room, size_t *n);
 
-/* Ends the use of a region by peers. It stays registered. */
+/* Registers the buffer's octets themselves, as iwarp_register does a copy: nothing is copied, and the buffer has no octets
+ * then. If it is refused, the buffer keeps them. */
+int32_t iwarp_register_buffer(struct iwarp *handle, uint32_t pd, uint64_t base, struct iwarp_buffer *buffer, uint32_t rights,
+                              uint32_t *stag);
+
+/* Deregisters a region, valid or not: its octets are the buffer's then, with nothing copied, and those that the buffer had
+ * are freed. `buffer` was made, with 0 octets for instance, or is the one that the region was registered from. */
+int32_t iwarp_deregister_buffer(struct iwarp *handle, uint32_t stag, struct iwarp_buffer *buffer);
+
+/* Deregisters a region, valid or not, and frees its octets. */
+int32_t iwarp_drop_region(struct iwarp *handle, uint32_t stag);
+
+/* Tells the address of a region's octets, valid or not, and how many they are; it is null if there are none. They stay there
+ * until the region is deregistered. */
+int32_t iwarp_region_at(struct iwarp *handle, uint32_t stag, uint8_t **at, size_t *n);
+
+/* Makes a region invalid: peers can no longer use it. It stays registered. */
 int32_t iwarp_invalidate(struct iwarp *handle, uint32_t stag);
 
-/* Writes octets into a region from tagged offset `to` on, valid or not. */
+/* Writes octets into a region, valid or not, at tagged offset `to`. */
 int32_t iwarp_store(struct iwarp *handle, uint32_t stag, uint64_t to, const uint8_t *octets, size_t n);
 
-/* Reads a region's octets from tagged offset `to` on, `n` of them, valid or not. */
+/* Reads `n` octets of a region, valid or not, at tagged offset `to`. */
 int32_t iwarp_load(struct iwarp *handle, uint32_t stag, uint64_t to, uint8_t *out, size_t n);
 
+/* Writes the facts of a region, valid or not. */
 int32_t iwarp_facts(struct iwarp *handle, uint32_t stag, struct iwarp_facts *facts);
 
 /* ---- streams */
@@ -156,7 +217,8 @@ enum {
 /* What an end asks for. */
 enum {
     IWARP_MARKERS = 1, /* the peer is to put markers into what it sends */
-    IWARP_CRC = 2 /* CRCs are to be used, in both directions */
+    IWARP_CRC = 2, /* CRCs are to be used, in both directions */
+    IWARP_ENHANCED = 4 /* revision 2 of MPA (RFC 6581), whose start-up frames tell how many Reads each end takes */
 };
 
 /* What both ends agree on. */
@@ -166,26 +228,45 @@ enum {
     IWARP_USES_CRC = 4
 };
 
-/* Opens a stream in a domain, under a number from 0 to 63 that stays taken for good. An initiator's Request has the
- * private data; in other roles it is not used. */
-int32_t iwarp_open(struct iwarp *handle, uint8_t stream, uint8_t pd, uint32_t role, uint32_t options,
+/* Opens a stream in a domain under a number from 0 to 63, which stays taken for good. `options` is a sum of
+ * IWARP_MARKERS, IWARP_CRC and IWARP_ENHANCED. The private data goes into an initiator's MPA Request; other roles do not
+ * use it. With IWARP_ENHANCED an initiator's Request has revision 2, and a responder takes a Request of revision 1 or 2 and
+ * answers in kind; without it both ends have revision 1 alone. Peers such as Linux's ask by revision 2. */
+int32_t iwarp_open(struct iwarp *handle, uint32_t stream, uint32_t pd, uint32_t role, uint32_t options,
                    const uint8_t *private_data, size_t n);
 
-/* Accepts the Request that waits for an answer. `*agreed` is a sum of IWARP_SENDS_MARKERS and so on. */
-int32_t iwarp_accept(struct iwarp *handle, uint8_t stream, const uint8_t *private_data, size_t n, uint32_t *agreed);
+/* Accepts the pending MPA Request, with this private data in the Reply. `*agreed` is a sum of IWARP_SENDS_MARKERS and
+ * so on. */
+int32_t iwarp_accept(struct iwarp *handle, uint32_t stream, const uint8_t *private_data, size_t n, uint32_t *agreed);
 
-/* Rejects the Request: the stream has ended, and the Reply is still to be emitted. */
-int32_t iwarp_reject(struct iwarp *handle, uint8_t stream, const uint8_t *private_data, size_t n);
+/* Rejects the pending MPA Request, with this private data in the Reply. The stream has then ended; the Reply is still
+ * to be emitted. */
+int32_t iwarp_reject(struct iwarp *handle, uint32_t stream, const uint8_t *private_data, size_t n);
 
-/* Copies the private data of the peer's start-up frame to the front of `out`: 512 octets at most, none before it was
- * read. `*n` is how many octets they are, with IWARP_NO_ROOM too. */
-int32_t iwarp_private(struct iwarp *handle, uint8_t stream, uint8_t *out, size_t room, size_t *n);
+/* Copies the private data of the peer's start-up frame to the front of `out`: at most 512 octets, none before that
+ * frame was read. `*n` is how many octets they are, with IWARP_NO_ROOM too. */
+int32_t iwarp_private(struct iwarp *handle, uint32_t stream, uint8_t *out, size_t room, size_t *n);
 
-/* Tells that the connection broke or closed: the stream has ended, and nothing more is emitted. */
-int32_t iwarp_break(struct iwarp *handle, uint8_t stream);
+/* What the peer told in an enhanced start-up frame (RFC 6581 9). Without one all fields are 0. */
+struct iwarp_told {
+    uint32_t has_word; /* 1 if the frame was read and tells these */
+    uint32_t ird; /* how many Reads the peer takes at once: this end has no more outstanding, and never more than 16 */
+    uint32_t ord; /* how many Reads the peer wants to have outstanding */
+    uint32_t peer_to_peer; /* 1 if it asks for the peer-to-peer model (A); the RTR may be a */
+    uint32_t rtr_send; /* Send (B), */
+    uint32_t rtr_write; /* Write (C) or */
+    uint32_t rtr_read; /* Read (D) */
+};
 
-/* Sets the maximum ULPDU of what a stream emits from then on: 1,400 octets at first. */
-int32_t iwarp_set_mulpdu(struct iwarp *handle, uint8_t stream, uint32_t size);
+/* Writes what the peer told in its start-up frame, once that was read: at IWARP_ASKED, and from IWARP_OPENED on. */
+int32_t iwarp_told(struct iwarp *handle, uint32_t stream, struct iwarp_told *told);
+
+/* Reports that the connection broke or closed: the stream has ended, and nothing more is emitted, not even a pending
+ * Terminate. */
+int32_t iwarp_break(struct iwarp *handle, uint32_t stream);
+
+/* Sets the maximum ULPDU of the frames that a stream emits from then on, 128 to 64,512 octets. It is 1,400 at first. */
+int32_t iwarp_set_mulpdu(struct iwarp *handle, uint32_t stream, uint32_t size);
 
 /* ---- what is posted */
 
@@ -195,72 +276,83 @@ enum {
     IWARP_INVALIDATES = 2 /* `stag` names a region of the receiver that the Send invalidates */
 };
 
-/* Posts a Send of a copy of the octets. `flags` is a sum of IWARP_SOLICITED and IWARP_INVALIDATES; `stag` is looked
- * at only with the latter. */
-int32_t iwarp_post_send(struct iwarp *handle, uint8_t stream, const uint8_t *octets, size_t n, uint32_t flags, uint32_t stag);
+/* Posts a Send of a copy of the octets. `flags` is a sum of IWARP_SOLICITED and IWARP_INVALIDATES; `stag` is used only
+ * with the latter. */
+int32_t iwarp_post_send(struct iwarp *handle, uint32_t stream, const uint8_t *octets, size_t n, uint32_t flags, uint32_t stag);
 
-/* Posts a Write of a copy of the octets, to a region of the peer. */
-int32_t iwarp_post_write(struct iwarp *handle, uint8_t stream, uint32_t stag, uint64_t to, const uint8_t *octets, size_t n);
+/* Posts a Write of a copy of the octets, to a region of the peer at tagged offset `to`. */
+int32_t iwarp_post_write(struct iwarp *handle, uint32_t stream, uint32_t stag, uint64_t to, const uint8_t *octets, size_t n);
 
 /* Posts a Read of `size` octets, from a region of the peer into one of this end. */
-int32_t iwarp_post_read(struct iwarp *handle, uint8_t stream, uint32_t sink, uint64_t sink_to, uint32_t size,
+int32_t iwarp_post_read(struct iwarp *handle, uint32_t stream, uint32_t sink, uint64_t sink_to, uint32_t size,
                         uint32_t source, uint64_t source_to);
 
-/* Posts a receive buffer of `n` octets: a Send that finds none ends the stream. */
-int32_t iwarp_post_recv(struct iwarp *handle, uint8_t stream, size_t n);
+/* Posts a receive buffer of `n` octets, at most 16,777,216. A Send that finds no buffer ends the stream. */
+int32_t iwarp_post_recv(struct iwarp *handle, uint32_t stream, size_t n);
+
+/* Posts the buffer's octets themselves as a receive buffer, at most 16,777,216: nothing is copied, and the buffer has none
+ * then. If it is refused, the buffer keeps them. */
+int32_t iwarp_post_recv_buffer(struct iwarp *handle, uint32_t stream, struct iwarp_buffer *buffer);
 
 /* ---- receive buffers that the streams of a domain share */
 
-/* Makes the domain a pool of receive buffers, with none in it. */
-int32_t iwarp_share(struct iwarp *handle, uint8_t pd);
+/* Gives the domain an empty pool of receive buffers. */
+int32_t iwarp_share(struct iwarp *handle, uint32_t pd);
 
-/* Posts a receive buffer of `n` octets to the domain's pool, after the others: at most 1,024. A Send takes the oldest
- * with the first of its segments that is placed; one that finds the pool empty, or the oldest too short, ends its stream
- * alone. */
-int32_t iwarp_post_shared(struct iwarp *handle, uint8_t pd, size_t n);
+/* Posts a receive buffer of `n` octets, at most 16,777,216, to the domain's pool, after the others. A pool holds at most
+ * 1,024. A Send takes the oldest buffer when any of its segments is placed first. A Send that finds the pool empty, or the
+ * oldest buffer too short, ends its own stream only. */
+int32_t iwarp_post_shared(struct iwarp *handle, uint32_t pd, size_t n);
 
-/* Takes the oldest buffer out of the domain's pool. `*found` is 1, and its `*n` octets stay for iwarp_fetch; or both are
- * 0, if the pool has none. */
-int32_t iwarp_take_shared(struct iwarp *handle, uint8_t pd, uint32_t *found, size_t *n);
+/* Takes the oldest buffer out of the domain's pool. `*found` is 1 and `*n` its length, and iwarp_fetch copies it; or
+ * both are 0, if the pool is empty. */
+int32_t iwarp_take_shared(struct iwarp *handle, uint32_t pd, uint32_t *found, size_t *n);
 
-/* Opens a stream as iwarp_open does, one that takes its receive buffers from its domain's pool: iwarp_post_recv returns
- * IWARP_SHARED there. A buffer that it took comes back with IWARP_RECEIVED or IWARP_FLUSHED_RECV. It does not go back to
- * the pool: the program posts another. */
-int32_t iwarp_open_shared(struct iwarp *handle, uint8_t stream, uint8_t pd, uint32_t role, uint32_t options,
+/* Posts the buffer's octets themselves to the domain's pool, as iwarp_post_recv_buffer does to a stream. */
+int32_t iwarp_post_shared_buffer(struct iwarp *handle, uint32_t pd, struct iwarp_buffer *buffer);
+
+/* Takes the oldest buffer out of the domain's pool. If there is one, `*found` is 1, and its octets are the buffer's, whose own
+ * are freed; if the pool has none, `*found` is 0 and the buffer keeps its octets. */
+int32_t iwarp_take_shared_buffer(struct iwarp *handle, uint32_t pd, struct iwarp_buffer *buffer, uint32_t *found);
+
+/* As iwarp_open, but the stream takes its receive buffers from its domain's pool, and iwarp_post_recv returns
+ * IWARP_SHARED. A buffer that the stream took comes back with IWARP_RECEIVED or IWARP_FLUSHED_RECV. It does not return
+ * to the pool: the program posts another. */
+int32_t iwarp_open_shared(struct iwarp *handle, uint32_t stream, uint32_t pd, uint32_t role, uint32_t options,
                           const uint8_t *private_data, size_t n);
 
-/* ---- octets that come and go */
+/* ---- delivery, work and emission */
 
-/* Sets the sequence number of the peer's first octet: 0 if it is never set. Of several calls before the first octets
- * are delivered the last counts; after that the answer is IWARP_LATE. A program that sees TCP's own numbers sets the
- * one that follows the number of the peer's SYN. A program that reads a socket does not need this call. */
-int32_t iwarp_first_number(struct iwarp *handle, uint8_t stream, uint32_t number);
+/* Sets the sequence number of the peer's first octet. It is 0 if never set. Of several calls before the first delivery
+ * the last counts; after it the call returns IWARP_LATE. A program that sees TCP's own numbers sets the one that
+ * follows the number of the peer's SYN. A program that reads a socket does not need this call. */
+int32_t iwarp_first_number(struct iwarp *handle, uint32_t stream, uint32_t number);
 
-/* Takes octets that came, in any order; `number` is the sequence number of the first of them. Numbers wrap, as TCP's
- * do: 0 follows 4294967295. Of the places with that number it has the one nearest to the in-order point, less than
- * 2^31 octets past it or at most 2^31 before it. Octets before the in-order point are ignored. A program that reads
- * a socket adds up what each read gave, in a uint32_t: that is the number of what the next read gives. `*kept` is 1,
- * or 0 if all of the octets are dropped: because one lies 262,144 or more past the in-order point, because there
- * would be more than 1,024 islands (runs of octets with a gap before them), or because the stream has ended. */
-int32_t iwarp_deliver(struct iwarp *handle, uint8_t stream, uint32_t number, const uint8_t *octets, size_t n, uint32_t *kept);
+/* Takes octets that came, in any order; `number` is the sequence number of the first of them. A program that reads a
+ * socket adds up the lengths of its reads in a uint32_t: the sum is the number for the next read. Numbers wrap, as
+ * TCP's do: 0 follows 4294967295. A number stands for the nearest place to the in-order point that has it, less than
+ * 2^31 octets past that point or at most 2^31 before it. Octets before the in-order point are ignored. `*kept` is 1, or
+ * 0 if all of the octets are dropped: because one lies 262,144 or more past the in-order point, because there would be
+ * more than 1,024 islands (runs of octets with a gap before them), or because the stream has ended. */
+int32_t iwarp_deliver(struct iwarp *handle, uint32_t stream, uint32_t number, const uint8_t *octets, size_t n, uint32_t *kept);
 
 /* What a step of work did. */
 enum {
     IWARP_IDLE = 0, /* nothing: there is nothing to do until more octets come or more is emitted */
     IWARP_DONE = 1, /* the oldest posted message is done: `message` */
-    IWARP_FLUSHED = 2, /* the stream has ended, and the oldest posted message is given up: `message` */
+    IWARP_FLUSHED = 2, /* the stream has ended: the oldest posted message is given up: `message` */
     IWARP_FLUSHED_RECV = 3, /* the stream has ended: its oldest receive buffer, of `len` octets, can be fetched */
-    IWARP_ASKED = 4, /* the peer's Request came: accept or reject it */
-    IWARP_OPENED = 5, /* the peer accepted: `flags` is a sum of IWARP_SENDS_MARKERS and so on */
+    IWARP_ASKED = 4, /* the peer's MPA Request came: accept or reject it */
+    IWARP_OPENED = 5, /* the peer accepted: `flags`, IWARP_SENDS_MARKERS and so on; `len` Reads may be outstanding */
     IWARP_CLOSED_BY_PEER = 6, /* the peer's start-up frame has ended the stream: `code`, IWARP_BAD_KEY and so on */
-    IWARP_PLACED = 7, /* `len` octets were placed in region `stag` from `to` on, by `right`: IWARP_WRITE or IWARP_SINK */
-    IWARP_BUFFERED = 8, /* `len` octets of Send `msn` were placed in its buffer, from offset `mo` on */
-    IWARP_REQUESTED = 9, /* the peer reads `len` octets of region `stag` from `to` on */
+    IWARP_PLACED = 7, /* `len` octets were placed in region `stag` at `to`, by `right`: IWARP_WRITE or IWARP_SINK */
+    IWARP_BUFFERED = 8, /* `len` octets of Send `msn` were placed in its buffer, at offset `mo` */
+    IWARP_REQUESTED = 9, /* the peer asked to read `len` octets of region `stag` at `to` */
     IWARP_PASSED = 10, /* a frame had its turn */
     IWARP_RECEIVED = 11, /* a Send of `len` octets can be fetched: `flags`, IWARP_SOLICITED and IWARP_INVALIDATES with `stag` */
-    IWARP_TERMINATED = 12, /* the stream has ended: the peer tells a fault, `layer`, `error`, `code` */
+    IWARP_TERMINATED = 12, /* the stream has ended: the peer's Terminate names a fault, `layer`, `error`, `code` */
     IWARP_FAULT = 13, /* the stream has ended by a fault of the peer's, `layer`, `error`, `code` */
-    IWARP_TRIED = 14 /* the frame at the stream place `to` was judged before its turn, and is left for it */
+    IWARP_TRIED = 14 /* the frame at stream place `to` was judged before its turn, and is left until its turn */
 };
 
 /* What was posted. */
@@ -285,26 +377,32 @@ struct iwarp_event {
     uint64_t len;
 };
 
-/* Does one step at a stream. Call it until it tells IWARP_IDLE: after octets were delivered, after some were
- * emitted, and after iwarp_break. A message or buffer that it tells stays for iwarp_fetch until the next one is told
- * on this handle. */
-int32_t iwarp_work(struct iwarp *handle, uint8_t stream, struct iwarp_event *event);
+/* Does one step at a stream. Call it until it reports IWARP_IDLE: after octets were delivered, after some were emitted,
+ * and after iwarp_break. Get a message or buffer that it reports with iwarp_fetch, before the next one is reported on
+ * this handle. */
+int32_t iwarp_work(struct iwarp *handle, uint32_t stream, struct iwarp_event *event);
 
-/* Calls iwarp_work as long as it returns IWARP_OK and tells IWARP_PLACED, IWARP_BUFFERED, IWARP_REQUESTED,
- * IWARP_PASSED or IWARP_TRIED, at most 4,096 times, and returns and tells what the last of these calls does. So it
- * tells what the program has to act on, IWARP_IDLE, or, after 4,096 steps, one of those. If a call is refused, the
- * steps before it are done. */
-int32_t iwarp_work_on(struct iwarp *handle, uint8_t stream, struct iwarp_event *event);
+/* Calls iwarp_work as long as it returns IWARP_OK and reports IWARP_PLACED, IWARP_BUFFERED, IWARP_REQUESTED,
+ * IWARP_PASSED or IWARP_TRIED, at most 4,096 times, and returns and reports what the last call did. So it reports what
+ * the program has to act on, IWARP_IDLE, or, after 4,096 steps, one of those five. If a call is refused, the steps
+ * before it stay done. */
+int32_t iwarp_work_on(struct iwarp *handle, uint32_t stream, struct iwarp_event *event);
 
-/* Copies the message or buffer that was told last to the front of `out`, and forgets it. `*n` is how many octets it
+/* Copies the message or buffer that was reported last to the front of `out`, and forgets it. `*n` is how many octets it
  * has, with IWARP_NO_ROOM too; 0 if there is none. */
 int32_t iwarp_fetch(struct iwarp *handle, uint8_t *out, size_t room, size_t *n);
 
-/* What a call to emit did. */
+/* Moves into the buffer what iwarp_fetch would copy, and forgets it: the whole receive buffer, as it was posted, of which the
+ * first `*n` octets are the message, or all if it was flushed. The octets that the buffer had are freed. If nothing was told,
+ * it has none then, and `*n` is 0. A program that posts it again (iwarp_post_recv_buffer) has one buffer for each Send that
+ * it awaits, and none is made or cleared for each message. */
+int32_t iwarp_fetch_buffer(struct iwarp *handle, struct iwarp_buffer *buffer, size_t *n);
+
+/* What a call of iwarp_emit did. */
 enum {
     IWARP_NOTHING = 0, /* nothing is due */
     IWARP_FRAME = 1, /* a frame, whose first octet has the stream place `from` */
-    IWARP_FETCHED = 2, /* a frame of the response to a Read, with the `n` octets of region `stag` from `to` on */
+    IWARP_FETCHED = 2, /* the same of a Read Response, with `n` octets of region `stag` at `to` */
     IWARP_DENIED = 3 /* no frame: the peer may not read that, and the stream has ended by a fault, `layer`, `error`, `code` */
 };
 
@@ -320,10 +418,14 @@ struct iwarp_emission {
     uint64_t n;
 };
 
-/* Emits the next frame of a stream to the front of `out`: write it to the stream's connection, whole and in order. Call
- * it until it tells IWARP_NOTHING; after IWARP_DENIED a Terminate is due. `*n` is how many octets the frame has, with
+/* Emits the next frame of a stream to the front of `out`. Write it to the stream's connection, whole and in order. Call
+ * it until it reports IWARP_NOTHING; after IWARP_DENIED a Terminate is due. `*n` is how many octets the frame has, with
  * IWARP_NO_ROOM and IWARP_NO_MEMORY too: then nothing else has changed. 66,000 octets are enough for any frame. */
-int32_t iwarp_emit(struct iwarp *handle, uint8_t stream, uint8_t *out, size_t room, size_t *n, struct iwarp_emission *emission);
+int32_t iwarp_emit(struct iwarp *handle, uint32_t stream, uint8_t *out, size_t room, size_t *n, struct iwarp_emission *emission);
+
+/* Emits the next frame of a stream behind the octets of a buffer, so that several frames can be written by one call. Once
+ * they are written, iwarp_buffer_truncate with 0 leaves the memory for the next. */
+int32_t iwarp_emit_onto(struct iwarp *handle, uint32_t stream, struct iwarp_buffer *buffer, struct iwarp_emission *emission);
 
 #ifdef __cplusplus
 }

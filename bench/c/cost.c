@@ -14,7 +14,7 @@ uint64_t handle_bench_write(const uint8_t *frames, size_t n, uint64_t writes);
 
 static uint8_t octets[REGION], written[REGION], frames[2 * REGION], frame[66000];
 
-typedef int32_t working(struct iwarp *, uint8_t, struct iwarp_event *);
+typedef int32_t working(struct iwarp *, uint32_t, struct iwarp_event *);
 
 /* Processor time, in nanoseconds. */
 static double now(void) {

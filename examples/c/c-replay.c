@@ -1,11 +1,11 @@
 /* Replays a schedule of two endpoints, as `iwarp replay` does, through the C interface alone: it reads the schedule on its
- * standard input and prints the trace (docs/SCHEDULES.md). The schedule must be one; where a line is none, or names what is
- * not there, the status is 2. */
+ * standard input and prints the trace (docs/SCHEDULES.md). The status is 2 if a line is not in the language, or names a stream
+ * or octets that do not exist. */
 #include "host.h"
 
 enum { STREAMS = 64, WORDS = 9, FRAME = 66000 };
 
-/* Octets that grow. */
+/* A growing buffer of octets. */
 struct octets {
     uint8_t *at;
     size_t n, room;
@@ -77,7 +77,7 @@ static uint32_t stag(const char *word) {
     return n;
 }
 
-/* Hexadecimal digits, and how often they stand there. */
+/* Octets: hexadecimal digits, perhaps with a count; or `-` for none. */
 static struct octets *octets(const char *word) {
     size_t times = 1, digits = 0;
     scratch.n = 0;
@@ -91,7 +91,7 @@ static struct octets *octets(const char *word) {
     return &scratch;
 }
 
-/* The sum of those letters that a word has, each of them twice the one before it. */
+/* The sum of the letters that a word has: 1 for the first of `all`, 2 for the second, 4 for the third, and so on. */
 static uint32_t letters(const char *word, const char *all) {
     uint32_t sum = 0;
     for (; *word && *word != '-'; word++)
@@ -124,7 +124,7 @@ static void print_letters(uint32_t sum, const char *all) {
         if (sum >> i & 1) putchar(all[i]);
 }
 
-/* How schedules name a refusal: each word counts its own. */
+/* How traces name a refusal: each word numbers its own refusals. */
 struct refusal {
     int32_t code;
     const char *words, *text;
@@ -161,7 +161,7 @@ static const struct refusal refusals[] = {
     {IWARP_BAD_SIZE, "mulpdu", "1 BadSize"},
 };
 
-/* Whether a word stands in a list of words. */
+/* Whether a word is in a list of words. */
 static int stands_in(const char *word, const char *list) {
     size_t n = strlen(word);
     while (*list) {
@@ -173,7 +173,7 @@ static int stands_in(const char *word, const char *list) {
     return 0;
 }
 
-/* Prints how a call ended, and tells whether it was done. */
+/* Prints the refusal, if the call was refused. Returns whether it was done. */
 static int ended(int32_t code) {
     if (code == IWARP_OK) return 1;
     for (size_t i = 0; i < sizeof refusals / sizeof *refusals; i++)
@@ -189,7 +189,7 @@ static void ok(int32_t code) {
     if (ended(code)) printf("ok\n");
 }
 
-/* The octets of a part of a region; of no octets any. */
+/* Prints the octets of a part of a region; `-` for none. */
 static void print_part(struct end *end, uint32_t region, uint64_t to, uint64_t n) {
     scratch.n = (size_t)n;
     make_room(&scratch, scratch.n + 1);
@@ -197,7 +197,7 @@ static void print_part(struct end *end, uint32_t region, uint64_t to, uint64_t n
     print_octets(scratch.at, scratch.n);
 }
 
-static void print_private(struct end *end, uint8_t stream) {
+static void print_private(struct end *end, uint32_t stream) {
     uint8_t data[512];
     size_t n;
     if (iwarp_private(&end->handle, stream, data, sizeof data, &n) != IWARP_OK) fail();
@@ -230,7 +230,7 @@ static void print_received(struct end *end, const struct iwarp_event *event) {
         printf("-\n");
 }
 
-static void print_step(struct end *end, uint8_t stream, const struct iwarp_event *event) {
+static void print_step(struct end *end, uint32_t stream, const struct iwarp_event *event) {
     switch (event->kind) {
     case IWARP_IDLE: printf("idle\n"); break;
     case IWARP_DONE: printf("done %s\n", messages[event->message]); break;
@@ -271,13 +271,13 @@ static void print_step(struct end *end, uint8_t stream, const struct iwarp_event
     }
 }
 
-static void work(struct end *end, uint8_t stream) {
+static void work(struct end *end, uint32_t stream) {
     struct iwarp_event event;
     if (iwarp_work(&end->handle, stream, &event) != IWARP_OK) fail();
     print_step(end, stream, &event);
 }
 
-static void emit(struct end *end, uint8_t stream) {
+static void emit(struct end *end, uint32_t stream) {
     struct iwarp_emission emission;
     size_t n;
     if (iwarp_emit(&end->handle, stream, frame, sizeof frame, &n, &emission) != IWARP_OK) fail();
@@ -296,20 +296,20 @@ static void emit(struct end *end, uint8_t stream) {
     printf("\n");
 }
 
-static void set_first(struct end *end, uint8_t stream, uint32_t first) {
+static void set_first(struct end *end, uint32_t stream, uint32_t first) {
     int32_t code = iwarp_first_number(&end->handle, stream, first);
     if (code == IWARP_OK) end->first[stream] = first;
     ok(code);
 }
 
-static void deliver(struct end *end, uint8_t stream, uint32_t number, const uint8_t *at, size_t n) {
+static void deliver(struct end *end, uint32_t stream, uint32_t number, const uint8_t *at, size_t n) {
     uint32_t kept;
     if (iwarp_deliver(&end->handle, stream, number, at, n, &kept) != IWARP_OK) fail();
     printf(kept ? "kept\n" : "dropped\n");
 }
 
-/* Octets that the other end emitted. */
-static void deliver_sent(struct end *end, struct end *other, uint8_t stream, uint64_t from, uint64_t n) {
+/* Delivers octets that the other end emitted. */
+static void deliver_sent(struct end *end, struct end *other, uint32_t stream, uint64_t from, uint64_t n) {
     struct octets *sent = &other->emitted[stream];
     if (from > sent->n || n > sent->n - from) fail();
     make_room(sent, 1);
@@ -321,7 +321,7 @@ static void deliver_sent(struct end *end, struct end *other, uint8_t stream, uin
 static void do_register(struct end *end) {
     uint32_t given;
     struct octets *from = octets(words[5]);
-    int32_t code = iwarp_register(&end->handle, (uint8_t)number(words[2]), number(words[3]), from->at, from->n,
+    int32_t code = iwarp_register(&end->handle, (uint32_t)number(words[2]), number(words[3]), from->at, from->n,
                                   letters(words[4], "wrsi"), &given);
     if (ended(code)) printf("%08x\n", given);
 }
@@ -341,7 +341,7 @@ static void do_deregister(struct end *end) {
 static void do_unpool(struct end *end) {
     uint32_t found;
     size_t n;
-    if (!ended(iwarp_take_shared(&end->handle, (uint8_t)number(words[2]), &found, &n))) return;
+    if (!ended(iwarp_take_shared(&end->handle, (uint32_t)number(words[2]), &found, &n))) return;
     if (found) {
         printf("ok ");
         print_fetched(end, n);
@@ -351,7 +351,7 @@ static void do_unpool(struct end *end) {
     printf("\n");
 }
 
-/* What needs no stream. Tells whether this was one. */
+/* Does a call that needs no stream. Returns whether this was one. */
 static int at_memory(struct end *end) {
     const char *word = words[1];
     printf("%s %s ", words[0], word);
@@ -361,11 +361,11 @@ static int at_memory(struct end *end) {
     }
     printf("%s ", words[2]);
     if (strcmp(word, "domain") == 0) {
-        ok(iwarp_add_domain(&end->handle, (uint8_t)number(words[2])));
+        ok(iwarp_add_domain(&end->handle, (uint32_t)number(words[2])));
     } else if (strcmp(word, "share") == 0) {
-        ok(iwarp_share(&end->handle, (uint8_t)number(words[2])));
+        ok(iwarp_share(&end->handle, (uint32_t)number(words[2])));
     } else if (strcmp(word, "pool") == 0) {
-        ok(iwarp_post_shared(&end->handle, (uint8_t)number(words[2]), (size_t)number(words[3])));
+        ok(iwarp_post_shared(&end->handle, (uint32_t)number(words[2]), (size_t)number(words[3])));
     } else if (strcmp(word, "unpool") == 0) {
         do_unpool(end);
     } else if (strcmp(word, "deregister") == 0) {
@@ -383,11 +383,11 @@ static int at_memory(struct end *end) {
 
 static const char *const roles[] = {"preset", "initiator", "responder", 0};
 
-static void do_open(struct end *end, uint8_t stream) {
+static void do_open(struct end *end, uint32_t stream) {
     uint32_t role = (uint32_t)one_of(words[4], roles);
     struct octets *private_data = octets(words[6]);
     size_t n = role == IWARP_INITIATOR ? private_data->n : 0;
-    uint8_t pd = (uint8_t)number(words[3]);
+    uint32_t pd = (uint32_t)number(words[3]);
     uint32_t options = letters(words[5], "mc");
     int32_t code = strcmp(words[1], "open") == 0
                        ? iwarp_open(&end->handle, stream, pd, role, options, private_data->at, n)
@@ -396,7 +396,7 @@ static void do_open(struct end *end, uint8_t stream) {
     ok(code);
 }
 
-static void do_accept(struct end *end, uint8_t stream) {
+static void do_accept(struct end *end, uint32_t stream) {
     uint32_t agreed;
     struct octets *private_data = octets(words[3]);
     if (!ended(iwarp_accept(&end->handle, stream, private_data->at, private_data->n, &agreed))) return;
@@ -405,7 +405,7 @@ static void do_accept(struct end *end, uint8_t stream) {
     printf("\n");
 }
 
-static void do_post(struct end *end, uint8_t stream) {
+static void do_post(struct end *end, uint32_t stream) {
     const char *word = words[1];
     if (strcmp(word, "send") == 0) {
         uint32_t flags = (uint32_t)one_of(words[3], kinds);
@@ -421,7 +421,7 @@ static void do_post(struct end *end, uint8_t stream) {
     }
 }
 
-static void at_stream(struct end *end, struct end *other, uint8_t stream) {
+static void at_stream(struct end *end, struct end *other, uint32_t stream) {
     const char *word = words[1];
     if (stands_in(word, "open openshared")) {
         do_open(end, stream);
@@ -455,7 +455,7 @@ static void at_stream(struct end *end, struct end *other, uint8_t stream) {
     }
 }
 
-/* One event; some lines stand for as many as they say. */
+/* Runs one line: one event, or as many as it says. */
 static void event(void) {
     struct end *end = &ends[words[0][0] == 'b'], *other = &ends[words[0][0] != 'b'];
     static const char without_stream[] = "domain register deregister invalidate store share pool unpool";
@@ -468,7 +468,7 @@ static void event(void) {
     if (count == 4 && stands_in(words[1], "emit work")) times = number(words[3]);
     for (uint64_t i = 0; i < times; i++) {
         printf("%s %s %s ", words[0], words[1], words[2]);
-        at_stream(end, other, (uint8_t)stream);
+        at_stream(end, other, (uint32_t)stream);
     }
 }
 

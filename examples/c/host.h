@@ -1,4 +1,4 @@
-/* The system's calls that these programs make: from its headers, or, where the compiler has none, declared as on 64-bit
+/* The system calls that these programs make: from the system's headers, or, if the compiler has none, declared as on 64-bit
  * Linux. */
 #ifndef HOST_H
 #define HOST_H

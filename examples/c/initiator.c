@@ -1,10 +1,9 @@
-/* An initiator: it writes a text into the region that its peer offers, tells by a Send that it did, and prints what is sent
- * back:
+/* An initiator: it writes a text into the region that its peer offers, sends the text too, and prints what is sent back:
  *
  *     initiator PORT TEXT [OPTIONS]
  *
- * OPTIONS is a sum of IWARP_MARKERS and IWARP_CRC. `iwarp listen` is its peer, and so is `target`. Its status is 1 where
- * nothing was sent back. */
+ * OPTIONS is a sum of IWARP_MARKERS, IWARP_CRC and IWARP_ENHANCED. `iwarp listen` is its peer, but for IWARP_ENHANCED, and so
+ * is `target`. The status is 1 if nothing was sent back. */
 #include "host.h"
 
 enum { DOMAIN = 1, STREAM = 0, BUFFER = 4096, READ = 65536, FRAME = 66000 };
@@ -12,6 +11,10 @@ enum { DOMAIN = 1, STREAM = 0, BUFFER = 4096, READ = 65536, FRAME = 66000 };
 static struct iwarp end = IWARP_CLOSED;
 static uint8_t octets[READ], frame[FRAME], message[BUFFER];
 static int connection, received;
+
+/* With IWARP_ENHANCED the output ends after the answer: to real peers its end is that of the connection. Without, before it:
+ * `iwarp listen` answers at the end of its input. */
+static int answer_first;
 
 static void must(int32_t code, const char *call) {
     if (code == IWARP_OK) return;
@@ -33,7 +36,7 @@ static void write_out(void) {
     }
 }
 
-/* The stream is open: the private data of the Reply names the peer's region, and all that there is to do is posted. */
+/* The stream is open. The private data of the Reply names the peer's region: posts a Write of the text there, and a Send. */
 static void post(const char *text) {
     uint8_t name[4];
     size_t n;
@@ -56,7 +59,7 @@ static void work(const char *text) {
         case IWARP_OPENED:
             post(text);
             write_out();
-            shutdown(connection, SHUT_WR);
+            if (!answer_first) shutdown(connection, SHUT_WR);
             break;
         case IWARP_RECEIVED:
             must(iwarp_fetch(&end, message, sizeof message, &n), "fetch");
@@ -64,6 +67,7 @@ static void work(const char *text) {
             for (size_t i = 0; i < n; i++) printf("%02x", message[i]);
             printf(n == 0 ? "-\n" : "\n");
             received = 1;
+            if (answer_first) shutdown(connection, SHUT_WR);
             break;
         case IWARP_FAULT:
         case IWARP_TERMINATED:
@@ -82,6 +86,7 @@ int main(int n, char **words) {
     if (n < 3 || strlen(words[2]) > BUFFER) return 2;
     struct sockaddr_in address = local_port((unsigned short)strtol(words[1], 0, 10));
     uint32_t options = n > 3 ? (uint32_t)strtol(words[3], 0, 10) : 0, kept;
+    answer_first = (options & IWARP_ENHANCED) != 0;
     connection = socket(AF_INET, SOCK_STREAM, 0);
     if (connection < 0 || connect(connection, (struct sockaddr *)&address, sizeof address) != 0) return 1;
     must(iwarp_new(&end), "new");

@@ -1,5 +1,5 @@
 -- What a refusal's code tells.
-use Rattle.std.proofs.Common.{◌≡◌, ℤ, pos, Option, Some, None, Ok, Err, ap, ◌∙◌, ◌⊎◌, inl, inr}
+use Rattle.std.proofs.Common.{◌≡◌, ℤ, pos, Option, Some, None, Ok, Err, ap, ◌∙◌, ◌⊎◌, inl, inr, subst}
 use Rattle.std.specs.Prelude.{Result, IfSome, IfNone, IfErr}
 use Rattle.std.specs.Result.{result_err}
 use Rattle.iw_handle.specs.declared.refusal.Refusal.{Refusal}
@@ -14,3 +14,10 @@ pub coded_memory : {A : Type 0} (o : Option Refusal) (r : Result A Refusal) (n :
 coded_memory None (Ok x) n memory is = inl is
 coded_memory None (Err e) n memory is = inr (is ∙ ap (λ x. pos (refusal_code x)) memory)
 coded_memory (Some x) r n memory is = tt
+
+-- and of a refusal that is the same as another
+pub coded_refusal_as : {A : Type 0} (o p : Option Refusal) (r : Result A Refusal) (n : ℤ) → o ≡ p → IfSome o (λ x. r ≡ Err x) → n ≡ pos (code_of (result_err r)) → IfSome p (λ x. n ≡ pos (refusal_code x))
+coded_refusal_as o p r n same refused is = subst (λ q. IfSome q (λ x. n ≡ pos (refusal_code x))) same (coded_refusal o r n refused is)
+
+pub coded_memory_as : {A : Type 0} (o p : Option Refusal) (r : Result A Refusal) (n : ℤ) → o ≡ p → IfNone o (IfErr r (λ e. e ≡ NoMemory)) → n ≡ pos (code_of (result_err r)) → IfNone p ((n ≡ pos 0) ⊎ (n ≡ pos 3))
+coded_memory_as o p r n same memory is = subst (λ q. IfNone q ((n ≡ pos 0) ⊎ (n ≡ pos 3))) same (coded_memory o r n memory is)

@@ -1,37 +1,61 @@
-//! An iWARP endpoint for C: `include/iwarp.h` declares these functions, and says in C's words what their contracts say
-//! here. Each is one call of [`iw_handle::Handle`]. A `Global` takes no bytes, so C passes nothing for one.
+//! An iWARP endpoint for C. `include/iwarp.h` declares these functions and describes them. Each is one call of
+//! [`iw_handle::Handle`]. A `Global` has no bytes, so C passes nothing for it.
 //!
-//! What C has to uphold stands in no clause, since it is what the types say: a handle is closed (null), or as a call
-//! left it, and it is in one place. A copy of an open handle is none.
+//! No clause says what C must uphold, since the types say it: a handle is closed (null), or as the last call left it,
+//! and it is in one place. A copy of an open handle must not be used.
 #![tactic(auto)]
 
+mod buffers;
 mod octets;
 mod pools;
 mod posting;
+mod receiving;
 mod regions;
 mod streams;
 
 ghost use Rattle.std.specs.Prelude.{◌≡◌, ◌≢◌, ◌⊎◌, pos, None, IfSome};
 ghost use Rattle.std.specs.Option.{option_map};
+ghost use Rattle.iw_c.specs.declared.TheConstants.{VERSION};
 ghost use Rattle.iw_endpoint.specs.Endpoint.{fresh, added, domain_refusal};
 ghost use Rattle.iw_handle.specs.Refusals.{code_of, domain_reason};
 ghost use Rattle.iw_handle.specs.State.{open_with, refusal_in, changed};
+ghost use Rattle.iw_handle.specs.Words.{domain_number};
 
-use iw_handle::{Handle, code};
+pub use buffers::{
+    iwarp_buffer_at, iwarp_buffer_free, iwarp_buffer_new, iwarp_buffer_truncate,
+    iwarp_deregister_buffer, iwarp_emit_onto, iwarp_register_buffer,
+};
+use iw_handle::{Handle, code, domain_number};
 pub use octets::{
     iwarp_deliver, iwarp_emit, iwarp_fetch, iwarp_first_number, iwarp_work, iwarp_work_on,
 };
 pub use pools::{iwarp_open_shared, iwarp_post_shared, iwarp_share, iwarp_take_shared};
 pub use posting::{iwarp_post_read, iwarp_post_recv, iwarp_post_send, iwarp_post_write};
+pub use receiving::{
+    iwarp_fetch_buffer, iwarp_post_recv_buffer, iwarp_post_shared_buffer, iwarp_take_shared_buffer,
+};
 pub use regions::{
-    iwarp_deregister, iwarp_facts, iwarp_invalidate, iwarp_load, iwarp_register, iwarp_store,
+    iwarp_deregister, iwarp_drop_region, iwarp_facts, iwarp_invalidate, iwarp_load,
+    iwarp_region_at, iwarp_register, iwarp_store,
 };
 use std::alloc::Global;
 pub use streams::{
     iwarp_accept, iwarp_break, iwarp_open, iwarp_private, iwarp_reject, iwarp_set_mulpdu,
+    iwarp_told,
 };
 
-/// Opens a closed handle, with an endpoint that has no domain and no stream.
+/// The version of this library: 10,000 for each major number, 100 for each minor one, 1 for each revision.
+pub const VERSION: u32 = 900;
+
+/// Returns [`VERSION`].
+#[unsafe(no_mangle)]
+pub extern "C" fn iwarp_version() -> u32
+    ensures { result ≡ VERSION }
+{
+    VERSION
+}
+
+/// Opens a closed handle with a new endpoint, which has no domain and no stream.
 #[unsafe(no_mangle)]
 pub extern "C" fn iwarp_new(alloc: Global, handle: &mut Handle) -> i32
     ensures open { IfSome handle.old.state (λ _. result ≡ pos 2) }
@@ -42,7 +66,7 @@ pub extern "C" fn iwarp_new(alloc: Global, handle: &mut Handle) -> i32
     code(handle.open(alloc).err())
 }
 
-/// Closes a handle, and gives back all that it has. A closed handle stays closed.
+/// Closes a handle and frees all that it has. A closed handle stays closed.
 #[unsafe(no_mangle)]
 pub extern "C" fn iwarp_free(alloc: Global, handle: &mut Handle)
     ensures { handle.new.state ≡ None }
@@ -50,15 +74,15 @@ pub extern "C" fn iwarp_free(alloc: Global, handle: &mut Handle)
     handle.close(alloc);
 }
 
-/// Adds a domain with no region and no stream.
+/// Adds a protection domain with no region and no stream.
 #[unsafe(no_mangle)]
-pub extern "C" fn iwarp_add_domain(alloc: Global, handle: &mut Handle, pd: u8) -> i32
+pub extern "C" fn iwarp_add_domain(alloc: Global, handle: &mut Handle, pd: u32) -> i32
     ensures code { result ≡ pos
-        (code_of (refusal_in handle.old.state (λ e. option_map domain_reason (domain_refusal e pd)))) }
-    ensures ok { result ≡ pos 0 → handle.new.state ≡ changed handle.old.state (λ e. added e pd) }
+        (code_of (refusal_in handle.old.state (λ e. option_map domain_reason (domain_refusal e (domain_number pd))))) }
+    ensures ok { result ≡ pos 0 → handle.new.state ≡ changed handle.old.state (λ e. added e (domain_number pd)) }
     ensures err { result ≢ pos 0 → handle.new.state ≡ handle.old.state }
 {
-    code(handle.add_domain(alloc, pd).err())
+    code(handle.add_domain(alloc, domain_number(pd)).err())
 }
 
 #[cfg(test)]

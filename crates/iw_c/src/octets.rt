@@ -1,4 +1,4 @@
-// Octets that come and go.
+// Delivery, work and emission.
 ghost use Rattle.std.specs.Prelude.{◌≡◌, ◌≢◌, ◌⊎◌, pos, None, Some, length, IfSome, IfNone, IsSomeAnd};
 ghost use Rattle.iw_endpoint.specs.Endpoint.{with_first, delivery_at, after_deliver, step_at, emission_at, after_emit};
 ghost use Rattle.iw_handle.specs.Events.{kept_number, event_at, emitted_of, IsFrame};
@@ -10,8 +10,9 @@ ghost use Rattle.iw_handle.specs.Steps.{TellsOn};
 ghost use Rattle.iw_handle.specs.declared.working.TheConstants.{QUIET_STEPS};
 ghost use Rattle.iw_handle.specs.Streams.{first_refusal, BringsAt, TriesAt, worked, handed_in, fetched};
 ghost use Rattle.iw_handle.specs.declared.refusal.Refusal.TheVariants.{Closed};
+ghost use Rattle.iw_handle.specs.Words.{stream_number};
 
-use iw_handle::{Emitted, Event, Handle, code, kept_number};
+use iw_handle::{Emitted, Event, Handle, code, kept_number, stream_number};
 use std::alloc::Global;
 
 /// Sets the sequence number of the peer's first octet.
@@ -19,85 +20,91 @@ use std::alloc::Global;
 pub extern "C" fn iwarp_first_number(
     alloc: Global,
     handle: &mut Handle,
-    number: u8,
+    number: u32,
     first: u32,
 ) -> i32
-    ensures code { result ≡ pos (code_of (refusal_in handle.old.state (λ e. first_refusal e number))) }
-    ensures ok { result ≡ pos 0 → handle.new.state ≡ changed handle.old.state (λ e. with_first e number first) }
+    ensures code { result ≡ pos (code_of (refusal_in handle.old.state (λ e. first_refusal e (stream_number number)))) }
+    ensures ok { result ≡ pos 0 → handle.new.state ≡ changed handle.old.state
+        (λ e. with_first e (stream_number number) first) }
     ensures err { result ≢ pos 0 → handle.new.state ≡ handle.old.state }
 {
-    code(handle.first_number(alloc, number, first).err())
+    code(
+        handle
+            .first_number(alloc, stream_number(number), first)
+            .err(),
+    )
 }
 
-/// Takes octets that came on a stream's connection, the first of which has this sequence number, and tells whether they
-/// are kept (1) or dropped (0).
+/// Takes octets that came on a stream's connection; the first has this sequence number. `kept` becomes 1 if they are
+/// kept, 0 if they are dropped.
 #[unsafe(no_mangle)]
 pub extern "C" fn iwarp_deliver(
     alloc: Global,
     handle: &mut Handle,
-    number: u8,
+    number: u32,
     sequence: u32,
     octets: &[u8],
     kept: &mut u32,
 ) -> i32
-    ensures refused { IfSome (refusal_in handle.old.state (λ e. stream_refusal e number))
+    ensures refused { IfSome (refusal_in handle.old.state (λ e. stream_refusal e (stream_number number)))
         (λ r. result ≡ pos (refusal_code r)) }
-    ensures memory { IfNone (refusal_in handle.old.state (λ e. stream_refusal e number))
+    ensures memory { IfNone (refusal_in handle.old.state (λ e. stream_refusal e (stream_number number)))
         ((result ≡ pos 0) ⊎ (result ≡ pos 3)) }
     ensures want { IfSome handle.old.state
-        (λ held. result ≡ pos 3 → BringsAt held.endpoint number sequence (length octets.now)) }
+        (λ held. result ≡ pos 3 → BringsAt held.endpoint (stream_number number) sequence (length octets.now)) }
     ensures delivery { result ≡ pos 0 → Some kept.new ≡ told_in handle.old.state
-        (λ e. kept_number (delivery_at e number sequence (length octets.now))) }
+        (λ e. kept_number (delivery_at e (stream_number number) sequence (length octets.now))) }
     ensures kept { result ≢ pos 0 → kept.new ≡ kept.old }
     ensures ok { result ≡ pos 0 → handle.new.state ≡ changed handle.old.state
-        (λ e. after_deliver e number sequence octets.now) }
+        (λ e. after_deliver e (stream_number number) sequence octets.now) }
     ensures err { result ≢ pos 0 → handle.new.state ≡ handle.old.state }
 {
-    let done = handle.deliver(alloc, number, sequence, octets);
+    let done = handle.deliver(alloc, stream_number(number), sequence, octets);
     if let Ok(delivery) = done {
         *kept = kept_number(delivery);
     }
     code(done.err())
 }
 
-/// Does one step at a stream, and tells it in numbers.
+/// Does one step at a stream and writes it to `event`, in numbers.
 #[unsafe(no_mangle)]
 pub extern "C" fn iwarp_work(
     alloc: Global,
     handle: &mut Handle,
-    number: u8,
+    number: u32,
     event: &mut Event,
 ) -> i32
-    ensures refused { IfSome (refusal_in handle.old.state (λ e. refusal_to_work e number))
+    ensures refused { IfSome (refusal_in handle.old.state (λ e. refusal_to_work e (stream_number number)))
         (λ r. result ≡ pos (refusal_code r)) }
-    ensures memory { IfNone (refusal_in handle.old.state (λ e. refusal_to_work e number))
+    ensures memory { IfNone (refusal_in handle.old.state (λ e. refusal_to_work e (stream_number number)))
         ((result ≡ pos 0) ⊎ (result ≡ pos 3)) }
-    ensures want { result ≡ pos 3 → IfSome handle.old.state (λ held. TriesAt held.endpoint number) }
-    ensures event { result ≡ pos 0 → Some event.new ≡ told_in handle.old.state (λ e. event_at (step_at e number)) }
+    ensures want { result ≡ pos 3 → IfSome handle.old.state (λ held. TriesAt held.endpoint (stream_number number)) }
+    ensures event { result ≡ pos 0 → Some event.new ≡ told_in handle.old.state
+        (λ e. event_at (step_at e (stream_number number))) }
     ensures kept { result ≢ pos 0 → event.new ≡ event.old }
-    ensures ok { result ≡ pos 0 → handle.new.state ≡ worked handle.old.state number }
+    ensures ok { result ≡ pos 0 → handle.new.state ≡ worked handle.old.state (stream_number number) }
     ensures err { result ≢ pos 0 → handle.new.state ≡ handle.old.state }
 {
-    code(handle.work(alloc, number, event).err())
+    code(handle.work(alloc, stream_number(number), event).err())
 }
 
-/// Does steps at a stream until one that the program has to act on, and tells that one in numbers.
+/// Does steps at a stream until one that the program has to act on, and writes that one to `event`, in numbers.
 #[unsafe(no_mangle)]
 pub extern "C" fn iwarp_work_on(
     alloc: Global,
     handle: &mut Handle,
-    number: u8,
+    number: u32,
     event: &mut Event,
 ) -> i32
     ensures closed { handle.old.state ≡ None → (result ≡ pos 1) × (handle.new.state ≡ None) }
     ensures steps { IfSome handle.old.state (λ held.
-        IsSomeAnd handle.new.state (λ after. TellsOn QUIET_STEPS held number result event.new after)) }
+        IsSomeAnd handle.new.state (λ after. TellsOn QUIET_STEPS held (stream_number number) result event.new after)) }
     ensures kept { result ≢ pos 0 → event.new ≡ event.old }
 {
-    code(handle.work_on(alloc, number, event).err())
+    code(handle.work_on(alloc, stream_number(number), event).err())
 }
 
-/// Copies to the front of a buffer what `work` handed back last, which is then no longer kept.
+/// Copies what was handed back last to the front of a buffer, and forgets it.
 #[unsafe(no_mangle)]
 pub extern "C" fn iwarp_fetch(
     alloc: Global,
@@ -115,31 +122,36 @@ pub extern "C" fn iwarp_fetch(
     code(handle.fetch(alloc, out, len).err())
 }
 
-/// Emits what is due at a stream to the front of a buffer, and tells it in numbers.
+/// Emits what is due at a stream to the front of a buffer, and writes what it was to `emission`, in numbers.
 #[unsafe(no_mangle)]
 pub extern "C" fn iwarp_emit(
     alloc: Global,
     handle: &mut Handle,
-    number: u8,
+    number: u32,
     out: &mut [u8],
     len: &mut usize,
     emitted: &mut Emitted,
 ) -> i32
-    ensures refused { IfSome (refusal_in handle.old.state (λ e. refusal_to_emit e number (length out.old)))
+    ensures refused { IfSome (refusal_in handle.old.state
+        (λ e. refusal_to_emit e (stream_number number) (length out.old)))
         (λ r. result ≡ pos (refusal_code r)) }
-    ensures memory { IfNone (refusal_in handle.old.state (λ e. refusal_to_emit e number (length out.old)))
+    ensures memory { IfNone (refusal_in handle.old.state
+        (λ e. refusal_to_emit e (stream_number number) (length out.old)))
         ((result ≡ pos 0) ⊎ (result ≡ pos 3)) }
-    ensures want { result ≡ pos 3 → IfSome handle.old.state (λ held. IsFrame (emission_at held.endpoint number)) }
-    ensures len { len.new ≡ length_told (shown_in handle.old.state (λ e. due_shown e number)) len.old }
+    ensures want { result ≡ pos 3 → IfSome handle.old.state
+        (λ held. IsFrame (emission_at held.endpoint (stream_number number))) }
+    ensures len { len.new ≡ length_told (shown_in handle.old.state (λ e. due_shown e (stream_number number))) len.old }
     ensures emitted { result ≡ pos 0 → Some emitted.new ≡ told_in handle.old.state
-        (λ e. emitted_of (emission_at e number)) }
+        (λ e. emitted_of (emission_at e (stream_number number))) }
     ensures untold { result ≢ pos 0 → emitted.new ≡ emitted.old }
-    ensures octets { result ≡ pos 0 → out.new ≡ filled (shown_in handle.old.state (λ e. due_shown e number)) out.old }
+    ensures octets { result ≡ pos 0 → out.new ≡ filled (shown_in handle.old.state
+        (λ e. due_shown e (stream_number number))) out.old }
     ensures kept { result ≢ pos 0 → out.new ≡ out.old }
-    ensures ok { result ≡ pos 0 → handle.new.state ≡ changed handle.old.state (λ e. after_emit e number) }
+    ensures ok { result ≡ pos 0 → handle.new.state ≡ changed handle.old.state
+        (λ e. after_emit e (stream_number number)) }
     ensures err { result ≢ pos 0 → handle.new.state ≡ handle.old.state }
 {
-    let done = handle.emit(alloc, number, out, len);
+    let done = handle.emit(alloc, stream_number(number), out, len);
     if let Ok(told) = done {
         *emitted = told;
     }

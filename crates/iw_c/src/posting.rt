@@ -1,13 +1,14 @@
-// What is posted at a stream.
+// Posting to a stream.
 ghost use Rattle.std.specs.Prelude.{◌≡◌, ◌≢◌, ◌⊎◌, pos, IfSome, IfNone};
 ghost use Rattle.iw_octets.specs.Stag.{stag_of};
 ghost use Rattle.iw_endpoint.specs.Endpoint.{with_request, with_buffer};
 ghost use Rattle.iw_handle.specs.Refusals.{refusal_code};
-ghost use Rattle.iw_handle.specs.State.{refusal_in, changed};
-ghost use Rattle.iw_handle.specs.Streams.{refusal_to_post, refusal_to_lend, send_of, write_of, read_of, zeroes};
-ghost use Rattle.iw_handle.specs.Words.{has_bit, invalidated_by, read_request};
+ghost use Rattle.iw_handle.specs.State.{refusal_in, changed, length_refusal};
+ghost use Rattle.iw_handle.specs.Streams.{refusal_to_post, refusal_to_send, refusal_to_lend};
+ghost use Rattle.iw_handle.specs.Streams.{sent, write_of, read_of, zeroes};
+ghost use Rattle.iw_handle.specs.Words.{stream_number, bits_refusal, read_request};
 
-use iw_handle::{Handle, code, has_bit, invalidated_by, read_request, stag_of};
+use iw_handle::{Handle, code, read_request, stag_of, stream_number};
 use std::alloc::Global;
 
 /// Posts a Send of a copy of the octets.
@@ -15,26 +16,27 @@ use std::alloc::Global;
 pub extern "C" fn iwarp_post_send(
     alloc: Global,
     handle: &mut Handle,
-    number: u8,
+    number: u32,
     octets: &[u8],
     flags: u32,
     stag: u32,
 ) -> i32
-    // The code of the refusal, where one applies, or want of memory.
+    // The code of the first refusal that applies, or of `NoMemory`.
     ensures refused { IfSome (refusal_in handle.old.state
-        (λ e. refusal_to_post e number (send_of octets.now (has_bit flags 1) (invalidated_by flags stag))))
+        (λ e. refusal_to_send e (stream_number number) octets.now flags stag))
         (λ r. (result ≡ pos 3) ⊎ (result ≡ pos (refusal_code r))) }
     ensures memory { IfNone (refusal_in handle.old.state
-        (λ e. refusal_to_post e number (send_of octets.now (has_bit flags 1) (invalidated_by flags stag))))
+        (λ e. refusal_to_send e (stream_number number) octets.now flags stag))
         ((result ≡ pos 0) ⊎ (result ≡ pos 3)) }
+    ensures bits { IfSome (refusal_in handle.old.state (λ e. bits_refusal 4 flags))
+        (λ r. result ≡ pos (refusal_code r)) }
     ensures ok { result ≡ pos 0 → handle.new.state ≡ changed handle.old.state
-        (λ e. with_request e number (send_of octets.now (has_bit flags 1) (invalidated_by flags stag))) }
+        (λ e. with_request e (stream_number number) (sent octets.now flags stag)) }
     ensures err { result ≢ pos 0 → handle.new.state ≡ handle.old.state }
 {
-    let invalidate = invalidated_by(flags, stag);
     code(
         handle
-            .post_send(alloc, number, octets, has_bit(flags, 1), invalidate)
+            .post_send(alloc, stream_number(number), octets, flags, stag)
             .err(),
     )
 }
@@ -44,25 +46,27 @@ pub extern "C" fn iwarp_post_send(
 pub extern "C" fn iwarp_post_write(
     alloc: Global,
     handle: &mut Handle,
-    number: u8,
+    number: u32,
     stag: u32,
     to: u64,
     octets: &[u8],
 ) -> i32
-    // The code of the refusal, where one applies, or want of memory.
+    // The code of the first refusal that applies, or of `NoMemory`.
     ensures refused { IfSome
-        (refusal_in handle.old.state (λ e. refusal_to_post e number (write_of (stag_of stag) to octets.now)))
+        (refusal_in handle.old.state
+        (λ e. refusal_to_post e (stream_number number) (write_of (stag_of stag) to octets.now)))
         (λ r. (result ≡ pos 3) ⊎ (result ≡ pos (refusal_code r))) }
     ensures memory { IfNone
-        (refusal_in handle.old.state (λ e. refusal_to_post e number (write_of (stag_of stag) to octets.now)))
+        (refusal_in handle.old.state
+        (λ e. refusal_to_post e (stream_number number) (write_of (stag_of stag) to octets.now)))
         ((result ≡ pos 0) ⊎ (result ≡ pos 3)) }
     ensures ok { result ≡ pos 0 → handle.new.state ≡ changed handle.old.state
-        (λ e. with_request e number (write_of (stag_of stag) to octets.now)) }
+        (λ e. with_request e (stream_number number) (write_of (stag_of stag) to octets.now)) }
     ensures err { result ≢ pos 0 → handle.new.state ≡ handle.old.state }
 {
     code(
         handle
-            .post_write(alloc, number, stag_of(stag), to, octets)
+            .post_write(alloc, stream_number(number), stag_of(stag), to, octets)
             .err(),
     )
 }
@@ -72,7 +76,7 @@ pub extern "C" fn iwarp_post_write(
 pub extern "C" fn iwarp_post_read(
     alloc: Global,
     handle: &mut Handle,
-    number: u8,
+    number: u32,
     sink: u32,
     sink_to: u64,
     size: u32,
@@ -80,29 +84,35 @@ pub extern "C" fn iwarp_post_read(
     source_to: u64,
 ) -> i32
     ensures refused { IfSome (refusal_in handle.old.state
-        (λ e. refusal_to_post e number (read_of (read_request sink sink_to size source source_to))))
+        (λ e. refusal_to_post e (stream_number number) (read_of (read_request sink sink_to size source source_to))))
         (λ r. result ≡ pos (refusal_code r)) }
     ensures memory { IfNone (refusal_in handle.old.state
-        (λ e. refusal_to_post e number (read_of (read_request sink sink_to size source source_to))))
+        (λ e. refusal_to_post e (stream_number number) (read_of (read_request sink sink_to size source source_to))))
         ((result ≡ pos 0) ⊎ (result ≡ pos 3)) }
     ensures ok { result ≡ pos 0 → handle.new.state ≡ changed handle.old.state
-        (λ e. with_request e number (read_of (read_request sink sink_to size source source_to))) }
+        (λ e. with_request e (stream_number number) (read_of (read_request sink sink_to size source source_to))) }
     ensures err { result ≢ pos 0 → handle.new.state ≡ handle.old.state }
 {
     let request = read_request(sink, sink_to, size, source, source_to);
-    code(handle.post_read(alloc, number, request).err())
+    code(
+        handle
+            .post_read(alloc, stream_number(number), request)
+            .err(),
+    )
 }
 
 /// Posts a receive buffer of `n` zero octets.
 #[unsafe(no_mangle)]
-pub extern "C" fn iwarp_post_recv(alloc: Global, handle: &mut Handle, number: u8, n: usize) -> i32
-    // The code of the refusal, where one applies, or want of memory.
-    ensures refused { IfSome (refusal_in handle.old.state (λ e. refusal_to_lend e number))
+pub extern "C" fn iwarp_post_recv(alloc: Global, handle: &mut Handle, number: u32, n: usize) -> i32
+    // The code of the first refusal that applies, or of `NoMemory`.
+    ensures refused { IfSome (refusal_in handle.old.state (λ e. refusal_to_lend e (stream_number number) n))
         (λ r. (result ≡ pos 3) ⊎ (result ≡ pos (refusal_code r))) }
-    ensures memory { IfNone (refusal_in handle.old.state (λ e. refusal_to_lend e number))
+    ensures memory { IfNone (refusal_in handle.old.state (λ e. refusal_to_lend e (stream_number number) n))
         ((result ≡ pos 0) ⊎ (result ≡ pos 3)) }
-    ensures ok { result ≡ pos 0 → handle.new.state ≡ changed handle.old.state (λ e. with_buffer e number (zeroes n)) }
+    ensures long { IfSome (refusal_in handle.old.state (λ e. length_refusal n)) (λ r. result ≡ pos (refusal_code r)) }
+    ensures ok { result ≡ pos 0 → handle.new.state ≡ changed handle.old.state
+        (λ e. with_buffer e (stream_number number) (zeroes n)) }
     ensures err { result ≢ pos 0 → handle.new.state ≡ handle.old.state }
 {
-    code(handle.post_recv(alloc, number, n).err())
+    code(handle.post_recv(alloc, stream_number(number), n).err())
 }

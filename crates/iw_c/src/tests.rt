@@ -2,7 +2,7 @@ use crate::{iwarp_add_domain, iwarp_deregister, iwarp_free, iwarp_new, iwarp_reg
 use iw_handle::Handle;
 use std::test::Fail;
 
-// What no clause says: that memory is there, where it is. The calls themselves are tested in `test_handle`.
+// What no clause says: that a call succeeds if memory suffices. `test_handle` tests the calls themselves.
 #[test]
 fn exports(rt: HostRuntime) -> Result<(), Fail> {
     let alloc = rt.alloc();

@@ -10,6 +10,7 @@ use Rattle.iw_stream.specs.declared.answer.Step.TheVariants.{Buffered, Requested
 use Rattle.iw_stream.specs.declared.answer.Step.TheVariants.{Fault, Idle}
 use Rattle.iw_endpoint.specs.Endpoint.{EndpointState, step_at, after_work}
 use Rattle.iw_handle.specs.declared.event.Event.{Event}
+use Rattle.iw_handle.specs.declared.handed.Handed.{Handed}
 use Rattle.iw_handle.specs.declared.held.Held.{Held}
 use Rattle.iw_handle.specs.declared.refusal.Refusal.{Refusal}
 use Rattle.iw_handle.specs.declared.refusal.Refusal.TheVariants.{NoMemory}
@@ -18,7 +19,7 @@ use Rattle.iw_handle.specs.Streams.{refusal_to_work, TriesAt, handed_by, handed_
 use Rattle.iw_handle.specs.Steps.{is_quiet, is_quiet_answer, is_quiet_at, GoesQuietly, after_steps, Works, WorksOn}
 
 -- it hands nothing back
-handed_by-quiet : (step : Step (List ℕ)) (handed : List ℕ) → is_quiet step ≡ true → handed_by step handed ≡ handed
+handed_by-quiet : (step : Step (List ℕ)) (handed : Handed) → is_quiet step ≡ true → handed_by step handed ≡ handed
 handed_by-quiet (Placed right stag to len) handed quiet = refl
 handed_by-quiet (Buffered msn mo len) handed quiet = refl
 handed_by-quiet (Requested size stag to) handed quiet = refl
@@ -68,7 +69,7 @@ module _ (now : Held) (number : ℕ) (step : Step (List ℕ))
   goes : is_quiet step ≡ true → GoesQuietly now number
   goes quiet = record { may = none; quiet = ap is_quiet_answer (sym is) ∙ quiet }
 
-  worked : (handed : List ℕ) → handed ≡ handed_by step now.handed →
+  worked : (handed : Handed) → handed ≡ handed_by step now.handed →
       let after : Held = record { endpoint = e; handed = handed } in after ≡ held_worked now number
   worked handed kept = let same = kept ∙ sym handed_after-step in λ i. record { endpoint = left i; handed = same i }
 
@@ -86,7 +87,7 @@ module _ (now : Held) (number : ℕ) (step : Step (List ℕ))
         ∙ sym (after_steps-more before held number)
 
   -- the step is told, and what it hands back is kept
-  pub works-told : (event : Event) (handed : List ℕ) → event ≡ event_of step → handed ≡ handed_by step now.handed →
+  pub works-told : (event : Event) (handed : Handed) → event ≡ event_of step → handed ≡ handed_by step now.handed →
       Works now number None event (record { endpoint = e; handed = handed })
   works-told event handed told kept = record {
     refused = subst (λ o. IfSome o (λ r. let refusal : Option Refusal = None in refusal ≡ Some r)) (sym none) tt;

@@ -1,5 +1,5 @@
--- What a step of work and a call to emit answer, in numbers.
-use Rattle.std.specs.Prelude.{ℕ, ◌+◌, Bool, if◌then◌else◌, List, length, Option, is_some, Result, Ok, Err}
+-- The answers of `work` and `emit`, in numbers.
+use Rattle.std.specs.Prelude.{ℕ, ◌+◌, Bool, if◌then◌else◌, List, length, Option, None, Some, is_some, Result, Ok, Err}
 use Rattle.std.specs.Option.{option_map_or}
 use Rattle.iw_octets.specs.declared.stag.Stag.{Stag}
 use Rattle.iw_octets.specs.declared.fault.Fault as faults
@@ -13,6 +13,7 @@ use Rattle.iw_queues.specs.declared.request.Kind.TheVariants as kinds
 use Rattle.iw_ranges.specs.declared.Delivery.{Delivery}
 use Rattle.iw_ranges.specs.declared.Delivery.TheVariants as deliveries
 use Rattle.iw_startup.specs.declared.config.Agreed.{Agreed}
+use Rattle.iw_startup.specs.declared.enhanced.EnhancedData.{EnhancedData}
 use Rattle.iw_startup.specs.declared.progress.StartupFault.{StartupFault}
 use Rattle.iw_startup.specs.declared.progress.StartupFault.TheVariants.{BadKey, BadRev, BadLength, Rejected}
 use Rattle.iw_stream.specs.declared.answer.Emission as emission
@@ -25,6 +26,7 @@ use Rattle.iw_endpoint.specs.declared.refusal.NoSuchStream.{NoSuchStream}
 use Rattle.iw_handle.specs.declared.event.Event.{Event}
 use Rattle.iw_handle.specs.declared.event.Emitted.{Emitted}
 use Rattle.iw_handle.specs.declared.event.RegionFacts.{RegionFacts}
+use Rattle.iw_handle.specs.declared.event.Told.{Told}
 
 abbrev pub kind_number : Kind → ℕ
 kind_number kinds.Write = 1
@@ -43,15 +45,15 @@ startup_number BadRev = 2
 startup_number BadLength = 3
 startup_number Rejected = 4
 
--- a power of two, where this holds
+-- a power of two if this holds, else 0
 abbrev pub flag : Bool → ℕ → ℕ
 flag on value = if on then value else 0
 
--- 1 where this end puts markers into what it sends, 2 where the peer does, 4 where there are CRCs
+-- a sum of 1 (this end sends markers), 2 (the peer sends markers) and 4 (CRCs are used)
 abbrev pub agreed_flags : Agreed → ℕ
 agreed_flags agreed = flag agreed.send_markers 1 + flag agreed.expect_markers 2 + flag agreed.crc 4
 
--- 1 where it is solicited, 2 where a region went out of use
+-- a sum of 1 (the Send is solicited) and 2 (it invalidated a region)
 abbrev pub received_flags : Bool → Option Stag → ℕ
 received_flags solicited invalidate = flag solicited 1 + flag (is_some invalidate) 2
 
@@ -80,14 +82,14 @@ no_event = record {
   len = 0;
 }
 
--- of a message that was posted
+-- the event of a message that was posted
 abbrev pub message_event : ℕ → Kind → Event
 message_event kind message = record no_event { kind = kind; message = kind_number message }
 
 abbrev pub fault_event : ℕ → faults.Fault → Event
 fault_event kind fault = record no_event { kind = kind; layer = fault.layer; error = fault.kind; code = fault.code }
 
--- a Send of so many octets is complete
+-- a Send of `len` octets is complete
 abbrev pub received_event : ℕ → Bool → Option Stag → Event
 received_event len solicited invalidate = record no_event {
   kind = 11;
@@ -102,7 +104,7 @@ event_of (Done message) = message_event 1 message
 event_of (Flushed message) = message_event 2 message
 event_of (FlushedRecv buffer) = record no_event { kind = 3; len = length buffer }
 event_of Asked = record no_event { kind = 4 }
-event_of (Opened agreed) = record no_event { kind = 5; flags = agreed_flags agreed }
+event_of (Opened agreed) = record no_event { kind = 5; flags = agreed_flags agreed; len = agreed.ord }
 event_of (Closed fault) = record no_event { kind = 6; code = startup_number fault }
 event_of (Placed right stag to len) =
     record no_event { kind = 7; right = right_number right; stag = number_of stag; to = to; len = len }
@@ -137,10 +139,24 @@ IsFrame (emissions.Frame from len) = Unit {0}
 IsFrame (emissions.Fetched from len stag to n) = Unit {0}
 IsFrame (emissions.Fault fault) = ⊥
 
--- what is told of a region
+-- the facts of a region
 abbrev pub rights_number : Rights → ℕ
 rights_number rights = flag rights.write 1 + flag rights.read 2 + flag rights.sink 4 + flag rights.invalidate 8
 
 abbrev pub facts_of : Facts → RegionFacts
 facts_of facts =
     record { base = facts.base; len = facts.len; rights = rights_number facts.rights; valid = flag facts.valid 1 }
+
+-- what the peer told in an enhanced start-up frame
+abbrev pub peer_told : Option EnhancedData → Told
+peer_told None =
+    record { has_word = 0; ird = 0; ord = 0; peer_to_peer = 0; rtr_send = 0; rtr_write = 0; rtr_read = 0 }
+peer_told (Some word) = record {
+  has_word = 1;
+  ird = word.ird;
+  ord = word.ord;
+  peer_to_peer = flag word.peer_to_peer 1;
+  rtr_send = flag word.rtr_send 1;
+  rtr_write = flag word.rtr_write 1;
+  rtr_read = flag word.rtr_read 1;
+}

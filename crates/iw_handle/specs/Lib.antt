@@ -1,5 +1,6 @@
 pub mod Ownership
 pub mod Refusals
+pub mod Handed
 pub mod State
 pub mod Words
 pub mod Regions

@@ -1,4 +1,4 @@
--- What a handle owns: nothing, or what it has in a block of its own.
+-- What a handle owns: nothing, or a block of memory with what it has.
 use Rattle.std.specs.Prelude.{Option, Some, None}
 use Rattle.std.specs.Coded.{Coded, coded_option}
 use base.Fml.{Fml, feq}
@@ -16,7 +16,7 @@ held_row = held.the_row
 abbrev pub state_coded : Coded (Option Held)
 state_coded = coded_option held_row.coded
 
--- nothing where there is no endpoint, and the pointer is null; else what the handle has, and the right to free its
+-- nothing if there is no endpoint, and then the pointer is null; else what the handle has, and the right to free its
 -- block
 abbrev pub handle_owns : Global → Ptr → Option Held → Fml
 handle_owns alloc at None = feq Ptr at null_ptr

@@ -1,12 +1,15 @@
--- Why calls are refused, and the numbers that C is given.
+-- Why calls are refused, and the numbers that C gets.
 use Rattle.std.specs.Prelude.{◌≡◌, ℕ, Option, None, Some}
+use Rattle.iw_buffer.specs.declared.refusal.BufferRefusal.{BufferRefusal}
+use Rattle.iw_buffer.specs.declared.refusal.BufferRefusal.TheVariants as buffer
 use Rattle.iw_memory.specs.declared.refusal.DomainRefusal.{DomainRefusal}
 use Rattle.iw_memory.specs.declared.refusal.DomainRefusal.TheVariants as domain
 use Rattle.iw_memory.specs.declared.refusal.RegisterRefusal.{RegisterRefusal}
 use Rattle.iw_memory.specs.declared.refusal.RegisterRefusal.TheVariants as register
 use Rattle.iw_memory.specs.declared.refusal.StoreRefusal.{StoreRefusal}
 use Rattle.iw_memory.specs.declared.refusal.StoreRefusal.TheVariants as store
-use Rattle.iw_startup.specs.declared.startup.NotAsked.{NotAsked as Unasked}
+use Rattle.iw_stream.specs.declared.answer.AnswerRefusal.{AnswerRefusal}
+use Rattle.iw_stream.specs.declared.answer.AnswerRefusal.TheVariants as answer
 use Rattle.iw_stream.specs.declared.answer.OpenRefusal.{OpenRefusal}
 use Rattle.iw_stream.specs.declared.answer.OpenRefusal.TheVariants as opening
 use Rattle.iw_stream.specs.declared.answer.PostRefusal.{PostRefusal}
@@ -35,6 +38,7 @@ use Rattle.iw_handle.specs.declared.refusal.Refusal.TheVariants.{BadNumber, BadR
 use Rattle.iw_handle.specs.declared.refusal.Refusal.TheVariants.{MessagesFull, MessageTooLong, BuffersFull, Ended}
 use Rattle.iw_handle.specs.declared.refusal.Refusal.TheVariants.{BadSize, TooFar, Late}
 use Rattle.iw_handle.specs.declared.refusal.Refusal.TheVariants.{AlreadyShared, NotShared, PoolFull, Shared}
+use Rattle.iw_handle.specs.declared.refusal.Refusal.TheVariants.{NoBuffer, AlreadyMade, BufferTooLong, BadBits, NoReads}
 
 -- ---- the endpoint's refusals
 
@@ -58,17 +62,20 @@ abbrev pub open_reason : OpenRefusal → Refusal
 open_reason opening.NumberTaken = NumberTaken
 open_reason opening.BadNumber = BadNumber
 open_reason opening.NoDomain = NoDomain
+open_reason opening.PrivateTooLong = PrivateTooLong
 open_reason opening.NoMemory = NoMemory
 
-abbrev pub answer_reason : CallRefusal Unasked → Refusal
+abbrev pub answer_reason : CallRefusal AnswerRefusal → Refusal
 answer_reason call.NoSuchStream = NoSuchStream
-answer_reason (call.Refused r) = NotAsked
+answer_reason (call.Refused answer.NotAsked) = NotAsked
+answer_reason (call.Refused answer.PrivateTooLong) = PrivateTooLong
 
 abbrev pub post_reason : CallRefusal PostRefusal → Refusal
 post_reason call.NoSuchStream = NoSuchStream
 post_reason (call.Refused post.Full) = MessagesFull
 post_reason (call.Refused post.TooLong) = MessageTooLong
 post_reason (call.Refused post.NotOpen) = NotOpen
+post_reason (call.Refused post.NoReads) = NoReads
 post_reason (call.Refused post.NoMemory) = NoMemory
 
 abbrev pub recv_reason : CallRefusal RecvRefusal → Refusal
@@ -106,7 +113,15 @@ open_shared_reason shared_opening.NumberTaken = NumberTaken
 open_shared_reason shared_opening.BadNumber = BadNumber
 open_shared_reason shared_opening.NoDomain = NoDomain
 open_shared_reason shared_opening.NotShared = NotShared
+open_shared_reason shared_opening.PrivateTooLong = PrivateTooLong
 open_shared_reason shared_opening.NoMemory = NoMemory
+
+-- ---- of a buffer
+
+abbrev pub buffer_reason : BufferRefusal → Refusal
+buffer_reason buffer.NoBuffer = NoBuffer
+buffer_reason buffer.AlreadyMade = AlreadyMade
+buffer_reason buffer.NoMemory = NoMemory
 
 -- ---- codes
 
@@ -141,12 +156,17 @@ refusal_code AlreadyShared = 27
 refusal_code NotShared = 28
 refusal_code PoolFull = 29
 refusal_code Shared = 30
+refusal_code NoBuffer = 31
+refusal_code AlreadyMade = 32
+refusal_code BufferTooLong = 33
+refusal_code BadBits = 34
+refusal_code NoReads = 35
 
--- 0 where nothing was refused
+-- 0 if the call was not refused
 abbrev pub code_of : Option Refusal → ℕ
 code_of None = 0
 code_of (Some r) = refusal_code r
 
--- no two refusals have one code
+-- no two refusals have the same code
 abbrev pub CodesAreDistinct : Type 0
 CodesAreDistinct = (a b : Refusal) → refusal_code a ≡ refusal_code b → a ≡ b

@@ -15,7 +15,7 @@ use Rattle.iw_handle.specs.Events.{event_at}
 use Rattle.iw_handle.specs.Refusals.{code_of}
 use Rattle.iw_handle.specs.Streams.{refusal_to_work, TriesAt, held_worked}
 
--- a step that asks nothing of the program: the peer's frames go their way
+-- a quiet step: the program need not act on it
 abbrev pub is_quiet : Step (List ℕ) → Bool
 is_quiet (Placed right stag to len) = true
 is_quiet (Buffered msn mo len) = true
@@ -41,17 +41,17 @@ is_quiet_answer (Err missing) = false
 abbrev pub is_quiet_at : Held → ℕ → Bool
 is_quiet_at held number = is_quiet_answer (step_at held.endpoint number)
 
--- and it may be done
+-- and is not refused
 pub record GoesQuietly (held : Held) (number : ℕ) : Type 0 where
   pub may : refusal_to_work held.endpoint number ≡ None
   pub quiet : is_quiet_at held number ≡ true
 
--- what so many steps leave
+-- what n steps leave
 unfoldable pub after_steps : ℕ → Held → ℕ → Held
 after_steps zero held number = held
 after_steps (suc n) held number = held_worked (after_steps n held number) number
 
--- what one step answers and leaves: why it is refused, or the event that it tells
+-- what one step answers and leaves: its refusal, or its event
 pub record Works (held : Held) (number : ℕ) (refusal : Option Refusal) (event : Event) (after : Held) : Type 0 where
   pub refused : IfSome (refusal_to_work held.endpoint number) (λ r. refusal ≡ Some r)
   pub memory : IfNone (refusal_to_work held.endpoint number) (IfSome refusal (λ r. r ≡ NoMemory))
@@ -60,8 +60,8 @@ pub record Works (held : Held) (number : ℕ) (refusal : Option Refusal) (event 
   pub ok : refusal ≡ None → after ≡ held_worked held number
   pub err : IfSome refusal (λ _. after ≡ held)
 
--- steps one after another, none left out: at most so many quiet ones, and a last one, whose answer this is. That is quiet
--- only where there were so many before it
+-- steps one after another: at most `most` quiet ones, and a last one, whose answer this is. The last is quiet only if
+-- `most` steps came before it
 pub record WorksOn (most : ℕ) (held : Held) (number : ℕ) (refusal : Option Refusal) (event : Event) (after : Held) : Type 0 where
   pub before : ℕ
   pub few : before ≤ most
@@ -69,7 +69,7 @@ pub record WorksOn (most : ℕ) (held : Held) (number : ℕ) (refusal : Option R
   pub last : Works (after_steps before held number) number refusal event after
   pub ends : before < most → refusal ≡ None → is_quiet_at (after_steps before held number) number ≡ false
 
--- and the code of the last answer
+-- the same, with the code of the last answer
 pub record TellsOn (most : ℕ) (held : Held) (number : ℕ) (code : ℤ) (event : Event) (after : Held) : Type 0 where
   pub refusal : Option Refusal
   pub is : code ≡ pos (code_of refusal)

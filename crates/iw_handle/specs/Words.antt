@@ -1,19 +1,34 @@
--- What the numbers mean that C passes.
+-- The meaning of the numbers that C passes.
 use Rattle.std.specs.Prelude.{ℕ, ◌/◌, ◌%◌, ◌==◌, nat_lt, Bool, List, if◌then◌else◌, Option, None, Some, unwrap_or}
 use Rattle.arrayvec.specs.ArrayVec.{ArrayVec}
 use Rattle.iw_octets.specs.declared.stag.Stag.{Stag}
 use Rattle.iw_octets.specs.declared.payload.ReadRequest.{ReadRequest}
 use Rattle.iw_octets.specs.Stag.{stag_of}
 use Rattle.iw_memory.specs.declared.rights.Rights.{Rights}
+use Rattle.iw_startup.specs.declared.config.Establishment.{Establishment}
+use Rattle.iw_startup.specs.declared.config.Establishment.TheVariants as establishments
 use Rattle.iw_startup.specs.declared.config.Config.{Config}
 use Rattle.iw_stream.specs.declared.answer.Role.{Role}
 use Rattle.iw_stream.specs.declared.answer.Role.TheVariants.{Preset, Initiator, Responder}
 use Rattle.iw_handle.specs.declared.refusal.Refusal.{Refusal}
-use Rattle.iw_handle.specs.declared.refusal.Refusal.TheVariants.{BadRole, PrivateTooLong}
+use Rattle.iw_handle.specs.declared.refusal.Refusal.TheVariants.{BadRole, PrivateTooLong, BadBits}
+use Rattle.iw_handle.specs.State.{first_of}
 
--- whether a sum of powers of two has this one
+-- streams have the numbers 0 to 63: what is no octet names none, as 255 does
+abbrev pub stream_number : ℕ → ℕ
+stream_number n = if nat_lt n 256 then n else 255
+
+-- domains have the numbers 1 to 255: what is no octet names none, as 0 does
+abbrev pub domain_number : ℕ → ℕ
+domain_number n = if nat_lt n 256 then n else 0
+
+-- whether a sum of powers of two has this power
 abbrev pub has_bit : ℕ → ℕ → Bool
 has_bit n bit = n / bit % 2 == 1
+
+-- it is not a sum of powers of two below this one
+abbrev pub bits_refusal : ℕ → ℕ → Option Refusal
+bits_refusal bound n = if nat_lt n bound then None else Some BadBits
 
 -- a sum of 1 (write), 2 (read), 4 (sink) and 8 (invalidate)
 abbrev pub rights_of : ℕ → Rights
@@ -30,10 +45,14 @@ role_in n = unwrap_or (role_of n) Preset
 abbrev pub private_of : List ℕ → ArrayVec ℕ
 private_of octets = record { items = octets }
 
+-- 4 is revision 2 of MPA
+abbrev pub establishment_of : ℕ → Establishment
+establishment_of options = if has_bit options 4 then establishments.Enhanced else establishments.Plain
+
 -- a sum of 1 (markers are expected) and 2 (CRCs), with private data
 abbrev pub config_of : ℕ → List ℕ → Config
 config_of options private =
-    record { markers = has_bit options 1; crc = has_bit options 2; private = private_of private }
+    record { markers = has_bit options 1; crc = has_bit options 2; establishment = establishment_of options; private = private_of private }
 
 abbrev pub role_refusal : ℕ → Option Refusal
 role_refusal n = if nat_lt 2 n then Some BadRole else None
@@ -41,11 +60,15 @@ role_refusal n = if nat_lt 2 n then Some BadRole else None
 abbrev pub private_refusal : ℕ → Option Refusal
 private_refusal n = if nat_lt 512 n then Some PrivateTooLong else None
 
--- the STag that a Send takes away: a sum of 1 (solicited) and 2 (an STag is taken away)
+-- options, and so many octets of private data
+abbrev pub config_refusal : ℕ → ℕ → Option Refusal
+config_refusal options n = first_of (bits_refusal 8 options) (private_refusal n)
+
+-- the STag that a Send invalidates, if its flags, a sum of 1 (solicited) and 2 (invalidates), say so
 abbrev pub invalidated_by : ℕ → ℕ → Option Stag
 invalidated_by flags stag = if has_bit flags 2 then Some (stag_of stag) else None
 
--- what a Read asks for
+-- the Read with these numbers
 abbrev pub read_request : ℕ → ℕ → ℕ → ℕ → ℕ → ReadRequest
 read_request sink sink_to size source source_to =
     record { sink = stag_of sink; sink_to = sink_to; size = size; source = stag_of source; source_to = source_to }

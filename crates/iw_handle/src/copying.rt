@@ -1,10 +1,11 @@
 ghost use Rattle.std.specs.Prelude.{◌≡◌, Some, length, OnOk, OnErr};
 ghost use Rattle.std.specs.Result.{result_err};
-ghost use Rattle.iw_handle.specs.State.{room_refusal, filled};
+ghost use Rattle.iw_handle.specs.State.{room_refusal, length_refusal, filled};
 
 use crate::refusal::Refusal;
+use iw_octets::MAX_OCTETS;
 
-/// Copies octets to the front of a buffer, and tells how many they are, also where there is no room for them. An `Err`
+/// Copies octets to the front of a buffer. `len` becomes their number, even if they do not fit (`NoRoom`). An `Err`
 /// leaves the buffer as it was.
 pub(crate) fn copy_out(octets: &[u8], out: &mut [u8], len: &mut usize) -> Result<(), Refusal>
     ensures refused { result_err result ≡ room_refusal (length octets.now) (length out.old) }
@@ -18,5 +19,15 @@ pub(crate) fn copy_out(octets: &[u8], out: &mut [u8], len: &mut usize) -> Result
         return Err(Refusal::NoRoom);
     }
     out[..n].copy_from_slice(octets);
+    Ok(())
+}
+
+/// Whether a receive buffer may have so many octets.
+pub(crate) fn check_length(n: usize) -> Result<(), Refusal>
+    ensures { result_err result ≡ length_refusal n }
+{
+    if n > MAX_OCTETS {
+        return Err(Refusal::BufferTooLong);
+    }
     Ok(())
 }

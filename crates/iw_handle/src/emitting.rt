@@ -1,4 +1,4 @@
-// What goes out.
+// Emission.
 ghost use Rattle.std.specs.Prelude.{◌≡◌, None, Some, length, IfSome, IfNone, IfOk, IfErr, OnOk, OnErr};
 ghost use Rattle.iw_endpoint.specs.Endpoint.{emission_at, emitted_at, after_emit};
 ghost use Rattle.iw_handle.specs.Events.{emitted_of, IsFrame};
@@ -11,7 +11,7 @@ use crate::refusal::Refusal;
 use iw_endpoint::{CallRefusal, Endpoint, MAX_PLACE};
 use std::alloc::Global;
 
-// Emits a frame into a buffer, where there is room for it.
+// Emits a frame to the front of a buffer, if there is room for it.
 fn emit(
     endpoint: &mut Endpoint,
     alloc: Global,
@@ -19,7 +19,7 @@ fn emit(
     out: &mut [u8],
     len: &mut usize,
 ) -> Result<Emitted, Refusal>
-    // The refusal, where one applies, and otherwise want of memory alone.
+    // The first refusal that applies; if none does, only `NoMemory`.
     ensures refused { IfSome (refusal_to_emit endpoint.old number (length out.old)) (λ r. result ≡ Err r) }
     ensures memory { IfNone (refusal_to_emit endpoint.old number (length out.old))
         (IfErr result (λ e. e ≡ Refusal.NoMemory)) }
@@ -57,10 +57,10 @@ fn emit(
 }
 
 impl Handle {
-    /// Emits what is due at a stream to the front of a buffer, as [`Endpoint::emit`] says, and tells it in numbers. It
-    /// tells how many octets that is, also where there is no room for them. An `Err` changes nothing else; `TooFar`
-    /// comes where more than 2^62 octets were emitted, and `NoMemory` only where no other refusal applies and octets
-    /// are due.
+    /// Emits what is due at a stream to the front of a buffer ([`Endpoint::emit`]) and returns what it was, in numbers.
+    /// `len` becomes its length in octets, even if it does not fit (`NoRoom`) or memory runs out. An `Err` changes
+    /// nothing else. `TooFar` comes if more than 2^62 octets were emitted; `NoMemory` only if no other refusal applies
+    /// and octets are due.
     pub fn emit(
         &mut self,
         alloc: Global,

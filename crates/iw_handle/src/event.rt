@@ -1,23 +1,24 @@
-// What a step of work and a call to emit answer, in numbers.
+// The answers of `work` and `emit`, in numbers.
 ghost use Rattle.std.specs.Prelude.{◌≡◌, ◌≤◌};
 ghost use Rattle.iw_handle.specs.Events.{kind_number, right_number, startup_number, stag_number};
 ghost use Rattle.iw_handle.specs.Events.{flag, agreed_flags, received_flags, rights_number, kept_number};
 ghost use Rattle.iw_handle.specs.Events.{message_event, fault_event, received_event, event_of};
-ghost use Rattle.iw_handle.specs.Events.{emitted_of, facts_of};
+ghost use Rattle.iw_handle.specs.Events.{emitted_of, facts_of, peer_told};
 ghost use Rattle.iw_handle.specs.Steps.{is_quiet};
 
 use iw_endpoint::{
-    Agreed, Delivery, Emission, Facts, Fault, Kind, Octets, Right, Rights, Stag, StartupFault, Step,
+    Agreed, Delivery, Emission, EnhancedData, Facts, Fault, Kind, Octets, Right, Rights, Stag,
+    StartupFault, Step,
 };
 
-/// What a step of work did. `kind` says what else is told; the rest is 0.
+/// What a step of work did. Fields that have no meaning for its `kind` are 0.
 #[repr(C)]
 #[derive(Clone, Copy, Debug, PartialEq, Eq)]
 pub struct Event {
     pub kind: u32,
-    /// Of what was posted: 1 (Write), 2 (Send) or 3 (Read).
+    /// What was posted: 1 (Write), 2 (Send) or 3 (Read).
     pub message: u32,
-    /// The right that let octets be placed: 1 (write) or 4 (sink).
+    /// The right by which octets were placed: 1 (write) or 4 (sink).
     pub right: u32,
     pub flags: u32,
     pub stag: u32,
@@ -30,7 +31,7 @@ pub struct Event {
     pub len: u64,
 }
 
-/// What a call to emit did. `kind` says what else is told; the rest is 0.
+/// What a call of `emit` did. Fields that have no meaning for its `kind` are 0.
 #[repr(C)]
 #[derive(Clone, Copy, Debug, PartialEq, Eq)]
 pub struct Emitted {
@@ -44,7 +45,7 @@ pub struct Emitted {
     pub n: u64,
 }
 
-/// What is told of a region.
+/// The facts of a region.
 #[repr(C)]
 #[derive(Clone, Copy, Debug, PartialEq, Eq)]
 pub struct RegionFacts {
@@ -52,8 +53,25 @@ pub struct RegionFacts {
     pub len: u64,
     /// A sum of 1 (write), 2 (read), 4 (sink) and 8 (invalidate).
     pub rights: u32,
-    /// 1 where a peer may use it, and else 0.
+    /// 1 if peers may use it, else 0.
     pub valid: u32,
+}
+
+/// What the peer told in an enhanced start-up frame (RFC 6581 9). Without one all is 0.
+#[repr(C)]
+#[derive(Clone, Copy)]
+pub struct Told {
+    /// 1 if the frame was read and has the word of IRD and ORD.
+    pub has_word: u32,
+    /// How many Reads the peer takes at once.
+    pub ird: u32,
+    /// How many Reads the peer wants to have outstanding.
+    pub ord: u32,
+    /// A: the peer-to-peer model; B, C and D: the RTR may be a Send, a Write or a Read. Each is 1 or 0.
+    pub peer_to_peer: u32,
+    pub rtr_send: u32,
+    pub rtr_write: u32,
+    pub rtr_read: u32,
 }
 
 /// There was nothing to do.
@@ -121,8 +139,7 @@ fn flag(on: bool, value: u32) -> u32
     if on { value } else { 0 }
 }
 
-/// What both ends agree on: 1 where this end puts markers into what it sends, 2 where the peer does, 4 where there are
-/// CRCs.
+/// What both ends agreed on, a sum of 1 (this end sends markers), 2 (the peer sends markers) and 4 (CRCs are used).
 pub fn agreed_flags(agreed: Agreed) -> u32
     ensures { result ≡ agreed_flags agreed }
 {
@@ -157,7 +174,7 @@ fn fault_event(kind: u32, fault: Fault) -> Event
     }
 }
 
-// Of a message that was posted.
+// The event of a message that was posted.
 #[inline(always)]
 fn message_event(kind: u32, message: Kind) -> Event
     ensures { result ≡ message_event kind message }
@@ -176,6 +193,7 @@ fn opened_event(agreed: Agreed) -> Event
     Event {
         kind: 5,
         flags: agreed_flags(agreed),
+        len: agreed.ord as u64,
         ..IDLE
     }
 }
@@ -286,7 +304,7 @@ pub fn event_of(step: &Step<Octets>) -> Event
     }
 }
 
-/// Whether a step asks nothing of the program: the peer's frames go their way.
+/// Whether a step is quiet: the program need not act on it.
 #[inline(always)]
 pub fn is_quiet(step: &Step<Octets>) -> bool
     ensures { result ≡ is_quiet step.now }
@@ -357,7 +375,7 @@ fn rights_number(rights: Rights) -> u32
     flag(write, 1) + flag(read, 2) + flag(sink, 4) + flag(invalidate, 8)
 }
 
-/// What is told of a region, in numbers.
+/// The facts of a region, in numbers.
 pub fn facts_of(facts: Facts) -> RegionFacts
     ensures { result ≡ facts_of facts }
 {
@@ -369,12 +387,38 @@ pub fn facts_of(facts: Facts) -> RegionFacts
     }
 }
 
-/// Whether octets are kept (1) or dropped (0).
+/// 1 if octets are kept, 0 if they are dropped.
 pub fn kept_number(delivery: Delivery) -> u32
     ensures { result ≡ kept_number delivery }
 {
     match delivery {
         Delivery::Kept => 1,
         Delivery::Dropped => 0,
+    }
+}
+
+/// What the peer told, in numbers.
+pub fn peer_told(told: Option<EnhancedData>) -> Told
+    ensures { result ≡ peer_told told }
+{
+    match told {
+        Some(word) => Told {
+            has_word: 1,
+            ird: word.ird.into(),
+            ord: word.ord.into(),
+            peer_to_peer: flag(word.peer_to_peer, 1),
+            rtr_send: flag(word.rtr_send, 1),
+            rtr_write: flag(word.rtr_write, 1),
+            rtr_read: flag(word.rtr_read, 1),
+        },
+        None => Told {
+            has_word: 0,
+            ird: 0,
+            ord: 0,
+            peer_to_peer: 0,
+            rtr_send: 0,
+            rtr_write: 0,
+            rtr_read: 0,
+        },
     }
 }

@@ -9,10 +9,10 @@ use std::alloc::Global;
 use std::marker::Model;
 use std::ptr::null_mut;
 
-/// An endpoint that C keeps, or none. In C it is a struct of one pointer, null where there is none.
+/// An endpoint that C keeps, or none. In C it is a struct with one pointer, null if there is no endpoint.
 ///
-/// A type whose values can be read through a `&` does not cross to C, nor does a pointer to one. So the pointer says
-/// nothing of what it leads to, and each call takes that out of the handle and puts it back.
+/// A type whose values can be read through a `&` cannot be passed to C, nor can a pointer to one. So the pointer is
+/// untyped, and each call takes the endpoint out of the handle and puts it back.
 #[repr(C)]
 pub struct Handle {
     at: *mut u8,
@@ -35,7 +35,7 @@ impl Handle {
         }
     }
 
-    // Takes out what it has.
+    // Takes out what the handle has.
     pub(crate) fn take(&mut self, alloc: Global) -> Option<Box<Held>>
         ensures held { option_map (λ b. b.value) result ≡ self.old.state }
         ensures closed { self.new.state ≡ None }
@@ -44,7 +44,7 @@ impl Handle {
         handle.into_held()
     }
 
-    // Puts this in. What was there goes.
+    // Replaces what the handle has.
     pub(crate) fn put(&mut self, held: Box<Held>)
         ensures { self.new.state ≡ Some held.value }
     {

@@ -1,9 +1,12 @@
-//! An endpoint behind a handle that C keeps.
+//! An endpoint behind a handle that a C program keeps. `iw_c` exports each call of [`Handle`] as a C function, and
+//! include/iwarp.h declares them.
 #![tactic(auto)]
 
+mod buffers;
 mod copying;
 mod emitting;
 mod event;
+mod handed;
 mod handle;
 mod held;
 mod laws;
@@ -11,6 +14,7 @@ mod opening;
 mod parts;
 mod pools;
 mod posting;
+mod receiving;
 mod refusal;
 mod regions;
 mod streams;
@@ -18,12 +22,14 @@ mod words;
 mod working;
 
 pub use event::{
-    Emitted, Event, IDLE, RegionFacts, agreed_flags, emitted_of, event_of, facts_of, kept_number,
+    Emitted, Event, IDLE, RegionFacts, Told, agreed_flags, emitted_of, event_of, facts_of,
+    kept_number, peer_told,
 };
+pub use handed::Handed;
 pub use handle::Handle;
 pub use held::Held;
 pub use laws::codes_are_distinct;
 pub use pools::taken_number;
-pub use refusal::{Refusal, code};
-pub use words::{has_bit, invalidated_by, read_request, rights_of, stag_of};
+pub use refusal::{Refusal, buffer_reason, code};
+pub use words::{domain_number, read_request, stag_of, stream_number};
 pub use working::QUIET_STEPS;

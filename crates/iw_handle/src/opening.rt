@@ -6,24 +6,25 @@ ghost use Rattle.iw_endpoint.specs.Endpoint.{fresh, domain_refusal, added};
 ghost use Rattle.iw_handle.specs.Refusals.{domain_reason};
 ghost use Rattle.iw_handle.specs.State.{open_with, refusal_in, changed};
 
+use crate::handed::Handed;
 use crate::handle::Handle;
 use crate::held::Held;
 use crate::refusal::{Refusal, domain_reason};
-use iw_endpoint::{Endpoint, Octets};
+use iw_endpoint::Endpoint;
 use std::alloc::{AllocError, Global};
 
-// What a handle has that was opened now.
+// What a new handle has.
 fn fresh(alloc: Global) -> Result<Box<Held>, AllocError>
     ensures { IfOk result (λ held. Some held.value ≡ open_with fresh) }
 {
     let endpoint = Endpoint::new(alloc)?;
-    let handed = Octets::from_vec(Vec::new(alloc));
+    let handed = Handed::nothing(alloc);
     let held = Box::new(alloc, Held { endpoint, handed })?;
     Ok(held)
 }
 
 impl Handle {
-    /// Opens a closed handle, with an endpoint that has no domain and no stream. An `Err` changes nothing.
+    /// Opens a closed handle with a new endpoint, which has no domain and no stream. An `Err` changes nothing.
     pub fn open(&mut self, alloc: Global) -> Result<(), Refusal>
         ensures refused { IfSome self.old.state (λ _. result_err result ≡ Some Refusal.AlreadyOpen) }
         ensures why { self.old.state ≡ None → IfErr result (λ e. e ≡ Refusal.NoMemory) }
@@ -43,14 +44,14 @@ impl Handle {
         }
     }
 
-    /// Gives back all that the handle has. A closed handle stays closed.
+    /// Closes the handle and frees all that it has. A closed handle stays closed.
     pub fn close(&mut self, alloc: Global)
         ensures { self.new.state ≡ None }
     {
         drop(self.take(alloc));
     }
 
-    /// Adds a domain with no region and no stream: `pd` is 1 to 255. An `Err` changes nothing.
+    /// Adds a protection domain with no region and no stream. `pd` must be 1 to 255. An `Err` changes nothing.
     pub fn add_domain(&mut self, alloc: Global, pd: u8) -> Result<(), Refusal>
         ensures refused { result_err result ≡ refusal_in self.old.state
             (λ e. option_map domain_reason (domain_refusal e pd)) }

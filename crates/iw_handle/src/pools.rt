@@ -4,10 +4,12 @@ ghost use Rattle.std.specs.Result.{result_err};
 ghost use Rattle.iw_endpoint.specs.Endpoint.{shared, pooled, opened_shared};
 ghost use Rattle.iw_handle.specs.Pools.{refusal_to_share, refusal_to_pool, refusal_to_take, refusal_to_open_shared};
 ghost use Rattle.iw_handle.specs.Pools.{taken_len, taken_number, held_taken, taken};
-ghost use Rattle.iw_handle.specs.State.{refusal_in, changed, told_in};
+ghost use Rattle.iw_handle.specs.State.{refusal_in, changed, told_in, length_refusal};
 ghost use Rattle.iw_handle.specs.Streams.{zeroes};
 ghost use Rattle.iw_handle.specs.Words.{role_in, config_of};
 
+use crate::copying::check_length;
+use crate::handed::Handed;
 use crate::handle::Handle;
 use crate::held::Held;
 use crate::posting::zeroes;
@@ -16,7 +18,7 @@ use crate::words::{config_of, role_of};
 use iw_endpoint::{Endpoint, Octets};
 use std::alloc::Global;
 
-/// 1 where a buffer of some length was taken out of a pool, and 0 where the pool had none.
+/// 1 if a buffer was taken out of a pool, 0 if the pool was empty.
 pub fn taken_number(len: Option<usize>) -> u32
     ensures { result ≡ taken_number len }
 {
@@ -27,7 +29,7 @@ pub fn taken_number(len: Option<usize>) -> u32
 }
 
 fn share(endpoint: &mut Endpoint, pd: u8) -> Result<(), Refusal>
-    // The refusal, where one applies, and otherwise want of memory alone.
+    // The first refusal that applies; if none does, only `NoMemory`.
     ensures refused { IfSome (refusal_to_share endpoint.old pd) (λ r. result ≡ Err r) }
     ensures memory { IfNone (refusal_to_share endpoint.old pd) (IfErr result (λ e. e ≡ Refusal.NoMemory)) }
     ensures ok { OnOk result (endpoint.new ≡ shared endpoint.old pd) }
@@ -40,12 +42,14 @@ fn share(endpoint: &mut Endpoint, pd: u8) -> Result<(), Refusal>
 }
 
 fn post_shared(endpoint: &mut Endpoint, alloc: Global, pd: u8, n: usize) -> Result<(), Refusal>
-    // The refusal, where one applies, or want of memory.
-    ensures refused { IfSome (refusal_to_pool endpoint.old pd) (λ _. IsErr result) }
-    ensures why { IfErr result (λ e. (e ≡ Refusal.NoMemory) ⊎ (refusal_to_pool endpoint.old pd ≡ Some e)) }
+    // The first refusal that applies, or `NoMemory`.
+    ensures refused { IfSome (refusal_to_pool endpoint.old pd n) (λ _. IsErr result) }
+    ensures why { IfErr result (λ e. (e ≡ Refusal.NoMemory) ⊎ (refusal_to_pool endpoint.old pd n ≡ Some e)) }
+    ensures long { IfSome (length_refusal n) (λ r. result ≡ Err r) }
     ensures ok { OnOk result (endpoint.new ≡ pooled endpoint.old pd (zeroes n)) }
     ensures err { OnErr result (endpoint.new ≡ endpoint.old) }
 {
+    check_length(n)?;
     let Ok(buffer) = zeroes(alloc, n) else {
         return Err(Refusal::NoMemory);
     };
@@ -55,7 +59,7 @@ fn post_shared(endpoint: &mut Endpoint, alloc: Global, pd: u8, n: usize) -> Resu
     }
 }
 
-// Takes the oldest buffer out, and keeps it to be fetched. It tells how many octets it has.
+// Takes the oldest buffer out, keeps it to be fetched, and returns its length.
 fn take_shared(held: &mut Held, pd: u8) -> Result<Option<usize>, Refusal>
     ensures refused { result_err result ≡ refusal_to_take held.old.endpoint pd }
     ensures len { IfOk result (λ len. len ≡ taken_len held.old.endpoint pd) }
@@ -65,7 +69,7 @@ fn take_shared(held: &mut Held, pd: u8) -> Result<Option<usize>, Refusal>
     match held.endpoint.take_shared(pd) {
         Ok(Some(buffer)) => {
             let len = buffer.len();
-            held.handed = Octets::from_vec(buffer);
+            held.handed = Handed::whole(Octets::from_vec(buffer));
             Ok(Some(len))
         }
         Ok(None) => Ok(None),
@@ -73,7 +77,7 @@ fn take_shared(held: &mut Held, pd: u8) -> Result<Option<usize>, Refusal>
     }
 }
 
-// Opens a stream that shares the domain's pool, as numbers say.
+// Opens a stream that shares the domain's pool. Role and options are numbers.
 fn open_shared(
     endpoint: &mut Endpoint,
     number: u8,
@@ -82,10 +86,10 @@ fn open_shared(
     options: u32,
     private: &[u8],
 ) -> Result<(), Refusal>
-    // The refusal, where one applies, and otherwise want of memory alone.
-    ensures refused { IfSome (refusal_to_open_shared endpoint.old number pd role (length private.now))
+    // The first refusal that applies; if none does, only `NoMemory`.
+    ensures refused { IfSome (refusal_to_open_shared endpoint.old number pd role options private.now)
         (λ r. result ≡ Err r) }
-    ensures memory { IfNone (refusal_to_open_shared endpoint.old number pd role (length private.now))
+    ensures memory { IfNone (refusal_to_open_shared endpoint.old number pd role options private.now)
         (IfErr result (λ e. e ≡ Refusal.NoMemory)) }
     ensures ok { OnOk result
         (endpoint.new ≡ opened_shared endpoint.old number pd (role_in role) (config_of options private.now)) }
@@ -100,8 +104,8 @@ fn open_shared(
 }
 
 impl Handle {
-    /// Makes the domain a pool of receive buffers, with none in it, that streams of the domain may share, as
-    /// [`Endpoint::share`] says. An `Err` changes nothing; `NoMemory` comes only where no other refusal applies.
+    /// Gives the domain an empty pool of receive buffers, which its streams may share ([`Endpoint::share`]). An `Err`
+    /// changes nothing; `NoMemory` comes only if no other refusal applies.
     pub fn share(&mut self, alloc: Global, pd: u8) -> Result<(), Refusal>
         ensures refused { IfSome (refusal_in self.old.state (λ e. refusal_to_share e pd)) (λ r. result ≡ Err r) }
         ensures memory { IfNone (refusal_in self.old.state (λ e. refusal_to_share e pd))
@@ -117,12 +121,13 @@ impl Handle {
         done
     }
 
-    /// Posts a receive buffer of `n` zero octets to the domain's pool, after the others. `NoMemory` may come before another
-    /// refusal, since the buffer is made first. An `Err` changes nothing.
+    /// Posts a receive buffer of `n` zero octets, at most 16,777,216, to the domain's pool, after the others. An `Err`
+    /// changes nothing. `NoMemory` may come in place of a refusal of the pool's, since the buffer is allocated first.
     pub fn post_shared(&mut self, alloc: Global, pd: u8, n: usize) -> Result<(), Refusal>
-        ensures refused { IfSome (refusal_in self.old.state (λ e. refusal_to_pool e pd)) (λ _. IsErr result) }
+        ensures refused { IfSome (refusal_in self.old.state (λ e. refusal_to_pool e pd n)) (λ _. IsErr result) }
         ensures why { IfErr result
-            (λ e. (e ≡ Refusal.NoMemory) ⊎ (refusal_in self.old.state (λ e. refusal_to_pool e pd) ≡ Some e)) }
+            (λ e. (e ≡ Refusal.NoMemory) ⊎ (refusal_in self.old.state (λ e. refusal_to_pool e pd n) ≡ Some e)) }
+        ensures long { IfSome (refusal_in self.old.state (λ e. length_refusal n)) (λ r. result ≡ Err r) }
         ensures ok { OnOk result (self.new.state ≡ changed self.old.state (λ e. pooled e pd (zeroes n))) }
         ensures err { OnErr result (self.new.state ≡ self.old.state) }
     {
@@ -134,8 +139,8 @@ impl Handle {
         done
     }
 
-    /// Takes the oldest buffer out of the domain's pool, and tells how many octets it has; `None` where the pool has none. The
-    /// buffer stays for [`Handle::fetch`], as one does that `work` hands back. An `Err` changes nothing.
+    /// Takes the oldest buffer out of the domain's pool and returns its length; `None` if the pool is empty. Get the
+    /// buffer with [`Handle::fetch`]. An `Err` changes nothing.
     pub fn take_shared(&mut self, alloc: Global, pd: u8) -> Result<Option<usize>, Refusal>
         ensures refused { result_err result ≡ refusal_in self.old.state (λ e. refusal_to_take e pd) }
         ensures len { IfOk result (λ len. Some len ≡ told_in self.old.state (λ e. taken_len e pd)) }
@@ -150,8 +155,8 @@ impl Handle {
         done
     }
 
-    /// Opens a stream as [`Handle::open_stream`] does, one that takes its receive buffers from its domain's pool, as
-    /// [`Endpoint::open_shared`] says. An `Err` changes nothing; `NoMemory` comes only where no other refusal applies.
+    /// As [`Handle::open_stream`], but the stream takes its receive buffers from its domain's pool
+    /// ([`Endpoint::open_shared`]). An `Err` changes nothing; `NoMemory` comes only if no other refusal applies.
     pub fn open_shared(
         &mut self,
         alloc: Global,
@@ -162,10 +167,10 @@ impl Handle {
         private: &[u8],
     ) -> Result<(), Refusal>
         ensures refused { IfSome
-            (refusal_in self.old.state (λ e. refusal_to_open_shared e number pd role (length private.now)))
+            (refusal_in self.old.state (λ e. refusal_to_open_shared e number pd role options private.now))
             (λ r. result ≡ Err r) }
         ensures memory { IfNone
-            (refusal_in self.old.state (λ e. refusal_to_open_shared e number pd role (length private.now)))
+            (refusal_in self.old.state (λ e. refusal_to_open_shared e number pd role options private.now))
             (IfErr result (λ e. e ≡ Refusal.NoMemory)) }
         ensures ok { OnOk result (self.new.state ≡ changed self.old.state
             (λ e. opened_shared e number pd (role_in role) (config_of options private.now))) }

@@ -1,17 +1,30 @@
-// What is posted at a stream.
+// Posting to a stream.
 ghost use Rattle.std.specs.Prelude.{◌≡◌, ◌⊎◌, None, Some, length, IfSome, IfNone, IfOk, IfErr, IsErr, OnOk, OnErr};
 ghost use Rattle.iw_endpoint.specs.Endpoint.{with_request, with_buffer};
-ghost use Rattle.iw_handle.specs.State.{refusal_in, changed};
-ghost use Rattle.iw_handle.specs.Streams.{refusal_to_post, refusal_to_lend, send_of, write_of, read_of, zeroes};
+ghost use Rattle.iw_handle.specs.Refusals.{post_reason};
+ghost use Rattle.iw_handle.specs.State.{refusal_in, changed, length_refusal};
+ghost use Rattle.iw_handle.specs.Streams.{refusal_to_post, refusal_to_lend, write_of, read_of, zeroes};
+ghost use Rattle.iw_handle.specs.Streams.{refusal_to_send, send_of, sent};
+ghost use Rattle.iw_handle.specs.Words.{bits_refusal};
 
+use crate::copying::check_length;
 use crate::handle::Handle;
 use crate::refusal::{Refusal, post_reason, recv_reason};
+use crate::words::{check_bits, has_bit, invalidated_by};
 use bytes::Bytes;
-use iw_endpoint::{Endpoint, Message, ReadRequest, Request, Stag};
+use iw_endpoint::{CallRefusal, Endpoint, Message, PostRefusal, ReadRequest, Request, Stag};
 use std::alloc::{AllocError, Global};
 
+// The reason of a refusal; the request is dropped.
+fn reason_of(refused: (CallRefusal<PostRefusal>, Request<Bytes>)) -> Refusal
+    ensures { result ≡ post_reason refused.0 }
+{
+    let (refusal, _) = refused;
+    post_reason(refusal)
+}
+
 fn post(endpoint: &mut Endpoint, number: u8, request: Request<Bytes>) -> Result<(), Refusal>
-    // The refusal, where one applies, and otherwise want of memory alone.
+    // The first refusal that applies; if none does, only `NoMemory`.
     ensures refused { IfSome (refusal_to_post endpoint.old number request) (λ r. result ≡ Err r) }
     ensures memory { IfNone (refusal_to_post endpoint.old number request) (IfErr result (λ e. e ≡ Refusal.NoMemory)) }
     ensures ok { OnOk result (endpoint.new ≡ with_request endpoint.old number request) }
@@ -19,11 +32,11 @@ fn post(endpoint: &mut Endpoint, number: u8, request: Request<Bytes>) -> Result<
 {
     match endpoint.post(number, request) {
         Ok(()) => Ok(()),
-        Err((refusal, _)) => Err(post_reason(refusal)),
+        Err(refused) => Err(reason_of(refused)),
     }
 }
 
-// A buffer of so many octets.
+// A buffer of `n` zero octets.
 pub(crate) fn zeroes(alloc: Global, n: usize) -> Result<Vec<u8>, AllocError>
     ensures { IfOk result (λ octets. octets.items ≡ zeroes n) }
 {
@@ -32,12 +45,14 @@ pub(crate) fn zeroes(alloc: Global, n: usize) -> Result<Vec<u8>, AllocError>
 }
 
 fn lend(endpoint: &mut Endpoint, alloc: Global, number: u8, n: usize) -> Result<(), Refusal>
-    // The refusal, where one applies, or want of memory.
-    ensures refused { IfSome (refusal_to_lend endpoint.old number) (λ _. IsErr result) }
-    ensures why { IfErr result (λ e. (e ≡ Refusal.NoMemory) ⊎ (refusal_to_lend endpoint.old number ≡ Some e)) }
+    // The first refusal that applies, or `NoMemory`.
+    ensures refused { IfSome (refusal_to_lend endpoint.old number n) (λ _. IsErr result) }
+    ensures why { IfErr result (λ e. (e ≡ Refusal.NoMemory) ⊎ (refusal_to_lend endpoint.old number n ≡ Some e)) }
+    ensures long { IfSome (length_refusal n) (λ r. result ≡ Err r) }
     ensures ok { OnOk result (endpoint.new ≡ with_buffer endpoint.old number (zeroes n)) }
     ensures err { OnErr result (endpoint.new ≡ endpoint.old) }
 {
+    check_length(n)?;
     let Ok(buffer) = zeroes(alloc, n) else {
         return Err(Refusal::NoMemory);
     };
@@ -48,43 +63,37 @@ fn lend(endpoint: &mut Endpoint, alloc: Global, number: u8, n: usize) -> Result<
 }
 
 impl Handle {
-    /// Posts a Send of a copy of the octets, as [`Endpoint::post`] says; `invalidate` names a region of the peer that
-    /// it loses with it. `NoMemory` may come before another refusal, since the copy is made first. An `Err` changes
-    /// nothing.
+    /// Posts a Send of a copy of the octets ([`Endpoint::post`]). `flags` is a sum of 1 (it is solicited) and 2 (it
+    /// invalidates the peer's region `stag`); `BadBits` means that it has another bit. An `Err` changes nothing. `NoMemory`
+    /// may come in place of a refusal of the stream's, since the copy is made first.
     pub fn post_send(
         &mut self,
         alloc: Global,
         number: u8,
         octets: &[u8],
-        solicited: bool,
-        invalidate: Option<Stag>,
+        flags: u32,
+        stag: u32,
     ) -> Result<(), Refusal>
         ensures refused { IfSome
-            (refusal_in self.old.state (λ e. refusal_to_post e number (send_of octets.now solicited invalidate)))
+            (refusal_in self.old.state (λ e. refusal_to_send e number octets.now flags stag))
             (λ _. IsErr result) }
         ensures why { IfErr result (λ e. (e ≡ Refusal.NoMemory) ⊎ (refusal_in self.old.state
-            (λ e. refusal_to_post e number (send_of octets.now solicited invalidate)) ≡ Some e)) }
+            (λ e. refusal_to_send e number octets.now flags stag) ≡ Some e)) }
         ensures ok { OnOk result (self.new.state ≡ changed self.old.state
-            (λ e. with_request e number (send_of octets.now solicited invalidate))) }
+            (λ e. with_request e number (sent octets.now flags stag))) }
         ensures err { OnErr result (self.new.state ≡ self.old.state) }
+        ensures bits { IfSome (refusal_in self.old.state (λ e. bits_refusal 4 flags)) (λ r. result ≡ Err r) }
     {
         let Some(mut held) = self.take(alloc) else {
             return Err(Refusal::Closed);
         };
-        let done = post_send(
-            &mut held.endpoint,
-            alloc,
-            number,
-            octets,
-            solicited,
-            invalidate,
-        );
+        let done = post_send(&mut held.endpoint, alloc, number, octets, flags, stag);
         self.put(held);
         done
     }
 
-    /// Posts a Write of a copy of the octets to a region of the peer, from a tagged offset on. `NoMemory` may come
-    /// before another refusal, since the copy is made first. An `Err` changes nothing.
+    /// Posts a Write of a copy of the octets to a region of the peer, at a tagged offset. An `Err` changes nothing.
+    /// `NoMemory` may come in place of another refusal, since the copy is made first.
     pub fn post_write(
         &mut self,
         alloc: Global,
@@ -110,7 +119,8 @@ impl Handle {
         done
     }
 
-    /// Posts a Read. An `Err` changes nothing; `NoMemory` comes only where no other refusal applies.
+    /// Posts a Read, from a region of the peer into one of this end. An `Err` changes nothing; `NoMemory` comes only if
+    /// no other refusal applies.
     pub fn post_read(
         &mut self,
         alloc: Global,
@@ -133,12 +143,13 @@ impl Handle {
         done
     }
 
-    /// Posts a receive buffer of `n` zero octets. `NoMemory` may come before another refusal, since the buffer is made
-    /// first. An `Err` changes nothing.
+    /// Posts a receive buffer of `n` zero octets, at most 16,777,216. An `Err` changes nothing. `NoMemory` may come in place
+    /// of a refusal of the stream's, since the buffer is allocated first.
     pub fn post_recv(&mut self, alloc: Global, number: u8, n: usize) -> Result<(), Refusal>
-        ensures refused { IfSome (refusal_in self.old.state (λ e. refusal_to_lend e number)) (λ _. IsErr result) }
+        ensures refused { IfSome (refusal_in self.old.state (λ e. refusal_to_lend e number n)) (λ _. IsErr result) }
         ensures why { IfErr result
-            (λ e. (e ≡ Refusal.NoMemory) ⊎ (refusal_in self.old.state (λ e. refusal_to_lend e number) ≡ Some e)) }
+            (λ e. (e ≡ Refusal.NoMemory) ⊎ (refusal_in self.old.state (λ e. refusal_to_lend e number n) ≡ Some e)) }
+        ensures long { IfSome (refusal_in self.old.state (λ e. length_refusal n)) (λ r. result ≡ Err r) }
         ensures ok { OnOk result (self.new.state ≡ changed self.old.state (λ e. with_buffer e number (zeroes n))) }
         ensures err { OnErr result (self.new.state ≡ self.old.state) }
     {
@@ -151,7 +162,8 @@ impl Handle {
     }
 }
 
-fn post_send(
+// Posts a Send of a copy of the octets.
+fn send_copy(
     endpoint: &mut Endpoint,
     alloc: Global,
     number: u8,
@@ -163,8 +175,7 @@ fn post_send(
         (λ _. IsErr result) }
     ensures why { IfErr result (λ e. (e ≡ Refusal.NoMemory) ⊎
         (refusal_to_post endpoint.old number (send_of octets.now solicited invalidate) ≡ Some e)) }
-    ensures ok { OnOk result
-        (endpoint.new ≡ with_request endpoint.old number (send_of octets.now solicited invalidate)) }
+    ensures ok { OnOk result (endpoint.new ≡ with_request endpoint.old number (send_of octets.now solicited invalidate)) }
     ensures err { OnErr result (endpoint.new ≡ endpoint.old) }
 {
     let Ok(octets) = Bytes::copy_from_slice(alloc, octets) else {
@@ -176,6 +187,35 @@ fn post_send(
         invalidate,
     };
     post(endpoint, number, Request::Message(message))
+}
+
+fn post_send(
+    endpoint: &mut Endpoint,
+    alloc: Global,
+    number: u8,
+    octets: &[u8],
+    flags: u32,
+    stag: u32,
+) -> Result<(), Refusal>
+    ensures refused { IfSome (refusal_to_send endpoint.old number octets.now flags stag)
+        (λ _. IsErr result) }
+    ensures why { IfErr result (λ e. (e ≡ Refusal.NoMemory) ⊎
+        (refusal_to_send endpoint.old number octets.now flags stag ≡ Some e)) }
+    ensures ok { OnOk result
+        (endpoint.new ≡ with_request endpoint.old number (sent octets.now flags stag)) }
+    ensures err { OnErr result (endpoint.new ≡ endpoint.old) }
+    ensures bits { IfSome (bits_refusal 4 flags) (λ r. result ≡ Err r) }
+{
+    check_bits(4, flags)?;
+    let invalidate = invalidated_by(flags, stag);
+    send_copy(
+        endpoint,
+        alloc,
+        number,
+        octets,
+        has_bit(flags, 1),
+        invalidate,
+    )
 }
 
 fn post_write(

@@ -2,10 +2,11 @@
 ghost use Rattle.std.specs.Prelude.{◌≡◌, ◌↔◌, None, pos};
 ghost use Rattle.iw_handle.specs.Refusals.{domain_reason, register_reason, store_reason, code_of};
 ghost use Rattle.iw_handle.specs.Refusals.{open_reason, answer_reason, post_reason, recv_reason, first_reason, size_reason};
-ghost use Rattle.iw_handle.specs.Refusals.{share_reason, pool_reason, take_reason, open_shared_reason};
+ghost use Rattle.iw_handle.specs.Refusals.{share_reason, pool_reason, take_reason, open_shared_reason, buffer_reason};
 
+use iw_buffer::BufferRefusal;
 use iw_endpoint::{
-    CallRefusal, DomainRefusal, FirstRefusal, NotAsked, OpenRefusal, OpenSharedRefusal,
+    AnswerRefusal, CallRefusal, DomainRefusal, FirstRefusal, OpenRefusal, OpenSharedRefusal,
     PoolRefusal, PostRefusal, RecvRefusal, RegisterRefusal, ShareRefusal, SizeRefusal,
     StoreRefusal, TakeRefusal,
 };
@@ -17,9 +18,10 @@ pub enum Refusal {
     /// The handle has no endpoint.
     #[error("the handle has no endpoint")]
     Closed,
-    /// The handle has an endpoint already.
+    /// The handle already has an endpoint.
     #[error("the handle has an endpoint already")]
     AlreadyOpen,
+    /// Out of memory.
     #[error("no memory")]
     NoMemory,
     /// The caller's buffer is too short.
@@ -31,10 +33,10 @@ pub enum Refusal {
     /// The STag names no region.
     #[error("the STag names no region")]
     NoRegion,
-    /// Not all the octets stand in the region.
+    /// Not all the octets lie in the region.
     #[error("the octets are not all in the region")]
     Outside,
-    /// 0 is no domain's number.
+    /// 0 is not a domain's number.
     #[error("0 is no domain")]
     BadDomain,
     /// The domain was added before.
@@ -46,34 +48,34 @@ pub enum Refusal {
     /// The domain has 1,024 regions.
     #[error("the domain is full")]
     DomainFull,
-    /// A region has at most 16,777,216 octets.
+    /// More than 16,777,216 octets, the most that a region may have.
     #[error("too many octets for a region")]
     RegionTooLong,
-    /// The base and the number of octets come to more than 2^64.
+    /// The base plus the number of octets is more than 2^64.
     #[error("the tagged offsets wrap")]
     BaseWrap,
-    /// The number was opened before.
+    /// A stream was opened under this number before.
     #[error("a stream with this number was opened before")]
     NumberTaken,
-    /// No stream has this number.
+    /// The stream's number is greater than 63.
     #[error("no stream has this number")]
     BadNumber,
-    /// No role has this number.
+    /// The role is not 0, 1 or 2.
     #[error("no role has this number")]
     BadRole,
-    /// Private data has at most 512 octets.
-    #[error("more than 512 octets of private data")]
+    /// Private data has at most 512 octets, and 508 in an enhanced start-up frame.
+    #[error("too many octets of private data")]
     PrivateTooLong,
-    /// No Request waits for an answer.
+    /// No MPA Request is pending.
     #[error("no Request waits for an answer")]
     NotAsked,
     /// The stream is not open yet, or has ended.
     #[error("the stream is not open")]
     NotOpen,
-    /// 256 messages are posted and not yet handed out.
+    /// 256 messages are posted and not yet handed back.
     #[error("256 messages are posted and not yet handed out")]
     MessagesFull,
-    /// A message, or what a Read asks for, has at most 16,777,216 octets.
+    /// More than 16,777,216 octets in a message or Read.
     #[error("the message or Read has more than 16,777,216 octets")]
     MessageTooLong,
     /// 256 receive buffers are posted and not yet handed back.
@@ -82,16 +84,16 @@ pub enum Refusal {
     /// The stream has ended.
     #[error("the stream has ended")]
     Ended,
-    /// A maximum ULPDU has 128 to 64,512 octets.
+    /// The maximum ULPDU is outside 128 to 64,512 octets.
     #[error("the ULPDU size is outside 128 to 64,512 octets")]
     BadSize,
-    /// The stream has emitted, or come through, more than 2^62 octets.
+    /// The stream has emitted more than 2^62 octets, or its in-order point is past 2^62.
     #[error("the stream has gone too far")]
     TooFar,
     /// Octets were delivered on the stream before.
     #[error("octets were delivered before")]
     Late,
-    /// The domain has a pool of receive buffers already.
+    /// The domain already has a pool of receive buffers.
     #[error("the domain has a pool already")]
     AlreadyShared,
     /// The domain has no pool of receive buffers.
@@ -103,6 +105,21 @@ pub enum Refusal {
     /// The stream takes its receive buffers from its domain's pool.
     #[error("the stream shares its domain's pool")]
     Shared,
+    /// The buffer was never made, or was freed.
+    #[error("there is no buffer")]
+    NoBuffer,
+    /// The buffer was made before, and not freed.
+    #[error("the buffer was made before")]
+    AlreadyMade,
+    /// A receive buffer has at most 16,777,216 octets.
+    #[error("too many octets for a receive buffer")]
+    BufferTooLong,
+    /// A bit is set that has no meaning.
+    #[error("a bit is set that has no meaning")]
+    BadBits,
+    /// The peer takes no Reads: its IRD is 0.
+    #[error("the peer takes no Reads")]
+    NoReads,
 }
 
 pub(crate) fn domain_reason(refusal: DomainRefusal) -> Refusal
@@ -143,16 +160,18 @@ pub(crate) fn open_reason(refusal: OpenRefusal) -> Refusal
         OpenRefusal::NumberTaken => Refusal::NumberTaken,
         OpenRefusal::BadNumber => Refusal::BadNumber,
         OpenRefusal::NoDomain => Refusal::NoDomain,
+        OpenRefusal::PrivateTooLong => Refusal::PrivateTooLong,
         OpenRefusal::NoMemory => Refusal::NoMemory,
     }
 }
 
-pub(crate) fn answer_reason(refusal: CallRefusal<NotAsked>) -> Refusal
+pub(crate) fn answer_reason(refusal: CallRefusal<AnswerRefusal>) -> Refusal
     ensures { result ≡ answer_reason refusal }
 {
     match refusal {
         CallRefusal::NoSuchStream => Refusal::NoSuchStream,
-        CallRefusal::Refused(NotAsked) => Refusal::NotAsked,
+        CallRefusal::Refused(AnswerRefusal::NotAsked) => Refusal::NotAsked,
+        CallRefusal::Refused(AnswerRefusal::PrivateTooLong) => Refusal::PrivateTooLong,
     }
 }
 
@@ -164,6 +183,7 @@ pub(crate) fn post_reason(refusal: CallRefusal<PostRefusal>) -> Refusal
         CallRefusal::Refused(PostRefusal::Full) => Refusal::MessagesFull,
         CallRefusal::Refused(PostRefusal::TooLong) => Refusal::MessageTooLong,
         CallRefusal::Refused(PostRefusal::NotOpen) => Refusal::NotOpen,
+        CallRefusal::Refused(PostRefusal::NoReads) => Refusal::NoReads,
         CallRefusal::Refused(PostRefusal::NoMemory) => Refusal::NoMemory,
     }
 }
@@ -236,11 +256,23 @@ pub(crate) fn open_shared_reason(refusal: OpenSharedRefusal) -> Refusal
         OpenSharedRefusal::BadNumber => Refusal::BadNumber,
         OpenSharedRefusal::NoDomain => Refusal::NoDomain,
         OpenSharedRefusal::NotShared => Refusal::NotShared,
+        OpenSharedRefusal::PrivateTooLong => Refusal::PrivateTooLong,
         OpenSharedRefusal::NoMemory => Refusal::NoMemory,
     }
 }
 
-/// The number that C is given: 0 where the call was done, and else a number of the refusal's own.
+/// The reason of a call on a buffer.
+pub fn buffer_reason(refusal: BufferRefusal) -> Refusal
+    ensures { result ≡ buffer_reason refusal }
+{
+    match refusal {
+        BufferRefusal::NoBuffer => Refusal::NoBuffer,
+        BufferRefusal::AlreadyMade => Refusal::AlreadyMade,
+        BufferRefusal::NoMemory => Refusal::NoMemory,
+    }
+}
+
+/// The number that C gets: 0 if the call was not refused, else the number of the refusal.
 pub fn code(refusal: Option<Refusal>) -> i32
     ensures code { result ≡ pos (code_of refusal) }
     ensures done { (result ≡ pos 0) ↔ (refusal ≡ None) }
@@ -277,5 +309,10 @@ pub fn code(refusal: Option<Refusal>) -> i32
         Some(Refusal::NotShared) => 28,
         Some(Refusal::PoolFull) => 29,
         Some(Refusal::Shared) => 30,
+        Some(Refusal::NoBuffer) => 31,
+        Some(Refusal::AlreadyMade) => 32,
+        Some(Refusal::BufferTooLong) => 33,
+        Some(Refusal::BadBits) => 34,
+        Some(Refusal::NoReads) => 35,
     }
 }

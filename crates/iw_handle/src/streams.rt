@@ -1,7 +1,7 @@
 // Calls that open a stream, answer its Request and end it.
 ghost use Rattle.std.specs.Prelude.{◌≡◌, None, Some, length, IfSome, IfNone, IfOk, IfErr, OnOk, OnErr};
 ghost use Rattle.std.specs.Result.{result_err};
-ghost use Rattle.iw_endpoint.specs.Endpoint.{opened, accepted, rejected, agreement, broken, with_mulpdu};
+ghost use Rattle.iw_endpoint.specs.Endpoint.{opened, accepted, rejected, agreement, broken, with_mulpdu, told_at};
 ghost use Rattle.iw_handle.specs.State.{refusal_in, changed, told_in, shown_in, stream_refusal};
 ghost use Rattle.iw_handle.specs.State.{copy_refusal, filled, length_told};
 ghost use Rattle.iw_handle.specs.Streams.{refusal_to_open, refusal_to_answer, size_refusal, private_shown};
@@ -11,10 +11,10 @@ use crate::copying::copy_out;
 use crate::handle::Handle;
 use crate::refusal::{Refusal, answer_reason, open_reason, size_reason};
 use crate::words::{config_of, private_of, role_of};
-use iw_endpoint::{Agreed, Endpoint};
+use iw_endpoint::{Agreed, Endpoint, EnhancedData};
 use std::alloc::Global;
 
-// Opens a stream, as numbers say.
+// Opens a stream. Role and options are numbers.
 fn open_stream(
     endpoint: &mut Endpoint,
     number: u8,
@@ -23,9 +23,9 @@ fn open_stream(
     options: u32,
     private: &[u8],
 ) -> Result<(), Refusal>
-    // The refusal, where one applies, and otherwise want of memory alone.
-    ensures refused { IfSome (refusal_to_open endpoint.old number pd role (length private.now)) (λ r. result ≡ Err r) }
-    ensures memory { IfNone (refusal_to_open endpoint.old number pd role (length private.now))
+    // The first refusal that applies; if none does, only `NoMemory`.
+    ensures refused { IfSome (refusal_to_open endpoint.old number pd role options private.now) (λ r. result ≡ Err r) }
+    ensures memory { IfNone (refusal_to_open endpoint.old number pd role options private.now)
         (IfErr result (λ e. e ≡ Refusal.NoMemory)) }
     ensures ok { OnOk result
         (endpoint.new ≡ opened endpoint.old number pd (role_in role) (config_of options private.now)) }
@@ -40,7 +40,7 @@ fn open_stream(
 }
 
 fn accept(endpoint: &mut Endpoint, number: u8, private: &[u8]) -> Result<Agreed, Refusal>
-    ensures refused { result_err result ≡ refusal_to_answer endpoint.old number (length private.now) }
+    ensures refused { result_err result ≡ refusal_to_answer endpoint.old number private.now }
     ensures agreed { IfOk result (λ agreed. agreed ≡ agreement endpoint.old number) }
     ensures ok { OnOk result (endpoint.new ≡ accepted endpoint.old number (private_of private.now)) }
     ensures err { OnErr result (endpoint.new ≡ endpoint.old) }
@@ -53,7 +53,7 @@ fn accept(endpoint: &mut Endpoint, number: u8, private: &[u8]) -> Result<Agreed,
 }
 
 fn reject(endpoint: &mut Endpoint, number: u8, private: &[u8]) -> Result<(), Refusal>
-    ensures refused { result_err result ≡ refusal_to_answer endpoint.old number (length private.now) }
+    ensures refused { result_err result ≡ refusal_to_answer endpoint.old number private.now }
     ensures ok { OnOk result (endpoint.new ≡ rejected endpoint.old number (private_of private.now)) }
     ensures err { OnErr result (endpoint.new ≡ endpoint.old) }
 {
@@ -84,9 +84,9 @@ fn copy_private(
 }
 
 impl Handle {
-    /// Opens a stream in a domain under a number from 0 to 63, as [`Endpoint::open`] says. `role` is 0 (preset), 1
-    /// (initiator) or 2 (responder); `options` a sum of 1 (the peer is to send markers) and 2 (CRCs). An `Err` changes
-    /// nothing; `NoMemory` comes only where no other refusal applies.
+    /// Opens a stream in a domain under a number from 0 to 63 ([`Endpoint::open`]). `role` is 0 (preset), 1 (initiator)
+    /// or 2 (responder). `options` is a sum of 1 (the peer is to send markers) and 2 (CRCs). An `Err` changes nothing;
+    /// `NoMemory` comes only if no other refusal applies.
     pub fn open_stream(
         &mut self,
         alloc: Global,
@@ -97,9 +97,9 @@ impl Handle {
         private: &[u8],
     ) -> Result<(), Refusal>
         ensures refused { IfSome
-            (refusal_in self.old.state (λ e. refusal_to_open e number pd role (length private.now)))
+            (refusal_in self.old.state (λ e. refusal_to_open e number pd role options private.now))
             (λ r. result ≡ Err r) }
-        ensures memory { IfNone (refusal_in self.old.state (λ e. refusal_to_open e number pd role (length private.now)))
+        ensures memory { IfNone (refusal_in self.old.state (λ e. refusal_to_open e number pd role options private.now))
             (IfErr result (λ e. e ≡ Refusal.NoMemory)) }
         ensures ok { OnOk result (self.new.state ≡ changed self.old.state
             (λ e. opened e number pd (role_in role) (config_of options private.now))) }
@@ -113,11 +113,11 @@ impl Handle {
         done
     }
 
-    /// Accepts the Request that waits for an answer, with this private data, as [`Endpoint::accept`] says. An `Err`
-    /// changes nothing.
+    /// Accepts the pending MPA Request, with this private data in the Reply ([`Endpoint::accept`]). An `Err` changes
+    /// nothing.
     pub fn accept(&mut self, alloc: Global, number: u8, private: &[u8]) -> Result<Agreed, Refusal>
         ensures refused { result_err result ≡ refusal_in self.old.state
-            (λ e. refusal_to_answer e number (length private.now)) }
+            (λ e. refusal_to_answer e number private.now) }
         ensures agreed { IfOk result (λ agreed. Some agreed ≡ told_in self.old.state (λ e. agreement e number)) }
         ensures ok { OnOk result
             (self.new.state ≡ changed self.old.state (λ e. accepted e number (private_of private.now))) }
@@ -131,11 +131,11 @@ impl Handle {
         done
     }
 
-    /// Rejects the Request that waits for an answer, with this private data: the stream has ended. An `Err` changes
-    /// nothing.
+    /// Rejects the pending MPA Request, with this private data in the Reply. The stream has then ended. An `Err`
+    /// changes nothing.
     pub fn reject(&mut self, alloc: Global, number: u8, private: &[u8]) -> Result<(), Refusal>
         ensures refused { result_err result ≡ refusal_in self.old.state
-            (λ e. refusal_to_answer e number (length private.now)) }
+            (λ e. refusal_to_answer e number private.now) }
         ensures ok { OnOk result
             (self.new.state ≡ changed self.old.state (λ e. rejected e number (private_of private.now))) }
         ensures err { OnErr result (self.new.state ≡ self.old.state) }
@@ -148,8 +148,8 @@ impl Handle {
         done
     }
 
-    /// Copies the private data of the peer's start-up frame to the front of a buffer: none before that was read. It
-    /// tells how many octets they are, also where there is no room for them. An `Err` leaves the buffer as it was.
+    /// Copies the private data of the peer's start-up frame to the front of a buffer; none before that frame was read.
+    /// `len` becomes the number of octets, even if they do not fit (`NoRoom`). An `Err` leaves the buffer as it was.
     pub fn private(
         &mut self,
         alloc: Global,
@@ -172,7 +172,25 @@ impl Handle {
         done
     }
 
-    /// Tells that a stream's link broke: the stream has ended, and nothing more is emitted. An `Err` changes nothing.
+    /// What the peer told in its start-up frame by the word of IRD and ORD, once that was read, if it has one
+    /// ([`Endpoint::told`]).
+    pub fn told(&mut self, alloc: Global, number: u8) -> Result<Option<EnhancedData>, Refusal>
+        ensures refused { result_err result ≡ refusal_in self.old.state (λ e. stream_refusal e number) }
+        ensures told { IfOk result (λ told. Some told ≡ told_in self.old.state (λ e. told_at e number)) }
+        ensures same { self.new.state ≡ self.old.state }
+    {
+        let Some(held) = self.take(alloc) else {
+            return Err(Refusal::Closed);
+        };
+        let told = held.endpoint.told(number);
+        self.put(held);
+        match told {
+            Ok(told) => Ok(told),
+            Err(_) => Err(Refusal::NoSuchStream),
+        }
+    }
+
+    /// Reports that a stream's link broke: the stream has ended, and nothing more is emitted. An `Err` changes nothing.
     pub fn break_link(&mut self, alloc: Global, number: u8) -> Result<(), Refusal>
         ensures refused { result_err result ≡ refusal_in self.old.state (λ e. stream_refusal e number) }
         ensures ok { OnOk result (self.new.state ≡ changed self.old.state (λ e. broken e number)) }
@@ -189,7 +207,8 @@ impl Handle {
         }
     }
 
-    /// Sets the maximum ULPDU of what a stream emits from then on: 128 to 64,512 octets. An `Err` changes nothing.
+    /// Sets the maximum ULPDU of the frames that a stream emits from then on, 128 to 64,512 octets. An `Err` changes
+    /// nothing.
     pub fn set_mulpdu(&mut self, alloc: Global, number: u8, size: u32) -> Result<(), Refusal>
         ensures refused { result_err result ≡ refusal_in self.old.state (λ e. size_refusal e number size) }
         ensures ok { OnOk result (self.new.state ≡ changed self.old.state (λ e. with_mulpdu e number size)) }

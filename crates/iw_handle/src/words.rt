@@ -1,13 +1,14 @@
-// What C passes as numbers.
+// What C passes as numbers, turned into types.
 ghost use Rattle.std.specs.Prelude.{◌≡◌, ◌<◌, ◌≤◌, length, Some, None, IfOk};
 ghost use Rattle.std.specs.Option.{option_map};
 ghost use Rattle.std.specs.Result.{result_err};
 ghost use Rattle.iw_octets.specs.Stag.{stag_of};
-ghost use Rattle.iw_handle.specs.Words.{has_bit, rights_of, role_of, role_refusal, role_in};
-ghost use Rattle.iw_handle.specs.Words.{private_of, private_refusal, config_of, invalidated_by, read_request};
+ghost use Rattle.iw_handle.specs.Words.{stream_number, domain_number, has_bit, rights_of, role_of, role_refusal, role_in};
+ghost use Rattle.iw_handle.specs.Words.{bits_refusal, private_of, private_refusal, config_refusal, config_of, establishment_of};
+ghost use Rattle.iw_handle.specs.Words.{invalidated_by, read_request};
 
 use crate::refusal::Refusal;
-use iw_endpoint::{Config, PrivateData, ReadRequest, Rights, Role, Stag};
+use iw_endpoint::{Config, Establishment, PrivateData, ReadRequest, Rights, Role, Stag};
 
 /// The STag with this number.
 pub fn stag_of(n: u32) -> Stag
@@ -20,16 +21,41 @@ pub fn stag_of(n: u32) -> Stag
     )
 }
 
-/// Whether a sum of powers of two has this one.
-pub fn has_bit(n: u32, bit: u32) -> bool
+/// The number of a stream: above 255 it names none, and so it is 255.
+pub fn stream_number(n: u32) -> u8
+    ensures { result ≡ stream_number n }
+{
+    if n < 256 { n as u8 } else { 255 }
+}
+
+/// The number of a domain: above 255 it names none, and so it is 0.
+pub fn domain_number(n: u32) -> u8
+    ensures { result ≡ domain_number n }
+{
+    if n < 256 { n as u8 } else { 0 }
+}
+
+/// Whether a sum of powers of two has this power.
+pub(crate) fn has_bit(n: u32, bit: u32) -> bool
     requires { 0 < bit }
     ensures { result ≡ has_bit n bit }
 {
     n / bit % 2 == 1
 }
 
+/// Whether this is a sum of powers of two below the bound, itself one.
+pub(crate) fn check_bits(bound: u32, n: u32) -> Result<(), Refusal>
+    ensures { result_err result ≡ bits_refusal bound n }
+{
+    if n < bound {
+        Ok(())
+    } else {
+        Err(Refusal::BadBits)
+    }
+}
+
 /// The rights of a sum of 1 (write), 2 (read), 4 (sink) and 8 (invalidate).
-pub fn rights_of(n: u32) -> Rights
+pub(crate) fn rights_of(n: u32) -> Rights
     ensures { result ≡ rights_of n }
 {
     Rights {
@@ -53,7 +79,7 @@ pub(crate) fn role_of(n: u32) -> Result<Role, Refusal>
     }
 }
 
-/// Octets as private data.
+/// Octets as private data; `PrivateTooLong` if there are more than 512.
 pub(crate) fn private_of(octets: &[u8]) -> Result<PrivateData, Refusal>
     ensures refused { result_err result ≡ private_refusal (length octets.now) }
     ensures private { IfOk result (λ private. private ≡ private_of octets.now) }
@@ -65,20 +91,34 @@ pub(crate) fn private_of(octets: &[u8]) -> Result<PrivateData, Refusal>
     }
 }
 
-/// What is asked of a stream by a sum of 1 (the peer is to send markers) and 2 (CRCs), with octets as private data.
+/// The establishment of a sum of options: 4 is revision 2 of MPA.
+fn establishment_of(options: u32) -> Establishment
+    ensures { result ≡ establishment_of options }
+{
+    if has_bit(options, 4) {
+        Establishment::Enhanced
+    } else {
+        Establishment::Plain
+    }
+}
+
+/// The configuration of a stream, from a sum of 1 (the peer is to send markers), 2 (CRCs) and 4 (revision 2 of MPA), and
+/// private data.
 pub(crate) fn config_of(options: u32, private: &[u8]) -> Result<Config, Refusal>
-    ensures refused { result_err result ≡ private_refusal (length private.now) }
+    ensures refused { result_err result ≡ config_refusal options (length private.now) }
     ensures config { IfOk result (λ config. config ≡ config_of options private.now) }
 {
+    check_bits(8, options)?;
     Ok(Config {
         markers: has_bit(options, 1),
         crc: has_bit(options, 2),
+        establishment: establishment_of(options),
         private: private_of(private)?,
     })
 }
 
-/// The STag that a Send takes away, where its flags say so.
-pub fn invalidated_by(flags: u32, stag: u32) -> Option<Stag>
+/// The STag that a Send invalidates, if its flags have 2 (invalidates).
+pub(crate) fn invalidated_by(flags: u32, stag: u32) -> Option<Stag>
     ensures { result ≡ invalidated_by flags stag }
 {
     if has_bit(flags, 2) {
@@ -88,7 +128,7 @@ pub fn invalidated_by(flags: u32, stag: u32) -> Option<Stag>
     }
 }
 
-/// What a Read asks for.
+/// The Read with these numbers.
 pub fn read_request(sink: u32, sink_to: u64, size: u32, source: u32, source_to: u64) -> ReadRequest
     ensures { result ≡ read_request sink sink_to size source source_to }
 {

@@ -1,8 +1,9 @@
-// Octets that come, and what is done with them.
+// Delivery, work and what work hands back.
 ghost use Rattle.std.specs.Prelude.{◌≡◌, None, Some, length, IfSome, IfNone, IfOk, IfErr, OnOk, OnErr, IsSomeAnd};
 ghost use Rattle.std.specs.Result.{result_err};
 ghost use Rattle.iw_endpoint.specs.Endpoint.{with_first, delivery_at, after_deliver, step_at, after_work};
 ghost use Rattle.iw_handle.specs.Events.{event_at};
+ghost use Rattle.iw_handle.specs.Handed.{told_of};
 ghost use Rattle.iw_handle.specs.State.{refusal_in, changed, told_in, stream_refusal};
 ghost use Rattle.iw_handle.specs.State.{copy_refusal, filled, length_told};
 ghost use Rattle.iw_handle.specs.Streams.{first_refusal, refusal_to_work, BringsAt, TriesAt, handed_in, fetched};
@@ -11,13 +12,14 @@ ghost use Rattle.iw_handle.specs.Steps.{WorksOn};
 
 use crate::copying::copy_out;
 use crate::event::{Event, event_of, is_quiet};
+use crate::handed::Handed;
 use crate::handle::Handle;
 use crate::held::Held;
 use crate::refusal::{Refusal, first_reason};
 use iw_endpoint::{CallRefusal, Delivery, Endpoint, MAX_PLACE, Octets, Step};
 use std::alloc::Global;
 
-/// [`Handle::work_on`] does at most so many steps before the one that it answers.
+/// The most steps that [`Handle::work_on`] does before the one that it reports.
 pub const QUIET_STEPS: u32 = 4_095;
 
 fn deliver(
@@ -43,16 +45,12 @@ fn deliver(
 
 // Keeps what a step hands back.
 #[inline(always)]
-fn keep(step: Step<Octets>, handed: &mut Octets)
+fn keep(step: Step<Octets>, handed: &mut Handed)
     ensures { handed.new ≡ handed_by step handed.old }
 {
     match step {
-        Step::Received { buffer, len, .. } => {
-            let mut octets = buffer.into_vec();
-            octets.truncate(len);
-            *handed = Octets::from_vec(octets);
-        }
-        Step::FlushedRecv(buffer) => *handed = buffer,
+        Step::Received { buffer, len, .. } => *handed = Handed { buffer, len },
+        Step::FlushedRecv(buffer) => *handed = Handed::whole(buffer),
         Step::Done(_)
         | Step::Flushed(_)
         | Step::Asked
@@ -72,7 +70,7 @@ fn keep(step: Step<Octets>, handed: &mut Octets)
 // Does one step at an endpoint.
 #[inline(always)]
 fn step(endpoint: &mut Endpoint, number: u8) -> Result<Step<Octets>, Refusal>
-    // The refusal, where one applies, and otherwise want of memory alone.
+    // The first refusal that applies; if none does, only `NoMemory`.
     ensures refused { IfSome (refusal_to_work endpoint.old number) (λ r. result ≡ Err r) }
     ensures memory { IfNone (refusal_to_work endpoint.old number) (IfErr result (λ e. e ≡ Refusal.NoMemory)) }
     ensures want { result ≡ Err Refusal.NoMemory → TriesAt endpoint.old number }
@@ -93,7 +91,7 @@ fn step(endpoint: &mut Endpoint, number: u8) -> Result<Step<Octets>, Refusal>
     }
 }
 
-// Does steps one after another: at most so many that ask nothing of the program, and the one that is told.
+// Does steps one after another: at most `most` quiet ones, then the one that it reports.
 fn steps(held: &mut Held, number: u8, most: u32, event: &mut Event) -> Result<(), Refusal>
     ensures steps { WorksOn most held.old number (result_err result) event.new held.new }
     ensures kept { OnErr result (event.new ≡ event.old) }
@@ -115,7 +113,7 @@ fn steps(held: &mut Held, number: u8, most: u32, event: &mut Event) -> Result<()
 // Does one step.
 #[inline(always)]
 fn work(held: &mut Held, number: u8, event: &mut Event) -> Result<(), Refusal>
-    // The refusal, where one applies, and otherwise want of memory alone.
+    // The first refusal that applies; if none does, only `NoMemory`.
     ensures refused { IfSome (refusal_to_work held.old.endpoint number) (λ r. result ≡ Err r) }
     ensures memory { IfNone (refusal_to_work held.old.endpoint number) (IfErr result (λ e. e ≡ Refusal.NoMemory)) }
     ensures want { result ≡ Err Refusal.NoMemory → TriesAt held.old.endpoint number }
@@ -127,23 +125,23 @@ fn work(held: &mut Held, number: u8, event: &mut Event) -> Result<(), Refusal>
     steps(held, number, 0, event)
 }
 
-// Copies out what was handed back, and gives it up.
+// Copies out what was handed back, and frees it.
 fn fetch(held: &mut Held, alloc: Global, out: &mut [u8], len: &mut usize) -> Result<(), Refusal>
-    ensures refused { result_err result ≡ copy_refusal (Some held.old.handed) Refusal.Closed (length out.old) }
-    ensures len { len.new ≡ length held.old.handed }
-    ensures octets { OnOk result (out.new ≡ filled (Some held.old.handed) out.old) }
+    ensures refused { result_err result ≡ copy_refusal (Some (told_of held.old.handed)) Refusal.Closed (length out.old) }
+    ensures len { len.new ≡ length (told_of held.old.handed) }
+    ensures octets { OnOk result (out.new ≡ filled (Some (told_of held.old.handed)) out.old) }
     ensures kept { OnErr result (out.new ≡ out.old) }
     ensures ok { OnOk result (Some held.new ≡ fetched (Some held.old)) }
     ensures err { OnErr result (held.new ≡ held.old) }
 {
-    copy_out(held.handed.as_slice(), out, len)?;
-    held.handed = Octets::from_vec(Vec::new(alloc));
+    copy_out(held.handed.told(), out, len)?;
+    held.handed = Handed::nothing(alloc);
     Ok(())
 }
 
 impl Handle {
-    /// Sets the sequence number of the peer's first octet, as [`Endpoint::first_number`] says. `Late`: octets were
-    /// delivered on the stream before. An `Err` changes nothing.
+    /// Sets the sequence number of the peer's first octet ([`Endpoint::first_number`]). `Late`: octets were delivered
+    /// on the stream before. An `Err` changes nothing.
     pub fn first_number(&mut self, alloc: Global, number: u8, first: u32) -> Result<(), Refusal>
         ensures refused { result_err result ≡ refusal_in self.old.state (λ e. first_refusal e number) }
         ensures ok { OnOk result (self.new.state ≡ changed self.old.state (λ e. with_first e number first)) }
@@ -160,9 +158,8 @@ impl Handle {
         }
     }
 
-    /// Takes octets that came on a stream's connection, the first of which has this sequence number, as
-    /// [`Endpoint::deliver`] says. An `Err` changes nothing; `NoMemory` comes only if they would be kept and one of them
-    /// is new.
+    /// Takes octets that came on a stream's connection; the first has this sequence number ([`Endpoint::deliver`]). An
+    /// `Err` changes nothing; `NoMemory` comes only if the octets would be kept and one of them is new.
     pub fn deliver(
         &mut self,
         alloc: Global,
@@ -189,9 +186,9 @@ impl Handle {
         done
     }
 
-    /// Does one step at a stream, as [`Endpoint::work`] says, and tells it in numbers. A message that was received, or a
-    /// buffer that is handed back, stays for [`Handle::fetch`] until the next that is handed back. An `Err` changes
-    /// nothing; `TooFar` comes where the in-order point is past 2^62, and `NoMemory` only where no other refusal applies
+    /// Does one step at a stream ([`Endpoint::work`]) and writes it to `event`, in numbers. Get a message that was
+    /// received, or a buffer that is handed back, with [`Handle::fetch`] before the next one is handed back. An `Err`
+    /// changes nothing. `TooFar` comes if the in-order point is past 2^62; `NoMemory` only if no other refusal applies
     /// and a frame is judged before its turn.
     pub fn work(&mut self, alloc: Global, number: u8, event: &mut Event) -> Result<(), Refusal>
         ensures refused { IfSome (refusal_in self.old.state (λ e. refusal_to_work e number)) (λ r. result ≡ Err r) }
@@ -211,10 +208,10 @@ impl Handle {
         done
     }
 
-    /// Does steps at a stream as [`Handle::work`] does, one after another, until one that the program has to act on, that
-    /// tells `Idle` or that is refused, and tells that one. The steps before it ask nothing of the program (`Placed`,
-    /// `Buffered`, `Requested`, `Tried`, `Passed`) and are not told; of 4,096 the last is told whatever it is. An `Err`
-    /// leaves them done, and changes nothing else.
+    /// Calls [`Handle::work`] until a step is not quiet or is refused, at most 4,096 times, and reports the last step.
+    /// The quiet steps, which the program need not act on, are `Placed`, `Buffered`, `Requested`, `Tried` and `Passed`;
+    /// one of them is reported only if it is the 4,096th. An `Err` leaves the steps before it done, and changes nothing
+    /// else.
     pub fn work_on(&mut self, alloc: Global, number: u8, event: &mut Event) -> Result<(), Refusal>
         ensures closed { self.old.state ≡ None → (result ≡ Err Refusal.Closed) × (self.new.state ≡ None) }
         ensures steps { IfSome self.old.state (λ held. IsSomeAnd self.new.state
@@ -229,8 +226,8 @@ impl Handle {
         done
     }
 
-    /// Copies to the front of a buffer what `work` handed back last, which is then no longer kept. It tells how many
-    /// octets that is, also where there is no room for them. An `Err` changes nothing else.
+    /// Copies what was handed back last to the front of a buffer, and forgets it. `len` becomes its length in octets,
+    /// even if it does not fit (`NoRoom`). An `Err` changes nothing else.
     pub fn fetch(&mut self, alloc: Global, out: &mut [u8], len: &mut usize) -> Result<(), Refusal>
         ensures refused { result_err result ≡ copy_refusal (handed_in self.old.state) Refusal.Closed (length out.old) }
         ensures len { len.new ≡ length_told (handed_in self.old.state) len.old }

@@ -1,5 +1,5 @@
 //! Two handles joined in memory: start-up, a Write, a Send, a Read, a pool, and an end.
-use iw_handle::{Handle, IDLE, Refusal, read_request, rights_of, stag_of};
+use iw_handle::{Handle, IDLE, Refusal, read_request, stag_of};
 use std::alloc::Global;
 use std::test::Fail;
 
@@ -14,10 +14,10 @@ const RESPONDER: u32 = 2;
 // Markers and CRCs.
 const OPTIONS: u32 = 3;
 
-// The sequence number of an end's first octet: numbers wrap in the start-up frame.
+// The sequence number of an end's first octet. Numbers wrap within the start-up frame.
 const FIRST: u32 = 4_294_967_290;
 
-// The sequence number that follows these octets, the first of which has this one.
+// The sequence number after these octets, given that of the first.
 fn number_after(number: u32, octets: &[u8]) -> u32 {
     ((u64::from(number) + octets.len() as u64) % (1 << 32)) as u32
 }
@@ -56,7 +56,7 @@ impl End {
         })
     }
 
-    // Works until there is nothing to do, and tells the kind of each step.
+    // Works until there is nothing to do, and returns the kind of each step.
     fn work(&mut self, alloc: Global) -> Result<Vec<u32>, Fail> {
         let mut kinds = Vec::new(alloc);
         let mut event = IDLE;
@@ -70,7 +70,7 @@ impl End {
         Ok(kinds)
     }
 
-    // Works on until there is nothing to do, and tells the kind of each step that is told.
+    // Calls work_on until there is nothing to do, and returns the kind of each step that it reports.
     fn work_on(&mut self, alloc: Global) -> Result<Vec<u32>, Fail> {
         let mut kinds = Vec::new(alloc);
         let mut event = IDLE;
@@ -91,7 +91,7 @@ impl End {
     }
 }
 
-// What one end emits comes to the other. It tells how many frames that were.
+// Delivers what one end emits to the other. Returns the number of frames.
 fn carry(alloc: Global, from: &mut End, to: &mut End) -> Result<u32, Fail> {
     let mut out = [0u8; 600];
     let mut len = 0usize;
@@ -107,12 +107,11 @@ fn carry(alloc: Global, from: &mut End, to: &mut End) -> Result<u32, Fail> {
     Ok(100)
 }
 
-// Both ends, after the start-up frames: `b` has told `a` of its region.
+// Both ends after start-up: `b` has named its region to `a`.
 fn connected(alloc: Global) -> Result<(End, End), Fail> {
     let mut a = End::open(alloc, INITIATOR, b"from a")?;
     let mut b = End::open(alloc, RESPONDER, b"")?;
-    b.handle
-        .register(alloc, 1, 4096, &[b'.'; 16], rights_of(11))?;
+    b.handle.register(alloc, 1, 4096, &[b'.'; 16], 11)?;
     b.handle.post_recv(alloc, STREAM, 32)?;
     carry(alloc, &mut a, &mut b)?;
     b.work(alloc)?;
@@ -145,7 +144,7 @@ fn written_and_sent(rt: HostRuntime) -> Result<(), Fail> {
     a.work(alloc)?;
     let stag = stag_of(0x01000000);
     a.handle.post_write(alloc, STREAM, stag, 4098, b"octets")?;
-    a.handle.post_send(alloc, STREAM, b"hi", true, Some(stag))?;
+    a.handle.post_send(alloc, STREAM, b"hi", 3, 0x01000000)?;
     assert_eq!(rt; carry(alloc, &mut a, &mut b)?, 2);
     // Both are done.
     assert_eq!(rt; a.work(alloc)?.as_slice(), [1, 1, 0].as_slice());
@@ -157,7 +156,7 @@ fn written_and_sent(rt: HostRuntime) -> Result<(), Fail> {
     assert_eq!(rt; out, *b"hi______");
     b.handle.load(alloc, stag, 4097, &mut out)?;
     assert_eq!(rt; out, *b".octets.");
-    // It is fetched, and the region has gone out of use.
+    // It is fetched, and the region is invalid.
     b.handle.fetch(alloc, &mut out, &mut len)?;
     assert_eq!(rt; len, 0);
     assert!(rt; !b.handle.facts(alloc, stag)?.valid);
@@ -171,10 +170,10 @@ fn worked_on(rt: HostRuntime) -> Result<(), Fail> {
     assert_eq!(rt; a.work_on(alloc)?.as_slice(), [5, 0].as_slice());
     let stag = stag_of(0x01000000);
     a.handle.post_write(alloc, STREAM, stag, 4098, b"octets")?;
-    a.handle.post_send(alloc, STREAM, b"hi", false, None)?;
+    a.handle.post_send(alloc, STREAM, b"hi", 0, 0)?;
     carry(alloc, &mut a, &mut b)?;
     assert_eq!(rt; a.work_on(alloc)?.as_slice(), [1, 1, 0].as_slice());
-    // What was placed and passed is not told: the Send is received.
+    // Placed and passed are not reported: the Send is received.
     assert_eq!(rt; b.work_on(alloc)?.as_slice(), [11, 0].as_slice());
     let mut out = [b'_'; 8];
     let mut len = 0usize;
@@ -190,7 +189,7 @@ fn read_back(rt: HostRuntime) -> Result<(), Fail> {
     let alloc = rt.alloc();
     let (mut a, mut b) = connected(alloc)?;
     a.work(alloc)?;
-    let sink = a.handle.register(alloc, 1, 0, &[0u8; 4], rights_of(4))?;
+    let sink = a.handle.register(alloc, 1, 0, &[0u8; 4], 4)?;
     b.handle.store(alloc, stag_of(0x01000000), 4100, b"read")?;
     let request = read_request(0x01000000, 0, 4, 0x01000000, 4100);
     a.handle.post_read(alloc, STREAM, request)?;
@@ -215,7 +214,7 @@ fn from_a_pool(rt: HostRuntime) -> Result<(), Fail> {
     let mut b = End::sharing(alloc)?;
     b.handle.post_shared(alloc, 1, 2)?;
     b.handle.post_shared(alloc, 1, 3)?;
-    a.handle.post_send(alloc, STREAM, b"hi", false, None)?;
+    a.handle.post_send(alloc, STREAM, b"hi", 0, 0)?;
     carry(alloc, &mut a, &mut b)?;
     // Buffered, received.
     assert_eq!(rt; b.work(alloc)?.as_slice(), [8, 11, 0].as_slice());
@@ -223,13 +222,13 @@ fn from_a_pool(rt: HostRuntime) -> Result<(), Fail> {
     let mut len = 0usize;
     b.handle.fetch(alloc, &mut out, &mut len)?;
     assert_eq!(rt; out, *b"hi__");
-    // What is left in the pool can be taken out and fetched.
+    // The buffer that is left in the pool can be taken out and fetched.
     assert_eq!(rt; b.handle.take_shared(alloc, 1), Ok(Some(3)));
     b.handle.fetch(alloc, &mut out, &mut len)?;
     assert_eq!(rt; out, *b"\0\0\0_");
     assert_eq!(rt; b.handle.take_shared(alloc, 1), Ok(None));
     // No buffer is left: the Send is at fault.
-    a.handle.post_send(alloc, STREAM, b"hi", false, None)?;
+    a.handle.post_send(alloc, STREAM, b"hi", 0, 0)?;
     carry(alloc, &mut a, &mut b)?;
     assert_eq!(rt; b.work(alloc)?.as_slice(), [13, 0].as_slice());
     Ok(())
@@ -240,7 +239,7 @@ fn broken(rt: HostRuntime) -> Result<(), Fail> {
     let alloc = rt.alloc();
     let (mut a, mut b) = connected(alloc)?;
     a.work(alloc)?;
-    a.handle.post_send(alloc, STREAM, b"lost", false, None)?;
+    a.handle.post_send(alloc, STREAM, b"lost", 0, 0)?;
     a.handle.break_link(alloc, STREAM)?;
     assert_eq!(rt; carry(alloc, &mut a, &mut b)?, 0);
     // The Send is given up; at the other end the receive buffer comes back.

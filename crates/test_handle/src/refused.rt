@@ -1,18 +1,18 @@
-//! What is refused, with its code; and that a refusal changes nothing.
-use iw_handle::{Handle, IDLE, Refusal, code, rights_of, stag_of};
+//! Refused calls, with their codes; and that a refused call changes nothing.
+use iw_handle::{Handle, IDLE, Refusal, code, domain_number, stag_of, stream_number};
 use std::alloc::Global;
 use std::test::Fail;
 
 const STREAM: u8 = 7;
 
-// A handle with an open stream, a region and a Send that is posted.
+// A handle with an open stream, a region and a posted Send.
 fn ready(alloc: Global) -> Result<Handle, Fail> {
     let mut handle = Handle::closed(alloc);
     handle.open(alloc)?;
     handle.add_domain(alloc, 1)?;
-    handle.register(alloc, 1, 100, b"abcd", rights_of(1))?;
+    handle.register(alloc, 1, 100, b"abcd", 1)?;
     handle.open_stream(alloc, STREAM, 1, 0, 0, b"")?;
-    handle.post_send(alloc, STREAM, b"hi", false, None)?;
+    handle.post_send(alloc, STREAM, b"hi", 0, 0)?;
     Ok(handle)
 }
 
@@ -75,7 +75,7 @@ fn streams(rt: HostRuntime) -> Result<(), Fail> {
     Ok(())
 }
 
-// A pool that streams share: what is refused where there is none, and where there is one.
+// What is refused if the domain has no pool, and if it has one.
 #[test]
 fn pools(rt: HostRuntime) -> Result<(), Fail> {
     let alloc = rt.alloc();
@@ -95,7 +95,7 @@ fn pools(rt: HostRuntime) -> Result<(), Fail> {
     Ok(())
 }
 
-// A pool has room for 1,024 buffers, and gives back the oldest first.
+// A pool holds 1,024 buffers, and gives back the oldest first.
 #[test]
 fn pool_full(rt: HostRuntime) -> Result<(), Fail> {
     let alloc = rt.alloc();
@@ -129,7 +129,7 @@ fn regions(rt: HostRuntime) -> Result<(), Fail> {
         Err(Refusal::NoRegion)
     );
     assert_eq!(rt;
-        handle.register(alloc, 2, 0, b"", rights_of(1)),
+        handle.register(alloc, 2, 0, b"", 1),
         Err(Refusal::NoDomain)
     );
     assert_eq!(rt;
@@ -164,5 +164,31 @@ fn room(rt: HostRuntime) -> Result<(), Fail> {
     );
     assert_eq!(rt; handle.emit(alloc, STREAM, &mut out, &mut len)?.kind, 0);
     assert_eq!(rt; len, 0);
+    Ok(())
+}
+
+// Numbers that mean nothing.
+#[test]
+fn numbers(rt: HostRuntime) -> Result<(), Fail> {
+    let alloc = rt.alloc();
+    let mut handle = ready(alloc)?;
+    assert_eq!(rt;
+        handle.register(alloc, 1, 0, b"", 16),
+        Err(Refusal::BadBits)
+    );
+    assert_eq!(rt;
+        handle.open_stream(alloc, 1, 1, 0, 8, b""),
+        Err(Refusal::BadBits)
+    );
+    assert_eq!(rt;
+        handle.post_send(alloc, STREAM, b"", 4, 0),
+        Err(Refusal::BadBits)
+    );
+    assert_eq!(rt;
+        handle.post_recv(alloc, STREAM, 16_777_217),
+        Err(Refusal::BufferTooLong)
+    );
+    assert_eq!(rt; stream_number(263), 255);
+    assert_eq!(rt; domain_number(257), 0);
     Ok(())
 }

@@ -1,0 +1,16 @@
+-- What calls on a buffer say.
+use Rattle.std.specs.Prelude.{ℕ, List, replicate, Option, None, Some}
+use Rattle.iw_buffer.specs.declared.refusal.BufferRefusal.{BufferRefusal}
+use Rattle.iw_buffer.specs.declared.refusal.BufferRefusal.TheVariants.{NoBuffer}
+
+-- none, or its octets
+abbrev pub State : Type 0
+State = Option (List ℕ)
+
+-- there is no buffer
+abbrev pub buffer_refusal : State → Option BufferRefusal
+buffer_refusal None = Some NoBuffer
+buffer_refusal (Some octets) = None
+
+abbrev pub zeroes : ℕ → List ℕ
+zeroes n = replicate n 0

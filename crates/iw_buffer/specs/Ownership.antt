@@ -1,0 +1,21 @@
+-- What a buffer owns: nothing, or what it has in a block of its own.
+use Rattle.std.specs.Prelude.{Option, Some, None, List, ℕ}
+use Rattle.std.specs.Coded.{Coded, coded_option}
+use base.Fml.{Fml, feq}
+use denote.RattleType.{RattleType}
+use denote.RawPtr.{Ptr, null_ptr}
+use Rattle.std.specs.declared.alloc.Global.{Global}
+use Rattle.std.specs.contracts.impls.GlobalAllocator.TheImpl.{ghosts}
+use Rattle.std.specs.Box.Ownership.{box_owns}
+use Rattle.iw_buffer.specs.contracts.held.Held as held
+
+abbrev pub held_row : RattleType
+held_row = held.the_row
+
+abbrev pub state_coded : Coded (Option (List ℕ))
+state_coded = coded_option held_row.coded
+
+-- nothing if there is no buffer, and the pointer is null; else what it has, and the right to free its block
+abbrev pub buffer_owns : Global → Ptr → Option (List ℕ) → Fml
+buffer_owns alloc at None = feq Ptr at null_ptr
+buffer_owns alloc at (Some held) = box_owns (ghosts.dealloc_token alloc) held_row at held

@@ -1,0 +1,84 @@
+// Calls on a buffer.
+ghost use Rattle.std.specs.Prelude.{◌≡◌, None, Some, length, take, IfSome, IfErr, IfOk, OnOk, OnErr};
+ghost use Rattle.std.specs.Option.{option_map};
+ghost use Rattle.std.specs.Result.{result_err};
+ghost use Rattle.iw_buffer.specs.Octets.{buffer_refusal, zeroes};
+
+use crate::buffer::Buffer;
+use crate::held::Held;
+use crate::refusal::BufferRefusal;
+use std::alloc::{AllocError, Global};
+
+fn zeroes(alloc: Global, n: usize) -> Result<Box<Held>, AllocError>
+    ensures { IfOk result (λ held. held.value ≡ zeroes n) }
+{
+    let octets = vec![in alloc; 0u8; n]?;
+    let held = Box::new(alloc, Held { octets })?;
+    Ok(held)
+}
+
+impl Buffer {
+    /// Makes a buffer of `n` zero octets. `AlreadyMade`: there is one, which was not freed; otherwise an `Err` is want of
+    /// memory. An `Err` changes nothing.
+    pub fn make(&mut self, alloc: Global, n: usize) -> Result<(), BufferRefusal>
+        ensures refused { IfSome self.old.state (λ _. result ≡ Err BufferRefusal.AlreadyMade) }
+        ensures memory { self.old.state ≡ None → IfErr result (λ e. e ≡ BufferRefusal.NoMemory) }
+        ensures ok { OnOk result (self.new.state ≡ Some (zeroes n)) }
+        ensures err { OnErr result (self.new.state ≡ self.old.state) }
+    {
+        if let Some(held) = self.take(alloc) {
+            self.put(held);
+            return Err(BufferRefusal::AlreadyMade);
+        }
+        match zeroes(alloc, n) {
+            Ok(held) => {
+                self.put(held);
+                Ok(())
+            }
+            Err(_) => Err(BufferRefusal::NoMemory),
+        }
+    }
+
+    /// Gives back all that the buffer has. Without a buffer it does nothing.
+    pub fn free(&mut self, alloc: Global)
+        ensures { self.new.state ≡ None }
+    {
+        drop(self.take(alloc));
+    }
+
+    /// Tells how many octets the buffer has, and where they stand: an address that is good until a call moves or frees them.
+    /// No clause says which address it is. An `Err` tells nothing.
+    pub fn address(
+        &mut self,
+        alloc: Global,
+        at: &mut *mut u8,
+        len: &mut usize,
+    ) -> Result<(), BufferRefusal>
+        ensures refused { result_err result ≡ buffer_refusal self.old.state }
+        ensures len { OnOk result (Some len.new ≡ option_map (λ octets. length octets) self.old.state) }
+        ensures kept { OnErr result ((at.new ≡ at.old) × (len.new ≡ len.old)) }
+        ensures same { self.new.state ≡ self.old.state }
+    {
+        let Some(mut held) = self.take(alloc) else {
+            return Err(BufferRefusal::NoBuffer);
+        };
+        *at = held.octets.as_mut_ptr();
+        *len = held.octets.len();
+        self.put(held);
+        Ok(())
+    }
+
+    /// Keeps the first `n` octets, or all if there are no more. The others go, and their memory stays for octets that are
+    /// put behind. An `Err` changes nothing.
+    pub fn truncate(&mut self, alloc: Global, n: usize) -> Result<(), BufferRefusal>
+        ensures refused { result_err result ≡ buffer_refusal self.old.state }
+        ensures after { self.new.state ≡ option_map (λ octets. take n octets) self.old.state }
+    {
+        let Some(mut held) = self.take(alloc) else {
+            return Err(BufferRefusal::NoBuffer);
+        };
+        held.octets.truncate(n);
+        self.put(held);
+        Ok(())
+    }
+}

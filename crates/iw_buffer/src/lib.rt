@@ -1,0 +1,12 @@
+//! Octets that C keeps and reads and writes where they stand, and that the library takes over and gives back with no copy.
+#![tactic(auto)]
+
+mod buffer;
+mod calls;
+mod held;
+mod parts;
+mod refusal;
+
+pub use buffer::Buffer;
+pub use held::Held;
+pub use refusal::BufferRefusal;
