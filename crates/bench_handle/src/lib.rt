@@ -1,7 +1,7 @@
-//! What bench/c calls: the same calls on an endpoint as it makes through the C interface, from Rattle.
+//! What bench/c compares with: the calls that it makes through the C interface, made from Rattle.
 #![tactic(auto)]
 
-use iw_endpoint::{Config, Endpoint, MAX_PLACE, PrivateData, Rights, Role, Step};
+use iw_endpoint::{Config, Endpoint, Establishment, MAX_PLACE, PrivateData, Rights, Role, Step};
 use std::alloc::Global;
 
 const STREAM: u8 = 0;
@@ -22,13 +22,14 @@ fn opened(alloc: Global, octets: usize) -> Option<Endpoint> {
     let config = Config {
         markers: false,
         crc: false,
+        establishment: Establishment::Plain,
         private: PrivateData::new(),
     };
     let _ = endpoint.open(STREAM, 1, Role::Preset, config);
     Some(endpoint)
 }
 
-// Does one step, and tells whether there was anything to do.
+// Does one step. Returns whether there was anything to do.
 fn step(endpoint: &mut Endpoint) -> bool {
     match endpoint.in_order_point(STREAM) {
         Ok(point) if point <= MAX_PLACE => {}
@@ -50,7 +51,7 @@ fn work(endpoint: &mut Endpoint) -> u64 {
     1_000_000
 }
 
-/// Calls `work` so often where there is nothing to do. It counts the steps that did anything.
+/// Calls `work` `calls` times with nothing to do. Returns how many steps did anything.
 #[unsafe(no_mangle)]
 pub extern "C" fn handle_bench_idle(alloc: Global, calls: u64) -> u64 {
     let Some(mut endpoint) = opened(alloc, 0) else {
@@ -65,12 +66,12 @@ pub extern "C" fn handle_bench_idle(alloc: Global, calls: u64) -> u64 {
     steps
 }
 
-// The sequence number that follows these octets, the first of which has this one. It wraps.
+// The sequence number after these octets, given that of the first. It wraps.
 fn number_after(number: u32, octets: &[u8]) -> u32 {
     ((u64::from(number) + octets.len() as u64) % (1 << 32)) as u32
 }
 
-/// Delivers the frames of a Write so often, one after another, and works each off. It counts the steps.
+/// Delivers the frames of a Write `writes` times, one after another, and works after each. Returns the number of steps.
 #[unsafe(no_mangle)]
 pub extern "C" fn handle_bench_write(alloc: Global, frames: &[u8], writes: u64) -> u64 {
     let Some(mut endpoint) = opened(alloc, 65_536) else {

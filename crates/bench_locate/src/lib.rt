@@ -1,4 +1,4 @@
-//! Frames that come before the first of their window and are judged at once, for the driver beside this crate.
+//! Frames that come before the first of their window and are judged at once, for the driver in bench/locate.
 #![tactic(auto)]
 
 ghost use Rattle.std.specs.Prelude.{◌≡◌, ◌<◌, ◌≤◌, ◌+◌, ◌*◌, ◌^◌, length, IfOk};
@@ -17,7 +17,7 @@ const MARKED: Layout = Layout {
 /// The most frames that a window has.
 const MOST: u32 = 4_200;
 
-/// Takes a segment in.
+/// Delivers a segment.
 fn deliver(
     islands: &mut Islands,
     judged: &Judged<u32>,
@@ -55,7 +55,7 @@ fn step(islands: &Islands, judged: &mut Judged<u32>, unsearched: &mut Unsearched
     true
 }
 
-/// Judges frames while one can be judged early, and says how many.
+/// Judges frames while one can be judged early, and returns how many.
 fn work(islands: &Islands, judged: &mut Judged<u32>, unsearched: &mut Unsearched) -> u64
     requires { IsPastHole islands.now.arrived judged.old.records unsearched.old }
     ensures { IsPastHole islands.now.arrived judged.new.records unsearched.new }
@@ -70,7 +70,7 @@ fn work(islands: &Islands, judged: &mut Judged<u32>, unsearched: &mut Unsearched
     count
 }
 
-/// Delivers a segment, and judges what can be judged where `look` says so.
+/// Delivers a segment, and judges what can be judged if `look` says so.
 fn take(
     islands: &mut Islands,
     judged: &mut Judged<u32>,
@@ -91,7 +91,7 @@ fn take(
     }
 }
 
-/// Takes the segment with this number, if it is chosen.
+/// Delivers the segment with this number, if it is chosen.
 fn take_chosen(
     islands: &mut Islands,
     judged: &mut Judged<u32>,
@@ -121,7 +121,7 @@ fn take_chosen(
     )
 }
 
-/// Where nothing came yet.
+/// A stream to which nothing came yet.
 fn begun(alloc: Global) -> Result<(Islands, Judged<u32>, Unsearched), NoMemory>
     ensures { IfOk result (λ r. IsPastHole r.0.arrived r.1.records r.2) }
 {
@@ -129,7 +129,7 @@ fn begun(alloc: Global) -> Result<(Islands, Judged<u32>, Unsearched), NoMemory>
     Ok((islands, Judged::new(alloc), Unsearched::nothing()))
 }
 
-/// The segments of a window from its `first` on, every `stride`th but for each `gap`th, forwards or backwards.
+/// The segments of a window from `first` on, every `stride`th except each `gap`th, forwards or backwards.
 fn window(
     alloc: Global,
     octets: &[u8],

@@ -1,4 +1,4 @@
-//! The two ends of a connection that carries a load: one sends, the other answers once all has come.
+//! The two ends of a connection that carries a load: one sends, the other answers once all of it came.
 
 use crate::end::{self, Came, REGION_BLOCKS, STREAM};
 use crate::load::{BLOCK, Load, Way};
@@ -51,7 +51,7 @@ fn flush<W: Write>(endpoint: &mut Endpoint, out: &mut Vec<u8>, output: &mut W) -
     Ok(())
 }
 
-// Writes out each block as it is posted, as the plain copy does.
+// Writes out each block when it is posted, as the plain copy does.
 fn send_blocks<W: Write>(
     endpoint: &mut Endpoint,
     octets: &Bytes,
@@ -67,7 +67,7 @@ fn send_blocks<W: Write>(
     flush(endpoint, out, output)
 }
 
-// Reads until a message has come, and tells the sequence number of the octet that comes next.
+// Reads until a message came. Returns the sequence number of the octet that comes next.
 fn hear<R: Read>(
     endpoint: &mut Endpoint,
     first: u32,
@@ -107,7 +107,7 @@ fn copy_in<R: Read>(blocks: u32, buffer: &mut [u8], input: &mut R) -> Result<()>
     Ok(())
 }
 
-/// The end that sends, and the sequence number of the octet that comes next for it; for a plain copy neither.
+/// The end that sends, and the sequence number of the octet that comes next for it; `None` for a plain copy.
 #[derive(Drop)]
 pub(crate) struct SendingEnd {
     endpoint: Option<Endpoint>,
@@ -126,7 +126,7 @@ pub(crate) fn sending_end(alloc: Global, load: &Load) -> Result<SendingEnd> {
     })
 }
 
-/// Sends the blocks of a round, and waits until the other end says that they have come.
+/// Sends the blocks of a round, and waits until the other end says that they came.
 pub(crate) fn send<R: Read, W: Write>(
     alloc: Global,
     load: &Load,
@@ -166,7 +166,7 @@ fn send_copied<R: Read, W: Write>(
     Ok(())
 }
 
-// It tells the sequence number of the octet that comes next.
+// Returns the sequence number of the octet that comes next.
 fn send_written<R: Read, W: Write>(
     alloc: Global,
     load: &Load,
@@ -193,14 +193,14 @@ fn is_written(endpoint: &Endpoint, stag: Stag, octets: &[u8], blocks: u32) -> bo
     all.chunks(BLOCK).take(count).all(|block| block == octets)
 }
 
-// Clears the region, so that the next round has to write it anew.
+// Clears the region, so that the next round must write it again.
 fn clear(endpoint: &mut Endpoint, stag: Stag) {
     if endpoint.local(stag).is_some() {
         endpoint.local_mut(stag).fill(0);
     }
 }
 
-// Takes a round in and answers, and tells the sequence number of the octet that comes next.
+// Receives a round and answers it. Returns the sequence number of the octet that comes next.
 fn serve_round<R: Read, W: Write>(
     alloc: Global,
     load: &Load,
@@ -253,7 +253,7 @@ fn serve<R: Read, W: Write>(
     Ok(())
 }
 
-/// Takes a load in, and answers each round once it has come.
+/// Receives a load, and answers each round once it came.
 pub(crate) fn receive<R: Read, W: Write>(
     alloc: Global,
     load: &Load,

@@ -1,6 +1,7 @@
 use anyhow::{Result, bail};
 use iw_endpoint::{
-    Config, Emission, Endpoint, MAX_PLACE, Octets, PrivateData, Rights, Role, Stag, Step,
+    Config, Emission, Endpoint, Establishment, MAX_PLACE, Octets, PrivateData, Rights, Role, Stag,
+    Step,
 };
 use std::alloc::Global;
 use std::fmt::Debug;
@@ -9,14 +10,14 @@ pub(crate) const DOMAIN: u8 = 1;
 
 pub(crate) const STREAM: u8 = 0;
 
-/// The sequence number of an end's first octet: numbers wrap in the first block.
+/// The sequence number of an end's first octet. Numbers wrap within the first block.
 pub(crate) const FIRST: u32 = u32::MAX - 999;
 
-/// How many blocks the region has that is written to, again and again: few, so that it stays in the processor's caches,
+/// How many blocks the region has. It is written again and again, and small enough to stay in the processor's caches,
 /// as the buffer of a plain copy does.
 pub(crate) const REGION_BLOCKS: u32 = 2;
 
-// What a call answers that is not refused; of one that is, its name and the refusal are told.
+// The answer of a call; if it is refused, an error with its name and the refusal.
 fn made<T: Drop, E: Debug + Drop>(call: &str, answer: Result<T, E>) -> Result<T> {
     match answer {
         Ok(made) => Ok(made),
@@ -24,7 +25,7 @@ fn made<T: Drop, E: Debug + Drop>(call: &str, answer: Result<T, E>) -> Result<T>
     }
 }
 
-/// An end, open at once, with a buffer for a message. The other end's first octet has the number [`FIRST`].
+/// An end that is open at once, with a buffer for a message. The other end's first octet has the number [`FIRST`].
 pub(crate) fn end(alloc: Global, mulpdu: u32, is_framed: bool) -> Result<Endpoint> {
     let mut endpoint = Endpoint::new(alloc)?;
     set_up(alloc, &mut endpoint, mulpdu, is_framed)?;
@@ -43,6 +44,7 @@ fn open(endpoint: &mut Endpoint, is_framed: bool) -> Result<()> {
     let config = Config {
         markers: is_framed,
         crc: is_framed,
+        establishment: Establishment::Plain,
         private: PrivateData::new(),
     };
     made("open", endpoint.open(STREAM, DOMAIN, Role::Preset, config))
@@ -70,7 +72,7 @@ pub(crate) fn lend_region(endpoint: &mut Endpoint, octets: Vec<u8>) -> Result<St
     }
 }
 
-// Appends the next frame, and tells whether one was due.
+// Appends the next frame. Returns whether one was due.
 fn emit(endpoint: &mut Endpoint, out: &mut Vec<u8>) -> Result<bool> {
     match endpoint.sent(STREAM) {
         Ok(sent) if sent <= MAX_PLACE => {}
@@ -83,7 +85,7 @@ fn emit(endpoint: &mut Endpoint, out: &mut Vec<u8>) -> Result<bool> {
     }
 }
 
-/// Gathers all that is due.
+/// Fills `out` with all that is due.
 pub(crate) fn gather(endpoint: &mut Endpoint, out: &mut Vec<u8>) -> Result<()> {
     out.clear();
     for _ in 0..u64::MAX {
@@ -94,7 +96,7 @@ pub(crate) fn gather(endpoint: &mut Endpoint, out: &mut Vec<u8>) -> Result<()> {
     Ok(())
 }
 
-/// What steps of `work` came to.
+/// The outcome of steps of `work`.
 #[derive(Clone, Copy)]
 pub(crate) enum Came {
     /// A message.
@@ -103,7 +105,7 @@ pub(crate) enum Came {
     Nothing,
 }
 
-// What came by a step, or `None` where there was nothing to do.
+// The outcome of a step; `None` if there was nothing to do.
 #[inline(always)]
 fn told(step: &Step<Octets>) -> Result<Option<Came>> {
     match step {
@@ -139,7 +141,7 @@ pub(crate) fn work(endpoint: &mut Endpoint) -> Result<Came> {
     Ok(came)
 }
 
-/// Hands in what came, the first octet of which has this sequence number, and works.
+/// Delivers octets, the first of which has this sequence number, and works until there is nothing to do.
 pub(crate) fn take(endpoint: &mut Endpoint, number: u32, octets: &[u8]) -> Result<Came> {
     if let Err(refusal) = endpoint.deliver(STREAM, number, octets) {
         bail!("deliver: {refusal:?}");
@@ -147,7 +149,7 @@ pub(crate) fn take(endpoint: &mut Endpoint, number: u32, octets: &[u8]) -> Resul
     work(endpoint)
 }
 
-/// The sequence number that follows these octets, the first of which has this one. It wraps.
+/// The sequence number after these octets, given that of the first. It wraps.
 pub(crate) fn number_after(number: u32, octets: &[u8]) -> u32 {
     ((u64::from(number) + octets.len() as u64) % (1 << 32)) as u32
 }

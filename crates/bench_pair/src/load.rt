@@ -1,18 +1,18 @@
 use std::alloc::Global;
 
-/// How many octets a Write has, a read takes, and a plain write hands over.
+/// How many octets a Write has, a read takes at most, and a plain write writes.
 pub(crate) const BLOCK: usize = 65_536;
 
-/// How a load goes over the connection.
+/// How a load is sent over the connection.
 #[derive(Clone, Copy)]
 pub(crate) enum Way {
-    /// The octets alone, with no endpoint.
+    /// As plain octets, with no endpoint.
     Copied,
-    /// As Writes, in ULPDUs of at most so many octets, with markers and CRCs or with neither.
+    /// As Writes, in ULPDUs of at most this many octets, with markers and CRCs or with neither.
     Written { mulpdu: u32, is_framed: bool },
 }
 
-/// Octets to carry: so many blocks a round, each round answered before the next.
+/// Octets to carry: a number of blocks in each round. Each round is answered before the next begins.
 #[derive(Clone, Copy)]
 pub(crate) struct Load {
     pub(crate) way: Way,
@@ -21,7 +21,7 @@ pub(crate) struct Load {
 }
 
 impl Way {
-    /// The words that stand for it: the name of each way, and the ways by name.
+    /// The way with this name.
     pub(crate) fn named(name: &str) -> Option<Way> {
         match name {
             "copied" => Some(Way::Copied),

@@ -1,8 +1,9 @@
 //! Carries loads between two processes over loopback TCP, as Writes and as a plain copy.
 //!
-//! `bench_pair send NAME BLOCKS ROUNDS` prints its port and, once so many blocks have gone over the first connection, the
-//! nanoseconds that this took, a line for each round; `bench_pair receive PORT NAME BLOCKS ROUNDS` takes them in. With no
-//! words it carries a few blocks each way between two processes, in two rounds, and prints which came.
+//! `bench_pair send NAME BLOCKS ROUNDS` prints its port, sends BLOCKS blocks a round over the first connection, and
+//! prints the nanoseconds that each round took, a line for each; `bench_pair receive PORT NAME BLOCKS ROUNDS` receives
+//! them. With no arguments it carries a few blocks each way between two processes, in two rounds, and prints which
+//! came.
 #![tactic(auto)]
 
 mod carry;
@@ -21,7 +22,7 @@ use std::time::Instant;
 // This program's own file.
 const SELF: &str = "/proc/self/exe";
 
-// How many blocks are carried in a round, and in how many, where no time is measured.
+// How many blocks are carried in a round, and in how many rounds, if no time is measured.
 const FEW: &str = "20";
 
 const TWICE: &str = "2";
@@ -56,7 +57,7 @@ fn add_words(command: &mut Command, port: &str, name: &str) -> Result<()> {
     Ok(())
 }
 
-// What starts the receiving process.
+// The command that starts the receiving process.
 fn command(alloc: Global, port: &str, name: &str) -> Result<Command> {
     let mut command = Command::new(alloc, SELF)?;
     add_words(&mut command, port, name)?;
@@ -73,7 +74,7 @@ fn start<R: Runtime + AllocGlobal + Processes>(
     Ok(command.spawn(rt)?)
 }
 
-// Carries a load over the next connection, and tells how many nanoseconds each round took.
+// Carries a load over the next connection. Returns how many nanoseconds each round took.
 fn carry_over<R: Runtime + AllocGlobal + Net>(
     rt: &R,
     listener: &R::Listener,
@@ -115,7 +116,7 @@ fn bind<R: Runtime + Net>(rt: &R) -> Result<R::Listener> {
     Ok(TcpListener::bind(rt, (Ipv4Addr::LOCALHOST, 0u16))?)
 }
 
-// Carries a load to the process that connects to the port which is printed, and prints the times.
+// Prints a port, carries a load to the process that connects there, and prints the times.
 fn send<R: Runtime + AllocGlobal + Net>(rt: &R, load: &Load) -> Result<()> {
     let listener = bind(rt)?;
     let port = listener.local_addr()?.port();
@@ -137,7 +138,7 @@ fn carry_to<R: Runtime + AllocGlobal + Net + Processes>(
     Ok(child.wait()?.success())
 }
 
-// Carries a load to a second process, and tells whether that ended well.
+// Carries a load to a second process. Returns whether that process completed.
 fn carry_beside<R: Runtime + AllocGlobal + Net + Processes>(
     rt: &R,
     listener: &R::Listener,

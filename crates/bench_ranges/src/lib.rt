@@ -1,4 +1,4 @@
-//! Streams that come in several orders, taken in, handed out and let go, for the driver beside this crate.
+//! Streams that come in several orders: delivered, handed out and released, for the driver in bench/ranges.
 #![tactic(auto)]
 
 ghost use Rattle.std.specs.Prelude.{◌≡◌, ℕ, ◌≤◌, ◌<◌, ◌^◌, length, IfOk};
@@ -28,7 +28,7 @@ fn deliver(islands: &mut Islands, place: u64, octets: &[u8]) -> Result<(), NoMem
     Ok(())
 }
 
-/// Hands out what came in order, and says how many octets that were.
+/// Hands out what came in order, and returns how many octets that was.
 fn consume(islands: &mut Islands) -> u64
     requires { IsWhole islands.old.arrived }
     ensures { IsWhole islands.new.arrived }
@@ -78,7 +78,7 @@ fn swapped(alloc: Global, octets: &[u8], segment: usize) -> Result<u64, NoMemory
     Ok(count)
 }
 
-/// The segments with an odd number of a window, or those with an even one.
+/// The segments of a window with odd numbers, or those with even numbers.
 fn every_second(
     islands: &mut Islands,
     place: u64,
@@ -104,7 +104,7 @@ fn every_second(
     Ok(count)
 }
 
-/// Within each window of 128 KiB every second segment first.
+/// In each window of 128 KiB, every second segment first.
 fn halves(alloc: Global, octets: &[u8], segment: usize) -> Result<u64, NoMemory>
     requires { 0 < segment }
 {
@@ -119,7 +119,7 @@ fn halves(alloc: Global, octets: &[u8], segment: usize) -> Result<u64, NoMemory>
     Ok(count)
 }
 
-/// Segments of one octet in order, while islands of one octet wait further on.
+/// Segments of one octet in order, while islands of one octet wait further ahead.
 fn past_islands(alloc: Global, octets: &[u8], islands_too: bool) -> Result<u64, NoMemory> {
     let mut islands = started(alloc)?;
     if islands_too {

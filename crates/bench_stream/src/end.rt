@@ -2,17 +2,20 @@ use crate::load::Load;
 use bytes::Bytes;
 use iw_memory::{Memory, Stag};
 use iw_octets::{MAX_PLACE, Message, Octets, ReadRequest};
-use iw_stream::{Config, Delivery, Emission, PrivateData, Request, Role, Step, Stream};
+use iw_stream::{
+    Config, Delivery, Emission, Establishment, PrivateData, Request, Role, Step, Stream,
+    exceeds_request,
+};
 use iw_untagged::SharedQueue;
 use std::alloc::{AllocError, Global};
 
 /// The domain of all streams and regions.
 pub(crate) const DOMAIN: u8 = 1;
 
-// How many steps are done at most for one delivery.
+// The most steps that are done for one delivery.
 const MAX_STEPS: u32 = 10_000;
 
-/// Something went otherwise than it is to.
+/// Something went wrong.
 #[derive(Clone, Copy)]
 pub(crate) struct Stop;
 
@@ -61,6 +64,7 @@ fn config(load: Load) -> Config {
     Config {
         markers: load.markers,
         crc: load.crc,
+        establishment: Establishment::Plain,
         private: PrivateData::new(),
     }
 }
@@ -68,8 +72,12 @@ fn config(load: Load) -> Config {
 impl End {
     /// An end with the load's markers and CRCs.
     pub(crate) fn new(alloc: Global, load: Load, role: Role) -> Result<End, Stop> {
+        let config = config(load);
+        if exceeds_request(role, &config) {
+            return Err(Stop);
+        }
         Ok(End {
-            stream: Stream::new(alloc, DOMAIN, role, config(load))?,
+            stream: Stream::new(alloc, DOMAIN, role, config)?,
             pooled: false,
         })
     }
@@ -79,8 +87,12 @@ impl End {
         if !load.pooled {
             return End::new(alloc, load, role);
         }
+        let config = config(load);
+        if exceeds_request(role, &config) {
+            return Err(Stop);
+        }
         Ok(End {
-            stream: Stream::new_shared(alloc, DOMAIN, role, config(load))?,
+            stream: Stream::new_shared(alloc, DOMAIN, role, config)?,
             pooled: true,
         })
     }
@@ -137,7 +149,7 @@ impl End {
         }
     }
 
-    /// Appends the frame that is to be emitted next, and tells its place, if one is due.
+    /// Appends the next frame and returns its place; `None` if no frame is due.
     pub(crate) fn emit(&mut self, memory: &Memory, out: &mut Vec<u8>) -> Result<Option<u64>, Stop> {
         if self.stream.sent() > MAX_PLACE {
             return Err(Stop);
@@ -149,7 +161,7 @@ impl End {
         }
     }
 
-    /// Takes octets that came, the first of them at this place: its number wraps.
+    /// Delivers octets; the first is at this place, whose number wraps.
     pub(crate) fn deliver(&mut self, from: u64, octets: &[u8]) -> Result<(), Stop> {
         let number = (from % (1 << 32)) as u32;
         match self.stream.deliver(number, octets)? {
@@ -166,8 +178,8 @@ impl End {
         }
     }
 
-    // Does one step, and tells how many octets it placed: `None` if there was nothing to do. The buffer of a Send that is
-    // complete is no longer posted.
+    // Does one step. Returns how many octets it placed; `None` if there was nothing to do. The buffer of a complete
+    // Send is no longer posted.
     #[inline(always)]
     fn step(&mut self, memory: &mut Memory, buffers: &mut Buffers) -> Result<Option<u64>, Stop> {
         if self.stream.in_order_point() > MAX_PLACE {
@@ -192,7 +204,7 @@ impl End {
         }
     }
 
-    /// Does all that there is to do, and tells how many octets were placed.
+    /// Works until there is nothing to do. Returns how many octets were placed.
     #[inline(never)]
     pub(crate) fn settle(
         &mut self,
@@ -209,7 +221,7 @@ impl End {
         Err(Stop)
     }
 
-    /// The same, which calls `work` from a place of its own: so no step can be compiled into its only caller.
+    /// The same. With two callers of `work`, the compiler cannot inline it into its only caller.
     #[inline(never)]
     pub(crate) fn settle_too(
         &mut self,

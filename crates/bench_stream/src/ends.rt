@@ -7,7 +7,7 @@ use iw_octets::{InPieces, ReadRequest};
 use iw_stream::Role;
 use std::alloc::Global;
 
-/// How many frames are emitted for a round at most.
+/// The most frames that are emitted for a round.
 const MAX_FRAMES: usize = 1_000_000;
 
 fn memory(alloc: Global) -> Result<Memory, Stop> {
@@ -18,7 +18,7 @@ fn memory(alloc: Global) -> Result<Memory, Stop> {
     Ok(memory)
 }
 
-// What peers may do with the region that is written to, or into which is read, and with that which is read.
+// The rights of the region into which Writes and Read Responses are placed, and of the region that is read.
 const TO_PLACE: Rights = Rights {
     write: true,
     read: false,
@@ -54,16 +54,16 @@ fn register(memory: &mut Memory, octets: Vec<u8>, rights: Rights) -> Result<Stag
 struct Receiving {
     memory: Memory,
     buffers: Buffers,
-    /// How many octets a delivery has at most.
+    /// The most octets of a delivery.
     delivery: usize,
-    /// Of each so many deliveries of a window the first stays away.
+    /// The first of each `gap` deliveries of a window is left out.
     gap: usize,
-    /// The steps are called from the other place.
+    /// The steps are called from the other place of the code.
     too: bool,
 }
 
 impl Receiving {
-    // Where no buffer is, and no region.
+    // With no buffer and no region.
     fn new(alloc: Global, load: Load) -> Result<Receiving, Stop> {
         Ok(Receiving {
             memory: memory(alloc)?,
@@ -82,13 +82,13 @@ impl Receiving {
         }
     }
 
-    // Delivers octets, and does all that there is to do then.
+    // Delivers octets, and works until there is nothing to do.
     fn take_piece(&mut self, end: &mut End, from: u64, octets: &[u8]) -> Result<u64, Stop> {
         end.deliver(from, octets)?;
         self.settle(end)
     }
 
-    // Delivers the octets of a frame, and tells how many octets were placed.
+    // Delivers the octets of a frame. Returns how many octets were placed.
     fn take(&mut self, end: &mut End, from: u64, octets: &[u8]) -> Result<u64, Stop> {
         let mut placed = 0u64;
         let mut place = from;
@@ -100,7 +100,8 @@ impl Receiving {
         Ok(placed)
     }
 
-    // Delivers frames, so many octets further on than they were emitted, and tells how many octets were placed.
+    // Delivers frames, `further` octets after the places at which they were emitted. Returns how many octets were
+    // placed.
     fn take_all(&mut self, end: &mut End, wire: &Wire, further: u64) -> Result<u64, Stop> {
         let mut placed = 0u64;
         for frame in wire.frames() {
@@ -111,7 +112,8 @@ impl Receiving {
         Ok(placed)
     }
 
-    // Delivers octets from place 0 on, but for the first of each `gap` deliveries, and tells how many deliveries they were.
+    // Delivers octets from place 0 on, except the first of each `gap` deliveries. Returns how many deliveries there
+    // were.
     fn take_past_gaps(&mut self, end: &mut End, octets: &[u8]) -> Result<u64, Stop> {
         let mut deliveries = 0u64;
         let mut place = 0u64;
@@ -127,7 +129,7 @@ impl Receiving {
         Ok(deliveries)
     }
 
-    // Whether what is free and what is registered has these octets.
+    // Whether the free buffers, or the region, have these octets.
     fn holds(&self, stag: Stag, sends: bool, octets: &[u8]) -> bool {
         if sends {
             return all_have(self.buffers.spare.as_slice(), octets);
@@ -184,7 +186,7 @@ impl Pair {
     }
 }
 
-// Hands the next frame of the receiving end over.
+// Delivers the next frame of the receiving end to the other.
 fn hand_over(pair: &mut Pair, memory: &Memory, wire: &mut Wire) -> Result<(), Stop> {
     match wire.next(&mut pair.receiver, memory)? {
         Some(from) => pair.sender.deliver(from, wire.octets()),
@@ -213,7 +215,7 @@ fn add_pair(pairs: &mut Vec<Pair>, pair: Pair) -> Result<(), Stop> {
     Ok(())
 }
 
-// Carries the next frame of a pair, and tells how many octets were placed.
+// Carries the next frame of a pair. Returns how many octets were placed.
 fn carry_frame(
     pair: &mut Pair,
     source: &Memory,
@@ -226,7 +228,7 @@ fn carry_frame(
     }
 }
 
-// Carries the next frames of a pair, and tells how many octets were placed.
+// Carries the next frames of a pair. Returns how many octets were placed.
 fn carry_batch(
     pair: &mut Pair,
     source: &Memory,
@@ -239,7 +241,7 @@ fn carry_batch(
     receiving.take_all(&mut pair.receiver, wire, 0)
 }
 
-/// Streams, the regions and buffers of those that receive, and frames under way.
+/// Streams, the regions and buffers of those that receive, and frames in transit.
 #[derive(Drop)]
 pub(crate) struct Ends {
     load: Load,
@@ -309,7 +311,7 @@ impl Ends {
         Ok(())
     }
 
-    // Sets the ULPDU size of each pair, whose ends exchange start-up frames where the load has them.
+    // Sets the maximum ULPDU of each pair, whose ends exchange start-up frames if the load says so.
     fn set_up(&mut self) -> Result<(), Stop> {
         for pair in self.pairs.iter_mut() {
             pair.sender.set_mulpdu(self.load.mulpdu)?;
@@ -321,7 +323,7 @@ impl Ends {
         Ok(())
     }
 
-    // Posts a Read of the source from an offset on at each receiving end, and hands over its request.
+    // Posts a Read of the source at an offset to each receiving end, and delivers its request.
     fn post_reads(&mut self, offset: u64) -> Result<(), Stop> {
         let size = self.load.message.min(1 << 24) as u32;
         for pair in self.pairs.iter_mut() {
@@ -374,7 +376,8 @@ impl Ends {
         Ok(())
     }
 
-    /// Carries a round of messages, and tells how many octets were placed. They stand at the offset in what is read.
+    /// Carries a round of messages. Returns how many octets were placed. They are at this offset in the region that is
+    /// read.
     pub(crate) fn carry(&mut self, octets: &Bytes, offset: u64) -> Result<u64, Stop> {
         if self.load.reads {
             self.post_reads(offset)?;
@@ -393,7 +396,7 @@ impl Ends {
         Err(Stop)
     }
 
-    // The other place calls the steps of the next round.
+    // The steps of the next round are called from the other place of the code.
     fn end_round(&mut self, octets: &Bytes, placed: u64) -> Result<u64, Stop> {
         if self.load.two_callers {
             self.receiving.too = !self.receiving.too;
@@ -402,7 +405,7 @@ impl Ends {
         Ok(placed)
     }
 
-    /// Compares what came with what was posted, where the load says so.
+    /// Compares what came with what was posted, if the load says so.
     pub(crate) fn compare(&self, octets: &Bytes) -> Result<(), Stop> {
         let octets = octets.as_slice();
         if self.load.compared && !self.receiving.holds(self.stag, self.load.sends, octets) {
@@ -421,7 +424,7 @@ impl Ends {
         self.wire.arrange(self.load)
     }
 
-    /// Delivers the frames that were emitted, so many octets further on, and tells how many octets were placed.
+    /// Delivers the frames that were emitted, at later places for each round. Returns how many octets were placed.
     pub(crate) fn repeat(&mut self, round: u64) -> Result<u64, Stop> {
         let further = round.wrapping_mul(self.wire.len() as u64);
         let Some(pair) = self.pairs.get_mut(0) else {
@@ -431,15 +434,15 @@ impl Ends {
             .take_all(&mut pair.receiver, &self.wire, further)
     }
 
-    /// Delivers the octets that were emitted, but for those of the first of each `gap` deliveries, to a new stream, and tells how
-    /// many deliveries they were.
+    /// Delivers the octets that were emitted, except those of the first of each `gap` deliveries, to a new stream.
+    /// Returns how many deliveries there were.
     pub(crate) fn take_window(&mut self, alloc: Global) -> Result<u64, Stop> {
         let mut end = End::new(alloc, self.load, Role::Preset)?;
         end.set_mulpdu(self.load.mulpdu)?;
         self.receiving.take_past_gaps(&mut end, self.wire.octets())
     }
 
-    /// Lets the markers that were emitted point where the load has them.
+    /// Makes the markers that were emitted point where the load says.
     pub(crate) fn lie(&mut self) {
         self.wire.lie(self.load);
     }

@@ -1,4 +1,4 @@
-//! Messages that go from streams to others, for the driver beside this crate.
+//! Messages that are carried from streams to others, for the driver in bench/stream.
 #![tactic(auto)]
 
 mod end;
@@ -11,21 +11,21 @@ pub use load::Load;
 use run::{Work, perform};
 use std::alloc::Global;
 
-/// Carries messages from new streams to others, and tells how many octets were placed: none where something went otherwise.
+/// Carries messages from new streams to others. Returns how many octets were placed; 0 if anything went wrong.
 #[unsafe(no_mangle)]
 pub extern "C" fn stream_carry(alloc: Global, load: &Load, octets: &[u8]) -> u64 {
     perform(alloc, load, octets, Work::Carry).unwrap_or(0)
 }
 
-/// Delivers the frames of one round of messages again and again to a new stream, and tells how many octets were placed: none
-/// where something went otherwise.
+/// Delivers the frames of one round of messages again and again to a new stream. Returns how many octets were placed; 0
+/// if anything went wrong.
 #[unsafe(no_mangle)]
 pub extern "C" fn stream_receive(alloc: Global, load: &Load, octets: &[u8]) -> u64 {
     perform(alloc, load, octets, Work::Receive).unwrap_or(0)
 }
 
-/// Delivers the frames of one round of messages, but for the first of each `gap` deliveries, to new streams again and again, and
-/// tells how many deliveries they were: none where something went otherwise.
+/// Delivers the frames of one round of messages, except the first of each `gap` deliveries, to new streams again and
+/// again. Returns how many deliveries there were; 0 if anything went wrong.
 #[unsafe(no_mangle)]
 pub extern "C" fn stream_window(alloc: Global, load: &Load, octets: &[u8]) -> u64 {
     perform(alloc, load, octets, Work::Window).unwrap_or(0)

@@ -8,42 +8,42 @@ pub struct Load {
     pub crc: bool,
     /// The streams begin with start-up frames.
     pub start_up: bool,
-    /// The messages are Sends, and not Writes.
+    /// The messages are Sends instead of Writes.
     pub sends: bool,
     /// The receiving streams share one pool of receive buffers.
     pub pooled: bool,
-    /// The receiving ends read the messages, one at a time each, in place of that the others write them.
+    /// The receiving ends read the messages, one at a time each, instead of the others writing them.
     pub reads: bool,
     /// After each round what came is compared with what was posted.
     pub compared: bool,
-    /// The receiving streams' steps are called from two places, round by round.
+    /// The receiving streams' steps are called from two places of the code, by turns of rounds.
     pub two_callers: bool,
-    /// The frames that are emitted at a time are delivered from the last to the first.
+    /// The frames that are emitted together are delivered from the last to the first.
     pub reversed: bool,
-    /// Of the frames that are emitted at a time the last is delivered before all others.
+    /// Of the frames that are emitted together, the last is delivered before all others.
     pub last_first: bool,
-    /// Each marker of a window points somewhere else.
+    /// Each marker of a window points to a random place.
     pub lying: bool,
-    /// Each marker of a window points to a frame of its own, which is as long as can be and never whole.
+    /// Each marker of a window points to a frame of its own, which is as long as possible and never whole.
     pub cut: bool,
     /// The maximum ULPDU, in octets.
     pub mulpdu: u32,
     /// How many octets a message has.
     pub message: usize,
-    /// How many messages are posted at a time.
+    /// How many messages are posted together.
     pub posted: usize,
     /// How many receive buffers each receiving stream has posted, or added to the pool, before the first round.
     pub ahead: usize,
     /// How many pairs of streams go by turns.
     pub pairs: usize,
-    /// How many frames of a stream are emitted at a time.
+    /// How many frames of a stream are emitted together.
     pub batch: usize,
-    /// Of each so many of these the first is delivered after all others.
+    /// The first of each `late` of these frames is delivered after all others.
     pub late: usize,
-    /// How many octets a delivery has at most.
+    /// The most octets of a delivery.
     pub delivery: usize,
-    /// Of each so many deliveries of a window the first stays away.
+    /// The first of each `gap` deliveries of a window is left out.
     pub gap: usize,
-    /// How often all that is done.
+    /// How many rounds there are.
     pub rounds: usize,
 }

@@ -4,7 +4,7 @@ use crate::load::Load;
 use bytes::Bytes;
 use std::alloc::Global;
 
-// The messages have by turns the first octets and those from here on.
+// The messages have, by turns, the octets from 0 on and those from here on.
 const SHIFT: usize = 64;
 
 // The octets of the messages, by turns.
@@ -16,18 +16,18 @@ fn payloads(alloc: Global, load: Load, octets: &[u8]) -> Result<(Bytes, Bytes), 
     Ok((all.slice(..load.message)?, all.slice(SHIFT..)?))
 }
 
-/// What is done again and again.
+/// What is repeated.
 #[derive(Clone, Copy)]
 pub(crate) enum Work {
     /// Rounds of messages are carried from the streams to the others.
     Carry,
     /// The frames of one round are delivered.
     Receive,
-    /// The frames of one round are delivered to new streams, but for the first of each `gap` deliveries.
+    /// The frames of one round are delivered to new streams, except the first of each `gap` deliveries.
     Window,
 }
 
-/// Does the work with new streams. It tells how many octets were placed, and of windows how many deliveries they were.
+/// Does the work with new streams. Returns how many octets were placed; for `Window`, how many deliveries there were.
 pub(crate) fn perform(alloc: Global, load: &Load, octets: &[u8], work: Work) -> Result<u64, Stop> {
     let load = *load;
     let (even, odd) = payloads(alloc, load, octets)?;

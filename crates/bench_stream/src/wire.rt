@@ -4,12 +4,12 @@ use iw_memory::Memory;
 use std::alloc::Global;
 use std::mem;
 
-// From one marker to the next, and of a marker, in octets.
+// The distance from one marker to the next, and the length of a marker, in octets.
 const MARKER_SPACING: usize = 512;
 
 const MARKER_LEN: usize = 4;
 
-/// A frame under way: its place in the stream, and where its octets lie.
+/// A frame in transit: its place in the stream, and where its octets are.
 #[derive(Clone, Copy)]
 pub(crate) struct Frame {
     pub(crate) from: u64,
@@ -22,7 +22,7 @@ pub(crate) struct Frame {
 pub(crate) struct Wire {
     octets: Vec<u8>,
     frames: Vec<Frame>,
-    /// Room for the frames while they change their order.
+    /// Room for the frames while their order is changed.
     emitted: Vec<Frame>,
 }
 
@@ -40,7 +40,7 @@ impl Wire {
         self.frames.as_slice()
     }
 
-    /// How many octets all frames have.
+    /// The total length of the frames.
     pub(crate) fn len(&self) -> usize {
         self.octets.len()
     }
@@ -56,7 +56,7 @@ impl Wire {
         Ok(octets)
     }
 
-    /// Emits the next frame of an end alone, if one is due, and tells its place.
+    /// Emits the next frame of an end, and only that. Returns its place; `None` if no frame is due.
     pub(crate) fn next(&mut self, end: &mut End, memory: &Memory) -> Result<Option<u64>, Stop> {
         self.octets.clear();
         end.emit(memory, &mut self.octets)
@@ -66,7 +66,7 @@ impl Wire {
         self.octets.as_slice()
     }
 
-    /// Lets the markers among the octets, the first of which has place 0, point where the load has them.
+    /// Makes the markers among the octets, the first of which has place 0, point where the load says.
     pub(crate) fn lie(&mut self, load: Load) {
         if load.lying {
             self.point_anywhere();
@@ -76,7 +76,7 @@ impl Wire {
         }
     }
 
-    // Each marker points somewhere else, by chance.
+    // Each marker points to a random place.
     fn point_anywhere(&mut self) {
         let mut state = 1u32;
         for marker in self.octets.chunks_mut(MARKER_SPACING) {
@@ -88,9 +88,10 @@ impl Wire {
         }
     }
 
-    // Each marker points right past itself, where the octets say that a frame has 65,535 octets: more than come without a gap, so
-    // it is never whole. Any octet that comes within its 65,535 might be its last one. So a delivery has all those looked at
-    // again to which the markers of the 65,535 octets before it point, and none gets a record, past which the search would begin.
+    // Each marker points right after itself, to a frame with a length of 65,535 octets. So many never come without a
+    // gap, so the frame is never whole. Any octet that comes within it might be the last that it lacks. So each
+    // delivery has the search look again at all frames to which the markers of the 65,535 octets before it point; and
+    // none gets a record, after which the search would begin.
     fn point_to_cut_frames(&mut self) {
         for part in self.octets.chunks_mut(MARKER_SPACING) {
             if part.len() >= MARKER_LEN + 2 {
@@ -102,7 +103,7 @@ impl Wire {
         }
     }
 
-    /// Emits so many frames of an end at most, in place of those that were here.
+    /// Replaces the frames by at most `most` new frames of an end.
     pub(crate) fn fill(&mut self, end: &mut End, memory: &Memory, most: usize) -> Result<(), Stop> {
         self.octets.clear();
         self.frames.clear();
@@ -117,8 +118,8 @@ impl Wire {
         Ok(())
     }
 
-    /// Puts the frames that were emitted in the order in which the load has them delivered: the last before all others, from the
-    /// last to the first, or batch by batch, of each `late` the first after all others of its batch.
+    /// Puts the emitted frames in the order in which the load has them delivered: the last before all others; or from
+    /// the last to the first; or batch by batch, with the first of each `late` after all others of its batch.
     pub(crate) fn arrange(&mut self, load: Load) -> Result<(), Stop> {
         if load.last_first && !self.frames.is_empty() {
             self.frames.rotate_right(1);
@@ -144,7 +145,7 @@ fn add(frames: &mut Vec<Frame>, frame: Frame) -> Result<(), Stop> {
     }
 }
 
-// Adds the frames of a batch: of each `late` the first after all others.
+// Adds the frames of a batch, the first of each `late` after all others.
 fn add_late(ordered: &mut Vec<Frame>, batch: &[Frame], late: usize) -> Result<(), Stop> {
     for part in batch.chunks(late.max(1)) {
         if let Some((_, others)) = part.split_first() {

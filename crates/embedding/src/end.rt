@@ -3,7 +3,8 @@ ghost use Rattle.iw_stream.specs.Kept.{IsWithinBuffer};
 use anyhow::{Result, bail};
 use bytes::Bytes;
 use iw_endpoint::{
-    Config, Emission, Endpoint, MAX_PLACE, Octets, PrivateData, Request, Rights, Role, Stag, Step,
+    Config, Emission, Endpoint, Establishment, MAX_PLACE, Octets, PrivateData, Request, Rights,
+    Role, Stag, Step,
 };
 use std::alloc::Global;
 use std::rt::Runtime;
@@ -19,17 +20,17 @@ pub(crate) struct End {
     name: &'static str,
     endpoint: Endpoint,
     next: u32,
-    // What a responder answers the Request with.
+    // The private data with which a responder accepts.
     private: PrivateData,
 }
 
-/// The sequence number that follows these octets, the first of which has this one. It wraps.
+/// The sequence number after these octets, given that of the first. It wraps.
 fn number_after(number: u32, octets: &[u8]) -> u32 {
     ((u64::from(number) + octets.len() as u64) % (1 << 32)) as u32
 }
 
 impl End {
-    /// An end with a domain, and a stream in it.
+    /// An end with a domain and a stream in it.
     pub(crate) fn open(alloc: Global, name: &'static str, role: Role) -> Result<End> {
         let mut endpoint = Endpoint::new(alloc)?;
         if let Err(refusal) = endpoint.add_domain(DOMAIN) {
@@ -38,6 +39,7 @@ impl End {
         let config = Config {
             markers: true,
             crc: true,
+            establishment: Establishment::Plain,
             private: PrivateData::new(),
         };
         if let Err(refusal) = endpoint.open(STREAM, DOMAIN, role, config) {
@@ -51,7 +53,7 @@ impl End {
         })
     }
 
-    /// Registers octets that the peer may use so.
+    /// Registers octets that the peer may use with these rights.
     pub(crate) fn register(&mut self, octets: Vec<u8>, rights: Rights) -> Result<Stag> {
         match self.endpoint.register(DOMAIN, 0, octets, rights) {
             Ok(stag) => Ok(stag),
@@ -59,13 +61,13 @@ impl End {
         }
     }
 
-    /// Tells the peer of a region, in the private data of the answer to its Request.
+    /// Names a region to the peer, in the private data of the MPA Reply.
     pub(crate) fn offer(&mut self, stag: Stag) {
         self.private.clear();
         let _ = self.private.try_extend_from_slice(&stag.to_octets());
     }
 
-    /// The region that the peer told of.
+    /// The region that the peer named.
     pub(crate) fn offered(&self) -> Option<Stag> {
         let private = self.endpoint.private(STREAM).ok()?;
         let octets: [u8; 4] = private.try_into().ok()?;
@@ -86,7 +88,7 @@ impl End {
         }
     }
 
-    /// To be called when octets came on the socket.
+    /// Call it when octets came on the socket.
     pub(crate) fn octets_came<R: Runtime + AllocGlobal>(
         &mut self,
         rt: &R,
@@ -99,7 +101,7 @@ impl End {
         self.work(rt)
     }
 
-    /// To be called when the socket can be written to: fills `out` with all that is to be written.
+    /// Call it when the socket is writable. It fills `out` with all that is to be written.
     pub(crate) fn is_writable<R: Runtime + AllocGlobal>(
         &mut self,
         rt: &R,
@@ -114,11 +116,11 @@ impl End {
         if !out.is_empty() {
             println!(rt; "{}: {} octets go out", self.name, out.len())?;
         }
-        // What was posted may be done now.
+        // Posted messages may be done now.
         self.work(rt)
     }
 
-    /// To be called when the connection closed: all that was posted and is not done is handed back.
+    /// Call it when the connection closed. All that was posted and is not done is handed back.
     pub(crate) fn closed<R: Runtime + AllocGlobal>(&mut self, rt: &R) -> Result<()> {
         if let Err(missing) = self.endpoint.break_link(STREAM) {
             bail!("break_link: {missing:?}");
@@ -126,7 +128,7 @@ impl End {
         self.work(rt)
     }
 
-    // Appends what is to be written next, and tells whether there was anything to do.
+    // Appends what is to be written next. Returns whether there was anything to do.
     fn emit(&mut self, out: &mut Vec<u8>) -> Result<bool> {
         match self.endpoint.sent(STREAM) {
             Ok(sent) if sent <= MAX_PLACE => {}
@@ -140,7 +142,7 @@ impl End {
         }
     }
 
-    // Does all that there is to do.
+    // Works until there is nothing to do.
     fn work<R: Runtime + AllocGlobal>(&mut self, rt: &R) -> Result<()> {
         for _ in 0..u64::MAX {
             if !self.step(rt)? {
@@ -150,7 +152,7 @@ impl End {
         Ok(())
     }
 
-    // Does one step, and tells whether there was anything to do.
+    // Does one step. Returns whether there was anything to do.
     fn step<R: Runtime + AllocGlobal>(&mut self, rt: &R) -> Result<bool> {
         match self.endpoint.in_order_point(STREAM) {
             Ok(point) if point <= MAX_PLACE => {}
@@ -166,7 +168,7 @@ impl End {
         }
     }
 
-    // Tells of a step, and does what is left to this end's user.
+    // Prints a step, and does what the application has to do after it.
     fn tell<R: Runtime + AllocGlobal>(&mut self, rt: &R, step: Step<Octets>) -> Result<()>
         requires { IsWithinBuffer step }
     {
@@ -212,7 +214,7 @@ impl End {
         }
     }
 
-    /// Prints the text that stands in a region.
+    /// Prints the text in a region.
     pub(crate) fn show<R: Runtime + AllocGlobal>(&self, rt: &R, stag: Stag) -> Result<()> {
         let octets = self.endpoint.local(stag).unwrap_or(&[]);
         let end = octets

@@ -1,8 +1,9 @@
-//! How a program holds endpoints: two of them, joined in memory as two programs would be by a socket.
+//! A program around two endpoints, joined in memory as two programs would be by a socket.
 //!
-//! `a` opens the connection, `b` accepts it and tells in its private data which of its regions `a` may use. `a` writes there,
-//! sends a message, and reads back what it wrote. Then it sends that it is done with the region, and reads from it all the
-//! same: `b` ends the stream by a Terminate, and each end gets back what it had posted. Each end prints what it does.
+//! `a` opens the connection. `b` accepts it and names in its private data the region that `a` may use. `a` writes
+//! there, sends a message, and reads back what it wrote. Then it invalidates the region by a Send and reads from it all
+//! the same: `b` ends the stream by a Terminate, and each end gets back what it had posted. Each end prints what it
+//! does.
 #![tactic(auto)]
 
 mod end;
@@ -14,7 +15,7 @@ use iw_endpoint::{Message, ReadRequest, Request, Rights, Role, Stag};
 use std::alloc::Global;
 use std::rt::Runtime;
 
-// How many octets a read of the socket gives at most.
+// The most octets that a read of the socket gives.
 const READ_OCTETS: usize = 100;
 
 // What a peer may do with a region.
@@ -34,7 +35,7 @@ const SINK: Rights = Rights {
 
 const TEXT: &[u8] = b"remote memory";
 
-// What one end has to write comes to the other, as much at once as a read gives. Tells whether there was anything.
+// Carries what one end has to write to the other, read by read. Returns whether there was anything.
 fn pass<R: Runtime + AllocGlobal>(
     rt: &R,
     from: &mut End,
@@ -48,7 +49,7 @@ fn pass<R: Runtime + AllocGlobal>(
     Ok(!wire.is_empty())
 }
 
-// Carries what both ends have to write, until neither has anything.
+// Carries what both ends have to write to the other, until neither has anything.
 fn carry<R: Runtime + AllocGlobal>(rt: &R, a: &mut End, b: &mut End) -> Result<()> {
     let mut wire = Vec::new(rt.alloc());
     for _ in 0..u64::MAX {
@@ -88,7 +89,7 @@ fn read(sink: Stag, source: Stag) -> Request<Bytes> {
     })
 }
 
-// `b` shares a region, and has a buffer for a message.
+// `b` offers a region, and posts a buffer for a message.
 fn prepare(alloc: Global, b: &mut End) -> Result<Stag> {
     let shared = b.register(vec![in alloc; 0; 16]?, SHARED)?;
     b.offer(shared);
@@ -108,7 +109,7 @@ fn post(alloc: Global, a: &mut End) -> Result<Stag> {
     Ok(sink)
 }
 
-// `a` posts a Send that puts the region out of use, and a Read from it.
+// `a` posts a Send that invalidates the region, and a Read from it.
 fn overreach(alloc: Global, a: &mut End, sink: Stag) -> Result<()> {
     let Some(offered) = a.offered() else {
         bail!("no region was offered");

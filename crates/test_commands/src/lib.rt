@@ -1,4 +1,5 @@
-//! Tests of the commands over connections in memory: that are cut, or cannot be made, and whose outputs and pipes fail.
+//! Tests of the commands over connections in memory: connections that are cut or cannot be made, and outputs and pipes
+//! that fail.
 #![tactic(auto)]
 
 #[cfg(test)]

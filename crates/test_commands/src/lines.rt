@@ -1,4 +1,4 @@
-//! Each kind of line, and how the command ends.
+//! Each kind of line, and the command's status.
 
 use crate::peers::Script;
 use iw_commands::{Options, Request, connect_all, listen_all};
@@ -6,9 +6,9 @@ use iw_output::Status;
 use std::alloc::Global;
 use std::test::Fail;
 
-// A whole call; the same without its last octet; a peer that cannot be met; a Request with the key of a Reply; a Write
-// past the end of the region; a Terminate; a whole call again; a Send whose octets end one past the receive buffer; one
-// whose octets end where the buffer does, before its first octets came; and two Sends.
+// A whole call; the same without its last octet; a connection that cannot be made; a Request with the key of a Reply; a
+// Write past the end of the region; a Terminate; a whole call again; a Send whose octets end one past the receive
+// buffer; one whose octets end where the buffer does, before its first octets came; and two Sends.
 const CALLERS: &str = "\
     4d504120494420526571204672616d65000100000010c1400100000000000000000000006869000000000000001441430000\
     00000000000000000001000000006869000000000000\n\

@@ -3,8 +3,8 @@ use std::alloc::Global;
 use std::io::{self, Cursor, ErrorKind};
 use test_support::Halting;
 
-/// Peers one after the other, a line for each: the octets that it sends, in hexadecimal digits, or `-` where it cannot
-/// be met. Each gives seven octets a read.
+/// Peers one after the other, a line for each: the octets that it sends, as hexadecimal digits, or `-` if no connection
+/// to it can be made. Each gives seven octets a read.
 #[derive(Drop)]
 pub(crate) struct Script<'a> {
     alloc: Global,

@@ -1,4 +1,4 @@
-//! What another process prints: its port, and lines without end, or until a read fails.
+//! What another process prints: its port, and lines that never end, or end with a failed read.
 
 use crate::peers::Script;
 use iw_commands::{CommandFault, Options, Request, Talked, drain, read_port, talk};
@@ -35,7 +35,7 @@ fn port_lines_are_told_from_others(rt: HostRuntime) -> Result<(), Fail> {
     Ok(())
 }
 
-// Reads the line of a port, octet by octet; the read of this number fails so.
+// Reads a port line, octet by octet; the read with this number fails with this error.
 fn port_read(alloc: Global, call: u64, kind: ErrorKind) -> (Result<u16, CommandFault>, u32) {
     let line = Halting::new("port 4420\n".as_bytes(), 2);
     let mut pipe = Counted::new(line.failing_at(call, kind));
@@ -87,7 +87,7 @@ const REQUEST: Request<'_> = Request {
     },
 };
 
-// Two requests, at a process that prints into a pipe, of which this read fails.
+// Two requests to a process that prints into a pipe; the read of it with this number fails.
 fn talked(alloc: Global, peers: &str, call: u64) -> Option<Talked> {
     let pipe = Halting::new(Cursor::new("some lines".as_bytes()), 3);
     let mut pipe = Counted::new(pipe.failing_at(call, ErrorKind::BrokenPipe));

@@ -1,4 +1,4 @@
-//! An output that fails at each of its calls: what it took is the front of what is to be printed.
+//! An output that fails at each of its calls in turn: what it took is the front of what is to be printed.
 
 use crate::peers::{CALL, Script};
 use iw_commands::{CommandFault, Options, listen_all};
@@ -15,7 +15,7 @@ const OPTIONS: Options = Options {
     crc: false,
 };
 
-// Serves one caller; the output takes eight octets a write, and its call of this number fails so.
+// Serves one caller; the output takes eight octets a write, and its call with this number fails with this error.
 fn printed(alloc: Global, call: u64, kind: ErrorKind) -> (Result<Status, CommandFault>, Vec<u8>) {
     let mut print = Halting::new(Vec::new(alloc), 8).failing_at(call, kind);
     let status = listen_all(alloc, &mut Script::new(alloc, CALL), OPTIONS, 1, &mut print);

@@ -3,7 +3,7 @@ use crate::side::Side;
 use bytes::Bytes;
 use iw_events::{Act, Call as EndCall, End, Entry, Event, StreamCall};
 
-/// Two ends, whose streams of one number are connected.
+/// Two ends. Streams of the same number are connected.
 #[derive(Drop)]
 pub struct Ends<'h> {
     a: Side<'h>,
@@ -27,7 +27,7 @@ impl<'h> Ends<'h> {
         self.meter.counted(call)
     }
 
-    /// Makes one event happen.
+    /// Makes the call of one event.
     pub fn happen(
         &mut self,
         event: &Event<Bytes<Heap<'h>>>,
@@ -42,7 +42,7 @@ impl<'h> Ends<'h> {
         })
     }
 
-    /// Gives up what was emitted on a stream and had its turn at the other end: it can't be delivered again.
+    /// Drops what was emitted on a stream and had its turn at the other end. It cannot be delivered again.
     pub fn forget(&mut self, number: u8) {
         self.a.forget(number, &self.b);
         self.b.forget(number, &self.a);
@@ -88,7 +88,7 @@ fn act<'h>(
     }
 }
 
-// Calls a stream of an end.
+// Makes a call on a stream of an end.
 fn act_at<'h>(
     end: &mut Side<'h>,
     peer: &Side<'h>,

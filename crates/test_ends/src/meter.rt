@@ -36,7 +36,7 @@ pub enum Call {
     OpenShared,
 }
 
-/// Each call, and whether it takes memory.
+/// Each call, and whether it allocates.
 pub const CALLS: [(Call, bool); 25] = [
     (Call::New, true),
     (Call::Register, true),
@@ -79,19 +79,19 @@ impl Call {
 /// Why an event has no entry.
 #[derive(Clone, Copy, Debug, PartialEq, Eq, Error)]
 pub enum Stopped {
-    /// It delivers octets that were not emitted, or that are no longer kept.
+    /// It delivers octets that were not emitted, or are no longer kept.
     #[error("octets that are not there are delivered")]
     NotSent,
     /// It names a stream that was never opened.
     #[error("a stream was never opened")]
     NoSuchStream,
-    /// There is no memory, and none was refused.
+    /// Out of memory, though none was refused.
     #[error("there is no memory")]
     NoMemory,
-    /// The call had no memory and answers as if it had, or takes memory and should not.
+    /// The call was refused memory and does not say so, or allocates and should not.
     #[error("{0:?} was refused memory, and told nothing")]
     Ignored(Call),
-    /// The call has no memory however often it is made.
+    /// The call runs out of memory however often it is made.
     #[error("{0:?} has no memory, however often it is made")]
     Endless(Call),
 }
@@ -108,7 +108,7 @@ impl<T: Drop> From<AllocFailed<T>> for Stopped {
     }
 }
 
-/// How often one call is made at most.
+/// The most times that one call is made.
 pub(crate) const MOST_TRIES: u64 = 100;
 
 /// Refuses memory while calls are made, and counts.
@@ -116,12 +116,12 @@ pub(crate) const MOST_TRIES: u64 = 100;
 pub struct Meter<'h> {
     heap: Heap<'h>,
     is_refusing: bool,
-    /// By call: how often it was made, and how many of its requests for memory were refused.
+    /// For each call: how often it was made, and how many of its requests for memory were refused.
     counts: [(u64, u64); 25],
 }
 
 impl<'h> Meter<'h> {
-    /// No call was made yet. Where it is not refusing, each call has all the memory that it asks for.
+    /// No call was made yet. If it is not refusing, each call gets all the memory that it asks for.
     pub fn new(heap: Heap<'h>, is_refusing: bool) -> Meter<'h> {
         heap.refuse_after(u64::MAX);
         Meter {
@@ -143,14 +143,14 @@ impl<'h> Meter<'h> {
         }
     }
 
-    /// From here on, a call is made: its request behind the next `n` is refused.
+    /// A call begins: its request after the next `n` is refused.
     pub(crate) fn begin(&self, n: u64) {
         if self.is_refusing {
             self.heap.refuse_after(n);
         }
     }
 
-    /// The call was made, after so many that were refused.
+    /// The call succeeded, after this many that were refused.
     pub(crate) fn end(&mut self, call: Call, n: u64) -> Result<(), Stopped> {
         let is_ignored = self.is_refusing && self.heap.has_refused();
         self.heap.refuse_after(u64::MAX);

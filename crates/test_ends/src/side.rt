@@ -4,9 +4,9 @@ use crate::meter::{Call, Heap, MOST_TRIES, Meter, Stopped};
 use crate::wire::Wire;
 use bytes::Bytes;
 use iw_endpoint::{
-    Agreed, CallRefusal, Config, Delivery, Emission, Endpoint, MAX_PLACE, NoSuchStream, Octets,
-    OpenRefusal, OpenSharedRefusal, PoolRefusal, PostRefusal, RecvRefusal, RegisterRefusal,
-    Request, Right, Rights, Role, STREAM_NUMBERS, ShareRefusal, Stag, Step,
+    Agreed, CallRefusal, Config, Delivery, Emission, Endpoint, Establishment, MAX_PLACE,
+    NoSuchStream, Octets, OpenRefusal, OpenSharedRefusal, PoolRefusal, PostRefusal, RecvRefusal,
+    RegisterRefusal, Request, Right, Rights, Role, STREAM_NUMBERS, ShareRefusal, Stag, Step,
 };
 use iw_events::{
     Act, Options, Seen, Shown, StreamAct, StreamCall, message_in, private_data, shared, standing,
@@ -26,7 +26,7 @@ type StreamAnswer<'h> = Result<StreamAct<Bytes<Heap<'h>>>, Stopped>;
 
 type SeenStep<'h> = Result<Seen<Bytes<Heap<'h>>>, Stopped>;
 
-// A stream that has the number.
+// A stream with the number.
 fn there<T>(answer: Result<T, NoSuchStream>) -> Result<T, Stopped> {
     answer.map_err(|_| Stopped::NoSuchStream)
 }
@@ -60,11 +60,12 @@ fn see_received<'h>(
     })
 }
 
-// What an opening asks for.
+// What a call that opens a stream asks for.
 fn config_for(options: Options, private: &[u8]) -> Config {
     Config {
         markers: options.markers,
         crc: options.crc,
+        establishment: Establishment::Plain,
         private: private_data(private),
     }
 }
@@ -83,7 +84,7 @@ impl<'h> Side<'h> {
         self.endpoint.sent(number).is_ok()
     }
 
-    /// The octets that a stream emitted, so many from a place on.
+    /// The octets that a stream emitted at a place.
     pub(crate) fn emitted(&self, number: u8, from: u64, len: u64) -> Result<&[u8], Stopped> {
         let Some(wire) = self.wires.get(number as usize) else {
             return Err(Stopped::NoSuchStream);
@@ -91,7 +92,7 @@ impl<'h> Side<'h> {
         wire.part(from, len).ok_or(Stopped::NotSent)
     }
 
-    /// The other end is done with what a stream emitted before this end's own in-order point.
+    /// What the other end emitted before this end's in-order point is not needed any more.
     pub(crate) fn forget(&mut self, number: u8, peer: &Side<'h>) {
         if let (Ok(point), Some(wire)) = (
             peer.endpoint.in_order_point(number),
@@ -295,7 +296,7 @@ impl<'h> Side<'h> {
         Err(Stopped::Endless(Call::OpenShared))
     }
 
-    /// Calls a stream; `came` are the octets that it delivers.
+    /// Makes a call on a stream; `came` are the octets that it delivers.
     pub(crate) fn call(
         &mut self,
         meter: &mut Meter<'h>,
@@ -389,7 +390,7 @@ impl<'h> Side<'h> {
         }
     }
 
-    // Octets that the other end emitted from a place on: the first of them has that place's number.
+    // Delivers octets that the other end emitted at a place: the first has the number of that place.
     fn deliver_emitted(
         &mut self,
         meter: &mut Meter<'h>,
@@ -430,7 +431,7 @@ impl<'h> Side<'h> {
         Err(Stopped::Endless(Call::Deliver))
     }
 
-    // Emits what is due, behind what was emitted.
+    // Emits what is due, after what was emitted.
     fn emission(&mut self, meter: &mut Meter<'h>, number: u8) -> Result<Emission, Stopped> {
         let Some(wire) = self.wires.get_mut(number as usize) else {
             return Err(Stopped::NoSuchStream);
@@ -589,7 +590,7 @@ impl<'h> Side<'h> {
         Ok(Bytes::copy_from_slice(meter.heap(), octets)?)
     }
 
-    // The octets of a region where some were placed.
+    // The octets of a region at the place where some were placed.
     fn placed(
         &self,
         meter: &mut Meter<'h>,
@@ -634,7 +635,7 @@ impl<'h> Side<'h> {
         })
     }
 
-    // Does one step, and shows it.
+    // Does one step, and returns what the trace shows of it.
     fn see(&mut self, meter: &mut Meter<'h>, number: u8) -> SeenStep<'h> {
         match self.work(meter, number)? {
             Step::Done(kind) => Ok(Seen::Done(kind)),

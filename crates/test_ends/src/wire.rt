@@ -1,9 +1,9 @@
 use crate::meter::Heap;
 
-/// From how many octets on the front of a wire is given up.
+/// The front of a wire is dropped once it has this many octets.
 const FRONT: usize = 1 << 16;
 
-/// What a stream emitted, from a place on.
+/// The octets that a stream emitted, from a place on.
 #[derive(Drop)]
 pub(crate) struct Wire<'h> {
     pub(crate) start: u64,
@@ -18,7 +18,7 @@ impl<'h> Wire<'h> {
         }
     }
 
-    /// So many octets from a place on, where they are there.
+    /// The octets at a place; `None` if they are not all there.
     pub(crate) fn part(&self, from: u64, len: u64) -> Option<&[u8]> {
         let at = from.checked_sub(self.start)? as usize;
         let rest = self.octets.as_slice().get(at..)?;
@@ -28,7 +28,7 @@ impl<'h> Wire<'h> {
         Some(&rest[..len as usize])
     }
 
-    /// The octets before this place are no longer asked for.
+    /// The octets before this place are not needed any more.
     pub(crate) fn forget(&mut self, place: u64) {
         let count = place
             .saturating_sub(self.start)

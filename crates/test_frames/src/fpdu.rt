@@ -39,7 +39,7 @@ fn printed(alloc: Global, at: u64, msn: &str) -> Result<Vec<u8>, Fail>
     Ok(out)
 }
 
-/// Whether these octets stand at index `at`.
+/// Whether these octets are at index `at`.
 fn stand(octets: &[u8], at: usize, expected: &[u8]) -> bool {
     match octets.get(at..) {
         Some(rest) => rest.starts_with(expected),
@@ -70,7 +70,7 @@ fn a_printed_frame_is_read(rt: HostRuntime) -> Result<(), Fail> {
     Ok(())
 }
 
-// The CRC is over a marker that stands before its field.
+// The CRC covers a marker directly before its field.
 #[test]
 fn a_marker_stands_before_the_crc_field(rt: HostRuntime) -> Result<(), Fail> {
     let zeros = [0; 506];

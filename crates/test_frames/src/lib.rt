@@ -1,5 +1,5 @@
-//! Tests of the layers from octets up to frames, over their public interfaces: outside vectors, worked frames and streams, and
-//! each call once with ample memory.
+//! Tests of the layers from octets up to frames, over their public interfaces: test vectors of other programs, frames
+//! computed by hand, and each call once with enough memory.
 #![tactic(auto)]
 
 #[cfg(test)]

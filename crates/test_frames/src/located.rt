@@ -40,7 +40,7 @@ fn deliver(
     Ok(())
 }
 
-/// Judges the next frame, which both searches find, and places it if it is early.
+/// Judges the next frame, which both searches must find, and places it if it is early.
 fn judge(
     islands: &Islands,
     judged: &mut Judged<u32>,
@@ -116,7 +116,7 @@ fn repeats_of_what_came_find_nothing_more(rt: HostRuntime) -> Result<(), Fail> {
     Ok(())
 }
 
-/// A frame of 512 octets comes after the two past it.
+/// A frame of 512 octets comes later than the two after it.
 #[test]
 fn the_first_frame_comes_last(rt: HostRuntime) -> Result<(), Fail> {
     let (mut islands, mut judged, mut unsearched) = two_judged_early(rt.alloc())?;
@@ -139,7 +139,7 @@ fn the_first_frame_comes_last(rt: HostRuntime) -> Result<(), Fail> {
     Ok(())
 }
 
-/// A frame that comes after the one past it, which was judged, leaves nothing to look for.
+/// A frame that comes later than the one after it, which was judged, leaves nothing to look for.
 #[test]
 fn backwards_nothing_is_left_to_search(rt: HostRuntime) -> Result<(), Fail> {
     let (mut islands, mut judged, mut unsearched) = begun(rt.alloc())?;
@@ -159,7 +159,7 @@ fn backwards_nothing_is_left_to_search(rt: HostRuntime) -> Result<(), Fail> {
     Ok(())
 }
 
-/// What is found by a marker at 512 with this pointer, and a frame past it.
+/// What is found by a marker at 512 with this pointer, and a frame after it.
 fn by_marker(alloc: Global, pointer: &[u8]) -> Result<Next, Fail> {
     let (mut islands, mut judged, mut unsearched) = begun(alloc)?;
     deliver(&mut islands, &judged, &mut unsearched, 514, pointer)?;
@@ -167,7 +167,7 @@ fn by_marker(alloc: Global, pointer: &[u8]) -> Result<Next, Fail> {
     judge(&islands, &mut judged, &mut unsearched)
 }
 
-/// The two low bits of a pointer count as zero; one to a marker's place, or to before the in-order point, finds nothing.
+/// The two low bits of a pointer count as zero; a pointer to a marker, or to before the in-order point, finds nothing.
 #[test]
 fn lying_pointers(rt: HostRuntime) -> Result<(), Fail> {
     assert_eq!(rt;
@@ -179,7 +179,8 @@ fn lying_pointers(rt: HostRuntime) -> Result<(), Fail> {
     Ok(())
 }
 
-/// A pointer into a frame that was placed finds nothing; and a frame at the in-order point over it is a mismatch.
+/// A pointer into a frame that was placed finds nothing; and a frame at the in-order point that overlaps it is a
+/// mismatch.
 #[test]
 fn frames_over_one_another(rt: HostRuntime) -> Result<(), Fail> {
     let (mut islands, mut judged, mut unsearched) = begun(rt.alloc())?;

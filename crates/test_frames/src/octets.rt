@@ -1,4 +1,4 @@
-//! Values that other programs give, and a worked example of each header and payload.
+//! Test vectors of other programs, and an example of each header and payload.
 use iw_octets::{
     ReadRequest, Segment, Short, Stag, TaggedHead, TerminateWord, UntaggedHead, crc32c,
 };

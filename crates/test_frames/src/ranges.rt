@@ -15,3 +15,36 @@ fn octets_come_in_any_order(rt: HostRuntime) -> Result<(), Fail> {
     assert_eq!(rt; islands.floor(), 6);
     Ok(())
 }
+
+#[test]
+fn octets_are_read_in_place(rt: HostRuntime) -> Result<(), Fail> {
+    let mut islands = Islands::new(rt.alloc())?;
+    let ready = islands.make_room(5)?;
+    assert!(rt; ready);
+    islands.lend(5).copy_from_slice("hello".as_bytes());
+    assert_eq!(rt; islands.missing(), 0);
+    assert!(rt; islands.came_in_place(0, 3));
+    assert_eq!(rt; islands.missing(), 3);
+    assert_eq!(rt; islands.peek(2), b'l');
+    assert!(rt; islands.came_in_place(3, 2));
+    assert_eq!(rt; islands.peek(4), b'o');
+    assert!(rt; !islands.came_in_place(5, 131_072));
+    Ok(())
+}
+
+#[test]
+fn what_came_is_given_up(rt: HostRuntime) -> Result<(), Fail> {
+    let mut islands = Islands::new(rt.alloc())?;
+    assert_eq!(rt; islands.add(0, "ab".as_bytes())?, Delivery::Kept);
+    let missing = islands.missing();
+    assert_eq!(rt; missing, 2);
+    islands.advance(missing);
+    assert_eq!(rt; islands.add(2, "c".as_bytes())?, Delivery::Kept);
+    assert_eq!(rt; islands.add(4, "ef".as_bytes())?, Delivery::Kept);
+    islands.give_up();
+    assert_eq!(rt; islands.memory(), 0);
+    assert_eq!(rt; islands.floor(), 2);
+    assert!(rt; !islands.came(2, 3));
+    assert!(rt; !islands.came(4, 5));
+    Ok(())
+}

@@ -27,7 +27,7 @@ pub(crate) fn has_received(outcome: &Outcome, text: &[u8], written: &[u8]) -> bo
     }
 }
 
-// Exchanges the row, at most so many octets a call. Returns whether each end wrote what the row says.
+// Exchanges the row, at most `most` octets a call. Returns whether each end wrote what the row says.
 fn is_exchanged(alloc: Global, row: Row, most: usize) -> Result<bool, Fail> {
     let halts = Halts { most, ..WHOLE };
     let served = serving(alloc, row, row.asked, halts)?;
@@ -55,7 +55,7 @@ fn what_was_written_comes_back(rt: HostRuntime) -> Result<(), Fail> {
     Ok(())
 }
 
-// A line for each number of octets after which the peer's output ends, where it differs from the one before.
+// A line for each number of octets after which the peer's output ends, if it differs from the line before.
 fn cut_lines(alloc: Global) -> Result<Vec<u8>, Fail> {
     let mut text = Vec::new(alloc);
     let mut before = Vec::new(alloc);
@@ -72,7 +72,7 @@ fn cut_lines(alloc: Global) -> Result<Vec<u8>, Fail> {
     Ok(text)
 }
 
-// It is broken to the last octet but one; the Reply is written once the Request is whole.
+// The link breaks at every cut before the last octet; the Reply is written once the Request is whole.
 #[test]
 fn an_early_end_is_broken(rt: HostRuntime) -> Result<(), Fail> {
     let text = cut_lines(rt.alloc())?;
@@ -83,7 +83,7 @@ fn an_early_end_is_broken(rt: HostRuntime) -> Result<(), Fail> {
     Ok(())
 }
 
-// A read or a write, by its number, that fails: of the serving end, and of the asking end.
+// The read or write with this number fails: of the serving end, or of the asking end.
 fn failing(read: u64, write: u64, kind: ErrorKind) -> Halts {
     Halts {
         most: 24,
@@ -126,7 +126,7 @@ fn a_failed_call_breaks_the_link(rt: HostRuntime) -> Result<(), Fail> {
     Ok(())
 }
 
-// A peer that gives one octet a read, without end: its start-up frame is none, and the most reads are made.
+// A peer that sends the same octet for ever, one a read: it is no start-up frame, and the most reads are made.
 #[test]
 fn an_input_without_end_is_broken(rt: HostRuntime) -> Result<(), Fail> {
     let (mut endpoint, region) = listener(rt.alloc())?;

@@ -25,7 +25,7 @@ impl Write for Pen {
 }
 
 impl Output for Pen {
-    // It is a call as each write is.
+    // It counts as a call, as each write does.
     fn end(&mut self) -> io::Result<()> {
         self.written.flush()?;
         self.is_ended = true;
@@ -33,8 +33,8 @@ impl Output for Pen {
     }
 }
 
-/// How much a call moves at most, which read and which write fails (none where it is 0), and how. The end of the output
-/// counts as a write.
+/// The most octets that a call moves, which read and which write fails (0 for none), and how. Ending the output counts
+/// as a write.
 #[derive(Clone, Copy)]
 pub(crate) struct Halts {
     pub(crate) most: usize,
@@ -43,7 +43,7 @@ pub(crate) struct Halts {
     pub(crate) kind: ErrorKind,
 }
 
-/// What came of a connection, what was written to it, and how many reads and writes there were.
+/// The report of a connection, what was written to it, and how many reads and writes there were.
 #[derive(Drop)]
 pub(crate) struct Outcome {
     pub(crate) report: Report,
@@ -88,7 +88,7 @@ fn concluded(report: Report, reads: u32, pen: Pen) -> Outcome {
     }
 }
 
-/// The serving end, to which these octets come.
+/// The serving end, which reads these octets.
 pub(crate) fn serving(
     alloc: Global,
     row: Row,
@@ -113,7 +113,7 @@ pub(crate) fn serving(
     }
 }
 
-/// The asking end, to which these octets come.
+/// The asking end, which reads these octets.
 pub(crate) fn asking(
     alloc: Global,
     row: Row,
@@ -138,7 +138,7 @@ pub(crate) fn asking(
     }
 }
 
-/// What is told, a letter each: `r`eceived, `f`ault, `t`erminated, `c`losed, `b`roken.
+/// What the report says, a letter each: `r`eceived, `f`ault, `t`erminated, `c`losed, `b`roken.
 fn letters(report: &Report) -> [u8; 3] {
     let received = match report.received {
         Some(_) => b'r',
@@ -154,7 +154,7 @@ fn letters(report: &Report) -> [u8; 3] {
     [received, ended, broken]
 }
 
-/// Appends what came of a connection as a line: what is told, and how many octets were written.
+/// Appends the line of a connection: what the report says, and how many octets were written.
 pub(crate) fn add_line(text: &mut Vec<u8>, outcome: &Outcome) -> Result<(), Fail> {
     text.extend_from_slice(&letters(&outcome.report))?;
     text.push(b' ')?;

@@ -1,5 +1,5 @@
-//! The serving and the asking end of a connection over memory: worked exchanges, cut and failing ones, and one
-//! without end.
+//! The serving and the asking end of a connection, in memory: whole exchanges, exchanges that are cut short or whose
+//! reads and writes fail, and one that never ends.
 #![tactic(auto)]
 
 #[cfg(test)]

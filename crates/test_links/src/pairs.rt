@@ -1,4 +1,4 @@
-//! Both ends with every pair of options: cut behind each octet, and failing at each call.
+//! Both ends with every pair of options: cut after each octet, and failing at each call.
 
 use crate::exchange::{WHOLE, has_received};
 use crate::halts::{Halts, Outcome, asking, serving};
@@ -13,12 +13,12 @@ const TEXT: &[u8] = b"hi";
 /// The most octets of a read and of a write.
 const MOST: usize = 16;
 
-/// How long the Request is, and the Reply, which names a region.
+/// The lengths of the Request and of the Reply, which names a region.
 const REQUEST: usize = 20;
 
 const REPLY: usize = 24;
 
-// What an end asks for, of four.
+// The four sets of options that an end may ask for.
 const OPTIONS: [(bool, bool); 4] = [(false, false), (false, true), (true, false), (true, true)];
 
 /// What the ends ask for, and what each of them then writes.
@@ -54,7 +54,7 @@ fn exchanged(alloc: Global, asks: Row, serves: Row) -> Result<Pair, Fail> {
     })
 }
 
-// What an end asks for, in letters.
+// What an end asks for, as letters.
 fn letters(row: Row) -> &'static str {
     match (row.markers, row.crc) {
         (false, false) => "-",
@@ -94,7 +94,7 @@ fn is_cut(outcome: &Outcome, written: &[u8]) -> bool {
     is_broken(outcome) && outcome.report.received.is_none() && outcome.written.as_slice() == written
 }
 
-// How long the front of what is written is, once so many octets of the peer's have come.
+// How much is written after this many octets of the peer's have come.
 fn written_before(came: usize, start: usize, before: usize, after: usize) -> usize {
     if came < start { before } else { after }
 }
@@ -117,7 +117,7 @@ fn is_cut_everywhere(alloc: Global, pair: &Pair) -> Result<bool, Fail> {
     Ok(true)
 }
 
-// Behind each octet but the last, of either end.
+// Cut after each octet but the last, of either end.
 #[test]
 fn each_cut_is_broken(rt: HostRuntime) -> Result<(), Fail> {
     let pairs = pairs(rt.alloc())?;
@@ -168,7 +168,7 @@ fn failing(read: u64, write: u64) -> Halts {
     }
 }
 
-// Whether the link broke, with the front of what was to be written, and told no other text.
+// Whether the link broke, with the front of what was to be written, and no other text was received.
 fn is_front(outcome: &Outcome, written: &[u8]) -> bool {
     let is_text = match &outcome.report.received {
         Some(octets) => octets.as_slice() == TEXT,

@@ -58,7 +58,7 @@ pub(crate) const PLAIN: Row = Row {
     \x00\x00\x00\x00",
 };
 
-/// It writes one text and sends another: what comes back is what was written.
+/// The peer writes one text and sends another: what comes back is what was written.
 pub(crate) const WRITTEN: Row = Row {
     markers: false,
     crc: false,

@@ -1,4 +1,5 @@
-//! Tests of the layers from segments up to schedules, over their public interfaces: worked segments and messages, and each call once with ample memory.
+//! Tests of the layers from segments up to schedules, over their public interfaces: segments and messages computed by
+//! hand, and each call once with enough memory.
 #![tactic(auto)]
 
 #[cfg(test)]

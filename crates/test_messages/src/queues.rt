@@ -1,4 +1,4 @@
-//! Messages that are posted, cut into parts, sent, and handed out.
+//! Messages that are posted, cut into parts, sent and handed back.
 use bytes::Bytes;
 use iw_octets::{Message, ReadRequest, Stag};
 use iw_queues::{Done, Kind, Refusal, Request, SendQueue};
@@ -47,7 +47,7 @@ fn post(queue: &mut SendQueue, message: Request<Bytes>) -> Result<u64, Refusal> 
     }
 }
 
-// Ticket, offset, number of octets and last of the next part, which counts as sent then.
+// Ticket, offset, length and last flag of the next part, which counts as sent then.
 fn sent(rt: &impl Abort, queue: &mut SendQueue, max: usize) -> (u64, usize, usize, bool) {
     assert!(rt; max >= 128);
     let part = queue.next_part(max).expect(rt, "a part is left");
@@ -72,7 +72,7 @@ fn posted(alloc: Global) -> Result<SendQueue, Fail> {
     Ok(queue)
 }
 
-// In ULPDUs of 1,500 a Write of 2,048 octets has a part of 1,486 and one of 562 (RFC 5041 5.2).
+// With a ULPDU size of 1,500, a Write of 2,048 octets has a part of 1,486 octets and one of 562 (RFC 5041 5.2).
 #[test]
 fn messages_are_sent_and_done_in_order(rt: HostRuntime) -> Result<(), Fail> {
     let mut queue = posted(rt.alloc())?;

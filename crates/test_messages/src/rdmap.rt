@@ -1,4 +1,4 @@
-//! The spelled segments of worked examples, each judged by itself, and the Terminates that answer them.
+//! Segments written out octet by octet, each judged by itself, and the Terminates that answer them.
 ghost use Rattle.std.specs.Prelude.{IfOk};
 ghost use Rattle.iw_rdmap.specs.Judging.{IsFront};
 
@@ -7,8 +7,8 @@ use iw_rdmap::{FIRST_OCTETS, Head, UntaggedOperation, early, judge, terminate};
 use std::alloc::Global;
 use std::test::Fail;
 
-// What a segment is judged as, and its octets. Of a fault the layer, the error type and the code are told (RFC 5040 4.8,
-// RFC 5041 7.2); of a segment that passes what it is, the octets of its DDP header, and whether it may be placed early.
+// What a segment is judged as, and its octets. A fault has its layer, error type and code (RFC 5040 4.8, RFC 5041 7.2).
+// A segment that passes has its kind, the length of its DDP header, and whether it may be placed early.
 const JUDGED: &str = "100 
 100 c1400100000000000000000000
 100 4143000000000000000000000001000000
@@ -48,7 +48,7 @@ send,18,true 414601000500000000000000010100000001
 request,18,false 41410000000000000001000000010000000001000000000000000000000000000004020000000000000000000005
 terminate,18,false 41470000000000000002000000010000000011000000070707070707070707070707070707070707070707070707070707070707070707070707070707070707070707070707";
 
-// The payload of a Terminate, which begins with the fault, and the segment that is found to have the fault.
+// The payload of a Terminate, which begins with the fault, and the segment that has the fault.
 const TERMINATES: &str =
     "0100e000002e41410000000000000001000000010000000001000000000000000000006400000004010000000000000000000000 41410000000000000001000000010000000001000000000000000000006400000004010000000000000000000000
 0100c0000012414401000500000000000000000100000000 414401000500000000000000000100000000
@@ -74,7 +74,7 @@ fn told(alloc: Global, judged: Result<Head, Fault>) -> Result<String, Fail> {
     Ok(text)
 }
 
-// The first octets of a ULPDU, and how many it has.
+// The first octets of a ULPDU, and its length.
 fn front_of(octets: &[u8]) -> Result<(&[u8], u16), Fail>
     ensures { IfOk result (λ front. IsFront FIRST_OCTETS front.0.now front.1) }
 {
@@ -84,7 +84,7 @@ fn front_of(octets: &[u8]) -> Result<(&[u8], u16), Fail>
     Ok((&octets[..octets.len().min(FIRST_OCTETS)], len))
 }
 
-// The Terminate that answers a segment that passes and is found to have this fault.
+// The Terminate that answers a segment that passes here and is later found to have this fault.
 fn answered(alloc: Global, octets: &[u8], fault: Fault) -> Result<String, Fail> {
     let (first, len) = front_of(octets)?;
     let Ok(head) = judge(first, len, 1, 0) else {
@@ -153,7 +153,7 @@ fn terminates_carry_their_cause(rt: HostRuntime) -> Result<(), Fail> {
     Ok(())
 }
 
-// A fault of MPA, and one of a segment without its header, come alone.
+// The Terminate of an MPA fault, and of a segment too short for its header, has no header.
 #[test]
 fn terminates_come_alone(rt: HostRuntime) {
     let marker = terminate(Fault::MARKER_MISMATCH, &[], 600, false);

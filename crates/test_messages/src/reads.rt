@@ -1,4 +1,4 @@
-//! Reads at both ends, worked by hand.
+//! Reads at both ends, computed by hand.
 use arrayvec::ArrayVec;
 use iw_memory::{Memory, Rights};
 use iw_octets::{Fault, MAX_UNANSWERED, ReadRequest, Stag, TaggedHead};
@@ -40,7 +40,7 @@ fn reading(size: u32, sink_to: u64, source: u32, source_to: u64) -> ReadRequest 
     }
 }
 
-// A Read of four octets into a sink whose offsets wrap in its middle.
+// A Read of four octets into a sink whose tagged offsets wrap in the middle.
 fn outstanding(alloc: Global) -> Result<Reads, Fail> {
     let mut reads = Reads::new(alloc);
     if !reads.is_full() {
@@ -85,7 +85,7 @@ fn take(requests: &mut Requests, memory: &Memory, request: ReadRequest) -> Resul
     Ok(())
 }
 
-// The next part, where it may be fetched.
+// The next part, if it may be fetched.
 fn fetched(requests: &mut Requests, memory: &Memory) -> Result<ResponsePart, Fail> {
     let Some(part) = requests.next_part(SIZE) else {
         return Err("all is answered".into());
@@ -120,7 +120,7 @@ fn the_source_is_checked_at_each_part(rt: HostRuntime) -> Result<(), Fail> {
     Ok(())
 }
 
-// Two requests: of no octets, from a region that is not there, and of one octet.
+// Two requests: for no octets, from a region that does not exist, and for one octet.
 fn asked(memory: &Memory) -> Result<Requests, Fail> {
     let mut requests = Requests::new();
     take(&mut requests, memory, reading(0, 7, 0x09000000, u64::MAX))?;

@@ -2,7 +2,7 @@ use iw_schedules::read_schedule;
 use std::alloc::{AllocError, Global};
 use std::test::Fail;
 
-// What becomes of each text, in which `/` stands for a line feed: how many events it has, or its first fault.
+// Texts with `/` for line feeds, and for each how many events it has, or its first fault.
 const TEXTS: &str = "0 | #
 0 | /# a domain 1//
 1 | a domain 255

@@ -1,8 +1,8 @@
-//! Streams as a program calls them: what one end emits comes to the other, which tells each step of its work.
+//! Streams as a program calls them: what one end emits is delivered to the other, and each step of work is printed.
 use bytes::Bytes;
 use iw_memory::{Memory, Rights};
 use iw_octets::{MAX_PLACE, Message, Octets, Stag};
-use iw_stream::{Config, PrivateData, Request, Role, Step, Stream};
+use iw_stream::{Config, Establishment, PrivateData, Request, Role, Step, Stream};
 use std::alloc::Global;
 use std::fmt::Write;
 use std::test::Fail;
@@ -19,6 +19,7 @@ fn open(alloc: Global, markers: bool, crc: bool) -> Result<Stream, Fail> {
     let config = Config {
         markers,
         crc,
+        establishment: Establishment::Plain,
         private: PrivateData::new(),
     };
     Ok(Stream::new(alloc, 1, Role::Preset, config)?)
@@ -49,7 +50,7 @@ fn send(alloc: Global) -> Result<Request<Bytes>, Fail> {
     }))
 }
 
-// Posts a receive buffer of so many octets.
+// Posts a receive buffer of `len` octets.
 fn receive(alloc: Global, stream: &mut Stream, len: usize) -> Result<(), Fail> {
     let _ = stream.post_recv(vec![in alloc; 0u8; len]?);
     Ok(())
@@ -72,7 +73,7 @@ fn work(stream: &mut Stream, memory: &mut Memory) -> Result<Step<Octets>, Fail> 
     }
 }
 
-// Tells so many steps, a line each.
+// Does `count` steps, and prints each on a line.
 fn steps(
     stream: &mut Stream,
     memory: &mut Memory,
@@ -86,7 +87,7 @@ fn steps(
     Ok(())
 }
 
-// The frames of a Write and a Send, which are both emitted once they were posted.
+// The frames of a Write and a Send, emitted after both were posted.
 fn emitted(alloc: Global, stream: &mut Stream) -> Result<Vec<u8>, Fail> {
     let memory = Memory::new(alloc)?;
     let mut wire = Vec::new(alloc);
@@ -97,7 +98,7 @@ fn emitted(alloc: Global, stream: &mut Stream) -> Result<Vec<u8>, Fail> {
     Ok(wire)
 }
 
-// What the other end does with octets that came, where a buffer of four octets is posted.
+// What the other end does with octets that came, with a buffer of four octets posted.
 fn told(alloc: Global, stream: &mut Stream, wire: &[u8]) -> Result<String, Fail> {
     let mut memory = shared(alloc)?;
     let mut told = String::new(alloc);
@@ -107,7 +108,7 @@ fn told(alloc: Global, stream: &mut Stream, wire: &[u8]) -> Result<String, Fail>
     Ok(told)
 }
 
-// Each frame is placed, and then has its turn; the Send comes out in its buffer.
+// Each frame is placed, and then has its turn; the Send is handed out in its buffer.
 const CARRIED: &str = "Placed { right: Write, stag: Stag(01000000), to: 2, len: 5 }
 Passed
 Buffered { msn: 1, mo: 0, len: 2 }
@@ -121,7 +122,7 @@ fn sent(alloc: Global) -> Result<Vec<u8>, Fail> {
     emitted(alloc, &mut stream)
 }
 
-// What another does with it.
+// What the other end does with it.
 fn carried(alloc: Global, wire: &[u8]) -> Result<String, Fail> {
     let mut stream = open(alloc, true, true)?;
     told(alloc, &mut stream, wire)
@@ -134,7 +135,7 @@ fn a_write_and_a_send_come_over(rt: HostRuntime) -> Result<(), Fail> {
     Ok(())
 }
 
-// What a stream does in three steps to which nothing came.
+// The first three steps of a stream to which nothing came.
 fn three_steps(alloc: Global, stream: &mut Stream) -> Result<String, Fail> {
     let mut memory = Memory::new(alloc)?;
     let mut told = String::new(alloc);
@@ -142,13 +143,13 @@ fn three_steps(alloc: Global, stream: &mut Stream) -> Result<String, Fail> {
     Ok(told)
 }
 
-// Where a Write and a Send were sent.
+// The same after a Write and a Send were sent.
 fn told_of_sent(alloc: Global, stream: &mut Stream) -> Result<String, Fail> {
     let _ = emitted(alloc, stream)?;
     three_steps(alloc, stream)
 }
 
-// Both messages are finished once they were sent.
+// Both messages are done after they were sent.
 #[test]
 fn messages_are_handed_back(rt: HostRuntime) -> Result<(), Fail> {
     let mut stream = open(rt.alloc(), false, false)?;
@@ -159,7 +160,7 @@ fn messages_are_handed_back(rt: HostRuntime) -> Result<(), Fail> {
     Ok(())
 }
 
-// Where a buffer and a Send were posted, and the link broke.
+// The same after a buffer and a Send were posted and the link broke.
 fn told_of_broken(alloc: Global, stream: &mut Stream) -> Result<String, Fail> {
     receive(alloc, stream, 1)?;
     let _ = stream.post(send(alloc)?);
@@ -202,7 +203,7 @@ fn first_step(
     Ok(format!(in alloc; "{step:?}")?)
 }
 
-// The first step where these octets came.
+// The first step after these octets came.
 fn judged(alloc: Global, frame: &[u8]) -> Result<String, Fail> {
     let mut stream = open(alloc, false, false)?;
     let mut memory = shared(alloc)?;

@@ -1,4 +1,4 @@
-//! Placements worked by hand.
+//! Placements computed by hand.
 use iw_memory::{Memory, Right, Rights};
 use iw_octets::{Fault, InPieces, Stag, TaggedHead};
 use iw_tagged::{Placed, check, cut, place};
@@ -22,7 +22,7 @@ fn head_of(stag: u32, to: u64) -> TaggedHead {
     }
 }
 
-// Places a payload that comes in pieces of three octets, on a stream of domain 1.
+// Places a payload, given in pieces of three octets, on a stream of domain 1.
 fn placed(head: TaggedHead, payload: &[u8], memory: &mut Memory) -> Result<Placed, Fault> {
     let pieces = InPieces::new(payload, 3);
     place(head, payload.len(), pieces, memory, 1, Right::Write)
@@ -56,7 +56,7 @@ fn a_write_is_placed(rt: HostRuntime) -> Result<(), Fail> {
     Ok(())
 }
 
-// As many parts as the longest message has in the shortest segments.
+// The number of parts of the longest message in the shortest segments.
 #[test]
 fn a_message_is_cut(rt: HostRuntime) {
     let mut count = 0u32;

@@ -1,15 +1,15 @@
-//! Untagged messages that are placed in any order and delivered in order.
+//! Untagged messages, placed in any order and delivered in order.
 use iw_octets::{Fault, InPieces};
 use iw_untagged::{Received, RecvQueue, SharedQueue};
 use std::alloc::Global;
 use std::test::Fail;
 
-// Places a payload that comes in pieces of three octets.
+// Places a payload, given in pieces of three octets.
 fn place(queue: &mut RecvQueue, msn: u32, mo: u32, payload: &[u8]) -> Result<(), Fault> {
     queue.place(msn, mo, payload.len(), InPieces::new(payload, 3))
 }
 
-// The same, in a buffer out of a pool.
+// The same, into a buffer from a pool.
 fn place_shared(
     queue: &mut RecvQueue,
     pool: &mut SharedQueue,
@@ -25,7 +25,7 @@ fn post(alloc: Global, queue: &mut RecvQueue, len: usize) -> Result<(), Fail> {
     Ok(())
 }
 
-// Two messages around the last number, the second placed first.
+// Two messages, with the last number and the one after it; the second is placed first.
 fn placed(alloc: Global) -> Result<RecvQueue, Fail> {
     let mut queue = RecvQueue::starting_at(alloc, u32::MAX)?;
     for len in [8, 4] {
@@ -60,7 +60,7 @@ fn segments_in_any_order(rt: HostRuntime) -> Result<(), Fail> {
     Ok(())
 }
 
-// A pool of two buffers, the longer posted first.
+// A pool of two buffers, of which the longer was posted first.
 fn pool(alloc: Global) -> Result<SharedQueue, Fail> {
     let mut pool = SharedQueue::new(alloc)?;
     for len in [4, 2] {

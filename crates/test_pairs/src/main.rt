@@ -1,14 +1,14 @@
-//! Runs `iwarp` as two processes: with words it is `iwarp` itself; without any it starts itself with the words of
-//! each row, and in scripts of the shell, and prints what that wrote and how it ended.
+//! Runs `iwarp` as two processes. With arguments it is `iwarp` itself. Without any it starts itself with the arguments
+//! of each row, and in shell scripts, and prints what that wrote and how it ended.
 #![tactic(auto)]
 
 use std::process::{Command, ExitCode, Processes, Stdio};
 use std::rt::Runtime;
 
-/// This program's own file, also in the processes that it starts.
+/// This program's own file, in the processes that it starts too.
 const SELF: &str = "/proc/self/exe";
 
-/// The words of a row, with blanks between; `SELF` stands for this program.
+/// The arguments of a row, separated by blanks; `SELF` stands for this program.
 const ROWS: [&str; 20] = [
     "pair --program SELF --count 2 --markers",
     "pair --program SELF --text abcd --crc",
@@ -32,7 +32,7 @@ const ROWS: [&str; 20] = [
     "connect --port 1 --count 2",
 ];
 
-/// Scripts of the shell, in which `$0` is this program. Outputs that are full or closed; inputs that are closed or no file.
+/// Shell scripts, in which `$0` is this program. Outputs that are full or closed; inputs that are closed or not a file.
 const SCRIPTS: [&str; 10] = [
     "echo 'a domain 1' | timeout 20 $0 replay > /dev/full",
     "echo 'a domain 1' | timeout 20 $0 replay >&-",
@@ -50,8 +50,8 @@ const SCRIPTS: [&str; 10] = [
 const LISTENING: &str =
     "lines=$(mktemp); $0 listen > $lines & until [ -s $lines ]; do sleep 0.1; done; read word port < $lines; ";
 
-/// The listener goes away after its connection; it is killed before it has one; it is bound to 127.0.0.1; its port is
-/// taken; and another is told to take that port after it.
+/// The listener exits after its connection; it is killed before it has one; it is bound to 127.0.0.1; its port is
+/// taken; and another listener binds that port after it.
 const LISTENED: [&str; 5] = [
     "timeout 20 $0 connect --port $port --count 3; echo $?; wait $!; echo $?; sed 1d $lines; rm $lines",
     "kill -9 $!; wait $!; echo $?; rm $lines; timeout 20 $0 connect --port $port",
@@ -61,7 +61,7 @@ const LISTENED: [&str; 5] = [
     timeout 20 $0 connect --port $port; wait $!; echo $?; sed \"s/^port $port$/the same port/\" $lines; rm $lines",
 ];
 
-/// The same with a program `$program`, that listens as it is asked to, and then does what is appended to it.
+/// The same with a program `$program` that listens as it is asked to, and then does what is appended to it.
 const SERVING: &str =
     "program=$(mktemp); chmod +x $program; echo '#!/bin/sh' > $program; echo \"$0 \\$@\" >> $program; ";
 
@@ -72,7 +72,7 @@ const SERVED: [&str; 3] = [
     "echo exit 0 >> $program; timeout 20 $0 pair --program $program; echo $?; rm $program",
 ];
 
-// The words of a row.
+// The arguments of a row.
 fn add_words(command: &mut Command, row: &str) -> anyhow::Result<()> {
     for word in row.split(' ') {
         let word = if word == "SELF" { SELF } else { word };
@@ -81,7 +81,7 @@ fn add_words(command: &mut Command, row: &str) -> anyhow::Result<()> {
     Ok(())
 }
 
-// A command without input: what it writes, and how it ends.
+// A command without input: what it writes, and its status.
 fn tell<R: Runtime + AllocGlobal + Processes>(rt: &R, command: &mut Command) -> anyhow::Result<()> {
     command.stdin(Stdio::null());
     let output = command.output(rt)?;
@@ -142,7 +142,7 @@ fn run_row<R: Runtime + AllocGlobal + Processes>(rt: &R, row: &str) -> anyhow::R
     tell(rt, &mut command)
 }
 
-// A text of so many octets on each of 64 connections. The lines of 4,096 octets are more than a pipe holds.
+// A text of this many octets on each of 64 connections. With 4,096 octets the lines are more than a pipe holds.
 fn run_long<R: Runtime + AllocGlobal + Processes>(rt: &R, length: usize) -> anyhow::Result<()> {
     print!(rt; "64 texts of {length} octets: ")?;
     let text = "a".repeat(rt.alloc(), length)?;

@@ -1,5 +1,5 @@
-//! Each call that may want memory, by itself, but those of an endpoint, which `test_rows` makes: each of its requests for
-//! memory is refused in turn, and the same call made again, with what was handed back.
+//! Each call that may run out of memory, by itself, except those of an endpoint, which `test_rows` makes. Each of its
+//! requests for memory is refused in turn, and the same call is made again, with what was handed back.
 
 use bytes::Bytes;
 use iw_events::{Entry, Event};
@@ -11,7 +11,7 @@ use iw_program::replay;
 use iw_queues::{Completions, Request, SendQueue};
 use iw_ranges::Islands;
 use iw_schedules::{print_trace, read_schedule};
-use iw_stream::{Config, PrivateData, Role, Step, Stream};
+use iw_stream::{Config, Establishment, PrivateData, Role, Step, Stream};
 use iw_untagged::{RecvQueue, SharedQueue};
 use iw_world::World;
 use std::alloc::{AllocError, Global};
@@ -20,7 +20,7 @@ use test_support::FailsAt;
 
 type Heap<'h> = &'h FailsAt<Global>;
 
-/// A call that may want memory.
+/// A call that may run out of memory.
 #[derive(Clone, Copy, Debug)]
 enum Call {
     MemoryNew,
@@ -80,18 +80,18 @@ const CALLS: [Call; 26] = [
     Call::Replay,
 ];
 
-/// What came of a call.
+/// The outcome of a call.
 #[derive(Clone, Copy, Debug, PartialEq)]
 enum Outcome {
-    /// It was made, and no memory refused.
+    /// It was made, and no memory was refused.
     Made,
-    /// It was refused memory and said so, and was then made.
+    /// Memory was refused, the call said so, and it was made again.
     MadeAgain,
-    /// It was refused memory and said that it was made, or the other way round, or was not made again.
+    /// Memory was refused and the call did not say so, or the other way round, or the call could not be made again.
     Wrong,
 }
 
-// What came of a call: whether it was made, whether it was refused memory, and whether it was made when it was made again.
+// The outcome of a call, by whether it succeeded, whether memory was refused, and whether it succeeded the second time.
 fn judge(is_made: bool, is_refused: bool, is_made_again: bool) -> Outcome {
     match (is_made, is_refused) {
         (true, false) => Outcome::Made,
@@ -119,7 +119,7 @@ fn memory_new(heap: Heap<'_>, n: u64) -> Outcome {
     judge(is_made, is_refused, Memory::new(heap).is_ok())
 }
 
-// Registers octets that were handed over, and has them handed back where they are not taken.
+// Registers octets, and gets them back if they are not taken.
 fn registers<'h>(memory: &mut Memory<Heap<'h>>, handed: &mut Option<Vec<u8, Heap<'h>>>) -> bool {
     let Some(octets) = handed.take() else {
         return false;
@@ -238,7 +238,7 @@ fn recv_queue_shared(heap: Heap<'_>, n: u64) -> Outcome {
     judge(is_made, is_refused, RecvQueue::shared(heap).is_ok())
 }
 
-// Posts a buffer that was handed over to a pool, and has it handed back where it is not taken.
+// Posts a buffer to a pool, and gets it back if it is not taken.
 fn pools_buffer<'h>(
     pool: &mut SharedQueue<Heap<'h>>,
     handed: &mut Option<Vec<u8, Heap<'h>>>,
@@ -350,6 +350,7 @@ fn opened<'h>(heap: Heap<'h>, markers: bool) -> Result<Stream<Heap<'h>>, AllocEr
     let config = Config {
         markers,
         crc: false,
+        establishment: Establishment::Plain,
         private: PrivateData::new(),
     };
     Stream::new(heap, 1, Role::Preset, config)
@@ -359,6 +360,7 @@ fn opens_shared(heap: Heap<'_>) -> bool {
     let config = Config {
         markers: false,
         crc: false,
+        establishment: Establishment::Plain,
         private: PrivateData::new(),
     };
     Stream::new_shared(heap, 1, Role::Preset, config).is_ok()
@@ -454,7 +456,7 @@ fn emits<'h>(
     stream.sent() < 1 && stream.emit(memory, out).is_ok() && !out.is_empty()
 }
 
-// Tries the emission of what was posted.
+// Tries to emit what was posted.
 fn try_emit<'h>(
     heap: Heap<'h>,
     n: u64,
@@ -507,7 +509,7 @@ fn with_stream(heap: Heap<'_>, n: u64, call: Call) -> Result<Outcome, AllocError
     on_stream(heap, n, call, &mut stream)
 }
 
-// A Write of four octets after a marker, at the stream place 512 (RFC 5044 4.1 to 4.3), to offset 0 of region 01000000.
+// A Write of four octets after a marker, at stream place 512 (RFC 5044 4.1 to 4.3), to offset 0 of region 01000000.
 const MARKED_WRITE: &[u8] = b"\0\0\0\0\0\x12\xc1\x40\x01\0\0\0\0\0\0\0\0\0\0\0text\0\0\0\0";
 
 fn places<'h>(stream: &mut Stream<Heap<'h>>, memory: &mut Memory<Heap<'h>>) -> bool {
@@ -664,7 +666,7 @@ fn attempt(heap: Heap<'_>, call: Call, n: u64) -> Result<Outcome, AllocError> {
     }
 }
 
-// How many requests for memory a call makes, each of which was refused; `None` where a call went wrong.
+// How many requests for memory a call makes, each of which was refused once; `None` if a call went wrong.
 fn refusals(alloc: Global, call: Call) -> Result<Option<u64>, AllocError> {
     for n in 0..1_000u64 {
         let heap = FailsAt::new(alloc, u64::MAX);

@@ -1,7 +1,9 @@
-//! What is left where memory is refused, or input or output fails, for the crates below an endpoint and for replays.
+//! Tests of memory that is refused, and of input and output that fail, for the crates below `iw_endpoint` and for
+//! replays.
 //!
-//! Each request for memory of a call is refused in turn, and the same call made again; that the refused one changed nothing
-//! is its own promise. `test_rows` does so at each call of an endpoint, with the worked schedules.
+//! Each request for memory that a call makes is refused in turn, and the same call is made again: its contract says
+//! that the refused call changed nothing. `test_rows` does the same for each call of an endpoint, with its worked
+//! schedules.
 #![tactic(auto)]
 
 #[cfg(test)]

@@ -1,17 +1,17 @@
-//! No frame is copied into memory of its own before its payload is placed: the steps that place frames before their turn ask
-//! for memory for what they keep of them alone, and the room that was made for it stays.
+//! No frame is copied before its payload is placed: the steps that place frames before their turn ask for memory only
+//! for the records that they keep of them, and that memory is reused.
 
 use bytes::Bytes;
 use iw_memory::{Memory, Rights};
 use iw_octets::{MAX_PLACE, Message, Stag};
-use iw_stream::{Config, PrivateData, Request, Role, Step, Stream};
+use iw_stream::{Config, Establishment, PrivateData, Request, Role, Step, Stream};
 use std::alloc::{AllocError, Global};
 use std::test::Fail;
 use test_support::FailsAt;
 
 type Heap<'h> = &'h FailsAt<Global>;
 
-// How many octets a frame has, the marker before it among them, and its payload.
+// The length of a frame, with the marker before it, and of its payload.
 const FRAME: usize = 512;
 
 const PAYLOAD: usize = 488;
@@ -27,12 +27,13 @@ fn opened<'h>(heap: Heap<'h>) -> Result<Stream<Heap<'h>>, AllocError> {
     let config = Config {
         markers: true,
         crc: false,
+        establishment: Establishment::Plain,
         private: PrivateData::new(),
     };
     Stream::new(heap, 1, Role::Preset, config)
 }
 
-// Octets `k`.
+// Octets of value `k`.
 fn payload<'h>(heap: Heap<'h>, k: u8) -> Result<Bytes<Heap<'h>>, Fail> {
     let octets = vec![in heap; k; PAYLOAD]?;
     Ok(Bytes::from_vec(octets)?)
@@ -58,7 +59,7 @@ fn emit<'h>(
     Ok(())
 }
 
-// Emits four Writes to tagged offset 0, the k-th of octets k.
+// Emits four Writes to tagged offset 0; the k-th has octets of value k.
 fn emit_all<'h>(
     heap: Heap<'h>,
     stream: &mut Stream<Heap<'h>>,
@@ -72,7 +73,7 @@ fn emit_all<'h>(
     Ok(())
 }
 
-// Their frames have 512 octets each, the marker before them among these.
+// Their frames have 512 octets each, with the marker before them.
 fn frames<'h>(heap: Heap<'h>, wire: &mut Vec<u8, Heap<'h>>) -> Result<(), Fail> {
     let memory = Memory::new(heap)?;
     let mut stream = opened(heap)?;
@@ -91,7 +92,7 @@ fn shared<'h>(heap: Heap<'h>) -> Result<Memory<Heap<'h>>, Fail> {
     Ok(memory)
 }
 
-// What came of a step.
+// The outcome of a step.
 #[derive(Clone, Copy, Debug, PartialEq, Eq)]
 enum Came {
     Idle,
@@ -100,7 +101,7 @@ enum Came {
     Other,
 }
 
-// The receiving end, and how many of its steps were refused memory.
+// The receiving end, and how many of its steps ran out of memory.
 #[derive(Drop)]
 struct Receiver<'h> {
     stream: Stream<Heap<'h>>,
@@ -131,7 +132,7 @@ impl<'h> Receiver<'h> {
         }
     }
 
-    // Works until nothing is left to do. A step that is refused memory is made again.
+    // Works until there is nothing to do. A step that runs out of memory is made again.
     fn work(&mut self) -> Result<(), Fail> {
         for _ in 0..10u8 {
             match self.step() {
@@ -144,7 +145,7 @@ impl<'h> Receiver<'h> {
         Err("work without end".into())
     }
 
-    // Takes octets in. A delivery that is refused is made again.
+    // Delivers octets. A delivery that runs out of memory is made again.
     fn deliver(&mut self, from: u32, octets: &[u8]) -> Result<(), Fail> {
         if self.stream.deliver(from, octets).is_err() {
             self.stream.deliver(from, octets)?;
@@ -152,7 +153,7 @@ impl<'h> Receiver<'h> {
         Ok(())
     }
 
-    // Takes the frame from stream place `from` up to `to` in, and works it off.
+    // Delivers the frame from stream place `from` to `to`, and works until there is nothing to do.
     fn take(&mut self, wire: &[u8], from: usize, to: usize) -> Result<(), Fail> {
         let frame = wire.get(from..to).ok_or("a frame")?;
         self.deliver((from % (1 << 32)) as u32, frame)?;
@@ -160,7 +161,7 @@ impl<'h> Receiver<'h> {
     }
 }
 
-// Two frames come, the later first: how many steps were refused memory.
+// Two frames come, the later first: how many steps ran out of memory.
 fn take_pair(end: &mut Receiver<'_>, wire: &[u8], from: usize) -> Result<u32, Fail> {
     let before = end.refused;
     let middle = from.saturating_add(FRAME);
@@ -169,7 +170,8 @@ fn take_pair(end: &mut Receiver<'_>, wire: &[u8], from: usize) -> Result<u32, Fa
     Ok(end.refused.saturating_sub(before))
 }
 
-// Two pairs of frames come: how many steps were refused for the first. None is for the second, which finds the room made.
+// Two pairs of frames come: how many steps ran out of memory for the first pair. None does for the second, which uses
+// the memory of the first.
 fn take_pairs(end: &mut Receiver<'_>, wire: &[u8]) -> Result<u32, Fail> {
     let first = take_pair(end, wire, 0)?;
     let second = take_pair(end, wire, 2 * FRAME)?;
@@ -187,7 +189,7 @@ fn refused_of(heap: Heap<'_>, n: u64, wire: &[u8]) -> Result<u32, Fail> {
     take_pairs(&mut end, wire)
 }
 
-// The same with one request for memory refused; `None` where there was none left to refuse.
+// The same with one request for memory refused; `None` if there was none left to refuse.
 fn refused_at(alloc: Global, n: u64) -> Result<Option<u32>, Fail> {
     let heap = FailsAt::new(alloc, u64::MAX);
     let mut wire = Vec::new(&heap);

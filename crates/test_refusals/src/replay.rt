@@ -40,7 +40,7 @@ const READ: usize = 16;
 
 const WRITE: usize = 32;
 
-/// What a replay answered, how often it read and wrote, and what it wrote.
+/// What a replay returned, how often it read and wrote, and what it wrote.
 #[derive(Drop)]
 struct Ended {
     answer: Result<Status, ReplayFault>,
@@ -98,7 +98,7 @@ fn a_failed_write_leaves_the_front_written(rt: HostRuntime) -> Result<(), Fail> 
     Ok(())
 }
 
-// Also where each call moves one octet.
+// The same if each call moves one octet.
 #[test]
 fn an_interrupted_call_is_made_again(rt: HostRuntime) -> Result<(), Fail> {
     for call in 1..=TRACE.len() as u64 {

@@ -1,13 +1,13 @@
-//! Replays the schedules of its folder, and compares what each writes and how it ends with what is expected of it.
+//! Replays the schedules of its folder, and compares what each writes, and its status, with what is expected.
 //!
-//! Then it refuses memory: to the replay each request in turn, which ends it; and to each call of the two endpoints each
-//! request in turn, after which the same call is made again, and the trace is the same.
+//! Then it refuses memory. First each request of the replay in turn, which ends the replay; then each request of each
+//! call of the two endpoints in turn, after which the same call is made again, and the trace must be the same.
 //!
-//! It prints a line for each schedule: `NAME: as written`, or what is not as written, with status 1; and a line for each
-//! call of an endpoint. On standard error it counts what was refused. At last it makes the schedule of its standard
-//! input happen, as far as that goes (`soak`).
+//! It prints a line for each schedule: `NAME: as written`, or what is different, with status 1; and a line for each
+//! call of an endpoint. On standard error it counts the requests that were refused. At the end it runs the schedule of
+//! its standard input (`soak`).
 //!
-//! With the word `soak` it does that alone, and with `soak refuse` each call is refused memory there too (bench/soak).
+//! With the argument `soak` it does that alone, and with `soak refuse` each call is refused memory there too (bench/soak).
 #![tactic(auto)]
 
 mod refused;
@@ -20,14 +20,14 @@ use std::fs;
 use std::process::ExitCode;
 use std::rt::Runtime;
 
-/// How a replay has to end.
+/// How a replay must end.
 #[derive(Clone, Copy, Debug)]
 enum Ending {
     /// The trace is written, and no stream ended by a fault.
     Completed,
     /// The trace is written, and a stream ended by a fault.
     Faulted,
-    /// Nothing is written, for the reason that prints so.
+    /// Nothing is written, and this reason is printed.
     Refused(&'static str),
 }
 
@@ -137,20 +137,20 @@ const ROWS: [(&str, Ending); 90] = [
     ("not-sent", Ending::Refused("event 5: NotSent")),
 ];
 
-/// What a replay does other than it has to.
+/// How a replay differs from what is expected.
 #[derive(Clone, Copy, Debug)]
 enum Difference {
-    /// The first line of the trace that is not as expected, counted from 1.
+    /// The first line of the trace that differs, counted from 1.
     Line(usize),
     /// It ended in another way.
     Ended(Result<Status, ReplayFault>),
-    /// A replay that was refused memory did not end so, or wrote something.
+    /// A replay that was refused memory did not end out of memory, or wrote something.
     Refused,
-    /// The trace is another one where calls that were refused memory are made again.
+    /// The trace differs if calls that were refused memory are made again.
     MadeAgain,
 }
 
-// What the replay has to write.
+// What the replay must write.
 fn expected<R: Runtime + AllocGlobal>(
     rt: &R,
     name: &str,
@@ -213,7 +213,7 @@ fn compare(
     Ok(None)
 }
 
-// The same where memory is refused.
+// The same if memory is refused.
 fn compare_refused<R: Runtime + AllocGlobal>(
     rt: &R,
     name: &str,
@@ -251,7 +251,7 @@ fn compare_row<R: Runtime + AllocGlobal>(
     }
 }
 
-// Prints which calls were refused memory, and which take none. Returns whether each was made, and refused.
+// Prints which calls were refused memory, and which allocate nothing. Returns whether each call was made and refused.
 fn print_calls<R: Runtime + AllocGlobal>(rt: &R, counts: &Counts) -> anyhow::Result<bool> {
     let mut is_whole = true;
     for (call, takes_memory, made, refused) in counts.each() {

@@ -11,8 +11,8 @@ use test_support::FailsAt;
 /// The most requests for memory of one replay.
 const MOST_REQUESTS: u64 = 1_000_000;
 
-// Whether the replay ends for want of memory where its request behind the next `n` is refused, and writes nothing; `None`
-// where there is no such request.
+// Whether the replay ends out of memory, and writes nothing, if its request after the next `n` is refused; `None` if
+// there is no such request.
 fn is_refused(alloc: Global, schedule: &[u8], n: u64) -> Result<Option<bool>, AllocError> {
     let heap = FailsAt::new(alloc, n);
     let mut written = Vec::new(alloc);
@@ -27,8 +27,8 @@ fn is_refused(alloc: Global, schedule: &[u8], n: u64) -> Result<Option<bool>, Al
     }))
 }
 
-/// Replays a schedule with its first request for memory refused, then with the second alone, and so on to the last.
-/// Returns how many there were; `None` where one of these replays ended in another way than for want of memory.
+/// Replays a schedule with its first request for memory refused, then with only the second refused, and so on to the
+/// last. Returns how many there were; `None` if one of these replays did not end out of memory.
 pub(crate) fn each_refused(alloc: Global, schedule: &[u8]) -> Result<Option<u64>, AllocError> {
     for n in 0..MOST_REQUESTS {
         match is_refused(alloc, schedule, n)? {
@@ -61,7 +61,7 @@ impl Counts {
         }
     }
 
-    /// Each call with its counts, and whether it takes memory.
+    /// Each call with its counts, and whether it allocates.
     pub(crate) fn each(&self) -> [(Call, bool, u64, u64); 25] {
         let mut each = [(Call::New, true, 0, 0); 25];
         for (it, ((call, takes_memory), (made, refused))) in each
@@ -74,7 +74,7 @@ impl Counts {
     }
 }
 
-// Makes the events happen one after the other, each of their requests for memory being refused in turn.
+// Makes the calls of the events one after the other, with each of their requests for memory refused in turn.
 fn entries<'h>(
     ends: &mut Ends<'h>,
     heap: Heap<'h>,
@@ -87,8 +87,8 @@ fn entries<'h>(
     Ok(entries)
 }
 
-/// Whether this is the trace of a schedule at two endpoints, each request for memory of each call being refused in turn,
-/// and the same call made again.
+/// Whether this is the trace of a schedule at two endpoints, if each request for memory of each call is refused in
+/// turn, and the same call is made again.
 pub(crate) fn made_again(
     alloc: Global,
     schedule: &[u8],

@@ -1,4 +1,4 @@
-//! A schedule without end at two endpoints.
+//! Runs a schedule of any length at two endpoints.
 
 use bytes::Bytes;
 use iw_events::{Call, Event};
@@ -8,7 +8,7 @@ use std::rt::Runtime;
 use test_ends::{Ends, Heap};
 use test_support::FailsAt;
 
-// The stream whose call this is.
+// The stream of this call.
 fn stream_of(event: &Event<Bytes<Heap<'_>>>) -> Option<u8> {
     match &event.call {
         Call::Stream { stream, .. } => Some(*stream),
@@ -16,7 +16,7 @@ fn stream_of(event: &Event<Bytes<Heap<'_>>>) -> Option<u8> {
     }
 }
 
-// Makes the lines happen, and returns what is to be printed.
+// Runs the lines, and returns what is to be printed.
 fn happen<'h>(
     ends: &mut Ends<'h>,
     heap: Heap<'h>,
@@ -33,11 +33,11 @@ fn happen<'h>(
     Ok(print_trace(heap, entries.as_slice())?)
 }
 
-/// Makes the events of a schedule happen at two endpoints for as long as the standard input goes on.
+/// Runs the schedule of the standard input, as long as that goes on.
 ///
-/// At an empty line the lines before it happen, and their part of the trace is printed, and an empty line. What was
-/// emitted and had its turn is given up, so the memory that is held does not grow with the octets that were carried. If
-/// `is_refusing`, each request for memory of each call of an endpoint is refused in turn, and the call made again.
+/// At an empty line the lines before it are run, and their part of the trace is printed, and an empty line. What was
+/// emitted and had its turn is dropped, so the memory does not grow with the octets that were carried. If `is_refusing`,
+/// each request for memory of each call of an endpoint is refused in turn, and the call is made again.
 pub(crate) fn run<R: Runtime + AllocGlobal>(rt: &R, is_refusing: bool) -> anyhow::Result<()> {
     let heap = FailsAt::new(rt.alloc(), u64::MAX);
     let mut ends = Ends::new(&heap, is_refusing)?;

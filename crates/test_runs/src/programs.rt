@@ -4,7 +4,7 @@ use std::alloc::Global;
 use std::fmt::Write;
 use std::test::Fail;
 
-// A Write, and how `a` learns that it is finished.
+// A Write, and how `a` learns that it is done.
 const SCHEDULE: &str = "a domain 1
 b domain 1
 b register 1 4096 w 00*8
@@ -42,7 +42,7 @@ fn a_schedule_has_a_trace(rt: HostRuntime) -> Result<(), Fail> {
     Ok(())
 }
 
-// Schedules that are refused, and why, a line each.
+// Schedules that are refused, each on a line with the reason.
 const REFUSED: &str = "a fly 0: line 1: BadWord
 a domain 256: line 1: BadNumber
 a work 0: event 1: NoSuchStream

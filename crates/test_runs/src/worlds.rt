@@ -1,4 +1,4 @@
-//! Events at both ends, and what is told of each.
+//! Events at both ends, and the entry of each.
 use bytes::Bytes;
 use iw_events::{Call, End, Event, StreamCall};
 use iw_schedules::{print_trace, read_schedule};
@@ -21,7 +21,7 @@ fn an_event_has_an_entry(rt: HostRuntime) -> Result<(), Fail> {
     Ok(())
 }
 
-// Octets that were not emitted cannot be delivered. The number of the event is told.
+// Octets that were not emitted cannot be delivered. The fault has the number of the event.
 const NOT_SENT: &str = "a domain 1
 b domain 1
 a open 0 1 preset - -

@@ -1,7 +1,7 @@
 use std::io::{self, ErrorKind, Read, Write};
 
-/// A reader or a writer over another, that moves few octets a call, and one call of which fails with nothing moved.
-/// Calls are counted from 1, reads and writes alike; a flush is a call too.
+/// A reader or writer over another. It moves few octets a call, and one of its calls fails and moves nothing. Calls are
+/// counted from 1: reads, writes and flushes alike.
 #[derive(Drop)]
 pub struct Halting<T> {
     inner: T,
@@ -21,7 +21,7 @@ impl<T> Halting<T> {
         }
     }
 
-    /// The same, but that the call of this number fails so.
+    /// The same, but the call with this number fails with this error.
     pub fn failing_at(self, call: u64, kind: ErrorKind) -> Halting<T> {
         Halting {
             inner: self.inner,
@@ -41,7 +41,7 @@ impl<T> Halting<T> {
         self.inner
     }
 
-    // Counts a call, and fails where it is the one to fail.
+    // Counts a call; an `Err` if it is the one to fail.
     fn count(&mut self) -> io::Result<()> {
         self.calls = self.calls.wrapping_add(1);
         match self.failing {
@@ -72,7 +72,7 @@ impl<T: Write> Write for Halting<T> {
     }
 }
 
-/// A reader that never ends, and gives one octet over and over.
+/// A reader that gives the same octet for ever.
 #[derive(Drop)]
 pub struct Endless {
     octet: u8,

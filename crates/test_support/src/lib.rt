@@ -1,4 +1,4 @@
-//! What fails on demand, for tests: an allocator that refuses an allocation, readers and writers that halt.
+//! For tests: an allocator that refuses an allocation, and readers and writers that fail, on demand.
 #![tactic(auto)]
 
 mod halting;
@@ -7,7 +7,7 @@ pub use halting::{Endless, Halting};
 use std::alloc::{AllocError, Allocator};
 use std::cell::Cell;
 
-/// Refuses one allocation: the one after the next `left`. It passes every other on to `inner`.
+/// An allocator that refuses one allocation, the one after the next `left`, and passes every other on to `inner`.
 pub struct FailsAt<B: Allocator> {
     inner: B,
     left: Cell<u64>,
@@ -21,12 +21,12 @@ impl<B: Allocator> FailsAt<B> {
         }
     }
 
-    /// Refuses the allocation after the next `left` from here on, and no other.
+    /// From now on, refuses the allocation after the next `left`, and no other.
     pub fn refuse_after(&self, left: u64) {
         self.left.set(left);
     }
 
-    /// Whether the allocation to refuse was asked for.
+    /// Whether the allocation was refused.
     pub fn has_refused(&self) -> bool {
         self.left.get() == u64::MAX
     }
