@@ -1,4 +1,4 @@
-//! The command line of `iwarp`: what its words ask for, and that it is done.
+//! Runs the command that the command line of `iwarp` asks for.
 #![tactic(auto)]
 
 mod running;

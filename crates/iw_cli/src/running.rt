@@ -24,7 +24,7 @@ fn run_replay<R: Runtime + AllocGlobal>(rt: &R) -> Status {
     }
 }
 
-// How a command ended. Of a fault only want of memory is told.
+// The status of a command. Of its faults, only running out of memory is reported on standard error.
 fn ended<R: Runtime>(rt: &R, outcome: Result<Status, CommandFault>) -> Status {
     match outcome {
         Ok(status) => status,
@@ -37,7 +37,7 @@ fn ended<R: Runtime>(rt: &R, outcome: Result<Status, CommandFault>) -> Status {
     }
 }
 
-// Whether the text may be sent. It is tested before anything is started.
+// Whether the text is short enough. Called before anything is started.
 fn is_sendable<R: Runtime>(rt: &R, request: &Request<'_>) -> bool {
     if request.text.len() <= MOST_TEXT {
         return true;
@@ -71,7 +71,7 @@ fn tell_no_memory<R: Runtime>(rt: &R) -> Status {
     Status::Refused
 }
 
-// Tells why the words were not read: one of them is not UTF-8, or there is no memory for them.
+// Reports why the command line was not read: a word is not UTF-8, or memory ran out.
 fn tell_unread<R: Runtime>(rt: &R, error: &io::Error) -> Status {
     if error.kind() == io::ErrorKind::OutOfMemory {
         return tell_no_memory(rt);
@@ -80,7 +80,7 @@ fn tell_unread<R: Runtime>(rt: &R, error: &io::Error) -> Status {
     Status::Refused
 }
 
-// Tells why there is no task: the help, or what is wrong with the command line.
+// Prints the help, or what is wrong with the command line.
 fn tell<R: Runtime + AllocGlobal>(rt: &R, error: &clap::Error) -> Status {
     if error.kind() == ErrorKind::OutOfMemory {
         return tell_no_memory(rt);
@@ -110,8 +110,8 @@ fn run_words<R: Runtime + AllocGlobal + Net + Processes>(
     })
 }
 
-/// Does what this process's command line asks for. What is wrong with the command line, or with what is replayed, is
-/// told on standard error.
+/// Does what this process's command line asks for, and returns the status. Errors of the command line or of a replayed
+/// schedule are reported on standard error.
 pub fn run<R: Runtime + AllocGlobal + Net + Processes>(rt: &R) -> Status {
     let words = match read_words(rt) {
         Ok(words) => words,

@@ -35,7 +35,7 @@ fn request_of<'a>(matches: &ArgMatches<'a>) -> Option<Request<'a>> {
     })
 }
 
-/// The task that the words ask for; `None` for none, which no command line gives.
+/// The task that the command line asks for. It is `None` if there is no command, which the parser does not let through.
 pub(crate) fn task_of<'a>(matches: &ArgMatches<'a>) -> Option<Task<'a>> {
     let (name, words) = matches.subcommand()?;
     match name {

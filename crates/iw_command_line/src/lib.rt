@@ -1,6 +1,5 @@
-//! The command line of `iwarp`: its commands, with their options and their help.
-//!
-//! It stands apart from what the commands do, so that it is built beside that.
+//! The command line of `iwarp`: its commands, with their options and their help. It is a crate of its own, so that it
+//! is built in parallel with what the commands do.
 #![tactic(auto)]
 
 use clap::{Arg, ArgAction, Command, value_parser};
@@ -8,40 +7,40 @@ use std::alloc::Global;
 
 const REPLAY_HELP: &str = "\
 Exit status:
-  0  The schedule was run, and its trace written
-  1  In the trace, which was written, a stream ends by a fault or a Terminate, or is closed by a start-up frame; or
-     standard input or output failed: without a word on standard error
-  2  The schedule or the command line was refused, or there was no memory: standard error says why
+  0  The schedule ran, and its trace was written
+  1  The trace was written, and a stream in it ends by a fault or a Terminate, or is closed by a start-up frame; or
+     standard input or output failed (standard error says nothing)
+  2  The schedule or the command line was refused, or memory ran out (standard error says why)
 
 Example: iwarp replay < examples/first.schedule";
 
 const LISTEN_HELP: &str = "\
-All connections share one region of 65536 octets, zero at the start: what one peer wrote, a later one may have back.
-Connections are served one after the other. A silent peer holds its connection, and so the command, without end.
+All connections share one region of 65536 octets, zero at the start: a later peer may get back what an earlier one
+wrote. Connections are served one after the other: a peer that stays silent blocks the command for ever.
 
 Exit status:
   0  A Send was received on each connection, and none failed
-  1  A connection failed (standard output says how); the port was taken or could not be bound, or standard output
-     failed: without a word on standard error
-  2  The command line was refused, or there was no memory: standard error says why
+  1  A connection failed (standard output says how); or the port could not be bound, or standard output failed
+     (standard error says nothing)
+  2  The command line was refused, or memory ran out (standard error says why)
 
 Example: iwarp listen --port 4420 --count 2";
 
 const CONNECT_HELP: &str = "\
 Exit status:
   0  An answer was received on each connection, and none failed
-  1  A connection failed or could not be made (standard output says how); or standard output failed: without a word
-     on standard error
-  2  The command line was refused, or there was no memory: standard error says why
+  1  A connection failed or could not be made (standard output says how); or standard output failed (standard error
+     says nothing)
+  2  The command line was refused, or memory ran out (standard error says why)
 
 Example: iwarp connect --port 4420 --count 2 --text hello --markers --crc";
 
 const PAIR_HELP: &str = "\
 Exit status:
   0  An answer was received on each connection, none failed, and the other process ended with 0
-  1  A connection failed or could not be made (standard output says how); the other process ended with another
-     status, could not be started or named no port, or standard output failed: without a word on standard error
-  2  The command line was refused, or there was no memory: standard error says why
+  1  A connection failed or could not be made (standard output says how); or the other process ended with another
+     status, could not be started or named no port, or standard output failed (standard error says nothing)
+  2  The command line was refused, or memory ran out (standard error says why)
 
 Example: iwarp pair --program ./iwarp --count 2 --markers";
 
@@ -55,7 +54,7 @@ fn count_option<'a>(alloc: Global) -> Arg<'a> {
     Arg::new(alloc, "count")
         .long("count")
         .value_name("N")
-        .help("How many connections, one after the other: 1 to 64")
+        .help("The number of connections, one after the other: 1 to 64")
         .value_parser(value_parser!(u8).range(1..=64))
         .default_value("1")
 }
@@ -72,11 +71,7 @@ fn with_options<'a>(alloc: Global, command: Command<'a>) -> Result<Command<'a>, 
     Ok(
         command
             .arg(count_option(alloc))?
-            .arg(flag(
-                alloc,
-                "markers",
-                "Asks the other end for markers in what it sends",
-            ))?
+            .arg(flag(alloc, "markers", "Asks the other end to send markers"))?
             .arg(flag(alloc, "crc", "Asks for CRCs in both directions"))?,
     )
 }
@@ -85,7 +80,7 @@ fn text_option<'a>(alloc: Global) -> Arg<'a> {
     Arg::new(alloc, "text")
         .long("text")
         .value_name("T")
-        .help("What is written and sent: at most 4096 octets of UTF-8")
+        .help("The text to write and send: at most 4096 octets of UTF-8")
         .allow_hyphen_values(true)
         .default_value("hi")
 }
@@ -94,14 +89,14 @@ fn listen<'a>(alloc: Global) -> Result<Command<'a>, clap::Error> {
     let port = Arg::new(alloc, "port")
         .long("port")
         .value_name("P")
-        .help("The port to bind: 0 to 65535, where 0 is any free port")
+        .help("The port to bind: 0 to 65535; 0 binds any free port")
         .value_parser(value_parser!(u16).range(0..=65_535))
         .default_value("0");
     with_options(
         alloc,
         Command::new(alloc, "listen")
             .about(
-                "Serves connections on 127.0.0.1: prints its port, and sends back what is written into its region",
+                "Serves connections on 127.0.0.1: prints its port, and sends back what peers write into its region",
             )
             .after_help(LISTEN_HELP)
             .arg(port)?,
@@ -131,7 +126,7 @@ fn pair<'a>(alloc: Global) -> Result<Command<'a>, clap::Error> {
     let program = Arg::new(alloc, "program")
         .long("program")
         .value_name("PATH")
-        .help("The program that is started with `listen`")
+        .help("The program to start with `listen`")
         .required(true);
     with_options(
         alloc,
@@ -143,7 +138,7 @@ fn pair<'a>(alloc: Global) -> Result<Command<'a>, clap::Error> {
     )
 }
 
-/// The command line. An `Err` is want of memory.
+/// The command line. An `Err` means out of memory.
 pub fn iwarp<'a>(alloc: Global) -> Result<Command<'a>, clap::Error> {
     Ok(
         Command::new(alloc, "iwarp")

@@ -1,4 +1,4 @@
--- The lines that are printed of connections.
+-- The lines that are printed for connections.
 use Rattle.std.specs.Prelude.{ℕ, Bool, List, [], ◌∷◌, ◌++◌, ◌+◌, Option, None, Some, codes, if◌then◌else◌}
 use Rattle.std.specs.Fmt.{decimal}
 use Rattle.hex.specs.Hex.{encode_lower}
@@ -9,7 +9,7 @@ use Rattle.iw_links.specs.declared.report.Ended.{Ended}
 use Rattle.iw_links.specs.declared.report.Ended.TheVariants as ends
 use Rattle.iw_links.specs.declared.report.Report.{Report}
 
--- octets in hexadecimal digits of lower case, and `-` for none
+-- octets as hexadecimal digits in lower case, or `-` for none
 abbrev pub octets_text : List ℕ → List ℕ
 octets_text [] = codes "-"
 octets_text (octet ∷ octets) = encode_lower (octet ∷ octets)
@@ -35,17 +35,17 @@ end_text (ends.Closed fault) = codes "closed " ++ startup_text fault
 unfoldable pub line : ℕ → List ℕ → List ℕ
 line stream words = codes "stream " ++ (decimal stream ++ (codes " " ++ (words ++ codes "\n")))
 
--- of what was received
+-- what was received
 abbrev pub received_line : ℕ → Option (List ℕ) → List ℕ
 received_line stream None = []
 received_line stream (Some octets) = line stream (codes "received " ++ octets_text octets)
 
--- of how the stream ended
+-- how the stream ended
 abbrev pub end_line : ℕ → Option Ended → List ℕ
 end_line stream None = []
 end_line stream (Some end) = line stream (end_text end)
 
--- of a link that broke
+-- that the link broke
 abbrev pub broken_line : ℕ → Bool → List ℕ
 broken_line stream broken = if broken then line stream (codes "broken") else []
 
@@ -54,7 +54,7 @@ unfoldable pub lines : ℕ → Report → List ℕ
 lines stream report =
     (received_line stream report.received ++ end_line stream report.ended) ++ broken_line stream report.broken
 
--- the lines of connections one after the other, the first of which is this stream
+-- the lines of connections one after the other; the first has this stream number
 abbrev pub lines_from : ℕ → List Report → List ℕ
 lines_from stream [] = []
 lines_from stream (report ∷ reports) = lines stream report ++ lines_from (1 + stream) reports

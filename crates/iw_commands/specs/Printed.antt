@@ -1,4 +1,5 @@
--- What a command prints, and how it ends by that. What is known of the output's octets before and after is an option.
+-- What a command prints, and its status. The octets of an output before and after are an option: None if they are not
+-- known.
 use Rattle.std.specs.Prelude.{◌≡◌, ℕ, List, [], ◌∷◌, ◌++◌, ◌+◌, ◌≤◌, ◌⊎◌, Option, length, take}
 use Rattle.std.specs.Io.KnownBytes.{Appends}
 use Rattle.iw_output.specs.declared.status.Status.{Status}
@@ -14,8 +15,7 @@ use Rattle.iw_commands.specs.Status.{status_of, unmade}
 
 -- ---- connections
 
--- a connection was made at this endpoint, as its plan says; what was known of its input and output before and after is
--- an option
+-- a connection was made at this endpoint, as its plan says; its input and output before and after are options as well
 pub record IsMade (p : Plan) (e e' : EndpointState) (report : Report) : Type 0 where
   pub input : Option (List ℕ)
   pub output : Option (List ℕ)
@@ -23,15 +23,15 @@ pub record IsMade (p : Plan) (e e' : EndpointState) (report : Report) : Type 0 w
   pub output' : Option (List ℕ)
   pub served : Served p e input output e' input' output' report
 
--- or it could not be made, and nothing was done there
+-- or it could not be made, and nothing changed there
 abbrev pub IsTold : Plan → EndpointState → EndpointState → Report → Type 0
 IsTold p e e' report = IsMade p e e' report ⊎ ((report ≡ unmade) × (e' ≡ e))
 
--- what the connection of this stream is opened with
+-- the options with which the connection of this stream is opened
 abbrev pub terms_at : Options → ℕ → Terms
 terms_at options stream = record { number = stream; markers = options.markers; crc = options.crc }
 
--- connections one after the other, the first of which is this stream
+-- connections one after the other; the first has this stream number
 abbrev pub AreTold : Options → Part → ℕ → EndpointState → List Report → EndpointState → Type 0
 AreTold options part stream e [] e' = e' ≡ e
 AreTold options part stream e (report ∷ reports) e' =
@@ -39,8 +39,8 @@ AreTold options part stream e (report ∷ reports) e' =
 
 -- ---- what is printed
 
--- So many connections were made or tried, the first as stream 0, and the lines of each printed, in order; the command
--- ends so by what became of them.
+-- `count` connections were made or tried, the first as stream 0, and the lines of each were printed, in order; the
+-- command's status follows from their reports.
 pub record Prints (options : Options) (part : Part) (e e' : EndpointState) (count : ℕ) (output output' : Option (List ℕ)) (status : Status) :
     Type 0 where
   pub reports : List Report
@@ -49,7 +49,7 @@ pub record Prints (options : Options) (part : Part) (e e' : EndpointState) (coun
   pub prints : Appends output output' (lines_from 0 reports)
   pub ends : status ≡ status_of reports
 
--- At most so many were made or tried, and the front of their lines printed.
+-- At most `count` connections were made or tried, and the front of their lines was printed.
 pub record PrintsFront (options : Options) (part : Part) (e e' : EndpointState) (count : ℕ) (output output' : Option (List ℕ)) :
     Type 0 where
   pub reports : List Report
@@ -58,7 +58,7 @@ pub record PrintsFront (options : Options) (part : Part) (e e' : EndpointState) 
   pub octets : ℕ
   pub prints : Appends output output' (take octets (lines_from 0 reports))
 
--- The same of a command that listens and prints its port before: the one that was asked for, if one was.
+-- The same of a command that listens and prints its port first: the one that was asked for, unless that was 0.
 abbrev pub IsPort : ℕ → ℕ → Type 0
 IsPort asked port = (asked ≡ 0) ⊎ (port ≡ asked)
 
@@ -82,7 +82,7 @@ pub record PrintsPortFront (options : Options) (asked count : ℕ) (output outpu
   pub octets : ℕ
   pub prints : Appends output output' (take octets (port_line port ++ lines_from 0 reports))
 
--- The same of a command that ends also by how another process ended.
+-- The same of a command whose status follows also from that of another process.
 pub record PrintsBeside (options : Options) (part : Part) (e : EndpointState) (count : ℕ) (output output' : Option (List ℕ)) (status : Status) :
     Type 0 where
   pub last : EndpointState

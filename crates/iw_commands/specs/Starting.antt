@@ -1,13 +1,13 @@
--- The words with which the listening process is started.
+-- The command line of the listening process.
 use Rattle.std.specs.Prelude.{ℕ, Bool, List, [], ◌∷◌, ◌++◌, codes, if◌then◌else◌}
 use Rattle.std.specs.Fmt.{decimal}
 use Rattle.iw_commands.specs.declared.asking.Request.{Request}
 
--- a word, where it is wanted
+-- a word, if it is wanted
 abbrev pub flag : Bool → List ℕ → List (List ℕ)
 flag is_wanted word = if is_wanted then word ∷ [] else []
 
--- `listen` at any free port, for as many connections, and with the same options
+-- `listen` at any free port, for as many connections and with the same options
 abbrev pub listener_words : Request → List (List ℕ)
 listener_words request =
     (codes "listen" ∷ codes "--port" ∷ codes "0" ∷ codes "--count" ∷ decimal request.count ∷ [])

@@ -8,20 +8,20 @@ use Rattle.iw_links.specs.Exchange.{is_completed}
 use Rattle.iw_commands.specs.declared.fault.CommandFault.{CommandFault}
 use Rattle.iw_commands.specs.declared.fault.CommandFault.TheVariants.{Port, Program, Output, NoMemory}
 
--- what is told of a connection that could not be made
+-- the report of a connection that could not be made
 abbrev pub unmade : Report
 unmade = record { received = None; ended = None; broken = true }
 
--- by one connection
+-- after one connection
 abbrev pub report_status : Report → Status
 report_status report = if is_completed report then Completed else Failed
 
--- by connections one after the other
+-- after connections one after the other
 abbrev pub status_of : List Report → Status
 status_of [] = Completed
 status_of (report ∷ reports) = with (report_status report) (status_of reports)
 
--- by a command that stopped
+-- after a command that stopped before its end
 abbrev pub fault_status : CommandFault → Status
 fault_status Port = Failed
 fault_status Program = Failed

@@ -14,10 +14,10 @@ use std::alloc::Global;
 use std::io::{Read, Write};
 use std::net::Net;
 
-/// What `connect` sends, and on how many connections.
+/// What `connect` sends, on how many connections.
 #[derive(Clone, Copy, Debug)]
 pub struct Request<'a> {
-    /// What is written into the peer's region and sent: at most 4,096 octets.
+    /// The text that is written into the peer's region and sent: at most 4,096 octets.
     pub text: &'a str,
     /// How many connections are made, one after the other.
     pub count: u8,
@@ -25,7 +25,7 @@ pub struct Request<'a> {
     pub options: Options,
 }
 
-/// Makes a request on a connection, of which the two halves are given.
+/// Makes a request on a connection, given its two halves.
 pub(crate) fn ask_peer<R: Read + Drop, O: Output + Drop>(
     alloc: Global,
     endpoint: &mut Endpoint,
@@ -100,10 +100,10 @@ fn ask_each<P: Peers, W: Write>(
     Ok(status)
 }
 
-/// Makes a request on connections one after the other, the first as stream 0, and prints what became of each. One
-/// that breaks doesn't stop the later ones.
+/// Makes a request on connections one after the other, the first as stream 0, and prints the lines of each. One that
+/// breaks does not stop the later ones.
 ///
-/// An `Err` is `Output` where a line could not be printed, and `NoMemory`; the front of what was to be printed was.
+/// An `Err` is `Output` if a line could not be printed, or `NoMemory`. Then only the front of the lines was printed.
 pub fn connect_all<P: Peers, W: Write>(
     alloc: Global,
     peers: &mut P,
@@ -134,7 +134,7 @@ pub fn connect_all<P: Peers, W: Write>(
     }
 }
 
-/// Makes requests at a port of 127.0.0.1, as [`connect_all`] says.
+/// Makes requests at a port of 127.0.0.1, as [`connect_all`] does.
 pub fn connect<N: Net, W: Write>(
     alloc: Global,
     net: &N,

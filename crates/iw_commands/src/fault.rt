@@ -17,13 +17,13 @@ pub enum CommandFault {
     /// The output did not take all that was to be printed.
     #[error("the output did not take all that was to be printed")]
     Output,
-    /// There is no memory.
+    /// Out of memory.
     #[error("no memory")]
     NoMemory,
 }
 
 impl CommandFault {
-    /// How the program ends by this fault.
+    /// The program's status after this fault.
     pub fn status(self) -> Status
         ensures { result ≡ fault_status self }
     {

@@ -1,7 +1,7 @@
 //! What `iwarp listen`, `iwarp connect` and `iwarp pair` do, over any network, processes and output.
 //!
-//! Each makes connections one after the other, of which [`iw_links`] serves or makes use, and prints a line for what
-//! became of each ([`Peers`] is where connections come from). A connection that fails doesn't stop the later ones.
+//! Each handles connections one after the other and prints the lines of each. [`iw_links`] does what is done on a
+//! connection; [`Peers`] is where connections come from. A connection that fails does not stop the later ones.
 #![tactic(auto)]
 
 mod asking;

@@ -1,4 +1,4 @@
-//! The lines that are printed of a connection.
+//! The lines that are printed for a connection.
 
 ghost use Rattle.std.specs.Prelude.{◌≡◌, ◌++◌, IfOk, OnOk, string_bytes};
 ghost use Rattle.iw_commands.specs.Lines.{octets_text, fault_text, startup_text, end_text};
@@ -9,7 +9,7 @@ use iw_octets::{Fault, Octets};
 use iw_startup::StartupFault;
 use std::alloc::{AllocError, Global};
 
-// Octets in hexadecimal digits, and `-` where there are none.
+// Octets as hexadecimal digits, or `-` for none.
 fn octets_digits(alloc: Global, octets: &[u8]) -> Result<String, AllocError>
     ensures { IfOk result (λ text. string_bytes text ≡ octets_text octets.now) }
 {
@@ -69,7 +69,7 @@ fn add_line(text: &mut String, stream: u8, words: &str) -> Result<(), AllocError
     write!(text, "stream {stream} {words}\n")
 }
 
-// Appends the line of what was received.
+// Appends the line about what was received.
 fn add_received(
     alloc: Global,
     text: &mut String,
@@ -86,7 +86,7 @@ fn add_received(
     add_line(text, stream, words.as_str())
 }
 
-// Appends the line of how the stream ended.
+// Appends the line about how the stream ended.
 fn add_end(
     alloc: Global,
     text: &mut String,
@@ -102,7 +102,7 @@ fn add_end(
     add_line(text, stream, words.as_str())
 }
 
-/// The lines of a connection: of what was received, of how the stream ended, and of a link that broke.
+/// The lines of a connection: what was received, how the stream ended, and that its link broke; each if it applies.
 #[tactic(auto, unfolding(crate::specs::Lines::lines))]
 pub(crate) fn lines_of(alloc: Global, stream: u8, report: &Report) -> Result<String, AllocError>
     ensures { IfOk result (λ text. string_bytes text ≡ lines stream report.now) }

@@ -1,11 +1,11 @@
 use iw_links::Terms;
 
-/// What the start-up frames of a command's connections ask for.
+/// What a command's connections ask for in their start-up frames.
 #[derive(Clone, Copy, Debug, PartialEq, Eq)]
 pub struct Options {
-    /// That the peer's frames have markers.
+    /// That the peer sends markers.
     pub markers: bool,
-    /// That CRCs are used.
+    /// That both ends use CRCs.
     pub crc: bool,
 }
 

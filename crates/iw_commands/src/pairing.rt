@@ -21,14 +21,15 @@ use std::process::{Child, OpenProcess, Processes};
 /// How the requests of `pair` went.
 #[derive(Clone, Copy, Debug, PartialEq, Eq)]
 pub struct Talked {
-    /// How the program ends by them.
+    /// The program's status after them.
     pub status: Status,
-    /// Whether each connection was made, and the other process heard after each. Where not, it may wait without end.
+    /// Whether each connection was made, and output of the other process was read after each. If not, that process may
+    /// wait for ever.
     pub is_whole: bool,
 }
 
-// Makes a request on the next connection, and then reads some of what the other process prints, which is a line at
-// least for each connection that it had. Tells whether there was a connection, and such a read.
+// Makes a request on the next connection, then reads some of what the other process printed: at least a line for each
+// connection that it had. Returns whether there was a connection, and such a read.
 fn ask_next<P: Peers, I: Read>(
     alloc: Global,
     peers: &mut P,
@@ -94,9 +95,9 @@ fn ask_each<P: Peers, I: Read, W: Write>(
     Ok(Talked { status, is_whole })
 }
 
-/// Makes requests as [`connect_all`](crate::connect_all) does, at a process that prints its lines into `pipe`. After
-/// each connection it reads some of what is there, up to 65,536 octets at once: so the process, which prints a line
-/// at least for each connection, never waits for room in the pipe.
+/// Makes requests as [`connect_all`](crate::connect_all) does, to a process that prints its lines into `pipe`. After
+/// each connection it reads from the pipe, up to 65,536 octets at once, so that the process, which prints at least a
+/// line for each connection, never waits for room in the pipe.
 pub fn talk<P: Peers, I: Read, W: Write>(
     alloc: Global,
     peers: &mut P,
@@ -122,8 +123,8 @@ pub fn talk<P: Peers, I: Read, W: Write>(
     }
 }
 
-/// Reads what another process prints to its end, and tells whether it came: not where a read failed, or where the
-/// pipe was read 1,000,000 times.
+/// Reads what another process prints, to the end. Returns whether the end came: `false` if a read failed, or after
+/// 1,000,000 reads.
 pub fn drain<I: Read>(pipe: &mut Counted<I>, buffer: &mut [u8]) -> bool
     requires reads { pipe.old.reads ≤ 1000000 }
     requires room { 0 < length buffer.old }
@@ -140,7 +141,7 @@ pub fn drain<I: Read>(pipe: &mut Counted<I>, buffer: &mut [u8]) -> bool
     false
 }
 
-// Ends with the other process: reads the rest of what it prints, and waits for it.
+// Reads the rest of what the other process prints, and waits for it to exit.
 fn finish<P: OpenProcess, I: Read>(
     child: &mut Child<P>,
     pipe: &mut Counted<I>,
@@ -158,14 +159,14 @@ fn finish<P: OpenProcess, I: Read>(
     }
 }
 
-// Ends the other process, and waits for it.
+// Kills the other process, and waits for it.
 fn give_up<P: OpenProcess>(child: &mut Child<P>) -> Status {
     let _ = child.kill();
     let _ = child.wait();
     Status::Failed
 }
 
-// Reads the port from the other process, and makes the requests there.
+// Reads the port that the other process prints, and makes the requests there.
 fn meet<N: Net, I: Read, W: Write>(
     alloc: Global,
     net: &N,
@@ -211,13 +212,13 @@ fn start<R: Processes>(
     }
 }
 
-/// Starts `program` as a second process that listens, at any free port, for as many connections and with the same
-/// options; makes the requests there, reads what that process prints, and waits for it. It prints what became of the
-/// requests, and not what the other process prints. A process that names no port, that a connection could not be made
-/// to, or that prints without end is killed.
+/// Starts `program` as a second process that listens at any free port, for as many connections and with the same
+/// options; makes the requests there, and waits for it to exit. It prints the lines of its own connections; it reads
+/// what the other process prints, but does not print it. The other process is killed if it names no port, if a
+/// connection to it cannot be made, or if it prints without end.
 ///
-/// An `Err` is `Program` where the process could not be started or named no port, and then nothing was printed;
-/// `Output` where a line could not be printed; and `NoMemory`. Then the process has ended too.
+/// An `Err` is `Program` if the process could not be started or named no port (then nothing was printed), `Output` if a
+/// line could not be printed, or `NoMemory`. The process has then ended too.
 pub fn pair<R: Net + Processes, W: Write>(
     alloc: Global,
     rt: &R,

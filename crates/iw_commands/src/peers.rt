@@ -4,17 +4,17 @@ use std::net::{Ipv4Addr, Net, OpenListener, OpenStream, TcpListener, TcpStream};
 
 /// Where connections come from, one after the other.
 pub trait Peers {
-    /// What the peer sends.
+    /// The reader of what the peer sends.
     type Input: Read + Drop;
 
-    /// What is sent to the peer.
+    /// The writer of what is sent to the peer.
     type Output: Output + Drop;
 
-    /// The next connection, by its two halves.
+    /// The two halves of the next connection.
     fn next_peer(&mut self) -> io::Result<(Self::Input, Self::Output)>;
 }
 
-// The two halves of a stream, which sends small writes at once.
+// The two halves of a stream, with TCP_NODELAY set.
 fn halves<S: Read + Write + OpenStream + Drop>(stream: S) -> io::Result<(S, Half<S>)> {
     stream.set_nodelay(true)?;
     let other = stream.try_clone()?;
@@ -28,14 +28,14 @@ pub struct Arrivals<N: Net> {
 }
 
 impl<N: Net> Arrivals<N> {
-    /// Listens on 127.0.0.1, at any free port where `port` is 0.
+    /// Listens on 127.0.0.1, at any free port if `port` is 0.
     pub fn bind(net: &N, port: u16) -> io::Result<Arrivals<N>> {
         Ok(Arrivals {
             listener: TcpListener::bind(net, (Ipv4Addr::LOCALHOST, port))?,
         })
     }
 
-    /// The port that is bound.
+    /// The port that was bound.
     pub fn port(&self) -> io::Result<u16> {
         Ok(self.listener.local_addr()?.port())
     }
@@ -60,6 +60,7 @@ pub struct Calls<'a, N: Net> {
 }
 
 impl<'a, N: Net> Calls<'a, N> {
+    /// Connections to this port. None is made yet.
     pub fn new(net: &'a N, port: u16) -> Calls<'a, N> {
         Calls { net, port }
     }

@@ -17,7 +17,7 @@ pub(crate) fn port_text(alloc: Global, port: u16) -> Result<String, AllocError>
     format!(in alloc; "port {port}\n")
 }
 
-// The port that the line names, where it is exactly a port line.
+// The port that the line names; `Program` if it is not exactly a port line.
 fn port_of(alloc: Global, line: &[u8]) -> Result<u16, CommandFault>
     ensures line { IfOk result (λ port. line.now ≡ port_line port) }
     ensures fault { IfErr result (λ fault. (fault ≡ CommandFault.Program) ⊎ (fault ≡ CommandFault.NoMemory)) }
@@ -41,10 +41,10 @@ fn port_of(alloc: Global, line: &[u8]) -> Result<u16, CommandFault>
     }
 }
 
-/// Reads the line by which another process names its port. It reads octet by octet, at most 11 of them, so that
-/// nothing past the line is read.
+/// Reads the line by which another process names its port. It reads octet by octet, at most 11 of them, so that it
+/// reads nothing after the line.
 ///
-/// An `Err` is `Program` where what came is no such line, or reading failed, and else `NoMemory`.
+/// An `Err` is `Program` if reading failed or what came is no such line, or `NoMemory`.
 pub fn read_port<R: Read>(alloc: Global, pipe: &mut Counted<R>) -> Result<u16, CommandFault>
     requires { pipe.old.reads ≤ 1000000 }
     ensures line { IfOk result

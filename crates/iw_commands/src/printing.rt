@@ -1,4 +1,4 @@
-//! What is printed, and how the program ends by it.
+//! Printing, and the program's status after it.
 
 ghost use Rattle.std.specs.Prelude.{◌≡◌, ℕ, take, IfOk, IfErr, OnOk, OnErr};
 ghost use Rattle.std.specs.Io.KnownBytes.{Appends};
@@ -12,7 +12,7 @@ use iw_output::{Status, write_octets};
 use std::alloc::Global;
 use std::io::Write;
 
-/// Prints a text at once. Where the output fails, it took the front of the text.
+/// Prints a text at once. If the output fails, it took only the front of the text.
 pub(crate) fn print_text<W: Write>(print: &mut W, text: &[u8]) -> Result<(), CommandFault>
     ensures ok { OnOk result (Appends (W.contents print.old) (W.contents print.new) text.now) }
     ensures err { OnErr result ((n : ℕ) × Appends (W.contents print.old) (W.contents print.new) (take n text.now)) }
@@ -28,7 +28,7 @@ pub(crate) fn print_text<W: Write>(print: &mut W, text: &[u8]) -> Result<(), Com
     }
 }
 
-/// What is told of a connection that could not be made.
+/// The report of a connection that could not be made.
 pub(crate) fn unmade() -> Report
     ensures { result ≡ unmade }
 {
@@ -39,7 +39,7 @@ pub(crate) fn unmade() -> Report
     }
 }
 
-// How the program ends by one connection.
+// The program's status after one connection.
 fn ending(report: &Report) -> Status
     ensures { result ≡ report_status report.now }
 {
@@ -50,7 +50,7 @@ fn ending(report: &Report) -> Status
     }
 }
 
-/// Prints the lines of a connection, and tells how the program ends by it.
+/// Prints the lines of a connection, and returns the program's status after it.
 pub(crate) fn print_report<W: Write>(
     alloc: Global,
     print: &mut W,

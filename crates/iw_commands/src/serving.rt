@@ -75,10 +75,10 @@ fn serve_each<P: Peers, W: Write>(
     Ok(status)
 }
 
-/// Serves connections one after the other, the first as stream 0, and prints what became of each. One that breaks
-/// doesn't stop the later ones.
+/// Serves connections one after the other, the first as stream 0, and prints the lines of each. One that breaks does
+/// not stop the later ones.
 ///
-/// An `Err` is `Output` where a line could not be printed, and `NoMemory`; the front of what was to be printed was.
+/// An `Err` is `Output` if a line could not be printed, or `NoMemory`. Then only the front of the lines was printed.
 pub fn listen_all<P: Peers, W: Write>(
     alloc: Global,
     peers: &mut P,
@@ -112,7 +112,7 @@ pub fn listen_all<P: Peers, W: Write>(
     }
 }
 
-// The port that is bound: the one that was asked for, if that was not 0.
+// The port that was bound: the one that was asked for, unless that was 0.
 fn named_port<N: Net>(arrivals: &Arrivals<N>, asked: u16) -> Result<u16, CommandFault>
     ensures { IfOk result (IsPort asked) }
 {
@@ -122,10 +122,10 @@ fn named_port<N: Net>(arrivals: &Arrivals<N>, asked: u16) -> Result<u16, Command
     }
 }
 
-/// Binds 127.0.0.1 at `port`, or at any free one where that is 0, prints `port Q` with the bound port, and serves
-/// connections as [`listen_all`] says.
+/// Binds 127.0.0.1 at `port`, or at any free port if that is 0, prints `port Q` with the bound port Q, and serves
+/// connections as [`listen_all`] does.
 ///
-/// An `Err` is `Port` where it cannot be bound, and nothing was printed; else it is that of [`listen_all`].
+/// An `Err` is `Port` if the port cannot be bound (then nothing was printed), or that of [`listen_all`].
 pub fn listen<N: Net, W: Write>(
     alloc: Global,
     net: &N,

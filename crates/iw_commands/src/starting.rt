@@ -6,7 +6,7 @@ use crate::asking::Request;
 use std::alloc::{AllocError, Global};
 use std::process::{Command, Stdio};
 
-// Appends a word, where it is wanted.
+// Appends a word, if it is wanted.
 fn add_flag(command: &mut Command, is_wanted: bool, word: &str) -> Result<(), AllocError>
     ensures program { OnOk result (command_program command.new ≡ command_program command.old) }
     ensures args { OnOk result
@@ -18,8 +18,8 @@ fn add_flag(command: &mut Command, is_wanted: bool, word: &str) -> Result<(), Al
     Ok(())
 }
 
-/// The program that is to listen, at any free port, for as many connections as are requested, and with the same
-/// options. It reads nothing, its standard output is a pipe, and what it prints as an error is not seen.
+/// The command that starts the listening program, at any free port, for as many connections as are requested and with
+/// the same options. Its standard input is empty, its standard output is a pipe, and its standard error is discarded.
 pub(crate) fn listener(
     alloc: Global,
     program: &str,

@@ -7,20 +7,20 @@ use Rattle.iw_fpdu.specs.declared.fpdu.Mismatch.{Mismatch}
 use Rattle.iw_fpdu.specs.Places.{IsStart, span_start}
 use Rattle.iw_fpdu.specs.Reading.{length_at, ulpdu_at, end_at, mismatch_at}
 
--- what came, how the direction is laid out, the place in the stream of frame place 0, and the frame place where the frame begins
+-- what came, the layout of the direction, the stream place of frame place 0, and the frame place where the frame begins
 pub record Found : Type 0 where
   pub arrived : Arrived
   pub layout : Layout
   pub base : ℕ
   pub start : ℕ
 
--- the octet that is held at a place of the stream, and 0 where none is
+-- the octet that is held at a place of the stream; 0 if none is
 abbrev pub octet_of : Cell → ℕ
 octet_of Missing = 0
 octet_of (Here x) = x
 octet_of Gone = 0
 
--- what stands at frame place p
+-- the octet at frame place p
 abbrev pub octet_in : Arrived → ℕ → ℕ → ℕ
 octet_in arrived base p = octet_of (cell_at arrived (base + p))
 
@@ -34,7 +34,7 @@ unfoldable pub is_whole : Arrived → Bool → ℕ → ℕ → Bool
 is_whole arrived markers base start =
     list_all (λ p. has_come arrived (base + p)) (range_with_len (span_start markers start) (end_at (octet_in arrived base) markers start - span_start markers start))
 
--- an octet of the span that hasn't come
+-- an octet of the span has not come
 abbrev pub LacksOctet : Arrived → Bool → ℕ → ℕ → Type 0
 LacksOctet arrived markers base start =
     (p : ℕ) × (span_start markers start ≤ p) × (p < end_at (octet_in arrived base) markers start) × (has_come arrived (base + p) ≡ false)
@@ -59,7 +59,7 @@ ulpdu f = ulpdu_at (octet_in f.arrived f.base) f.layout.markers f.start
 abbrev pub mismatch : Found → Option Mismatch
 mismatch f = mismatch_at f.layout (octet_in f.arrived f.base) f.start (ulpdu_len f)
 
--- what is so of each frame that was read
+-- what holds of each frame that was read
 pub record IsRead (f : Found) (n : ℕ) : Type 0 where
   pub start : IsStart f.layout.markers f.start
   pub low : f.start < 2 ^ 63

@@ -7,11 +7,11 @@ use Rattle.iw_octets.specs.Crc.{crc32c}
 use Rattle.iw_fpdu.specs.declared.layout.Layout.{Layout}
 use Rattle.iw_fpdu.specs.Places.{data_place, data_index, in_marker, place_after, frame_start, span_start}
 
--- the most octets that a ULPDU has which is sent
+-- the most octets that a ULPDU has when it is sent
 abbrev pub max_sent : ℕ
 max_sent = MAX_ULPDU
 
--- the pad octets past a ULPDU of this length, which make length field, ULPDU and pad a multiple of four octets
+-- the pad octets after a ULPDU of this length, which make length field, ULPDU and pad a multiple of four octets
 abbrev pub pad_len : ℕ → ℕ
 pad_len len = (4 - (len + 2) % 4) % 4
 
@@ -19,7 +19,7 @@ pad_len len = (4 - (len + 2) % 4) % 4
 abbrev pub frame_size : ℕ → ℕ
 frame_size len = 2 + len + pad_len len + 4
 
--- the place past the frame that begins at `start`
+-- the place after the frame that begins at `start`
 abbrev pub frame_end : Bool → ℕ → ℕ → ℕ
 frame_end markers start len = place_after markers start (frame_size len)
 
@@ -28,8 +28,8 @@ abbrev pub field_place : Bool → ℕ → ℕ → ℕ
 field_place markers start len = data_place markers (data_index markers start + (2 + len + pad_len len))
 
 -- ---- markers
--- the pointer of the marker at place 512 * i, in the frame that begins at `start` or directly before it: 0 where the data octet past the marker is the
--- frame's first, else how many octets, markers counted, the marker stands past the frame's first octet
+-- the pointer of the marker at place 512 * i, in the frame that begins at `start` or directly before it: 0 if the data octet after the marker is the
+-- frame's first, else how many octets, markers counted, the marker stands after the frame's first octet
 unfoldable pub marker_value : ℕ → ℕ → ℕ
 marker_value start i = if data_index true start == 508 * i then 0 else 512 * i - start
 
@@ -37,8 +37,8 @@ marker_value start i = if data_index true start == 508 * i then 0 else 512 * i -
 abbrev pub marker_octets : ℕ → ℕ → List ℕ
 marker_octets start i = 0 ∷ 0 ∷ marker_value start i / 256 % 256 ∷ marker_value start i % 256 ∷ []
 
--- ---- what stands at a place
--- what stands at place p in or directly before a frame that begins at `start`, where these are the data octets from index `origin` on
+-- ---- the octet at a place
+-- the octet at place p in or directly before a frame that begins at `start`; `octets` are the data octets from index `origin` on
 unfoldable pub octet_at : Bool → ℕ → ℕ → List ℕ → ℕ → ℕ
 octet_at markers start origin octets p =
     if in_marker markers p then slice_index (marker_octets start (p / 512)) (p % 512) else slice_index octets (data_index markers p - origin)
@@ -52,11 +52,12 @@ laid markers start origin octets from to = map (octet_at markers start origin oc
 abbrev pub bare_data : List ℕ → List ℕ
 bare_data ulpdu = (length ulpdu / 256 ∷ length ulpdu % 256 ∷ []) ++ ulpdu ++ replicate (pad_len (length ulpdu)) 0
 
--- what the CRC is over: every octet of the frame's span that stands before the CRC field, the markers among them and the one directly before the frame included
+-- what the CRC covers: every octet of the frame's span before the CRC field, with the markers in the frame and the one
+-- directly before it
 abbrev pub covered : Bool → ℕ → List ℕ → List ℕ
 covered markers start ulpdu = laid markers start (data_index markers start) (bare_data ulpdu) (span_start markers start) (field_place markers start (length ulpdu))
 
--- the CRC, low octet first; zero where CRCs are not used
+-- the CRC, low octet first; zero if CRCs are not used
 abbrev pub crc_field : Layout → ℕ → List ℕ → List ℕ
 crc_field layout start ulpdu = if layout.crc then to_le_bytes w32 (crc32c (covered layout.markers start ulpdu)) else 0 ∷ 0 ∷ 0 ∷ 0 ∷ []
 
@@ -67,7 +68,7 @@ frame_data layout start ulpdu = bare_data ulpdu ++ crc_field layout start ulpdu
 abbrev pub bare_frame : List ℕ → List ℕ
 bare_frame ulpdu = bare_data ulpdu ++ 0 ∷ 0 ∷ 0 ∷ 0 ∷ []
 
--- what stands at place p of the span of the frame that begins at `start`
+-- the octet at place p of the span of the frame that begins at `start`
 unfoldable pub frame_octet : Layout → ℕ → List ℕ → ℕ → ℕ
 frame_octet layout start ulpdu p = octet_at layout.markers start (data_index layout.markers start) (frame_data layout start ulpdu) p
 

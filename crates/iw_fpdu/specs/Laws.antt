@@ -1,4 +1,5 @@
--- What was written is read again, what was whole stays as it was, and worked values of the definitions.
+-- Frames that were written are read back, whole frames stay as they are, and values of the definitions computed by
+-- hand.
 use Rattle.std.specs.Prelude.{ℕ, ◌+◌, ◌<◌, ◌≤◌, ◌≡◌, ◌%◌, ◌-◌, ◌&&◌, Bool, true, false, not, if◌then◌else◌, List, [], ◌∷◌, ◌++◌, length, map, drop, replicate, All, Some, None}
 use Rattle.std.specs.Bool.{Decides}
 use Rattle.iw_ranges.specs.Arrived.{Arrived, Here, cell_at, has_come, cells_between, delivered}
@@ -11,7 +12,7 @@ use Rattle.iw_fpdu.specs.Found.{Found, octet_in, IsWhole, LacksOctet, is_whole, 
 use Rattle.iw_fpdu.specs.Sequence.{Carried, intact, sequence, place_past, first_frame, frames_of}
 
 -- ---- one frame after another
--- where a frame is written with its whole span: at a multiple of four octets that isn't directly after a marker
+-- where a frame may be written with its whole span: at a multiple of four octets that is not directly after a marker
 pub record IsBetween (markers : Bool) (at : ℕ) : Type 0 where
   pub aligned : at % 4 ≡ 0
   pub span : span_start markers (frame_start markers at) ≡ at
@@ -23,7 +24,7 @@ pub record FramesFollow : Type 0 where
   pub ends : (markers : Bool) (at len : ℕ) → frame_end markers (frame_start markers at) len ≡ frame_end markers at len
 
 -- ---- whole frames
--- the test says what it is a test of
+-- the test decides whether a frame is whole
 abbrev pub TellsWhole : Type 0
 TellsWhole = (arrived : Arrived) (markers : Bool) (base start : ℕ) → Decides (is_whole arrived markers base start) (IsWhole arrived markers base start)
 
@@ -37,12 +38,12 @@ pub record IsReadAgain (found : Found) (octets : List ℕ) : Type 0 where
   pub ulpdu : ulpdu found ≡ octets
   pub agrees : mismatch found ≡ None
 
--- at each place of its span there came, and is held, what the frame of this ULPDU has there
+-- at each place of its span, the octet of this ULPDU's frame came and is held
 abbrev pub HoldsFrame : Arrived → Layout → ℕ → ℕ → List ℕ → Type 0
 HoldsFrame arrived layout base start octets =
     (p : ℕ) → span_start layout.markers start ≤ p → p < frame_end layout.markers start (length octets) → cell_at arrived (base + p) ≡ Here (frame_octet layout start octets p)
 
--- with and without markers, with and without CRCs: at any place where a frame may begin, and in any octets that were written at any place
+-- for each layout: if its octets are held at any place where a frame may begin, and if they were written at any place
 pub record ReadsAgain : Type 0 where
   pub held : (arrived : Arrived) (layout : Layout) (base start : ℕ) (octets : List ℕ) → IsStart layout.markers start → length octets ≤ max_sent
       → HoldsFrame arrived layout base start octets → IsReadAgain (found_at arrived layout base start) octets
@@ -51,7 +52,7 @@ pub record ReadsAgain : Type 0 where
       → IsReadAgain (found_at arrived layout base (frame_start layout.markers at)) octets
 
 -- ---- frames one after another
--- the first frame of octets is the same whatever comes past them
+-- the first frame of octets is the same whatever follows them
 abbrev pub FirstStays : Type 0
 FirstStays = (layout : Layout) (at : ℕ) (octets more : List ℕ) (carried : Carried) (rest : List ℕ) → IsBetween layout.markers at
     → first_frame layout at octets ≡ Some (carried, rest) → first_frame layout at (octets ++ more) ≡ Some (carried, rest ++ more)
@@ -61,7 +62,7 @@ abbrev pub WrittenIsFirst : Type 0
 WrittenIsFirst = (layout : Layout) (at : ℕ) (u rest : List ℕ) → IsBetween layout.markers at → length u ≤ max_sent
     → first_frame layout at (frame_octets layout at u ++ rest) ≡ Some (intact u, rest)
 
--- the frame takes octets away, and where it ends the next is written
+-- the frame has at least one octet, and where it ends the next is written
 pub record FirstTakes (layout : Layout) (at : ℕ) (octets rest : List ℕ) : Type 0 where
   pub shorter : length rest < length octets
   pub next : IsBetween layout.markers (at + (length octets - length rest))
@@ -70,12 +71,12 @@ abbrev pub FirstLeavesLess : Type 0
 FirstLeavesLess = (layout : Layout) (at : ℕ) (octets : List ℕ) (carried : Carried) (rest : List ℕ) → IsBetween layout.markers at
     → first_frame layout at octets ≡ Some (carried, rest) → FirstTakes layout at octets rest
 
--- these octets are held from frame place `at` on, and the next has not come
+-- these octets are held from frame place `at` on, and the next octet has not come
 pub record StandFrom (arrived : Arrived) (base at : ℕ) (octets : List ℕ) : Type 0 where
   pub held : map Here octets ≡ cells_between arrived (base + at) (base + at + length octets)
   pub missing : has_come arrived (base + at + length octets) ≡ false
 
--- the frame among octets that came is the first of those that stand there without a gap
+-- the frame found among octets that came is the first of those held there without a gap
 pub record FoundIsFirst : Type 0 where
   pub whole : (arrived : Arrived) (layout : Layout) (base at : ℕ) (octets : List ℕ) → IsBetween layout.markers at → StandFrom arrived base at octets
       → IsWhole arrived layout.markers base (frame_start layout.markers at)
@@ -87,7 +88,7 @@ pub record FoundIsFirst : Type 0 where
   pub lacking : (arrived : Arrived) (layout : Layout) (base at : ℕ) (octets : List ℕ) → IsBetween layout.markers at → StandFrom arrived base at octets
       → LacksOctet arrived layout.markers base (frame_start layout.markers at) → first_frame layout at octets ≡ None
 
--- frames that were written one after another are those that are read, in order, and the next is written where the last ends
+-- frames that were written one after another are read in that order, and the next is written where the last ends
 pub record SequenceIsRead (layout : Layout) (at : ℕ) (us : List (List ℕ)) : Type 0 where
   pub frames : frames_of layout at (sequence layout at us) ≡ map intact us
   pub place : place_past layout at us ≡ at + length (sequence layout at us)
@@ -114,19 +115,19 @@ pub record IsSame (old new : Found) : Type 0 where
   pub ulpdu : ulpdu new ≡ ulpdu old
   pub mismatch : mismatch new ≡ mismatch old
 
--- a segment that comes later changes nothing of a frame that was whole
+-- octets that come later do not change a whole frame
 abbrev pub StaysWhole : Type 0
 StaysWhole = (found : Found) (place : ℕ) (octets : List ℕ) → IsStart found.layout.markers found.start → IsWhole found.arrived found.layout.markers found.base found.start
     → IsSame found (record found { arrived = delivered found.arrived place octets })
 
 -- ---- markers that are too far
--- a marker 65,536 octets or more past the frame's first never agrees, whatever stands there
+-- a marker 65,536 octets or more after the frame's first octet never agrees, whatever its pointer
 abbrev pub FarMarkersFail : Type 0
 FarMarkersFail = (layout : Layout) (octet : ℕ → ℕ) (start len p : ℕ) → ((q : ℕ) → octet q < 256) → layout.markers ≡ true
     → p % 512 ≡ 0 → start + 65536 ≤ p → p < frame_end true start len
     → mismatch_at layout octet start len ≡ (if layout.crc && not (crc_agrees octet layout.markers start len) then Some CrcMismatch else Some MarkerMismatch)
 
--- ---- worked values
+-- ---- values computed by hand
 -- the ULPDU of RFC 5044's figures 5 and 6: a Send with this message sequence number, and 24 octets of zero
 abbrev pub printed : ℕ → List ℕ
 printed msn = 0x41 ∷ 0x43 ∷ replicate 8 0 ++ (0 ∷ 0 ∷ 0 ∷ msn ∷ 0 ∷ 0 ∷ 0 ∷ 0 ∷ []) ++ replicate 24 0

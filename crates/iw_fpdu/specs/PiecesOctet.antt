@@ -1,5 +1,5 @@
 use Rattle.std.specs.Prelude.{ℕ, ◌-◌, List, slice_index}
 
--- what stands at place p, where these octets stand from place `from` on
+-- the octet at place p, given the octets from place `from` on
 abbrev pub octet_from : ℕ → List ℕ → ℕ → ℕ
 octet_from from octets p = slice_index octets (p - from)

@@ -3,7 +3,8 @@ use Rattle.std.specs.Prelude.{ℕ, ◌+◌, ◌-◌, ◌*◌, ◌/◌, ◌<◌, 
 use Rattle.std.specs.List.{range_with_len}
 use Rattle.iw_fpdu.specs.declared.pieces.Pieces.TheInside.{Inside}
 
--- where octet k of what is left stands among the octets at hand: the first `run` before the next marker, and then 508 past each
+-- where octet k of what is left is among the octets at hand: the first `run` come before the next marker, and 508 after
+-- each
 unfoldable pub rest_place : ℕ → ℕ → ℕ
 rest_place run k = if nat_lt k run then k else k + 4 * ((k - run) / 508 + 1)
 
@@ -11,7 +12,7 @@ rest_place run k = if nat_lt k run then k else k + 4 * ((k - run) / 508 + 1)
 abbrev pub octets_left : Inside → List ℕ
 octets_left a = map (λ k. slice_index a.rest.now (rest_place a.run k)) (range_with_len 0 a.left)
 
--- the octets at hand reach over all that is left, and the first of them is no marker's
+-- the octets at hand include all that is left, and the first of them is not a marker's
 pub record CanGive (a : Inside) : Type 0 where
   pub begins : 0 < a.left → 0 < a.run
   pub reaches : (k : ℕ) → k < a.left → rest_place a.run k < length a.rest.now

@@ -1,4 +1,5 @@
--- The frames of one direction, one after another: how they are written, and how they are read off octets that came without a gap.
+-- The frames of one direction, one after another: how they are written, and how they are read from octets that came
+-- without a gap.
 use Rattle.std.specs.Prelude.{ℕ, zero, suc, ◌+◌, ◌-◌, nat_lt, List, [], ◌∷◌, ◌++◌, length, drop, if◌then◌else◌, Option, Some, None}
 use Rattle.std.specs.Option.{option_map_or}
 use Rattle.iw_fpdu.specs.declared.layout.Layout.{Layout}
@@ -23,14 +24,14 @@ pub record Carried : Type 0 where
   pub mismatch : Option Mismatch
   pub ulpdu : List ℕ
 
--- a frame with this ULPDU, nothing being wrong with it
+-- a frame with this ULPDU and nothing wrong with it
 abbrev pub intact : List ℕ → Carried
 intact u = record { mismatch = None; ulpdu = u }
 
 abbrev pub carried_at : Layout → (ℕ → ℕ) → ℕ → Carried
 carried_at layout octet start = record { mismatch = mismatch_at layout octet start (length_at octet start); ulpdu = ulpdu_at octet layout.markers start }
 
--- the frame at the front of octets, the first of which stands at place `at`, where it is whole; and the octets past it
+-- the frame at the front of octets, the first of which is at place `at`, if it is whole; and the octets after it
 unfoldable pub first_frame : Layout → ℕ → List ℕ → Option (Carried × List ℕ)
 first_frame layout at octets =
     let start : ℕ = frame_start layout.markers at in

@@ -10,7 +10,7 @@ use crate::fpdu::Mismatch;
 use crate::layout::{Layout, SPACING, span_of};
 use iw_octets::crc32c;
 
-/// A CRC field's number, whose lowest octet comes first.
+/// The number in a CRC field, low octet first.
 fn number_in(field: &[u8]) -> u32
     requires { 4 ≤ length field.now }
     ensures { result ≡ from_le_bytes w32 field.now }
@@ -18,7 +18,7 @@ fn number_in(field: &[u8]) -> u32
     u32::from_le_bytes([field[0], field[1], field[2], field[3]])
 }
 
-/// Whether the CRC field is the CRC of the octets of the span before it.
+/// Whether the CRC field is the CRC of the octets before it in the span.
 fn does_crc_agree(markers: bool, start: u64, len: u16, octets: &[u8]) -> bool
     requires start { IsStart markers start }
     requires span { span_start markers start + length octets.now ≡ frame_end markers start len }
@@ -28,7 +28,7 @@ fn does_crc_agree(markers: bool, start: u64, len: u16, octets: &[u8]) -> bool
     number_in(field) == crc32c(before)
 }
 
-/// How far the marker at index `at` says the frame begins before it.
+/// The pointer of the marker at index `at`: how far before it the frame begins.
 fn pointer(octets: &[u8], at: usize) -> u16
     requires { at + 4 ≤ length octets.now }
     ensures { result ≡ (256 * slice_index octets.now (at + 2) + slice_index octets.now (at + 3)) / 4 * 4 }

@@ -26,7 +26,7 @@ pub enum Mismatch {
     MarkerMismatch,
 }
 
-/// A frame of which every octet came: its own, its markers', and those of the marker directly before it.
+/// A whole frame: every octet of it came, with its markers and the marker directly before it.
 #[derive(Drop)]
 pub struct Fpdu<'a, A: Allocator = Global> {
     islands: &'a Islands<A>,
@@ -51,8 +51,7 @@ impl<'a, A: Allocator> Model for Fpdu<'a, A> {
     ghost invariant = { λ a. IsSound a };
 }
 
-/// Whether all octets at the frame places from `from` up to `to` came, where frame place 0 is place `base` of the
-/// stream.
+/// Whether all octets at the frame places from `from` up to `to` came. Frame place 0 is place `base` of the stream.
 #[inline(always)]
 pub fn all_came<A: Allocator>(islands: &Islands<A>, base: u64, from: u64, to: u64) -> bool
     requires { from < to }
@@ -71,8 +70,8 @@ pub fn all_came<A: Allocator>(islands: &Islands<A>, base: u64, from: u64, to: u6
 }
 
 impl<'a, A: Allocator> Fpdu<'a, A> {
-    /// The frame that begins at frame place `start`, where frame place 0 is place `base` of the stream that came into
-    /// `islands`; `None` where an octet of it, of its markers or of the marker directly before it hasn't come.
+    /// The frame that begins at frame place `start`; frame place 0 is place `base` of the stream that came into
+    /// `islands`. `None` if an octet of the frame, of its markers or of the marker directly before it has not come.
     #[inline(always)]
     pub fn read(
         layout: Layout,
@@ -107,8 +106,8 @@ impl<'a, A: Allocator> Fpdu<'a, A> {
         })
     }
 
-    /// The frame that was found before to begin at frame place `start` and to be whole, with a ULPDU of `len` octets, and
-    /// to end at frame place `end`: the same that [`read`](Fpdu::read) gives, with nothing looked at again.
+    /// The frame that is known to be whole, to begin at frame place `start`, to end at frame place `end`, and to have a
+    /// ULPDU of `len` octets. It is what [`read`](Fpdu::read) returns, but without looking again.
     #[inline(always)]
     pub fn found(
         layout: Layout,
@@ -136,7 +135,7 @@ impl<'a, A: Allocator> Fpdu<'a, A> {
         }
     }
 
-    /// How many octets the ULPDU has.
+    /// The length of the ULPDU in octets.
     pub fn len(&self) -> usize
         ensures len { result ≡ ulpdu_len self.now }
         ensures short { result < 2 ^ 16 }
@@ -144,7 +143,7 @@ impl<'a, A: Allocator> Fpdu<'a, A> {
         usize::from(self.len)
     }
 
-    /// The frame place past the frame.
+    /// The frame place of the first octet after the frame.
     pub fn end(&self) -> u64
         ensures { result ≡ end_at (octet_in self.now.arrived self.now.base) self.now.layout.markers self.now.start }
     {
@@ -153,7 +152,7 @@ impl<'a, A: Allocator> Fpdu<'a, A> {
 
     /// The octets of the ULPDU from its octet `k` on, lent piece by piece, between the markers.
     ///
-    /// None of the frame's octets was given up.
+    /// No octet of the frame may have been given up.
     #[inline(always)]
     pub fn pieces(&self, k: usize) -> Pieces<'a>
         requires { HoldsSpan self.now }
@@ -166,7 +165,8 @@ impl<'a, A: Allocator> Fpdu<'a, A> {
         Pieces::new(octets, from, markers, usize::from(self.len) - k)
     }
 
-    /// Copies the octets of the ULPDU from its octet `k` on.
+    /// Copies the octets of the ULPDU from its octet `k` on to `out`, which must have as many octets. No octet of the
+    /// frame may have been given up.
     pub fn copy_from(&self, k: usize, out: &mut [u8])
         requires held { HoldsSpan self.now }
         requires room { length out.old ≡ ulpdu_len self.now - k }
@@ -175,10 +175,10 @@ impl<'a, A: Allocator> Fpdu<'a, A> {
         gather(self.pieces(k), out);
     }
 
-    /// Judges the CRC, where CRCs are used, and then the markers, where there are any: the octets as they came, the pad
-    /// and the reserved octets of the markers among what the CRC is over, and else not looked at.
+    /// Checks the CRC, if CRCs are used, and then the markers, if there are any. The CRC covers the octets as they
+    /// came, pad and reserved octets of the markers included; these two are not checked otherwise.
     ///
-    /// None of the frame's octets was given up.
+    /// No octet of the frame may have been given up.
     #[tactic(auto, unfolding(crate::specs::Reading::mismatch_at))]
     #[inline(always)]
     pub fn check(&self) -> Result<(), Mismatch>
@@ -191,7 +191,7 @@ impl<'a, A: Allocator> Fpdu<'a, A> {
         self.check_octets()
     }
 
-    /// Judges a frame whatever its layout.
+    /// Checks a frame of any layout.
     #[inline(always)]
     fn check_octets(&self) -> Result<(), Mismatch>
         requires { HoldsSpan self.now }

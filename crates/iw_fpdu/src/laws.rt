@@ -1,40 +1,40 @@
-//! What holds of frames whatever is called.
+//! Laws of frames.
 ghost use Rattle.iw_fpdu.specs.Laws.{FramesFollow, FramesInSequence, KnownFrames, ReadsAgain};
 ghost use Rattle.iw_fpdu.specs.Laws.{FarMarkersFail, StaysWhole, TellsWhole};
 
-/// What was written is read again, at any place, with and without markers and CRCs: the frame is whole, its ULPDU is
-/// the one that was written, and nothing is wrong with it.
+/// A frame that was written is read back, at any place, with and without markers and CRCs: it is whole, its ULPDU is
+/// the one that was written, and it passes the checks.
 pub fn written_frames_are_read_again()
     ensures { ReadsAgain }
 {}
 
-/// More octets that come do not change a whole frame.
+/// Octets that come later do not change a whole frame.
 pub fn whole_frames_stay()
     ensures { StaysWhole }
 {}
 
-/// Where a frame ends the next is written, and its span begins.
+/// The next frame is written where a frame ends, and there its span begins.
 pub fn frames_follow_one_another()
     ensures { FramesFollow }
 {}
 
-/// Frames are read off octets in sequence: the first is the one that was written there, whatever comes past it, and
-/// what is found among octets that came is the first of those without a gap.
+/// Frames are read in the order in which they were written. The first is the one that was written there, whatever
+/// follows it; and the frame found among octets that came is the first of those that came without a gap.
 pub fn frames_are_read_in_sequence()
     ensures { FramesInSequence }
 {}
 
-/// A marker that stands 65,536 octets or more past the beginning of its frame cannot be right: no pointer says so much.
+/// A marker 65,536 octets or more after the beginning of its frame cannot be right: its pointer has 16 bits.
 pub fn far_markers_fail()
     ensures { FarMarkersFail }
 {}
 
-/// The definitions give the frames that RFC 5044 prints (figures 5 and 6), and worked places and pointers.
+/// The definitions give the frames of figures 5 and 6 of RFC 5044, and places and pointers computed by hand.
 pub fn known_frames()
     ensures { KnownFrames }
 {}
 
-/// Whether a frame is whole can be told by a test of each place of its span.
+/// A frame is whole exactly if a test of each place of its span says so.
 pub fn wholeness_can_be_told()
     ensures { TellsWhole }
 {}

@@ -3,23 +3,23 @@ ghost use Rattle.iw_fpdu.specs.Frame.{pad_len, frame_end};
 ghost use Rattle.iw_fpdu.specs.Laying.{IsRun};
 ghost use Rattle.iw_fpdu.specs.Places.{data_place, data_index, frame_start, in_marker, span_start};
 
-/// From one marker to the next, in octets (RFC 5044 4.3).
+/// The distance from one marker to the next, in octets (RFC 5044 4.3).
 pub const SPACING: u64 = 512;
 
-/// The octets of a marker (RFC 5044 4.3).
+/// The length of a marker in octets (RFC 5044 4.3).
 pub const MARKER: u64 = 4;
 
-/// What a direction of a connection has beside the ULPDUs.
+/// What one direction of a connection has: markers, CRCs.
 #[derive(Clone, Copy, Debug, PartialEq, Eq)]
 pub struct Layout {
-    /// There is a marker at each frame place that 512 divides (RFC 5044 4.3).
+    /// There is a marker at each frame place that is a multiple of 512 (RFC 5044 4.3).
     pub markers: bool,
-    /// CRCs are generated and checked (RFC 5044 4.4). Otherwise each CRC field is sent as zero and not looked at.
+    /// CRCs are generated and checked (RFC 5044 4.4). Otherwise CRC fields are sent as zero and not checked.
     pub crc: bool,
 }
 
 impl Layout {
-    /// The frame place of data octet `k`: octet `k` of what the frames have without the markers.
+    /// The frame place of data octet `k`: octet `k` of the frames without the markers.
     pub fn place_of(self, k: u64) -> u64
         requires { k < 2 ^ 63 }
         ensures { result ≡ data_place self.markers k }
@@ -27,7 +27,7 @@ impl Layout {
         place_of(self.markers, k)
     }
 
-    /// The frame place where the frame that is written at frame place `at` begins: there, or past the marker there.
+    /// Where the frame that is written at frame place `at` begins: there, or after the marker there.
     pub fn start_of(self, at: u64) -> u64
         requires { at < 2 ^ 63 }
         ensures { result ≡ frame_start self.markers at }
@@ -35,7 +35,7 @@ impl Layout {
         start_of(self.markers, at)
     }
 
-    /// The frame place past the frame that begins at frame place `start` with a ULPDU of `len` octets.
+    /// Where the frame that begins at frame place `start` with a ULPDU of `len` octets ends: the place after it.
     pub fn end_of(self, start: u64, len: u16) -> u64
         requires { start < 2 ^ 63 }
         ensures { result ≡ frame_end self.markers start len }
@@ -57,7 +57,7 @@ pub(crate) fn place_of(markers: bool, k: u64) -> u64
     }
 }
 
-/// How many data octets stand before a place.
+/// How many data octets come before a place.
 #[tactic(auto, unfolding(crate::specs::Places::data_index))]
 pub(crate) fn index_of(markers: bool, place: u64) -> u64
     ensures value { result ≡ data_index markers place }
@@ -70,7 +70,7 @@ pub(crate) fn index_of(markers: bool, place: u64) -> u64
     }
 }
 
-/// The place at `at` or past it that is no marker's.
+/// The first place from `at` on that is not in a marker.
 #[tactic(auto, unfolding(crate::specs::Places::data_place, crate::specs::Places::data_index))]
 #[inline(always)]
 fn start_of(markers: bool, at: u64) -> u64
@@ -85,7 +85,7 @@ fn start_of(markers: bool, at: u64) -> u64
     }
 }
 
-/// The place of the data octet that comes `n` data octets past the one at `place`.
+/// The place of the data octet that is `n` data octets after the one at `place`.
 #[inline(always)]
 pub(crate) fn place_past(markers: bool, place: u64, n: u64) -> u64
     requires data { in_marker markers place ≡ false }
@@ -102,8 +102,7 @@ pub(crate) fn place_past(markers: bool, place: u64, n: u64) -> u64
     place_of(true, index_of(true, place) + n)
 }
 
-/// Where the span of a frame begins that begins at frame place `start`: with the marker directly before it, or with the
-/// frame.
+/// Where the span of the frame at frame place `start` begins: at the marker directly before the frame, or at the frame.
 #[tactic(auto, unfolding(crate::specs::Places::span_start))]
 #[inline]
 pub fn span_of(markers: bool, start: u64) -> u64
@@ -117,7 +116,7 @@ pub fn span_of(markers: bool, start: u64) -> u64
     }
 }
 
-/// How many pad octets stand past a ULPDU of this length.
+/// How many pad octets follow a ULPDU of this length.
 #[inline(always)]
 pub(crate) fn pad_of(len: u16) -> u64
     ensures value { result ≡ pad_len len }
@@ -142,7 +141,7 @@ pub(crate) fn end_of(markers: bool, start: u64, len: u16) -> u64
     }
 }
 
-/// How many of `len` octets go to `at` and the places past it before the next marker.
+/// How many of `len` octets fit between `at` and the next marker; all of them if there are no markers.
 pub(crate) fn run_at(markers: bool, at: u64, len: usize) -> usize
     requires { in_marker markers at ≡ false }
     ensures within { result ≤ len }

@@ -1,8 +1,11 @@
-//! Frames of MPA: FPDUs with pad, markers and CRC (RFC 5044 4).
+//! MPA frames: FPDUs with pad, markers and CRC (RFC 5044 4).
 //!
-//! Frame places count the octets of one direction of a connection from the first that a frame or marker may have, past
-//! the start-up frame. [`write_fpdu`] lays a ULPDU out at such a place, and [`write_bare`] one without markers and CRC;
-//! [`Fpdu`] is a frame among octets that came.
+//! Frame places count the octets of one direction of a connection, from the first after the start-up frame.
+//! [`write_fpdu`] appends the frame of a ULPDU, to be sent at such a place; [`write_bare`] appends one without markers
+//! and CRC. [`Fpdu`] is a frame among octets that came.
+//!
+//! The *span* of a frame is the frame with its markers, and the marker directly before it. Data octets are those of the
+//! frames without the markers.
 #![tactic(auto)]
 
 mod check;

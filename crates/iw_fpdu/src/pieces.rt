@@ -8,12 +8,12 @@ ghost use Rattle.iw_fpdu.specs.PiecesOctet.{octet_from};
 use crate::layout::{MARKER, SPACING, run_at};
 use std::marker::Model;
 
-/// The octets of a ULPDU, lent piece by piece: no piece has octets of a marker.
+/// The octets of a ULPDU, lent piece by piece. No piece has octets of a marker.
 #[derive(Drop)]
 pub struct Pieces<'a> {
-    /// Octets of the frame, markers included, from the octet on that comes next.
+    /// Octets of the frame, markers included, from the next octet on.
     rest: &'a [u8],
-    /// How many of them come before the next marker; where none comes, as many as are left.
+    /// How many of them come before the next marker, at most `left`.
     run: usize,
     /// How many octets of the ULPDU are left.
     left: usize,
@@ -32,7 +32,7 @@ impl<'a> Model for Pieces<'a> {
 }
 
 impl<'a> Pieces<'a> {
-    /// `left` data octets, the first of them at place `from`, with which `octets` begins.
+    /// `left` data octets. The first is the first of `octets`, and has the place `from`.
     pub(crate) fn new(octets: &'a [u8], from: u64, markers: bool, left: usize) -> Pieces<'a>
         requires begins { in_marker markers from ≡ false }
         requires reaches { (k : ℕ) → k < left
@@ -46,7 +46,8 @@ impl<'a> Pieces<'a> {
         }
     }
 
-    /// All the octets, where no marker stands among them. `None` may come at any time, and says nothing: it costs speed alone.
+    /// All the octets as one slice, if there is no marker among them. The contract allows `None` at any time; it costs
+    /// only speed.
     #[inline(always)]
     pub fn whole(&self) -> Option<&'a [u8]>
         ensures { IfSome result (λ octets. self.now ≡ octets.now) }
@@ -58,8 +59,8 @@ impl<'a> Pieces<'a> {
         Some(octets)
     }
 
-    /// The first `k` octets, where more than these stand before the next marker, and all that come past them. `None` may come
-    /// at any time, and says nothing: it costs speed alone.
+    /// The first `k` octets as one slice, if more than `k` come before the next marker, and the octets after them. The
+    /// contract allows `None` at any time; it costs only speed.
     #[inline(always)]
     pub fn split_front(&self, k: usize) -> Option<(&'a [u8], Pieces<'a>)>
         ensures { IfSome result (λ parts. (self.now ≡ parts.0.now ++ parts.1) × (length parts.0.now ≡ k)) }

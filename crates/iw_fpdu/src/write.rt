@@ -14,21 +14,21 @@ use iw_octets::{Crc, MAX_ULPDU, UNTAGGED_HEADER};
 use std::alloc::{AllocError, Allocator};
 use thiserror::Error;
 
-/// The most octets that a header has.
+/// The length of the longest header in octets.
 const MAX_HEADER: usize = UNTAGGED_HEADER;
 
-/// Why a frame isn't written.
+/// Why a frame is not written.
 #[derive(Clone, Copy, Debug, PartialEq, Eq, Error)]
 pub enum WriteRefusal {
     /// The ULPDU has more than 64,512 octets.
     #[error("the ULPDU is too long")]
     TooLong,
-    /// No memory could be had.
+    /// Out of memory.
     #[error("no memory")]
     NoMemory,
 }
 
-/// How many octets the pieces have, or `None` where they have more than a ULPDU that is sent.
+/// How many octets the pieces have; `None` if that is more than a ULPDU may have.
 fn len_of(parts: &[&[u8]]) -> Option<u16>
     ensures { MatchOption result (max_sent < length (joined parts.now))
         (λ n. (n ≡ length (joined parts.now)) × (n ≤ max_sent)) }
@@ -56,7 +56,7 @@ fn append_all<A: Allocator>(parts: &[&[u8]], out: &mut Vec<u8, A>)
     }
 }
 
-/// Begins with the length field and the header of a frame.
+/// The length field and the header of a frame, at the front of an array.
 #[inline(always)]
 fn front_of<const N: usize>(len: u16, header: [u8; N]) -> [u8; 2 + MAX_HEADER]
     requires few { N ≤ UNTAGGED_HEADER }
@@ -81,7 +81,7 @@ fn append_front<const N: usize, A: Allocator>(len: u16, header: [u8; N], out: &m
     append(out, &front_of(len, header)[..2 + N]);
 }
 
-/// Appends all of a frame without markers that stands before its CRC field.
+/// Appends a frame without markers, up to its CRC field.
 fn put_plain<A: Allocator>(len: u16, parts: &[&[u8]], out: &mut Vec<u8, A>)
     requires len { len ≡ length (joined parts.now) }
     requires room { vec_len out.old + frame_size len ≤ vec_capacity out.old }
@@ -93,7 +93,7 @@ fn put_plain<A: Allocator>(len: u16, parts: &[&[u8]], out: &mut Vec<u8, A>)
     append_pad(pad_of(len), out);
 }
 
-/// The frame place where the frame begins that is written at this place: there, or past the marker there.
+/// Where the frame that is written at this place begins: there, or after the marker there.
 fn start_at(at: u64) -> u64
     requires place { at < 2 ^ 63 }
     requires aligned { at % 4 ≡ 0 }
@@ -102,7 +102,7 @@ fn start_at(at: u64) -> u64
     if at % SPACING == 0 { at + MARKER } else { at }
 }
 
-/// Appends all of a frame with markers that stands before its CRC field.
+/// Appends a frame with markers, up to its CRC field.
 fn put_among_markers<A: Allocator>(at: u64, len: u16, parts: &[&[u8]], out: &mut Vec<u8, A>)
     requires place { at < 2 ^ 63 }
     requires aligned { at % 4 ≡ 0 }
@@ -124,7 +124,7 @@ fn put_among_markers<A: Allocator>(at: u64, len: u16, parts: &[&[u8]], out: &mut
     writer.put_marker(out);
 }
 
-/// Appends all of a frame that stands before its CRC field.
+/// Appends a frame, up to its CRC field.
 fn put_bare<A: Allocator>(markers: bool, at: u64, len: u16, parts: &[&[u8]], out: &mut Vec<u8, A>)
     requires place { at < 2 ^ 63 }
     requires aligned { at % 4 ≡ 0 }
@@ -143,7 +143,7 @@ fn put_bare<A: Allocator>(markers: bool, at: u64, len: u16, parts: &[&[u8]], out
     }
 }
 
-/// Appends all of a frame without markers that stands before its CRC field, of a ULPDU that is a header and a payload.
+/// Appends a frame without markers, up to its CRC field. Its ULPDU is a header and a payload.
 #[inline(always)]
 fn put_plain_segment<const N: usize, A: Allocator>(
     len: u16,
@@ -186,7 +186,7 @@ fn put_head<const N: usize, A: Allocator>(
     }
 }
 
-/// Appends all of a frame with markers that stands before its CRC field, of a ULPDU that is a header and a payload.
+/// Appends a frame with markers, up to its CRC field. Its ULPDU is a header and a payload.
 #[inline(always)]
 fn put_segment_among_markers<const N: usize, A: Allocator>(
     at: u64,
@@ -215,7 +215,7 @@ fn put_segment_among_markers<const N: usize, A: Allocator>(
     writer.put_end(pad_of(len), out);
 }
 
-/// Appends all of a frame that stands before its CRC field, of a ULPDU that is a header and a payload.
+/// Appends a frame, up to its CRC field. Its ULPDU is a header and a payload.
 #[inline(always)]
 fn put_segment<const N: usize, A: Allocator>(
     markers: bool,
@@ -243,8 +243,7 @@ fn put_segment<const N: usize, A: Allocator>(
     }
 }
 
-/// The CRC so far of a frame that is written at `at`: over the marker directly before it, where that stands before
-/// `at`.
+/// The CRC of what precedes a frame that is written at `at`: of the marker directly before it, if there is one.
 #[tactic(auto, unfolding(crate::specs::Laying::marker_beyond))]
 fn crc_before(markers: bool, at: u64) -> Crc
     ensures { result ≡ after_octets all_ones (marker_beyond markers at) }
@@ -256,7 +255,7 @@ fn crc_before(markers: bool, at: u64) -> Crc
     crc
 }
 
-/// The CRC of a frame of which all before the CRC field was written at `at`, as it stands in that field.
+/// The CRC of a frame that was written at `at` up to its CRC field, as the octets of that field.
 #[inline(never)]
 fn crc_octets(markers: bool, at: u64, written: &[u8]) -> [u8; 4]
     ensures { result ≡ to_le_bytes w32 (crc32c (marker_beyond markers at ++ written.now)) }
@@ -266,7 +265,7 @@ fn crc_octets(markers: bool, at: u64, written: &[u8]) -> [u8; 4]
     crc.finish().to_le_bytes()
 }
 
-/// The CRC field of a frame of which all before that field was written at `at`.
+/// The CRC field of a frame that was written at `at` up to that field.
 #[inline(always)]
 fn crc_field(layout: Layout, at: u64, written: &[u8]) -> [u8; 4]
     ensures { result ≡ (if layout.crc then to_le_bytes w32 (crc32c (marker_beyond layout.markers at ++ written.now))
@@ -279,10 +278,10 @@ fn crc_field(layout: Layout, at: u64, written: &[u8]) -> [u8; 4]
     }
 }
 
-/// Appends the frame of a ULPDU that comes in parts, to stand from frame place `at` on: where there are markers and 512
-/// divides `at`, a marker goes before the frame (RFC 5044 4.1 to 4.4).
+/// Appends the frame of a ULPDU, given in parts, at frame place `at`. If there are markers and `at` is a multiple of
+/// 512, a marker precedes the frame (RFC 5044 4.1 to 4.4).
 ///
-/// A ULPDU of more than 64,512 octets is TooLong. A refusal leaves `out` as it was.
+/// A ULPDU of more than 64,512 octets is refused with `TooLong`. An `Err` leaves `out` as it was.
 pub fn write_fpdu<A: Allocator>(
     layout: Layout,
     at: u64,
@@ -314,10 +313,9 @@ pub fn write_fpdu<A: Allocator>(
     Ok(())
 }
 
-/// Appends the frame of a ULPDU that is a header and a payload, where there are neither markers nor CRCs: it is the same
-/// at each place, and its length field and header are appended at once.
+/// Appends a frame without markers and CRC, whose ULPDU is a header and a payload. It is the same at each frame place.
 ///
-/// An `Err` is want of memory, and leaves `out` as it was.
+/// An `Err` means out of memory, and leaves `out` as it was.
 #[inline(always)]
 pub fn write_bare<const N: usize, A: Allocator>(
     header: [u8; N],
@@ -340,7 +338,7 @@ pub fn write_bare<const N: usize, A: Allocator>(
     Ok(())
 }
 
-/// Appends the frame of a ULPDU that is a header and a payload, to stand from frame place `at` on, by laying it out there.
+/// As `write_segment`, for any layout.
 #[inline(always)]
 fn write_laid<const N: usize, A: Allocator>(
     layout: Layout,
@@ -369,10 +367,10 @@ fn write_laid<const N: usize, A: Allocator>(
     Ok(())
 }
 
-/// Appends the frame of a ULPDU that is a header and a payload, to stand from frame place `at` on, as `write_fpdu` does; its
-/// length field and header are appended at once.
+/// Appends the frame of a ULPDU, given as a header and a payload, at frame place `at`, as [`write_fpdu`] does. It is
+/// faster: length field and header are appended at once.
 ///
-/// An `Err` is want of memory, and leaves `out` as it was.
+/// An `Err` means out of memory, and leaves `out` as it was.
 #[inline(always)]
 pub fn write_segment<const N: usize, A: Allocator>(
     layout: Layout,

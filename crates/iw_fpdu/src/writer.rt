@@ -8,11 +8,11 @@ ghost use Rattle.iw_fpdu.specs.Places.{data_place, data_index, place_after};
 use crate::layout::{MARKER, SPACING};
 use std::alloc::Allocator;
 
-/// The octets of the frames from one marker to the next.
+/// How many data octets come between two markers.
 const RUN: usize = (SPACING - MARKER) as usize;
 
-/// Appends octets, for which there is room: tested though it is known, so that no call of the allocator is left where
-/// this is inlined.
+/// Appends octets; `out` must have room for them. It tests for room all the same, so that the compiler drops the call
+/// of the allocator when it inlines this.
 #[inline(always)]
 pub(crate) fn append<A: Allocator>(out: &mut Vec<u8, A>, octets: &[u8])
     requires { vec_len out.old + length octets.now ≤ vec_capacity out.old }
@@ -26,7 +26,7 @@ pub(crate) fn append<A: Allocator>(out: &mut Vec<u8, A>, octets: &[u8])
     let _ = out.extend_from_slice(octets);
 }
 
-/// Appends the pad and a CRC field of zero: each number of octets by an append of its own, whose length is known.
+/// Appends the pad and a CRC field of zero. Each case appends a known number of octets.
 #[inline(always)]
 pub(crate) fn append_end<A: Allocator>(pad: u64, out: &mut Vec<u8, A>)
     requires few { pad < 4 }
@@ -41,7 +41,7 @@ pub(crate) fn append_end<A: Allocator>(pad: u64, out: &mut Vec<u8, A>)
     }
 }
 
-/// Appends the pad, for which there is room with the CRC field past it: four octets at once, cut off where it ends.
+/// Appends the pad; `out` must have room for it and the CRC field. It appends four octets at once and cuts them off.
 #[inline(always)]
 pub(crate) fn append_pad<A: Allocator>(pad: u64, out: &mut Vec<u8, A>)
     requires few { pad < 4 }
@@ -55,7 +55,7 @@ pub(crate) fn append_pad<A: Allocator>(pad: u64, out: &mut Vec<u8, A>)
     out.truncate(end);
 }
 
-/// The marker at a place: two reserved octets, and how far the frame's start lies before it.
+/// The marker at a place: two reserved octets, and how far before it the frame begins.
 #[tactic(auto, using(crate::proofs::Counted::marker_value_is))]
 fn marker(start: u64, at: u64) -> [u8; 4]
     requires marker { at % 512 ≡ 0 }
@@ -66,12 +66,12 @@ fn marker(start: u64, at: u64) -> [u8; 4]
     [0, 0, (pointer / 256) as u8, (pointer % 256) as u8]
 }
 
-/// Lays the octets of one frame, and the markers among them, at the end of a vector.
+/// Appends the octets of one frame, with the markers among them, to a vector.
 #[derive(Drop)]
 pub(crate) struct Writer {
     /// The frame place where the frame begins.
     pub(crate) start: u64,
-    /// The frame place that is laid next: that of a marker, or of the frame's next octet.
+    /// The next frame place: that of a marker, or of the frame's next octet.
     pub(crate) at: u64,
 }
 
@@ -120,7 +120,7 @@ impl Writer {
         }
     }
 
-    /// Appends those of these octets that come before the next marker, and tells the others.
+    /// Appends those of these octets that come before the next marker, and returns the rest.
     #[inline(always)]
     fn put_front<'a, A: Allocator>(&mut self, octets: &'a [u8], out: &mut Vec<u8, A>) -> &'a [u8]
         requires { HasRoom true self.old.start self.old.at (length octets.now)
@@ -166,7 +166,7 @@ impl Writer {
         }
     }
 
-    /// Appends octets of the frame at once, of which no more are there than come before the next marker.
+    /// Appends octets of the frame at once, at most as many as come before the next marker.
     #[inline(always)]
     pub(crate) fn put_run<A: Allocator>(&mut self, octets: &[u8], out: &mut Vec<u8, A>)
         requires room { HasRoom true self.old.start self.old.at (length octets.now)
@@ -215,8 +215,8 @@ impl Writer {
         self.at += 2;
     }
 
-    /// Appends the pad, which comes up to a multiple of four octets, so that no marker stands in it or before it; there
-    /// is room for the CRC field after it.
+    /// Appends the pad. It ends at a multiple of four octets, so no marker is in it or directly before it. There must
+    /// be room for the CRC field after it.
     #[inline(always)]
     pub(crate) fn put_pad<A: Allocator>(&mut self, pad: u64, out: &mut Vec<u8, A>)
         requires room { HasRoom true self.old.start self.old.at (pad + 4) (vec_len out.old) (vec_capacity out.old) }
@@ -234,7 +234,7 @@ impl Writer {
         self.at += pad;
     }
 
-    /// Appends the pad, and the marker past it, if there is one; there is room for the CRC field after them.
+    /// Appends the pad, and the marker after it, if there is one. There must be room for the CRC field after them.
     #[inline(always)]
     pub(crate) fn put_end<A: Allocator>(&mut self, pad: u64, out: &mut Vec<u8, A>)
         requires room { HasRoom true self.old.start self.old.at (pad + 4) (vec_len out.old) (vec_capacity out.old) }

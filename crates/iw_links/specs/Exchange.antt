@@ -1,4 +1,4 @@
--- What a connection does at an endpoint from its opening on.
+-- What a connection does at an endpoint, from its opening to its end.
 use Rattle.std.specs.Prelude.{◌≡◌, ℕ, ◌+◌, ◌-◌, ◌%◌, ◌≤◌, ◌^◌, List, [], ◌∷◌, ◌++◌, length, replicate, take, ◌⊎◌, Option, None, Some, Bool, true, false, not, is_some, if◌then◌else◌, Ok}
 use Rattle.std.specs.Option.{option_map}
 use Rattle.std.specs.Io.KnownBytes.{Appends, Consumes, IsAtEnd}
@@ -11,6 +11,7 @@ use Rattle.iw_octets.specs.Stag.{spelled, stag_at}
 use Rattle.iw_queues.specs.declared.request.Request.{Request}
 use Rattle.iw_queues.specs.declared.request.Request.TheVariants as requests
 use Rattle.iw_ranges.specs.Arrived.{BringsOctets}
+use Rattle.iw_startup.specs.declared.config.Establishment.TheVariants as establishments
 use Rattle.iw_startup.specs.declared.config.Config.{Config}
 use Rattle.iw_stream.specs.declared.answer.Emission.{Emission}
 use Rattle.iw_stream.specs.declared.answer.Emission.TheVariants as emissions
@@ -33,7 +34,7 @@ with_domain = added fresh 1
 abbrev pub writable : Rights
 writable = record { write = true; read = false; sink = false; invalidate = false }
 
--- so many zero octets
+-- n zero octets
 unfoldable pub zero_octets : ℕ → List ℕ
 zero_octets count = replicate count 0
 
@@ -44,7 +45,7 @@ listening = registered with_domain 1 0 (zero_octets 65536) writable
 abbrev pub shared_region : Stag
 shared_region = next_stag with_domain.table 1
 
--- ---- what is told of a connection
+-- ---- the report of a connection
 
 abbrev pub nothing_told : Report
 nothing_told = record { received = None; ended = None; broken = false }
@@ -53,7 +54,7 @@ abbrev pub is_completed : Report → Bool
 is_completed report =
     if is_some report.received then if is_some report.ended then false else not report.broken else false
 
--- while its link stands
+-- so far, while its link has not broken
 pub record Told : Type 0 where
   pub received : Option (List ℕ)
   pub ended : Option Ended
@@ -67,7 +68,7 @@ with_received told octets = record { received = Some octets; ended = told.ended 
 abbrev pub with_end : Told → Ended → Told
 with_end told end = record { received = told.received; ended = Some end }
 
--- what a step of work adds to it
+-- a step of work adds to it
 abbrev pub told_by : Told → Step (List ℕ) → Told
 told_by told (steps.Done kind) = told
 told_by told (steps.Flushed kind) = told
@@ -85,7 +86,7 @@ told_by told (steps.Terminated fault) = with_end told (ends.Terminated fault)
 told_by told (steps.Fault fault) = with_end told (ends.Fault fault)
 told_by told steps.Idle = told
 
--- and what was emitted
+-- and so does what was emitted
 abbrev pub told_of : Told → Emission → Told
 told_of told (emissions.Frame from len) = told
 told_of told (emissions.Fetched from len stag to n) = told
@@ -110,7 +111,7 @@ role_of (Asks text) = roles.Initiator
 
 -- what a start-up frame asks for by these terms; it has no private data
 abbrev pub config_of : Terms → Config
-config_of terms = record { markers = terms.markers; crc = terms.crc; private = record { items = [] } }
+config_of terms = record { markers = terms.markers; crc = terms.crc; establishment = establishments.Plain; private = record { items = [] } }
 
 abbrev pub plan_for : Terms → Part → Plan
 plan_for terms part = record { number = terms.number; config = config_of terms; part = part }
@@ -137,13 +138,13 @@ write_of stag octets = requests.Message (messages.Write stag 0 octets)
 
 -- What is done next. Octets are read in `Listening` alone: then there is no work to do, and nothing to emit.
 pub data Phase : Type 0 where
-  Lending : Phase  -- the receive buffer is to be lent
+  Lending : Phase  -- the receive buffer is to be posted
   Listening : Phase  -- octets may come, or a message be posted
   Working : Phase  -- there may be work to do
   Accepting : Phase  -- the peer's Request is to be accepted
   Speaking : Phase  -- there may be something to emit
 
--- the Request of an asking end goes out before the first read
+-- the MPA Request of an asking end is written before the first read
 abbrev pub after_lending : Part → Phase
 after_lending (Serves region) = Listening
 after_lending (Asks text) = Speaking
@@ -182,8 +183,8 @@ pub data Event : Type 0 where
   Posted : Request (List ℕ) → Event
   Emitted : Emission → List ℕ → Event
 
--- How a connection stands: the endpoint, the sequence number of the octet that comes next, what is to be told, what is done next, and how many
--- messages were posted.
+-- The state of a connection: the endpoint, the sequence number of the octet that comes next, the report so far, what is
+-- done next, and how many messages were posted.
 pub record Standing : Type 0 where
   pub endpoint : EndpointState
   pub next : ℕ
@@ -191,7 +192,7 @@ pub record Standing : Type 0 where
   pub phase : Phase
   pub posted : ℕ
 
--- once its stream was opened
+-- right after its stream was opened
 abbrev pub started : Plan → EndpointState → Standing
 started p e = record {
   endpoint = opened e p.number 1 (role_of p.part) p.config;
@@ -201,7 +202,7 @@ started p e = record {
   posted = 0;
 }
 
--- a serving end reads nothing once it has answered
+-- a serving end reads nothing after it has answered
 abbrev pub MayHear : Part → ℕ → Type 0
 MayHear (Serves region) posted = posted ≡ 0
 MayHear (Asks text) posted = posted ≤ 2
@@ -217,14 +218,14 @@ pub record IsAnswer (region : Stag) (s : Standing) (request : Request (List ℕ)
   pub front : option_map (take (length received)) (octets_of s.endpoint region) ≡ Some octets
   pub is : request ≡ send_of octets
 
--- the text is written from the first octet on of the region that the peer's private data name
+-- a Write of the text to the region that the peer's private data name, at tagged offset 0
 pub record IsWrite (n : ℕ) (text : List ℕ) (s : Standing) (request : Request (List ℕ)) : Type 0 where
   pub phase : s.phase ≡ Listening
   pub first : s.posted ≡ 0
   pub named : length (private_at s.endpoint n) ≡ 4
   pub is : request ≡ write_of (stag_at (private_at s.endpoint n) 0) text
 
--- and then sent
+-- and then a Send of it
 pub record IsSend (text : List ℕ) (s : Standing) (request : Request (List ℕ)) : Type 0 where
   pub phase : s.phase ≡ Speaking
   pub second : s.posted ≡ 1
@@ -234,8 +235,8 @@ abbrev pub IsDue : Part → ℕ → Standing → Request (List ℕ) → Type 0
 IsDue (Serves region) n s request = IsAnswer region s request
 IsDue (Asks text) n s request = IsWrite n text s request ⊎ IsSend text s request
 
--- The call, at the stream of the plan, takes one standing to the other. Octets are delivered by the sequence number
--- that follows all that came before, which counts modulo 2^32.
+-- The call, on the stream of the plan, takes one state to the other. Octets are delivered with the sequence number that
+-- follows all that came before, modulo 2^32.
 abbrev pub Goes : Plan → Standing → Event → Standing → Type 0
 Goes p s (Lent buffer) s' =
     (s.phase ≡ Lending) × (buffer ≡ receive_buffer) ×
@@ -294,21 +295,21 @@ abbrev pub outputs : List Event → List ℕ
 outputs [] = []
 outputs (event ∷ events) = went_out event ++ outputs events
 
--- From one standing to another by calls at the plan's stream, which delivered and emitted these octets.
+-- From one state to another by calls on the plan's stream, which delivered and emitted these octets.
 pub record Did (p : Plan) (s s' : Standing) (ins outs : List ℕ) : Type 0 where
   pub events : List Event
   pub runs : Runs p s events s'
   pub came : inputs events ≡ ins
   pub went : outputs events ≡ outs
 
--- The same with what they appended to octets that were gathered before.
+-- The same, with the emitted octets appended to those gathered before.
 pub record Emits (p : Plan) (s s' : Standing) (out out' : List ℕ) : Type 0 where
   pub outs : List ℕ
   pub did : Did p s s' [] outs
   pub appends : out' ≡ out ++ outs
 
--- The same with what is known of the input and the output before and after: what the reader gave is what was delivered,
--- and what the writer took is what was emitted, in order and whole.
+-- The same, with the input and the output before and after: what the reader gave was delivered, and what was emitted
+-- was written, in order and whole.
 pub record Exchanged (p : Plan) (s : Standing) (i o : Option (List ℕ)) (s' : Standing) (i' o' : Option (List ℕ)) :
     Type 0 where
   pub ins : List ℕ
@@ -317,16 +318,16 @@ pub record Exchanged (p : Plan) (s : Standing) (i o : Option (List ℕ)) (s' : S
   pub reads : Consumes i i' ins
   pub writes : Appends o o' outs
 
--- Octets that were read could not be delivered: the stream has not ended and some of them are new, so that memory was
--- wanted.
+-- Octets that were read could not be delivered: memory ran out, and so the stream has not ended and some of them are
+-- new.
 abbrev pub IsUndelivered : Plan → Standing → List ℕ → Type 0
 IsUndelivered p s octets =
     (s.phase ≡ Listening) × (has_stream s.endpoint p.number ≡ true →
     let stream = stream_at s.endpoint p.number in
     (ended stream ≡ false) × BringsOctets stream.arrived (place_of stream s.next) (length octets - left_out stream s.next))
 
--- The same up to where the link broke, in whatever phase: what the reader gave was delivered, but for octets that could
--- not be; and the writer took what was emitted, or the front of it alone.
+-- The same up to the break of the link, in any phase: what the reader gave was delivered, except octets for which
+-- memory ran out; and what was emitted was written, or only the front of it.
 pub record Failed (p : Plan) (s : Standing) (i o : Option (List ℕ)) (at : Phase → ℕ → Standing) (i' o' : Option (List ℕ)) :
     Type 0 where
   pub phase : Phase
@@ -342,11 +343,11 @@ pub record Failed (p : Plan) (s : Standing) (i o : Option (List ℕ)) (at : Phas
 
 -- ---- a whole connection
 
--- what telling a stream that its link broke leaves: nothing changes where there is no such stream
+-- after a stream's link broke; nothing changes if there is no such stream
 abbrev pub after_break : EndpointState → ℕ → EndpointState
 after_break e n = if has_stream e n then broken e n else e
 
--- a Send was received, or the stream ended by the peer's doing
+-- a Send was received, or the peer ended the stream
 abbrev pub IsSettled : Told → Type 0
 IsSettled told = (is_some told.received ≡ true) ⊎ (is_some told.ended ≡ true)
 
@@ -354,7 +355,8 @@ IsSettled told = (is_some told.received ≡ true) ⊎ (is_some told.ended ≡ tr
 abbrev pub IsSaid : Part → Told → ℕ → Type 0
 IsSaid part told posted = (posted ≡ most_posted part) ⊎ (is_some told.ended ≡ true)
 
--- What was read was worked on, and what is due is written; what is to be told came, and what is to be posted was.
+-- All that was read is worked on and all that is due is written; a Send was received and all messages were posted,
+-- unless the stream ended.
 pub record Finished (p : Plan) (s : Standing) (i o : Option (List ℕ)) (at : Phase → ℕ → Standing) (i' o' : Option (List ℕ))
     (told : Told) : Type 0 where
   pub posted : ℕ
@@ -362,7 +364,7 @@ pub record Finished (p : Plan) (s : Standing) (i o : Option (List ℕ)) (at : Ph
   pub said : IsSaid p.part told posted
   pub settled : IsSettled told
 
--- to the end of what the reader gives; the link did not break
+-- the input was read to its end, and the link did not break
 pub record Completed (p : Plan) (e : EndpointState) (i o : Option (List ℕ)) (e' : EndpointState) (i' o' : Option (List ℕ))
     (report : Report) : Type 0 where
   pub next : ℕ
@@ -371,7 +373,7 @@ pub record Completed (p : Plan) (e : EndpointState) (i o : Option (List ℕ)) (e
   pub is : report ≡ report_of told false
   pub end : IsAtEnd i'
 
--- the link broke: once, after all else
+-- the link broke: that is reported once, after all else
 pub record BrokeOff (p : Plan) (e : EndpointState) (i o : Option (List ℕ)) (e' : EndpointState) (i' o' : Option (List ℕ))
     (report : Report) : Type 0 where
   pub last : EndpointState
@@ -381,7 +383,7 @@ pub record BrokeOff (p : Plan) (e : EndpointState) (i o : Option (List ℕ)) (e'
   pub endpoint : e' ≡ after_break last p.number
   pub is : report ≡ report_of told true
 
--- a connection: its link stood to the end, or broke, and the report says which
+-- a connection: it was completed, or its link broke, and the report says which
 abbrev pub Served : Plan → EndpointState → Option (List ℕ) → Option (List ℕ) →
     EndpointState → Option (List ℕ) → Option (List ℕ) → Report → Type 0
 Served p e i o e' i' o' report = Completed p e i o e' i' o' report ⊎ BrokeOff p e i o e' i' o' report

@@ -1,4 +1,4 @@
--- How a connection stands, and what its plan is, as the code has it.
+-- The state and the plan of a connection, from the code's types.
 use Rattle.std.specs.Prelude.{ℕ, Option, None, Some}
 use Rattle.iw_endpoint.specs.Endpoint.{EndpointState}
 use Rattle.iw_links.specs.declared.link.Link.{Link}
@@ -24,13 +24,13 @@ part_of (parts.Asks text) = Asks text.now
 abbrev pub plan_of : CodePlan → Plan
 plan_of plan = plan_for plan.terms (part_of plan.part)
 
--- what is done after a step of work that asks for this
+-- the phase after a step of work
 abbrev pub phase_of : Next → Phase
 phase_of nexts.Accept = Accepting
 phase_of nexts.Work = Working
 phase_of nexts.Rest = Speaking
 
--- how many messages an asking end posts whose stream stands so once the peer's Reply has come
+-- how many messages an asking end posts once the peer's Reply came, by whether the stream has ended
 abbrev pub count_said : Option Ended → ℕ
 count_said None = 2
 count_said (Some end) = 0

@@ -17,7 +17,7 @@ use iw_endpoint::{Endpoint, Message, OpenRefusal, Request, Role, Stag};
 use std::alloc::Global;
 use std::io::{Read, Write};
 
-// The region that the Reply named.
+// The STag that the Reply named.
 fn named_region(endpoint: &Endpoint, number: u8) -> Result<Stag, Broken>
     ensures length { OnOk result (length (private_at endpoint.now number) ≡ 4) }
     ensures stag { IfOk result (λ stag. stag ≡ stag_at (private_at endpoint.now number) 0) }
@@ -79,7 +79,7 @@ fn post_send(
     post(plan, endpoint, link, send(octets))
 }
 
-// Writes the text into the region that the Reply named, and sends it.
+// Posts a Write of the text to the region that the Reply named, and a Send of it, and writes what is due.
 fn request<W: Write>(
     alloc: Global,
     plan: &Plan<'_>,
@@ -111,7 +111,7 @@ fn request<W: Write>(
     }
 }
 
-// Sends the text, if the stream has not ended. A Reply that has not come by then will not come.
+// Makes the request, unless the stream has ended. If the stream is not open, the Reply will not come any more.
 fn request_where_open<W: Write>(
     alloc: Global,
     plan: &Plan<'_>,
@@ -141,7 +141,7 @@ fn request_where_open<W: Write>(
     }
 }
 
-// Sends the text, if the stream has not ended, and ends the output.
+// Makes the request, unless the stream has ended, and ends the output.
 fn say<W: Output>(
     alloc: Global,
     plan: &Plan<'_>,
@@ -169,7 +169,7 @@ fn say<W: Output>(
     }
 }
 
-// The start-up of a connecting end: writes its Request, and reads until the peer's Reply has come, or the stream has ended.
+// The start-up of a connecting end: writes its Request, and reads until the peer's Reply came or the stream has ended.
 fn start_up<R: Read, W: Write>(
     plan: &Plan<'_>,
     endpoint: &mut Endpoint,
@@ -209,7 +209,7 @@ fn start_up<R: Read, W: Write>(
     }
 }
 
-// A connecting end's part, once its stream was opened.
+// What a connecting end does after its stream was opened.
 fn speak_to<R: Read, W: Output>(
     alloc: Global,
     plan: &Plan<'_>,
@@ -265,15 +265,14 @@ fn speak_to<R: Read, W: Output>(
     }
 }
 
-/// Makes a request on a connection: writes the text into the region that the peer's Reply names, from its tagged
-/// offset 0 on, and sends it too; ends the output, and reads to the end of the peer's. A text has at most 4,096
-/// octets.
+/// Makes a request on a connection: writes the text into the region that the peer's Reply names, at tagged offset 0,
+/// and sends it too; then ends the output, and reads to the end of the peer's output. A text has at most 4,096 octets.
 ///
-/// The Request is written before the first read. After each read, which is one delivery, it works until there is
-/// nothing to do and writes all that is due. A fault of the reader or writer, an early end, a Reply that names no
-/// region and want of memory break the stream's link, once, and nothing more is read or written.
+/// The MPA Request is written before the first read. Each read is one delivery; after it, `ask` works until there is
+/// nothing to do and writes all that is due. The link breaks if the reader or writer fails, the input ends early, the
+/// Reply names no region, or memory runs out. Then nothing more is read or written.
 ///
-/// An `Err` comes where the stream can't be opened; then nothing was read, written or changed.
+/// An `Err` means that the stream cannot be opened; nothing was read, written or changed.
 pub fn ask<R: Read, W: Output>(
     alloc: Global,
     endpoint: &mut Endpoint,

@@ -19,7 +19,7 @@ pub enum ReadFault {
     TooMany,
 }
 
-/// A reader whose reads are counted, so that no loop over it goes on without end.
+/// A reader that counts its reads, so that every loop over it ends.
 #[derive(Drop)]
 pub struct Counted<R> {
     pub reader: R,
@@ -28,7 +28,7 @@ pub struct Counted<R> {
 }
 
 impl<R: Read> Counted<R> {
-    /// A reader of which nothing was read.
+    /// Counts the reads of this reader, from 0.
     pub fn new(reader: R) -> Counted<R>
         ensures reader { result.reader ≡ reader }
         ensures reads { result.reads ≡ 0 }
@@ -36,8 +36,8 @@ impl<R: Read> Counted<R> {
         Counted { reader, reads: 0 }
     }
 
-    /// Reads the next octets into the front of `buffer`, and says how many: none where the input is at its end. A read
-    /// that was interrupted is made again, and counts. After the most reads there is none.
+    /// Reads the next octets into the front of `buffer` and returns how many: 0 at the end of the input. An interrupted
+    /// read is made again, and counts. `TooMany` comes after 1,000,000 reads.
     pub fn next(&mut self, buffer: &mut [u8]) -> Result<usize, ReadFault>
         requires bounded { self.old.reads ≤ 1000000 }
         requires room { 0 < length buffer.old }

@@ -9,11 +9,11 @@ use crate::link::{Broken, Link, deliver, emit_all, work_all};
 use crate::plan::Plan;
 use crate::report::Report;
 use bytes::Bytes;
-use iw_endpoint::{Config, Endpoint, Message, PrivateData, Request};
+use iw_endpoint::{Config, Endpoint, Establishment, Message, PrivateData, Request};
 use iw_output::write_octets;
 use std::io::{Read, Write};
 
-/// What a connection's stream is opened with.
+/// The options with which a connection's stream is opened.
 #[derive(Clone, Copy, Debug, PartialEq, Eq)]
 pub struct Terms {
     /// Its number: 0 to 63.
@@ -31,6 +31,7 @@ impl Terms {
         Config {
             markers: self.markers,
             crc: self.crc,
+            establishment: Establishment::Plain,
             private: PrivateData::new(),
         }
     }
@@ -105,10 +106,10 @@ fn take_turn<W: Write>(
     }
 }
 
-/// How long the peer is listened to.
+/// How long to read from the peer.
 #[derive(Clone, Copy, Debug, PartialEq, Eq)]
 pub(crate) enum Until {
-    /// Until its Reply has come, or the stream has ended.
+    /// Until its Reply came or the stream has ended.
     Reply,
     /// To the end of its output.
     End,
@@ -122,7 +123,7 @@ impl Until {
     }
 }
 
-/// Reads, each read one delivery, and takes its turn after each. Returns whether the input is at its end.
+/// Reads; after each read, which is one delivery, works and writes what is due. Returns whether the input has ended.
 pub(crate) fn hear<R: Read, W: Write>(
     until: Until,
     plan: &Plan<'_>,
@@ -167,7 +168,7 @@ pub(crate) fn hear<R: Read, W: Write>(
     Err(Broken)
 }
 
-/// Whether a Send was received, or the stream ended by the peer's doing: else the peer has broken off.
+/// `Ok` if a Send was received or the peer ended the stream; otherwise the peer has broken off.
 pub(crate) fn settle(link: &Link) -> Result<(), Broken>
     ensures { OnOk result (IsSettled (told_in link.now)) }
 {
@@ -178,7 +179,7 @@ pub(crate) fn settle(link: &Link) -> Result<(), Broken>
     }
 }
 
-/// Breaks the link, and tells what came of the connection.
+/// Reports the broken link to the endpoint, and returns the connection's report.
 pub(crate) fn break_off(plan: &Plan<'_>, endpoint: &mut Endpoint, link: Link) -> Report
     ensures report { result ≡ report_of (told_in link) true }
     ensures endpoint { endpoint.new ≡ after_break endpoint.old (plan_of plan.now).number }

@@ -1,9 +1,9 @@
 //! What `iwarp listen` and `iwarp connect` do on one connection, over any reader and writer.
 //!
-//! The listening end ([`serve`]) has a region and tells its STag in the private data of its Reply; the connecting end
-//! ([`ask`]) writes a text there, sends it too, and ends its output. The listening end then sends back what stands in
-//! its region. Each holds an [`iw_endpoint::Endpoint`]: each read of the input is one delivery at the next stream
-//! place, and what the endpoint emits is written in order.
+//! The listening end ([`serve`]) has a region, whose STag it passes in the private data of its MPA Reply. The
+//! connecting end ([`ask`]) writes a text there, sends it too, and ends its output. The listening end then sends back
+//! the front of its region. Both use an [`iw_endpoint::Endpoint`]: each read of the input is one delivery, at the next
+//! stream place, and what the endpoint emits is written in order.
 #![tactic(auto)]
 
 mod asking;

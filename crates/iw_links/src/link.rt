@@ -28,11 +28,11 @@ pub const MOST_TEXT: usize = 4_096;
 // How many octets the region of a listening end has.
 const REGION: usize = 65_536;
 
-/// The stream goes no further: a reader or writer failed, the peer did not do its part, or there is no memory.
+/// The link broke: a reader or writer failed, the peer did not do its part, or memory ran out.
 #[derive(Clone, Copy, Debug, PartialEq, Eq)]
 pub(crate) struct Broken;
 
-/// An endpoint for connections that are made: with a domain, and no region. An `Err` is want of memory.
+/// An endpoint for outgoing connections, with a domain and no region. An `Err` means out of memory.
 pub fn caller(alloc: Global) -> Result<Endpoint, AllocError>
     ensures { IfOk result (λ endpoint. endpoint ≡ with_domain) }
 {
@@ -43,7 +43,7 @@ pub fn caller(alloc: Global) -> Result<Endpoint, AllocError>
     }
 }
 
-// So many zero octets.
+// `count` zero octets.
 fn zeroes(alloc: Global, count: usize) -> Result<Vec<u8>, AllocError>
     ensures { IfOk result (λ octets. octets.items ≡ zero_octets count) }
 {
@@ -51,8 +51,8 @@ fn zeroes(alloc: Global, count: usize) -> Result<Vec<u8>, AllocError>
     Ok(octets)
 }
 
-/// An endpoint for connections that come: with a domain, and a region of 65,536 zero octets at base 0 that peers may
-/// write, and that region's STag. An `Err` is want of memory.
+/// An endpoint for incoming connections, with a domain and a region of 65,536 zero octets at base 0 that peers may
+/// write; and that region's STag. An `Err` means out of memory.
 pub fn listener(alloc: Global) -> Result<(Endpoint, Stag), AllocError>
     ensures endpoint { IfOk result (λ end. end.0 ≡ registered with_domain 1 0 (zero_octets 65536) writable) }
     ensures stag { IfOk result (λ end. end.1 ≡ next_stag with_domain.table 1) }
@@ -71,7 +71,7 @@ pub fn listener(alloc: Global) -> Result<(Endpoint, Stag), AllocError>
     }
 }
 
-/// How a connection stands.
+/// The state of a connection.
 #[derive(Drop)]
 pub(crate) struct Link {
     /// The sequence number of the octet that comes next.
@@ -85,7 +85,7 @@ pub(crate) struct Link {
 }
 
 impl Link {
-    /// One on which nothing came.
+    /// A new connection.
     pub(crate) fn new() -> Link
         ensures next { result.next ≡ 0 }
         ensures received { result.received ≡ None }
@@ -99,7 +99,7 @@ impl Link {
         }
     }
 
-    /// What came of the connection.
+    /// The connection's report.
     pub(crate) fn into_report(self, broken: bool) -> Report
         ensures { result ≡ report_of (told_in self) broken }
     {
@@ -110,7 +110,7 @@ impl Link {
         }
     }
 
-    // Takes up what a step of work tells.
+    // Takes note of a step of work.
     fn tell(&mut self, step: Step<Octets>)
         requires { IsWithinBuffer step }
         ensures told { told_in self.new ≡ told_by (told_in self.old) step }
@@ -140,7 +140,7 @@ impl Link {
     }
 }
 
-/// Lends the stream the receive buffer. An `Err` changes nothing.
+/// Posts the receive buffer. An `Err` changes nothing.
 pub(crate) fn lend(
     alloc: Global,
     plan: &Plan<'_>,
@@ -187,8 +187,8 @@ fn number_after(number: u32, octets: &[u8]) -> u32
     ((u64::from(number) + octets.len() as u64) % (1 << 32)) as u32
 }
 
-/// Delivers the octets of a read, by the sequence number that follows all that came before. An `Err` is want of memory, and
-/// changes nothing.
+/// Delivers the octets of a read, with the sequence number that follows all that came before. An `Err` means out of
+/// memory, and changes nothing.
 pub(crate) fn deliver(
     plan: &Plan<'_>,
     endpoint: &mut Endpoint,
@@ -223,7 +223,7 @@ fn accept(plan: &Plan<'_>, endpoint: &mut Endpoint, link: &Link) -> Result<(), B
     }
 }
 
-// Does one step of work. Returns it as it asks for more. An `Err` changes nothing.
+// Does one step of work. Returns what to do next. An `Err` changes nothing.
 fn step(plan: &Plan<'_>, endpoint: &mut Endpoint, link: &mut Link) -> Result<Next, Broken>
     ensures ok { IfOk result (λ next. (k : ℕ) → Did (plan_of plan.now)
         (standing endpoint.old link.old Working k) (standing endpoint.new link.new (phase_of next) k) [] []) }
@@ -244,7 +244,7 @@ fn step(plan: &Plan<'_>, endpoint: &mut Endpoint, link: &mut Link) -> Result<Nex
     }
 }
 
-// What a step of work asks for.
+// What to do after a step of work.
 #[derive(Clone, Copy, Debug, PartialEq, Eq)]
 enum Next {
     // The peer's Request is to be answered.
@@ -266,7 +266,7 @@ impl Next {
     }
 }
 
-// Does one step of work, and accepts the peer's Request if that is to be done then. Returns whether there is nothing to do.
+// Does one step of work, and accepts the peer's Request if it is pending then. Returns whether there is nothing to do.
 fn work_on(plan: &Plan<'_>, endpoint: &mut Endpoint, link: &mut Link) -> Result<bool, Broken>
     ensures ok { IfOk result (λ rests. (k : ℕ) → Did (plan_of plan.now) (standing endpoint.old link.old Working k)
         (standing endpoint.new link.new (if rests then Speaking else Working) k) [] []) }
@@ -284,7 +284,7 @@ fn work_on(plan: &Plan<'_>, endpoint: &mut Endpoint, link: &mut Link) -> Result<
     }
 }
 
-/// Works until there is nothing to do; the peer's Request is accepted.
+/// Works until there is nothing to do. Accepts the peer's Request if it comes.
 pub(crate) fn work_all(
     plan: &Plan<'_>,
     endpoint: &mut Endpoint,
@@ -305,7 +305,7 @@ pub(crate) fn work_all(
     Err(Broken)
 }
 
-// Emits what is due next. Returns whether something was, or the stream ended. An `Err` changes nothing.
+// Emits what is due next. Returns whether something was due, or the stream ended. An `Err` changes nothing.
 fn emit(
     plan: &Plan<'_>,
     endpoint: &mut Endpoint,

@@ -5,7 +5,7 @@ use std::net::{OpenStream, Shutdown};
 
 /// What a connection writes to.
 pub trait Output: Write {
-    /// Ends the output, so that the peer reads to an end.
+    /// Ends the output, so that the peer's input ends.
     fn end(&mut self) -> io::Result<()>
         ensures { Keeps (Self.contents self.old) (Self.contents self.new) };
 }
@@ -27,6 +27,7 @@ impl Output for Vec<u8> {
 pub struct Half<S>(S);
 
 impl<S: Write + OpenStream> Half<S> {
+    /// The writing half of this stream.
     pub fn new(stream: S) -> Half<S> {
         Half(stream)
     }

@@ -8,7 +8,7 @@ use iw_endpoint::{PrivateData, Stag};
 /// What an end does on a connection.
 #[derive(Debug, Drop)]
 pub(crate) enum Part<'a> {
-    /// Peers may write into this region; the front of it is sent back.
+    /// Peers may write into this region. The front of it is sent back.
     Serves(Stag),
     /// This text is written into the region that the peer names, and sent.
     Asks(&'a [u8]),

@@ -6,22 +6,22 @@ use iw_startup::StartupFault;
 pub enum Ended {
     /// By a fault of the peer's, which this end found.
     Fault(Fault),
-    /// By the peer's Terminate, which tells this fault.
+    /// By the peer's Terminate, which names this fault.
     Terminated(Fault),
     /// By the peer's start-up frame.
     Closed(StartupFault),
 }
 
-/// What came of a connection. What is told is told in this order: the Send that was received, how the stream ended,
-/// and that its link broke.
+/// The report of a connection. Its lines come in this order: the Send that was received, how the stream ended, and that
+/// its link broke.
 #[derive(Debug, PartialEq, Drop)]
 pub struct Report {
     /// The octets of the Send that was received.
     pub received: Option<Octets>,
-    /// How the stream ended, if it did so by the peer's doing.
+    /// How the stream ended, if the peer caused it.
     pub ended: Option<Ended>,
-    /// The link broke: the reader or the writer failed, the peer's output ended before a Send was received on a
-    /// stream that had not ended, the Reply did not name a region, or there was no memory.
+    /// The link broke: the reader or writer failed, the peer's output ended before a Send was received on a stream that
+    /// had not ended, the Reply did not name a region, or memory ran out.
     pub broken: bool,
 }
 
@@ -29,7 +29,7 @@ impl Report {
     ghost use Rattle.std.specs.Prelude.{◌≡◌, ◌↔◌, IsTrue};
     ghost use Rattle.iw_links.specs.Exchange.{nothing_told, is_completed};
 
-    /// Nothing is told yet.
+    /// A report of nothing.
     pub fn new() -> Report
         ensures { result ≡ nothing_told }
     {
@@ -40,7 +40,7 @@ impl Report {
         }
     }
 
-    /// A Send was received, the stream did not end, and its link did not break.
+    /// Whether a Send was received, the stream did not end, and its link did not break.
     pub fn is_completed(&self) -> bool
         ensures { result ≡ is_completed self.now }
     {

@@ -92,7 +92,7 @@ fn answer<W: Write>(
     }
 }
 
-// A listening end's part, once its stream was opened.
+// What a listening end does after its stream was opened.
 fn listen_to<R: Read, W: Output>(
     alloc: Global,
     plan: &Plan<'_>,
@@ -147,15 +147,15 @@ fn listen_to<R: Read, W: Output>(
     }
 }
 
-/// Serves a connection: reads to the end of the peer's output, accepts its Request with the region's STag as private
-/// data, and sends back the region's first octets, as many as the peer's Send had. The caller then closes the
+/// Serves a connection: reads to the end of the peer's output, accepts its MPA Request with the region's STag as
+/// private data, and sends back the region's first octets, as many as the peer's Send had. The caller then closes the
 /// connection.
 ///
-/// After each read, which is one delivery, it works until there is nothing to do and writes all that is due. A fault
-/// of the reader or writer, an early end and want of memory break the stream's link, once, and nothing more is read
-/// or written.
+/// Each read is one delivery; after it, `serve` works until there is nothing to do and writes all that is due. The link
+/// breaks if the reader or writer fails, the input ends early, or memory runs out. Then nothing more is read or
+/// written.
 ///
-/// An `Err` comes where the stream can't be opened; then nothing was read, written or changed.
+/// An `Err` means that the stream cannot be opened; nothing was read, written or changed.
 pub fn serve<R: Read, W: Output>(
     alloc: Global,
     endpoint: &mut Endpoint,

@@ -9,7 +9,7 @@ code_of Completed = 0
 code_of Failed = 1
 code_of Refused = 2
 
--- of two parts, the one after the other
+-- the status of two parts, one after the other
 abbrev pub with : Status → Status → Status
 with Completed later = later
 with Failed later = Failed

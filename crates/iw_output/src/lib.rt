@@ -1,4 +1,4 @@
-//! How a run of the program ends, and octets written to an output: whole, or as far as it takes them.
+//! How a run of the program ends; and writes of octets to an output: all of them, or as many as it takes.
 #![tactic(auto)]
 
 ghost use Rattle.std.specs.Prelude.{◌≡◌, ◌≤◌, length, take, MatchResult};
@@ -15,8 +15,8 @@ use thiserror::Error;
 #[error("the output took {0} octets, and no more")]
 pub struct Short(pub usize);
 
-/// Writes the octets: in one write, as far as the writer takes them. A writer that takes none of those that are left
-/// has failed; a write that was interrupted is made again.
+/// Writes all the octets, in one write if the writer takes them at once. A writer that takes none of those that are
+/// left has failed. An interrupted write is made again. An `Err` says how many octets were taken.
 pub fn write_octets<W: Write>(output: &mut W, octets: &[u8]) -> Result<(), Short>
     ensures { MatchResult result (λ _. Appends (W.contents output.old) (W.contents output.new) octets.now)
         (λ short. Appends (W.contents output.old) (W.contents output.new) (take short.0 octets.now)) }

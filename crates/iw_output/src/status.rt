@@ -6,10 +6,10 @@ ghost use Rattle.iw_output.specs.Status.{code_of, with};
 pub enum Status {
     /// It did what was asked.
     Completed,
-    /// A stream ended by a fault, also one of start-up, by the peer's Terminate, or by a link that broke; or
-    /// something outside failed: input or output, a port, another process.
+    /// A stream ended by a fault (of start-up too), by the peer's Terminate or by a broken link; or something outside
+    /// failed: input or output, a port, another process.
     Failed,
-    /// What was asked was refused, and nothing was done.
+    /// What was asked was refused before anything was done; or memory ran out, perhaps after some of it was done.
     Refused,
 }
 
@@ -25,8 +25,8 @@ impl Status {
         }
     }
 
-    /// How a run ends of which one part ends so, and a later one as `later`: completed where both are, and else as
-    /// the first that is not.
+    /// The status of a run with a part of this status and a later part of status `later`: that of the first part that
+    /// is not completed, or `Completed`.
     pub fn with(self, later: Status) -> Status
         ensures { result ≡ with self later }
     {

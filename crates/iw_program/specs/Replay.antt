@@ -16,7 +16,7 @@ use Rattle.iw_program.specs.declared.fault.ReplayFault.{ReplayFault}
 use Rattle.iw_program.specs.declared.fault.ReplayFault.TheVariants.{Refused, Input, Output}
 use Rattle.iw_program.specs.Status.{status_of}
 
--- the text is a schedule, the events of which have a trace that prints so and ends so
+-- the text is a schedule, whose trace prints so and has this status
 pub record Replays (text printed : List ℕ) (status : Status) : Type 0 where
   pub events : Events
   pub trace : List (Entry (List ℕ))
@@ -26,25 +26,25 @@ pub record Replays (text printed : List ℕ) (status : Status) : Type 0 where
   pub prints : printed ≡ trace_text trace
   pub ends : status ≡ status_of trace
 
--- the text is a schedule, the events of which stop so
+-- the text is a schedule, whose run stops with this fault
 pub record StopsIn (text : List ℕ) (fault : WorldFault) : Type 0 where
   pub events : Events
   pub reads : IsSchedule text events
   pub stops : StopsAt events fault
 
--- why a text has no trace; where memory ran out nothing is said of it
+-- why a text has no trace; if memory ran out, nothing is said of the text
 abbrev pub Refuses : List ℕ → Refusal → Type 0
 Refuses text (Schedule fault) = FirstFault text fault
 Refuses text (World fault) = StopsIn text fault
 Refuses text NoMemory = Unit {0}
 
--- ---- over an input and an output: what is known of their octets before and after
+-- ---- over an input and an output: their octets before and after, if they are known
 
 -- the whole input was this text
 abbrev pub IsRead : Option (List ℕ) → Option (List ℕ) → List ℕ → Type 0
 IsRead before after text = Consumes before after text × IsAtEnd after
 
--- reading fails by itself, or for want of memory
+-- reading fails by itself, or memory runs out
 abbrev pub IsReadFault : ReplayFault → Type 0
 IsReadFault (Refused NoMemory) = Unit {0}
 IsReadFault (Refused (Schedule fault)) = ⊥

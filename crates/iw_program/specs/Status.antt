@@ -33,7 +33,7 @@ sees_fault (seen.Terminated fault) = true
 sees_fault (seen.Fault fault) = true
 sees_fault seen.Idle = false
 
--- the source of a Read was denied as its octets were to be sent
+-- a Read Response could not be sent: the peer may not read what it asked for
 abbrev pub shows_fault : Shown (List ℕ) → Bool
 shows_fault (shown.Frame from octets) = false
 shows_fault (shown.Fetched from frame stag to octets) = false

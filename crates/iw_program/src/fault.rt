@@ -15,14 +15,14 @@ pub enum Refusal {
     Schedule(ScheduleFault),
     /// The schedule's events cannot happen.
     World(WorldFault),
-    /// There is no memory for the text or for its trace.
+    /// Out of memory for the text or its trace.
     NoMemory,
 }
 
-/// Why a replay wrote no whole trace.
+/// Why a replay did not write a whole trace.
 #[derive(Clone, Copy, Debug, PartialEq, Eq)]
 pub enum ReplayFault {
-    /// The input has no trace.
+    /// The text of the input has no trace.
     Refused(Refusal),
     /// The input could not be read to its end.
     Input,
@@ -31,7 +31,7 @@ pub enum ReplayFault {
 }
 
 impl ReplayFault {
-    /// How the program ends by this fault.
+    /// The program's status after this fault.
     pub fn status(self) -> Status
         ensures { result ≡ stopped_status self }
     {

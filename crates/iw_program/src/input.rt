@@ -9,7 +9,7 @@ use std::io::{ErrorKind, Read};
 /// The most reads of one input.
 const MAX_READS: u32 = 1_000_000;
 
-/// The most octets of one read: an input without end is at fault after some 4 GB.
+/// The most octets of one read. With `MAX_READS` it bounds an input to some 4 GB.
 const MAX_READ_OCTETS: usize = 4_096;
 
 // Reads once, and appends what was read. Returns whether the input may go on.
@@ -35,7 +35,7 @@ fn read_once<R: Read, A: Allocator>(
     }
 }
 
-/// Reads to the end of the input. An input that does not end within 1,000,000 reads is at fault.
+/// Reads to the end of the input. `Input`: a read failed, or the input did not end within 1,000,000 reads.
 pub(crate) fn read_text<R: Read, A: Allocator>(
     alloc: A,
     input: &mut R,

@@ -1,5 +1,5 @@
-//! What `iwarp replay` does, over any reader and writer: [`replay`] reads a schedule to the end, runs it, and writes
-//! the whole trace, or nothing where reading, running or printing was refused.
+//! What `iwarp replay` does, over any reader and writer: [`replay`] reads a schedule to the end of its input, runs it,
+//! and writes the whole trace; or nothing, if reading, running or printing was refused.
 #![tactic(auto)]
 
 mod fault;

@@ -10,9 +10,9 @@ use std::io::{Read, Write};
 
 /// Reads a schedule to the end of the input, runs it, and writes its trace.
 ///
-/// Where the schedule is not read, run or printed, nothing is written. Where the output fails, what it took is the
-/// front of the trace. An input that does not end within 1,000,000 reads is at fault, and so is an output that takes
-/// no octet while some are left.
+/// If the schedule cannot be read, run or printed, nothing is written. If the output fails, it took the front of the
+/// trace. An input that does not end within 1,000,000 reads has failed, and so has an output that takes no octet while
+/// some are left.
 pub fn replay<R: Read, W: Write, A: Allocator + Copy>(
     alloc: A,
     input: &mut R,

@@ -27,7 +27,7 @@ fn is_fault_seen<A: Allocator>(seen: &Seen<Bytes<A>>) -> bool
     }
 }
 
-// Whether a call to emit found that the source of a Read is denied.
+// Whether a call of `emit` found that the peer may not read what its Read asks for.
 fn is_fault_shown<A: Allocator>(shown: &Shown<Bytes<A>>) -> bool
     ensures { result ≡ shows_fault shown.now }
 {
@@ -37,7 +37,7 @@ fn is_fault_shown<A: Allocator>(shown: &Shown<Bytes<A>>) -> bool
     }
 }
 
-// Whether a stream ended by a fault, also one of start-up, or by the peer's Terminate.
+// Whether a stream ended by a fault (of start-up too) or by the peer's Terminate.
 fn is_fault_entry<A: Allocator>(entry: &Entry<Bytes<A>>) -> bool
     ensures { result ≡ is_fault entry.now }
 {
@@ -54,7 +54,7 @@ fn is_fault_entry<A: Allocator>(entry: &Entry<Bytes<A>>) -> bool
     }
 }
 
-/// How a run with this trace ends.
+/// The program's status after a run with this trace.
 pub(crate) fn trace_status<A: Allocator>(trace: &[Entry<Bytes<A>>]) -> Status
     ensures { result ≡ status_of trace.now }
 {

@@ -8,16 +8,16 @@ use iw_schedules::{print_trace, read_schedule};
 use iw_world::World;
 use std::alloc::{Allocator, Global};
 
-/// What a schedule's replay gives.
+/// The result of a schedule's replay.
 #[derive(Drop)]
 pub struct Replayed<A: Allocator = Global> {
     /// The trace, printed.
     pub trace: String<A>,
-    /// `Failed` where the trace has a fault, and else `Completed`.
+    /// `Failed` if a stream in the trace ends by a fault (of start-up too) or a Terminate, else `Completed`.
     pub status: Status,
 }
 
-/// Runs the schedule that the text is, and prints its trace.
+/// Runs a schedule, given as text, and prints its trace.
 pub fn replay_text<A: Allocator + Copy>(alloc: A, text: &[u8]) -> Result<Replayed<A>, Refusal>
     ensures replays { IfOk result (λ replayed. Replays text.now (string_bytes replayed.trace) replayed.status) }
     ensures refused { IfErr result (Refuses text.now) }

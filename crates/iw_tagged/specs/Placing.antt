@@ -1,4 +1,4 @@
--- The checks of a tagged segment that need its region, and what each failure is reported as.
+-- The checks of a tagged segment that need its region, and the fault by which each failure is reported.
 use Rattle.std.specs.Prelude.{ℕ, Option}
 use Rattle.std.specs.Option.{option_map}
 use Rattle.iw_octets.specs.declared.fault.Fault.{Fault}
@@ -9,7 +9,7 @@ use Rattle.iw_memory.specs.declared.refusal.Deny.TheVariants.{NotAssociated, Inv
 use Rattle.iw_memory.specs.declared.rights.Right.{Right}
 use Rattle.iw_memory.specs.Table.{Table, denial}
 
--- what a denial is reported as (RFC 5041 7.2; the right is RDMAP's, RFC 5040 4.8)
+-- the fault by which a denial is reported (RFC 5041 7.2; that of a right is RDMAP's, RFC 5040 4.8)
 abbrev pub denial_fault : Deny → Fault
 denial_fault NotAssociated = faults.TAGGED_NOT_ASSOCIATED
 denial_fault Invalid = faults.TAGGED_INVALID_STAG
@@ -17,6 +17,6 @@ denial_fault ToWrap = faults.TAGGED_OFFSET_WRAP
 denial_fault Bounds = faults.TAGGED_BOUNDS
 denial_fault Rights = faults.PROTECTION_RIGHTS
 
--- the first check that n octets past this header fail, for a stream of domain pd; none where n is 0
+-- the first check that n octets with this header fail, for a stream of domain pd; none if n is 0
 abbrev pub placing_fault : Table → ℕ → TaggedHead → ℕ → Right → Option Fault
 placing_fault table pd head n right = option_map denial_fault (denial table pd head.stag head.to n right)

@@ -1,16 +1,16 @@
 ghost use Rattle.iw_tagged.specs.Laws.{PartsCover, KnownParts, PassesWhereAllowed};
 
-/// The parts of a message cover it, in order, without a gap and without an empty part but that of an empty message.
+/// The parts of a message cover it, in order and without a gap. No part is empty, except that of an empty message.
 pub fn parts_cover()
     ensures { PartsCover }
 {}
 
-/// Parts worked by hand.
+/// Parts computed by hand.
 pub fn known_parts()
     ensures { KnownParts }
 {}
 
-/// `check` answers `Ok` exactly where a peer in the stream's domain may use the region so (RFC 5042).
+/// `check` answers `Ok` exactly if a peer of the stream's domain may use the region so (RFC 5042).
 pub fn passes_where_allowed()
     ensures { PassesWhereAllowed }
 {}

@@ -1,7 +1,7 @@
-//! Tagged messages: how one is cut into segments, and how a segment is checked against registered memory and placed in
-//! it (RFC 5041 4.2, 5.2 and 7.1).
+//! Tagged messages: how a message is cut into segments, and how a segment is checked against registered memory and
+//! placed there (RFC 5041 4.2, 5.2 and 7.1).
 //!
-//! No call takes memory.
+//! No call allocates.
 #![tactic(auto)]
 
 mod cutting;

@@ -5,7 +5,7 @@ ghost use Rattle.iw_octets.specs.Parts.{parts};
 use iw_octets::Part;
 use std::marker::Model;
 
-/// The parts of a message, in order. [`cut`](crate::cut) makes it.
+/// The parts of a message, in order: an iterator, made by [`cut`](crate::cut).
 #[derive(Drop)]
 pub struct Cut {
     offset: usize,

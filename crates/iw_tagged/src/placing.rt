@@ -9,7 +9,7 @@ use iw_memory::{Deny, Memory, Right};
 use iw_octets::{Fault, Stag, TaggedHead, gather};
 use std::alloc::Allocator;
 
-/// What was placed: `n` octets of a region, from tagged offset `to` on.
+/// What was placed: `n` octets in a region, at tagged offset `to`.
 #[derive(Clone, Copy, Debug, PartialEq, Eq)]
 pub struct Placed {
     pub stag: Stag,
@@ -17,10 +17,11 @@ pub struct Placed {
     pub n: usize,
 }
 
-/// Whether a segment with this header and `n` octets of payload may be placed, on a stream of domain `pd`: with the
-/// right `Write` for an RDMA Write, `Sink` for a Read Response. The fault is the first that applies: the STag is
-/// another domain's, it names no valid region, the offsets wrap, they leave the region, or the region does not grant
-/// the right (RFC 5041 7.1, RFC 5040 4.8). With no octets nothing is checked.
+/// `Ok` if a segment with this header and `n` octets of payload may be placed, on a stream of domain `pd`. Ask for the
+/// right `Write` for an RDMA Write, and `Sink` for a Read Response. With no octets nothing is checked.
+///
+/// The `Err` is the first of these that applies: the STag is another domain's; it names no valid region; the tagged
+/// offset wraps; the octets lie outside the region; the region does not grant the right (RFC 5041 7.1, RFC 5040 4.8).
 #[inline(always)]
 pub fn check<A: Allocator>(
     head: TaggedHead,
@@ -37,8 +38,8 @@ pub fn check<A: Allocator>(
     }
 }
 
-/// Places a segment's payload, `n` octets in pieces, in the region that its header names, where `check` answers `Ok`:
-/// the octets of the pieces, joined, and nothing else changes. An `Err` is that of `check`, and changes nothing.
+/// Places a segment's payload, `n` octets in pieces, in the region that its header names, if [`check`] answers `Ok`.
+/// Nothing else changes. An `Err` is that of `check`, and changes nothing.
 #[inline(always)]
 pub fn place<'a, A: Allocator, I: Iterator<Item = &'a [u8]>>(
     head: TaggedHead,
@@ -63,7 +64,7 @@ pub fn place<'a, A: Allocator, I: Iterator<Item = &'a [u8]>>(
     Ok(Placed { stag, to, n })
 }
 
-/// What a denial is reported as.
+/// The fault by which a denial is reported.
 fn fault_of(deny: Deny) -> Fault
     ensures { result ≡ denial_fault deny }
 {

@@ -1,9 +1,9 @@
--- What may be said of the definitions, beside the calls.
+-- What holds of the definitions.
 use Rattle.std.specs.Prelude.{ℕ, ◌≡◌, ◌≢◌, ◌+◌, ◌%◌, ◌^◌, ◌<◌, List, [], ◌∷◌, length, take, drop, replicate, unwrap_or, IsSome, Some, None}
 use Rattle.iw_octets.specs.declared.fault.TheConstants.Fault as faults
 use Rattle.iw_untagged.specs.Receiving.{Source, Posted, Receiving, receiving_from, sharing, HoldsPlaces, lent, pool_in, ahead_of, buffer_in, buffer_for, buffer_fault, bound_to, turn_fault, written, turned, received, finished, first_buffer, flushed}
 
--- the oldest buffer has the number that is due, and each next one number more, modulo 2^32
+-- the oldest buffer is for the due message, and each next buffer for the next number, modulo 2^32
 abbrev pub NumbersFollow : Type 0
 NumbersFollow = (due i : ℕ) → due < 2 ^ 32 → i < 2 ^ 32 → ahead_of due ((due + i) % 2 ^ 32) ≡ i
 
@@ -14,7 +14,7 @@ octets_before r msn = unwrap_or (buffer_for r.source (ahead_of r.due msn)) []
 abbrev pub octets_after : Receiving → ℕ → ℕ → List ℕ → List ℕ
 octets_after r msn mo octets = unwrap_or (buffer_in (written r msn mo octets).source (ahead_of r.due msn)) []
 
--- that buffer has these octets from mo on, and what stands before and past them stays, as do all other buffers
+-- that buffer has these octets at mo; what stands before and after them stays, and so do all other buffers
 pub record PlacesAt (r : Receiving) (msn mo : ℕ) (octets : List ℕ) : Type 0 where
   pub there : take (length octets) (drop mo (octets_after r msn mo octets)) ≡ octets
   pub before : take mo (octets_after r msn mo octets) ≡ take mo (octets_before r msn)
@@ -35,14 +35,14 @@ pub record BindsAt (source : Source) (ahead : ℕ) : Type 0 where
 abbrev pub BindsThereAlone : Type 0
 BindsThereAlone = (source : Source) (ahead : ℕ) → BindsAt source ahead
 
--- two buffers of one octet; the numbers wrap past the first message
+-- two buffers of one octet; the numbers wrap after the first message
 abbrev pub last_number : ℕ
 last_number = 0xffff_ffff
 
 abbrev pub two_posted : Receiving
 two_posted = record (receiving_from last_number) { source = Posted ((0 ∷ []) ∷ (0 ∷ []) ∷ []) }
 
--- values that the definitions compute to there
+-- the values that the definitions have there
 pub record KnownAnswers : Type 0 where
   pub oldest : buffer_fault two_posted last_number 0 1 ≡ None
   pub youngest : buffer_fault two_posted 0 0 1 ≡ None
@@ -76,7 +76,7 @@ two_buffers = replicate 484 0 ∷ short_one
 abbrev pub second_placed : Receiving
 second_placed = written (lent sharing two_buffers) 2 0 (0x68 ∷ 0x69 ∷ [])
 
--- values that the definitions compute to, where queues share a pool
+-- the values that the definitions have if queues share a pool
 pub record PooledAnswers : Type 0 where
   pub goes_in : buffer_fault (lent sharing one_buffer) 1 0 2 ≡ None
   pub is_taken : pool_in first_placed.source ≡ []

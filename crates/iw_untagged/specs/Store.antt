@@ -1,4 +1,4 @@
--- What the buffers that a queue holds mean.
+-- What the buffers in memory stand for.
 use Rattle.iw_untagged.specs.declared.buffers.Buffers.{Buffers}
 use Rattle.iw_untagged.specs.declared.buffers.Buffers.TheVariants.{Own, Shared}
 use Rattle.iw_untagged.specs.Receiving.{Source, Posted, Pooled}

@@ -14,15 +14,15 @@ use std::alloc::{AllocError, Allocator};
 use std::collections::VecDeque;
 use std::mem::swap;
 
-/// How many messages have a place in a queue that shares a pool.
+/// How many messages, from the due one on, may have a buffer in a queue that shares a pool.
 const PLACES: usize = 256;
 
 /// The buffers of a receive queue.
 #[derive(Drop)]
 pub(crate) enum Buffers<A: Allocator> {
-    /// They were posted to it, oldest first.
+    /// Those posted to the queue, oldest first.
     Own(VecDeque<Octets<A>, A>),
-    /// They come from a pool that other queues share.
+    /// Those from a pool that other queues share.
     Shared(Box<Bound<A>, A>),
 }
 
@@ -31,7 +31,7 @@ pub(crate) enum Buffers<A: Allocator> {
 pub(crate) struct Bound<A: Allocator> {
     /// A place for each of the next 256 messages, with the buffer that is bound to it.
     pub(crate) places: VecDeque<Option<Octets<A>>, A>,
-    /// The pool, where it is lent.
+    /// The pool, while it is lent; else an empty one.
     pub(crate) pool: SharedQueue<A>,
 }
 
@@ -51,7 +51,7 @@ impl<A: Allocator> Buffers<A> {
         Ok(Buffers::Shared(bound))
     }
 
-    /// Exchanges the pool that is lent.
+    /// Exchanges `pool` with the one that is lent.
     pub(crate) fn lend(&mut self, pool: &mut SharedQueue<A>)
         ensures source { source_of self.new ≡ seeing (source_of self.old) pool.old }
         ensures pool { pool.new ≡ exchanged (source_of self.old) pool.old }
@@ -62,8 +62,7 @@ impl<A: Allocator> Buffers<A> {
         }
     }
 
-    /// How many octets the buffer has to which a segment of the message so far ahead goes; `None` where there is no buffer for
-    /// it.
+    /// The length of the buffer for the message that is `ahead` after the due one; `None` if there is no buffer for it.
     #[inline(always)]
     pub(crate) fn len_for(&self, ahead: usize) -> Option<usize>
         ensures { result ≡ option_map length (buffer_for (source_of self.now) ahead) }
@@ -74,7 +73,7 @@ impl<A: Allocator> Buffers<A> {
         }
     }
 
-    /// How many octets the buffer of the message that is due has; `None` where it has no buffer.
+    /// The length of the due message's buffer; `None` if it has none.
     pub(crate) fn due_len(&self) -> Option<usize>
         ensures { result ≡ option_map length (buffer_in (source_of self.now) 0) }
     {
@@ -94,7 +93,7 @@ impl<A: Allocator> Buffers<A> {
         }
     }
 
-    /// Binds the pool's oldest buffer to the message so far ahead, where none is bound to it.
+    /// Binds the pool's oldest buffer to the message that is `ahead` after the due one, unless one is bound to it.
     #[inline(always)]
     pub(crate) fn bind(&mut self, ahead: usize)
         requires there { IsSome (buffer_for (source_of self.old) ahead) }
@@ -106,8 +105,7 @@ impl<A: Allocator> Buffers<A> {
         }
     }
 
-    /// Writes pieces, one after the other, over the octets that stand from a place on in the buffer of the message so far
-    /// ahead.
+    /// Writes pieces, one after the other, into the buffer of the message that is `ahead` after the due one.
     pub(crate) fn write<'a, I: Iterator<Item = &'a [u8]>>(
         &mut self,
         ahead: usize,
@@ -129,7 +127,7 @@ impl<A: Allocator> Buffers<A> {
         }
     }
 
-    /// Takes the buffer of the message that is due, and each message is one less ahead.
+    /// Takes the due message's buffer. The next message is due then.
     pub(crate) fn take_due(&mut self) -> Octets<A>
         requires there { IsSome (buffer_in (source_of self.old) 0) }
         ensures buffer { result ≡ due_buffer (source_of self.old) }
@@ -141,7 +139,7 @@ impl<A: Allocator> Buffers<A> {
         }
     }
 
-    /// Takes the buffer of the first message that has one.
+    /// Takes the buffer of the first message that has one; `None` if none has.
     pub(crate) fn take_first(&mut self) -> Option<Octets<A>>
         ensures buffer { result ≡ first_buffer (source_of self.old) }
         ensures source { source_of self.new ≡ without_first (source_of self.old) }
@@ -202,7 +200,7 @@ fn count_bound<A: Allocator>(places: &VecDeque<Option<Octets<A>>, A>) -> usize
     places.iter().filter(|place| place.is_some()).count()
 }
 
-// Takes the pool's oldest buffer for the message so far ahead, where none is bound to it.
+// Binds the pool's oldest buffer to the message that is `ahead` after the due one, unless one is bound to it.
 fn bind_place<A: Allocator>(bound: &mut Bound<A>, ahead: usize)
     requires { IsSome (buffer_for (Pooled bound.old.places.items bound.old.pool) ahead) }
     ensures { Pooled bound.new.places.items bound.new.pool ≡ bound_to (Pooled bound.old.places.items bound.old.pool) ahead }
@@ -210,7 +208,7 @@ fn bind_place<A: Allocator>(bound: &mut Bound<A>, ahead: usize)
     fill_place(&mut bound.places[ahead], &mut bound.pool);
 }
 
-// The same at its place.
+// The same, given the message's place.
 fn fill_place<A: Allocator>(place: &mut Option<Octets<A>>, pool: &mut SharedQueue<A>)
     ensures place { place.new ≡ option_or place.old (slice_get pool.old 0) }
     ensures pool { pool.new ≡ (if is_none place.old then drop 1 pool.old else pool.old) }
@@ -252,7 +250,7 @@ fn shift<A: Allocator>(places: &mut VecDeque<Option<Octets<A>>, A>) -> Octets<A>
     buffer
 }
 
-// The first place that has a buffer; the number of places where none has.
+// The first place that has a buffer; the number of places if none has.
 fn first_bound<A: Allocator>(places: &VecDeque<Option<Octets<A>>, A>) -> usize
     ensures { result ≡ position_or_len is_some places.now.items }
 {
@@ -276,7 +274,7 @@ fn take_bound<A: Allocator>(places: &mut VecDeque<Option<Octets<A>>, A>) -> Opti
     places[index].take()
 }
 
-// Writes pieces, one after the other, over the octets that stand from a place on.
+// Writes pieces, one after the other, over the octets from a place on.
 fn write_pieces<'a, A: Allocator, I: Iterator<Item = &'a [u8]>>(
     buffer: &mut Octets<A>,
     at: usize,

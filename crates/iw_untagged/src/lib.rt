@@ -1,8 +1,9 @@
-//! The receive queue: buffers for untagged messages, which are placed in any order of their segments and delivered in
+//! The receive queue: buffers for untagged messages. Segments are placed in any order, and messages are delivered in
 //! order (RFC 5041 4.3, 5.2 and 5.4, queue number 0).
 //!
-//! A buffer serves one message. Buffers are posted to a queue, and the oldest serves the message that is due; or several
-//! queues share a pool of them. Only `post` and the making of a queue take memory.
+//! A buffer holds one message. Buffers are posted to a queue, and the oldest holds the next message; or several queues
+//! share a pool of buffers. A segment *has its turn* when all segments before it had theirs. The message that is *due*
+//! is the oldest that is not yet delivered. Only `post` and the constructors allocate.
 #![tactic(auto)]
 
 mod buffers;

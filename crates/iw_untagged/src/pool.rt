@@ -40,9 +40,10 @@ impl<A: Allocator> SharedQueue<A> {
         })
     }
 
-    /// Posts a buffer after the others: at most 1,024. An `Err` changes nothing, and has the buffer.
+    /// Posts a buffer, after the others; a pool holds at most 1,024. An `Err` changes nothing and gives the buffer
+    /// back.
     pub fn post(&mut self, buffer: Vec<u8, A>) -> Result<(), (BufferRefusal, Vec<u8, A>)>
-        // The refusal, where one applies, and otherwise want of memory alone.
+        // The first refusal that applies; if none does, only `NoMemory`.
         ensures refused { IfSome (pool_refusal self.old) (λ refusal. IfErr result (λ e. e.0 ≡ refusal) × IsErr result) }
         ensures memory { IfNone (pool_refusal self.old) (IfErr result (λ e. e.0 ≡ BufferRefusal.NoMemory)) }
         ensures back { IfErr result (λ e. e.1 ≡ buffer) }
@@ -59,7 +60,7 @@ impl<A: Allocator> SharedQueue<A> {
         Ok(())
     }
 
-    /// Takes the oldest buffer out; `None` where the pool has none.
+    /// Takes the oldest buffer out; `None` if the pool is empty.
     pub fn take(&mut self) -> Option<Vec<u8, A>>
         ensures buffer { option_map (λ buffer. buffer.items) result ≡ slice_get self.old 0 }
         ensures after { self.new ≡ drop 1 self.old }
@@ -70,7 +71,7 @@ impl<A: Allocator> SharedQueue<A> {
         }
     }
 
-    // The same, as it is kept.
+    // The same, without turning it into a vector.
     pub(crate) fn take_oldest(&mut self) -> Option<Octets<A>>
         ensures buffer { result ≡ slice_get self.old 0 }
         ensures after { self.new ≡ drop 1 self.old }
@@ -93,7 +94,7 @@ impl<A: Allocator> SharedQueue<A> {
         self.buffers.is_empty()
     }
 
-    /// How many octets the oldest buffer has; `None` where the pool has none.
+    /// The length of the oldest buffer; `None` if the pool is empty.
     pub fn room(&self) -> Option<usize>
         ensures { result ≡ option_map length (slice_get self.now 0) }
     {

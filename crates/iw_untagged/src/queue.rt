@@ -17,26 +17,26 @@ use thiserror::Error;
 // How many buffers may be posted.
 const MAX_BUFFERS: usize = 256;
 
-// A message sequence number so far ahead is out of range.
+// A message sequence number this far past the due one is out of range.
 const MSN_RANGE: u32 = 256;
 
 /// Why a receive buffer was not posted: the first reason that holds.
 #[derive(Clone, Copy, Debug, PartialEq, Eq, Error)]
 pub enum BufferRefusal {
-    /// As many buffers are posted as may be: 256 to a queue, 1,024 to a pool. A queue that shares a pool has room for none.
+    /// A queue has 256 buffers, or a pool 1,024. A queue that shares a pool takes none.
     #[error("as many buffers are posted as may be")]
     Full,
-    /// There is no memory.
+    /// Out of memory.
     #[error("no memory")]
     NoMemory,
 }
 
-/// The receive buffers of a stream, and how much of the message that is due has had its turn. Message sequence numbers
-/// count modulo 2^32.
+/// The receive buffers of a stream, and how much of the due message had its turn. Message sequence numbers count modulo
+/// 2^32.
 ///
-/// The buffers were posted to the queue, and each serves one message: the oldest the one that is due, and each next one the
-/// next. Or the queue shares a pool of buffers with others ([`RecvQueue::shared`]): the pool's oldest buffer is bound to a
-/// message when the first segment of that message is placed, whichever it is, and stays there until it is handed out.
+/// Either the buffers were posted to the queue: the oldest is for the due message, and each next one for the next
+/// message. Or the queue shares a pool with others ([`RecvQueue::shared`]): when a segment of a message that has no
+/// buffer is placed, the pool's oldest buffer is bound to that message, and stays bound until it is handed out.
 #[derive(Drop)]
 pub struct RecvQueue<A: Allocator = Global> {
     buffers: Buffers<A>,
@@ -62,14 +62,14 @@ impl<A: Allocator> RecvQueue<A> {
     ghost use Rattle.iw_untagged.specs.Receiving.{turn_fault, HasRoom, turned, due_buffer, received, finished};
     ghost use Rattle.iw_untagged.specs.Receiving.{first_buffer, flushed, count_in};
 
-    /// A queue to which no buffer is posted. Its first message has the number 1.
+    /// A queue with no buffer, whose first message has the number 1. It allocates nothing, and answers `Ok`.
     pub fn new(alloc: A) -> Result<RecvQueue<A>, AllocError>
         ensures { IsOkAnd result (λ queue. queue ≡ receiving_from 1) }
     {
         RecvQueue::starting_at(alloc, 1)
     }
 
-    /// A queue to which no buffer is posted, whose first message has this number.
+    /// A queue with no buffer, whose first message has this number. It allocates nothing, and answers `Ok`.
     pub fn starting_at(alloc: A, msn: u32) -> Result<RecvQueue<A>, AllocError>
         ensures { IsOkAnd result (λ queue. queue ≡ receiving_from msn) }
     {
@@ -80,8 +80,8 @@ impl<A: Allocator> RecvQueue<A> {
         })
     }
 
-    /// A queue that shares a pool, with no buffer bound. Its first message has the number 1. It takes the memory of all
-    /// that it will keep at once, so that no placement takes any.
+    /// A queue that shares a pool, with no buffer bound. Its first message has the number 1. It allocates all that it
+    /// will ever need, so placing never allocates. An `Err` means out of memory.
     pub fn shared(alloc: A) -> Result<RecvQueue<A>, AllocError>
     where
         A: Copy,
@@ -105,9 +105,9 @@ impl<A: Allocator> RecvQueue<A> {
         }
     }
 
-    /// Posts a buffer after the others. An `Err` changes nothing, and has the buffer.
+    /// Posts a buffer, after the others. An `Err` changes nothing and gives the buffer back.
     pub fn post(&mut self, buffer: Vec<u8, A>) -> Result<(), (BufferRefusal, Vec<u8, A>)>
-        // The refusal, where one applies, and otherwise want of memory alone.
+        // The first refusal that applies; if none does, only `NoMemory`.
         ensures refused { IfSome (full_refusal self.old) (λ refusal. IfErr result (λ e. e.0 ≡ refusal) × IsErr result) }
         ensures memory { IfNone (full_refusal self.old) (IfErr result (λ e. e.0 ≡ BufferRefusal.NoMemory)) }
         ensures back { IfErr result (λ e. e.1 ≡ buffer) }
@@ -127,7 +127,7 @@ impl<A: Allocator> RecvQueue<A> {
         Ok(())
     }
 
-    /// How many buffers the queue has: posted to it, or bound to a message.
+    /// How many buffers the queue has: those posted to it, or those bound to a message.
     pub fn len(&self) -> usize
         ensures { result ≡ count_in self.now.source }
     {
@@ -141,14 +141,14 @@ impl<A: Allocator> RecvQueue<A> {
         self.buffers.len() == 0
     }
 
-    /// How many octets the buffer of the message that is due has; `None` where it has no buffer.
+    /// The length of the due message's buffer; `None` if it has none.
     pub fn room(&self) -> Option<usize>
         ensures { result ≡ option_map length (buffer_in self.now.source 0) }
     {
         self.buffers.due_len()
     }
 
-    // How many octets the message that is due may have: 0 where it has no buffer.
+    // The length of the due message's buffer; 0 if it has none.
     fn due_len(&self) -> usize
         ensures { result ≡ length (due_buffer self.now.source) }
     {
@@ -158,15 +158,15 @@ impl<A: Allocator> RecvQueue<A> {
         }
     }
 
-    /// The limits that the queue keeps.
+    /// Does nothing; its clause states the limits that the queue keeps.
     pub fn limits(&self)
         ensures { HoldsLimits self.now }
     {
         let _ = &self.buffers;
     }
 
-    /// Lends a pool to the queue, and takes back the one that was lent before: they are exchanged. A queue that shares none
-    /// takes none.
+    /// Exchanges `pool` with the pool that is lent to the queue: call it once to lend a pool, and again to take it
+    /// back. It does nothing if the queue does not share a pool.
     pub fn lend(&mut self, pool: &mut SharedQueue<A>)
         ensures after { self.new ≡ lent self.old pool.old }
         ensures pool { pool.new ≡ exchanged self.old.source pool.old }
@@ -181,14 +181,16 @@ impl<A: Allocator> RecvQueue<A> {
         msn.wrapping_sub(self.due)
     }
 
-    /// Writes the payload of a segment, `n` octets in pieces, into the buffer of the message `msn`, from the message's
-    /// octet `mo` on. Segments may be placed in any order, also before their turns, and those of a later message before
-    /// those of the one that is due. It takes no memory. An `Err` changes nothing, and is the first that applies: the
-    /// number is out of range (256 or more ahead of the one that is due), there is no buffer for it, or the octets would
-    /// not all lie in the buffer, also where there are none (RFC 5041 7.1).
+    /// Writes the payload of a segment, `n` octets in pieces, into the buffer of message `msn`, at message offset `mo`.
+    /// Segments may be placed in any order: before their turns, and those of a later message before those of the due
+    /// one. It allocates nothing.
     ///
-    /// In a queue that shares a pool, where no buffer is bound to the message, the segment goes to the oldest of the pool that
-    /// is lent, and that is bound to the message from then on.
+    /// If the queue shares a pool and the message has no buffer, the oldest buffer of the pool that is lent is bound to
+    /// it.
+    ///
+    /// An `Err` changes nothing. It is the first of these that applies: `msn` is out of range (256 or more after the
+    /// due one); there is no buffer for it; or the segment ends past the end of the buffer, even if it is empty (RFC
+    /// 5041 7.1).
     pub fn place<'a, I: Iterator<Item = &'a [u8]>>(
         &mut self,
         msn: u32,
@@ -211,7 +213,7 @@ impl<A: Allocator> RecvQueue<A> {
         Ok(())
     }
 
-    /// The same out of this pool, which is lent to the queue for the call.
+    /// As [`RecvQueue::place`], with this pool lent to the queue for the call.
     pub fn place_shared<'a, I: Iterator<Item = &'a [u8]>>(
         &mut self,
         pool: &mut SharedQueue<A>,
@@ -235,7 +237,7 @@ impl<A: Allocator> RecvQueue<A> {
         placed
     }
 
-    // Whether there is a buffer for the message, and it has room for `n` octets from `mo` on.
+    // `Ok` if there is a buffer for the message, with room for `n` octets at offset `mo`.
     #[inline(always)]
     fn check(&self, msn: u32, mo: u32, n: usize) -> Result<(), Fault>
         ensures { result_err result ≡ buffer_fault self.now msn mo n }
@@ -253,10 +255,12 @@ impl<A: Allocator> RecvQueue<A> {
         Ok(())
     }
 
-    /// Gives a segment of `n` octets that was placed its turn. The segments of a message must have their turns in
-    /// order, and the messages in the order of their numbers. It takes no memory. An `Err` changes nothing, and is the
-    /// first that applies: another message is due, or `mo` is not the number of octets of the message that had their
-    /// turn. Where `msn` is the message that is due, its buffer is there and has room for the segment.
+    /// Gives a placed segment of `n` octets its turn. The segments of a message must have their turns in order, and the
+    /// messages in the order of their numbers. It allocates nothing. If message `msn` is due, it must have a buffer
+    /// with room for the segment.
+    ///
+    /// An `Err` changes nothing. It is the first of these that applies: another message is due; or `mo` is not the
+    /// number of octets of the message that had their turn.
     pub fn turn(&mut self, msn: u32, mo: u32, n: usize) -> Result<(), Fault>
         requires { msn ≡ self.old.due → HasRoom self.old (mo + n) }
         ensures refused { result_err result ≡ turn_fault self.old msn mo }
@@ -275,8 +279,8 @@ impl<A: Allocator> RecvQueue<A> {
         Ok(())
     }
 
-    /// Hands out the message that is due, all of whose segments had their turn, with its buffer. The next message is
-    /// due then. The message must have a buffer. It takes no memory.
+    /// Hands out the due message with its buffer. Its octets are those that had their turn. The next message is due
+    /// then. The message must have a buffer. It allocates nothing.
     pub fn finish(&mut self) -> Received<Octets<A>>
         requires { IsSome (buffer_in self.old.source 0) }
         ensures message { result ≡ received self.old }
@@ -291,8 +295,8 @@ impl<A: Allocator> RecvQueue<A> {
         Received { msn, buffer, len }
     }
 
-    /// Hands back the buffer of the first message that has one, whole, without a message; `None` where none has. The number
-    /// that is due stays. It takes no memory.
+    /// Hands back, whole and without a message, the buffer of the first message that has one; `None` if none has. The
+    /// number of the due message stays. It allocates nothing.
     pub fn flush(&mut self) -> Option<Vec<u8, A>>
         ensures buffer { option_map (λ buffer. buffer.items) result ≡ first_buffer self.old.source }
         ensures after { self.new ≡ flushed self.old }
@@ -303,7 +307,7 @@ impl<A: Allocator> RecvQueue<A> {
     }
 }
 
-// Whether `n` octets from place `at` on lie within so many octets.
+// Whether `n` octets at place `at` lie within `len` octets.
 fn has_room(len: usize, at: usize, n: usize) -> bool
     ensures { result ≡ nat_le (at + n) len }
 {
