@@ -4,8 +4,8 @@
 //! [`Rights`] (`register`, which answers the [`Stag`]), and takes them out again (`deregister`). `invalidate` ends the
 //! use of a region by peers; `local`, `local_mut` and `store` are the owner's own and work on invalid regions too.
 //!
-//! What a peer may use is asked by `check`: the part that an STag, a tagged offset and a length name is lent by `part`
-//! or `part_mut` where the region is valid, of the stream's domain, in bounds and with the [`Right`]; otherwise a
+//! `check` says whether a peer may use the part that an STag, a tagged offset and a length name; `part` and `part_mut`
+//! lend it. The region must be valid, of the stream's domain, and long enough, and must grant the [`Right`]; otherwise a
 //! [`Deny`] says why not. Only `new` and `register` take memory.
 #![tactic(auto)]
 

@@ -16,7 +16,7 @@ use slab::Slab;
 use std::alloc::{AllocError, Allocator, Global};
 use std::marker::Model;
 
-// How many regions a domain may have.
+// The most regions of a domain.
 const MAX_SLOTS: usize = 1024;
 
 /// The registered regions of an endpoint, by domain. An STag names a region by its domain, its slot there, and a key
@@ -50,7 +50,7 @@ impl<A: Allocator> Memory<A> {
     ghost use Rattle.iw_memory.specs.Laws.{IsWithin, HoldsLimits};
     ghost use Rattle.iw_memory.specs.TableLending.{LendsPart, LendsNothing, LendsOctetsAt, LendsLocal};
 
-    /// A memory with no domain. An `Err` is want of memory.
+    /// A memory with no domain. `Err` if out of memory.
     pub fn new(alloc: A) -> Result<Memory<A>, AllocError>
     where
         A: Copy,
@@ -93,9 +93,9 @@ impl<A: Allocator> Memory<A> {
         self.domains[pd as usize].is_some()
     }
 
-    /// Registers octets as a valid region whose tagged offsets go from `base` on, in the domain's lowest free slot,
-    /// and tells its STag. The key is 0 at the slot's first use, and one more, modulo 256, at each later one.
-    /// `NoMemory` comes only where no other refusal applies. An `Err` changes nothing, and has the octets.
+    /// Registers octets as a valid region in the domain's lowest free slot, and answers its STag. Its tagged offsets
+    /// begin at `base`. The key is 0 at the slot's first use, and one more, modulo 256, at each later use.
+    /// `NoMemory` comes only if no other refusal applies. An `Err` changes nothing, and gives the octets back.
     pub fn register(
         &mut self,
         pd: u8,
@@ -103,7 +103,7 @@ impl<A: Allocator> Memory<A> {
         octets: Vec<u8, A>,
         rights: Rights,
     ) -> Result<Stag, (RegisterRefusal, Vec<u8, A>)>
-        // The refusal, where one applies, and otherwise want of memory alone.
+        // The refusal that applies, or out of memory.
         ensures refused { IfSome (register_refusal self.old pd base (length octets.items))
             (λ refusal. IfErr result (λ e. e.0 ≡ refusal) × IsErr result) }
         ensures memory { IfNone (register_refusal self.old pd base (length octets.items))
@@ -145,8 +145,8 @@ impl<A: Allocator> Memory<A> {
         Ok(slot)
     }
 
-    // Stores a region in the domain's lowest free slot, and tells its key. An `Err` changes nothing, and has the
-    // octets.
+    // Stores a region in the domain's lowest free slot, and answers its key. An `Err` changes nothing, and gives the
+    // octets back.
     fn hold(
         &mut self,
         pd: u8,
@@ -217,7 +217,7 @@ impl<A: Allocator> Memory<A> {
         Ok(())
     }
 
-    /// Invalidates a region where a peer in domain `pd` asks for it, by a Send with Invalidate (RFC 5040).
+    /// Invalidates a region because a peer in domain `pd` asks for it, by a Send with Invalidate (RFC 5040 5.3).
     /// An `Err` changes nothing.
     pub fn invalidate_remote(&mut self, pd: u8, stag: Stag) -> Result<(), InvalidateDeny>
         ensures denied { result_err result ≡ invalidate_denial self.old pd stag }
@@ -247,7 +247,7 @@ impl<A: Allocator> Memory<A> {
         let _ = &self.domains;
     }
 
-    /// What is told of a region, valid or not; `None` where the STag names none.
+    /// The facts of a region, valid or not. `None` if the STag names none.
     pub fn facts(&self, stag: Stag) -> Option<Facts>
         ensures facts { result ≡ option_map facts_of (region_at self.now stag) }
         ensures limits { IfSome result (λ facts. IsWithinLimits facts.base facts.len) }
@@ -261,7 +261,7 @@ impl<A: Allocator> Memory<A> {
         })
     }
 
-    /// A region's octets, for its owner; `None` where the STag names none.
+    /// A region's octets, for its owner. `None` if the STag names none.
     pub fn local(&self, stag: Stag) -> Option<&[u8]>
         ensures { option_copied result ≡ option_map (λ r. r.octets) (region_at self.now stag) }
     {
@@ -306,8 +306,8 @@ impl<A: Allocator> Memory<A> {
         self.regions.get(at)
     }
 
-    /// The `n` octets of the region from tagged offset `to` on, where a peer in domain `pd` may use them so.
-    /// With `n` = 0 nothing is checked, and the part is empty.
+    /// The `n` octets of the region from tagged offset `to` on, if a peer in domain `pd` may use them so.
+    /// If `n` is 0, nothing is checked, and the part is empty.
     pub fn part(&self, pd: u8, stag: Stag, to: u64, n: usize, right: Right) -> Result<&[u8], Deny>
         ensures denied { result_err result ≡ denial self.now pd stag to n right }
         ensures octets { IfOk result (λ part. part.now ≡ octets_at self.now stag to n) }
@@ -320,7 +320,7 @@ impl<A: Allocator> Memory<A> {
     }
 
     /// Whether a peer in domain `pd` may use the `n` octets of the region from tagged offset `to` on so.
-    /// With `n` = 0 nothing is checked. It takes constant time.
+    /// If `n` is 0, nothing is checked. It takes constant time.
     #[inline(always)]
     pub fn check(&self, pd: u8, stag: Stag, to: u64, n: usize, right: Right) -> Result<(), Deny>
         ensures { result_err result ≡ denial self.now pd stag to n right }
@@ -331,7 +331,7 @@ impl<A: Allocator> Memory<A> {
         Ok(())
     }
 
-    // The stored region, and where the octets from `to` on stand in it, where a peer may use them so.
+    // The stored region, and the index of the octet at tagged offset `to`, if a peer may use the octets so.
     #[inline(always)]
     fn admit(
         &self,
@@ -357,8 +357,8 @@ impl<A: Allocator> Memory<A> {
         Ok((stored, at))
     }
 
-    /// The `n` octets of the region from tagged offset `to` on for writing. `check` must have answered `Ok` to the same
-    /// arguments, as it does to any with `n` = 0. What is left in the part is put there. It takes constant time.
+    /// The `n` octets of the region from tagged offset `to` on, for writing. `check` must have answered `Ok` to the
+    /// same arguments, as it does if `n` is 0. It takes constant time.
     #[inline(always)]
     pub fn part_mut(&mut self, pd: u8, stag: Stag, to: u64, n: usize, right: Right) -> &mut [u8]
         requires { denial self.old pd stag to n right ≡ None }

@@ -9,7 +9,7 @@ pub enum DomainRefusal {
     /// The domain was added before.
     #[error("the domain was added before")]
     DomainTaken,
-    /// There is no memory. A domain takes none before its first region, so this is never answered.
+    /// Out of memory. A domain takes no memory before its first region, so this is never answered.
     #[error("no memory")]
     NoMemory,
 }
@@ -29,7 +29,7 @@ pub enum RegisterRefusal {
     /// The base and the number of octets come to more than 2^64.
     #[error("the tagged offsets wrap")]
     BaseWrap,
-    /// There is no memory for the region.
+    /// Out of memory.
     #[error("no memory")]
     NoMemory,
 }

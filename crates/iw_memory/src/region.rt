@@ -14,10 +14,11 @@ use std::marker::Model;
 pub struct Facts {
     /// The tagged offset of its first octet.
     pub base: u64,
-    /// How many octets it has.
+    /// Its length in octets.
     pub len: usize,
+    /// What it may be used for.
     pub rights: Rights,
-    /// Whether a peer may use it.
+    /// Whether peers may use it: false once it is invalidated.
     pub valid: bool,
 }
 
@@ -45,7 +46,7 @@ impl<A: Allocator> Model for Stored<A> {
 }
 
 impl<A: Allocator> Stored<A> {
-    /// Where the octets from `to` on stand, where `n` of them may be used so.
+    /// The index of the octet at tagged offset `to`, if the `n` octets from there on may be used so.
     #[inline(always)]
     pub(crate) fn place(&self, to: u64, n: usize, right: Right) -> Result<usize, Deny>
         requires { 0 < n }
@@ -86,7 +87,7 @@ impl<A: Allocator> Stored<A> {
         at <= len as u64 && n <= len - at as usize
     }
 
-    /// The octets of a region that is stored no longer.
+    /// The region's octets, once it is stored no longer.
     pub(crate) fn into_octets(self) -> Vec<u8, A>
         ensures { result.items ≡ self.region.octets }
     {

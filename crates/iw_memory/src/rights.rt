@@ -4,7 +4,7 @@ ghost use Rattle.iw_memory.specs.Region.{grants};
 
 use std::fmt;
 
-/// What a region may be used for. It prints as letters of `wrsi`, in this order, or as `-` where nothing is granted.
+/// What a region may be used for. It prints as letters of `wrsi`, in this order, or as `-` if nothing is granted.
 #[derive(Clone, Copy, Debug, Default, PartialEq, Eq)]
 pub struct Rights {
     /// A peer's Writes may be placed in it.
@@ -17,7 +17,7 @@ pub struct Rights {
     pub invalidate: bool,
 }
 
-/// One use that is made of a region.
+/// One use of a region.
 #[derive(Clone, Copy, Debug, PartialEq, Eq)]
 pub enum Right {
     /// A peer's Write is placed.
@@ -64,7 +64,7 @@ impl fmt::Display for Rights {
     }
 }
 
-// A letter where this is granted.
+// The letter, if the right is granted.
 fn letter(granted: bool, letter: &str) -> &str
     ensures { result.now ≡ letter_of granted letter.now }
 {

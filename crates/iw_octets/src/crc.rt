@@ -7,7 +7,7 @@ use crate::fold::folded;
 use crate::tables::{TURN_TABLES, WORD_TABLES};
 use std::marker::Model;
 
-/// The remainder that an octet leaves after the steps of its word's rest.
+/// The remainder that an octet of a word leaves after the steps of the octets behind it.
 fn word_entry(place: usize, octet: u8) -> u32
     requires { place < 8 }
     ensures { result ≡ after_bits (64 - 8 * place) octet }
@@ -15,6 +15,7 @@ fn word_entry(place: usize, octet: u8) -> u32
     WORD_TABLES[place][octet as usize]
 }
 
+/// The same, with 24 octets of zero after the word.
 fn turn_entry(place: usize, octet: u8) -> u32
     requires { place < 8 }
     ensures { result ≡ after_bits (256 - 8 * place) octet }
@@ -22,6 +23,7 @@ fn turn_entry(place: usize, octet: u8) -> u32
     TURN_TABLES[place][octet as usize]
 }
 
+/// The remainder after one more octet.
 fn octet_added(remainder: u32, octet: u8) -> u32
     ensures { result ≡ after_octet remainder octet }
 {
@@ -29,6 +31,7 @@ fn octet_added(remainder: u32, octet: u8) -> u32
     word_entry(7, low) ^ (remainder >> 8)
 }
 
+/// The remainder after more octets, one by one.
 #[tactic(auto, using(crate::proofs::Linear::crc_steps))]
 fn octets_added(remainder: u32, octets: &[u8]) -> u32
     ensures { result ≡ after_octets remainder octets.now }
@@ -101,8 +104,7 @@ fn octet_of_half(half: u32, place: u32) -> u8
     (half >> (8 * place) & 0xff) as u8
 }
 
-/// The remainder of half a word that has been added to the remainder before it: the later half of a word's tables
-/// serves.
+/// The remainder of half a word that has been added to the remainder before it, by the later half of a word's tables.
 fn half_added(half: u32) -> u32
     ensures { result ≡ after_bits 32 half }
 {
@@ -120,7 +122,7 @@ fn first_half(octets: &[u8]) -> u32
     u32::from_le_bytes([octets[0], octets[1], octets[2], octets[3]])
 }
 
-/// A few octets: four at once, and the others one by one.
+/// The remainder after a few octets: four at once, the others one by one.
 fn few_added(remainder: u32, octets: &[u8]) -> u32
     ensures { result ≡ after_octets remainder octets.now }
 {
@@ -131,7 +133,7 @@ fn few_added(remainder: u32, octets: &[u8]) -> u32
     octets_added(so_far, &octets[4..])
 }
 
-/// Octets word by word, and the last few.
+/// The remainder after octets, word by word.
 fn words_added(remainder: u32, octets: &[u8]) -> u32
     ensures { result ≡ after_octets remainder octets.now }
 {
@@ -143,7 +145,7 @@ fn words_added(remainder: u32, octets: &[u8]) -> u32
     few_added(so_far, &octets[8 * words..])
 }
 
-/// Turns of 32 octets in four lanes: each lane takes a word of every turn, and over the last turn they come together.
+/// Turns of 32 octets in four lanes: each lane takes one word of each turn. The last turn joins the lanes.
 fn turns_added(remainder: u32, octets: &[u8], turns: usize) -> u32
     requires { 32 * turns + 32 ≤ length octets.now }
     ensures { result ≡ after_octets remainder (take (32 * turns + 32) octets.now) }
@@ -166,7 +168,7 @@ fn turns_added(remainder: u32, octets: &[u8], turns: usize) -> u32
     word_added(u64::from(third) ^ (u64::from(fourth) ^ word_at(octets, at + 24)))
 }
 
-/// Any octets: whole turns, and what is left word by word.
+/// The remainder after any octets: whole turns, and the rest word by word.
 fn run_added(remainder: u32, octets: &[u8]) -> u32
     ensures { result ≡ after_octets remainder octets.now }
 {
@@ -178,7 +180,7 @@ fn run_added(remainder: u32, octets: &[u8]) -> u32
     words_added(so_far, &octets[32 * turns + 32..])
 }
 
-/// The octets that are left of a long run: nine turns, and two octets.
+/// The 290 octets that are left of a long run: nine turns, and two octets.
 #[inline(always)]
 fn span_added(octets: &[u8]) -> u32
     requires { length octets.now ≡ 290 }
@@ -188,7 +190,7 @@ fn span_added(octets: &[u8]) -> u32
     octets_added(so_far, &octets[288..])
 }
 
-/// Any octets: of a long run, all but the last are folded away.
+/// The remainder after any octets. Of a long run, all but the last 290 are folded away.
 fn added(remainder: u32, octets: &[u8]) -> u32
     ensures { result ≡ after_octets remainder octets.now }
 {
@@ -198,7 +200,7 @@ fn added(remainder: u32, octets: &[u8]) -> u32
     span_added(&folded(remainder, octets))
 }
 
-/// The CRC-32C of octets that come in any pieces (RFC 5044 4.4).
+/// The CRC-32C of octets that are added in pieces (RFC 5044 4.4).
 #[derive(Debug, Drop)]
 pub struct Crc {
     remainder: u32,
@@ -213,7 +215,7 @@ impl Model for Crc {
 }
 
 impl Crc {
-    /// Of no octets yet.
+    /// No octets yet.
     pub fn new() -> Crc
         ensures { result ≡ all_ones }
     {
@@ -222,14 +224,14 @@ impl Crc {
         }
     }
 
-    /// These octets come next.
+    /// Adds the next octets.
     pub fn add(&mut self, octets: &[u8])
         ensures { self.new ≡ after_octets self.old octets.now }
     {
         self.remainder = added(self.remainder, octets);
     }
 
-    /// The CRC of all that came.
+    /// The CRC of all octets that were added.
     pub fn finish(&self) -> u32
         ensures { result ≡ bit_xor self.now all_ones }
     {

@@ -1,17 +1,20 @@
 use thiserror::Error;
 
-/// Why a stream ends, in the numbers that a Terminate carries: the layer, the error type within it, and the error code.
+/// Why a stream ends, as the numbers of a Terminate: the layer, the error type within the layer, and the error code.
 ///
 /// Layer 0 is RDMAP (RFC 5040 4.8), layer 1 is DDP (RFC 5041 7.2), layer 2 is MPA (RFC 5044 8).
 #[derive(Clone, Copy, Debug, PartialEq, Eq, Error)]
 #[error("fault of layer {layer}, type {kind}, code {code}")]
 pub struct Fault {
+    /// The layer: 0 is RDMAP, 1 is DDP, 2 is MPA.
     pub layer: u8,
+    /// The error type within the layer.
     pub kind: u8,
+    /// The error code within the type.
     pub code: u8,
 }
 
-/// RDMAP, remote protection errors.
+/// RDMAP: remote protection errors (RFC 5040 4.8).
 impl Fault {
     pub const PROTECTION_INVALID_STAG: Fault = Fault {
         layer: 0,
@@ -50,7 +53,7 @@ impl Fault {
     };
 }
 
-/// RDMAP, remote operation errors.
+/// RDMAP: remote operation errors (RFC 5040 4.8).
 impl Fault {
     pub const OPERATION_VERSION: Fault = Fault {
         layer: 0,
@@ -65,9 +68,9 @@ impl Fault {
     };
 }
 
-/// DDP, errors of the segment, of tagged buffers and of untagged buffers.
+/// DDP: errors of the segment, of tagged buffers and of untagged buffers (RFC 5041 7.2).
 impl Fault {
-    /// The segment is shorter than its header, which RFC 5041 leaves to a local error.
+    /// The segment is shorter than its header. RFC 5041 has no code of its own for it: a local catastrophic error.
     pub const SEGMENT_SHORT: Fault = Fault {
         layer: 1,
         kind: 0,
@@ -141,7 +144,7 @@ impl Fault {
     };
 }
 
-/// MPA.
+/// MPA: errors of the CRC and of markers (RFC 5044 8).
 impl Fault {
     pub const CRC_MISMATCH: Fault = Fault {
         layer: 2,

@@ -11,7 +11,7 @@ use crate::stag::Stag;
 use std::error::Error;
 use std::fmt;
 
-/// The octets are too few for what was to be read from them.
+/// There are too few octets for what was to be read.
 #[derive(Clone, Copy, Debug, PartialEq, Eq)]
 pub struct Short;
 
@@ -25,9 +25,9 @@ impl fmt::Display for Short {
 
 impl Error for Short {}
 
-/// The header of a segment that names a region and a place in it (RFC 5041 4.2, 14 octets).
+/// The header of a segment for a region: an STag and a tagged offset (RFC 5041 4.2, 14 octets).
 ///
-/// `control` is RDMAP's octet, as it came.
+/// `control` is RDMAP's octet, as received.
 #[derive(Clone, Copy, Debug, PartialEq, Eq)]
 pub struct TaggedHead {
     pub last: bool,
@@ -39,8 +39,8 @@ pub struct TaggedHead {
 
 /// The header of a segment for a queue of buffers (RFC 5041 4.3, 18 octets).
 ///
-/// `control` and `tail` are RDMAP's five octets, as they came; `msn` is the message sequence number, `mo` the offset in
-/// the message.
+/// `control` and `tail` are RDMAP's five octets, as received; `msn` is the message sequence number, `mo` the message
+/// offset.
 #[derive(Clone, Copy, Debug, PartialEq, Eq)]
 pub struct UntaggedHead {
     pub last: bool,
@@ -110,7 +110,8 @@ pub(crate) fn read_stag(octets: &[u8], at: usize) -> Stag
 }
 
 impl TaggedHead {
-    /// The header at the front, and what stands past it. `Short` where there are fewer than 14 octets.
+    /// Reads the header at the front, and answers it with the octets after it.
+    /// `Short` if there are fewer than 14 octets.
     #[tactic(auto, unfolding(crate::specs::Head::read_tagged))]
     #[inline(always)]
     pub fn read(octets: &[u8]) -> Result<(TaggedHead, &[u8]), Short>
@@ -147,7 +148,8 @@ impl TaggedHead {
 }
 
 impl UntaggedHead {
-    /// The header at the front, and what stands past it. `Short` where there are fewer than 18 octets.
+    /// Reads the header at the front, and answers it with the octets after it.
+    /// `Short` if there are fewer than 18 octets.
     #[tactic(auto, unfolding(crate::specs::Head::read_untagged))]
     #[inline(never)]
     pub fn read(octets: &[u8]) -> Result<(UntaggedHead, &[u8]), Short>

@@ -2,7 +2,7 @@ ghost use Rattle.iw_octets.specs.Laws.{KnownConstants, KnownFaults, KnownValues}
 ghost use Rattle.iw_octets.specs.Laws.{NumbersTell, OperationsAreTold, ReadsAgain, WritesAgain};
 ghost use Rattle.iw_octets.specs.Laws.{AddsInPieces, PartsAreTaken};
 
-/// What is written is read again, whatever stands past it, and more octets past a segment are more of its payload.
+/// What is written is read again, whatever comes after it; more octets after a segment are more of its payload.
 pub fn reads_again()
     ensures { ReadsAgain }
 {}
@@ -12,12 +12,12 @@ pub fn writes_again()
     ensures { WritesAgain }
 {}
 
-/// The constants of [`Fault`](crate::Fault) have the numbers that the RFCs give.
+/// The constants of [`Fault`](crate::Fault) are the numbers of the RFCs.
 pub fn known_faults()
     ensures { KnownFaults }
 {}
 
-/// The constants are the numbers that the RFCs give, and those that this endpoint chose.
+/// The constants are the numbers of the RFCs, and the limits that this endpoint chose.
 pub fn known_constants()
     ensures { KnownConstants }
 {}
@@ -27,7 +27,7 @@ pub fn operations_are_told()
     ensures { OperationsAreTold }
 {}
 
-/// Taken one by one, each from the end of the one before, the parts of a message are those that it is cut into.
+/// Parts taken one by one, each from the end of the one before, are the parts that the message is cut into.
 pub fn parts_are_taken()
     ensures { PartsAreTaken }
 {}
@@ -37,8 +37,7 @@ pub fn adds_in_pieces()
     ensures { AddsInPieces }
 {}
 
-/// The definition of the CRC gives the values that are known for it (RFC 3720 B.4, and the frames that RFC 5044
-/// prints).
+/// The definition of the CRC gives the known values (RFC 3720 B.4, and the frames that RFC 5044 prints).
 pub fn known_values()
     ensures { KnownValues }
 {}

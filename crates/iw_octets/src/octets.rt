@@ -6,7 +6,7 @@ ghost use Rattle.iw_octets.specs.Octets.{splice};
 use std::alloc::{Allocator, Global};
 use std::marker::Model;
 
-/// Octets as a value: contracts see their list alone, not where they lie nor the room past them.
+/// Octets as a value: contracts see the list of them, not their address nor the spare capacity.
 #[derive(Drop)]
 #[derive_where(Debug)]
 pub struct Octets<A: Allocator = Global> {
@@ -22,14 +22,14 @@ impl<A: Allocator> Model for Octets<A> {
 }
 
 impl<A: Allocator> Octets<A> {
-    /// Takes the vector over; nothing is copied.
+    /// Takes a vector over. Nothing is copied.
     pub fn from_vec(items: Vec<u8, A>) -> Octets<A>
         ensures { result ≡ items.items }
     {
         Octets { items }
     }
 
-    /// Gives the vector back; nothing is copied.
+    /// Gives the vector back. Nothing is copied.
     pub fn into_vec(self) -> Vec<u8, A>
         ensures { result.items ≡ self }
     {
@@ -54,7 +54,7 @@ impl<A: Allocator> Octets<A> {
         self.items.is_empty()
     }
 
-    /// Writes octets over those that stand from a place on; the length stays.
+    /// Overwrites the octets from a place on. The length stays.
     pub fn write_at(&mut self, at: usize, octets: &[u8])
         requires { at + length octets.now ≤ length self.old }
         ensures { self.new ≡ splice self.old at octets.now }

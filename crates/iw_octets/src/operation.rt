@@ -44,8 +44,8 @@ fn control_of(opcode: u8) -> u8
 }
 
 impl TaggedOperation {
-    /// The operation that RDMAP's octet of a tagged segment's header names. `None` where its opcode is reserved, or
-    /// one of untagged segments.
+    /// The operation that RDMAP's octet of a tagged segment's header names. `None` if its opcode is reserved, or is one
+    /// of untagged segments.
     pub fn of(control: u8) -> Option<TaggedOperation>
         ensures { result ≡ tagged_operation (opcode_of control) }
     {
@@ -68,8 +68,8 @@ impl TaggedOperation {
 }
 
 impl UntaggedOperation {
-    /// The operation that RDMAP's octet of an untagged segment's header names, whatever its queue. `None` where its
-    /// opcode is reserved, or one of tagged segments.
+    /// The operation that RDMAP's octet of an untagged segment's header names, whatever its queue. `None` if its opcode
+    /// is reserved, or is one of tagged segments.
     pub fn of(control: u8) -> Option<UntaggedOperation>
         ensures { result ≡ untagged_operation (opcode_of control) }
     {

@@ -9,30 +9,42 @@ use crate::head::{Short, number_32, number_64, read_stag};
 use crate::stag::Stag;
 use arrayvec::ArrayVec;
 
-/// The payload of a Read Request (RFC 5040 4.4, 28 octets): where `size` octets go, and where they are taken from.
+/// The payload of a Read Request (RFC 5040 4.4, 28 octets): `size` octets go to the sink, and come from the source.
 #[derive(Clone, Copy, Debug, PartialEq, Eq)]
 pub struct ReadRequest {
+    /// The region of the requester that the octets go to.
     pub sink: Stag,
+    /// The tagged offset of the first octet there.
     pub sink_to: u64,
+    /// How many octets are asked for.
     pub size: u32,
+    /// The region of the responder that the octets come from.
     pub source: Stag,
+    /// The tagged offset of the first octet there.
     pub source_to: u64,
 }
 
-/// The first word of a Terminate's payload (RFC 5040 4.8, 4 octets): a fault, and which parts of its cause come after
-/// it: the segment's length, its DDP header, its Read Request.
+/// The first word of a Terminate's payload (RFC 5040 4.8, 4 octets): a fault, and which parts of the segment at fault
+/// follow.
 #[derive(Clone, Copy, Debug, PartialEq, Eq)]
 pub struct TerminateWord {
+    /// The layer: 0 is RDMAP, 1 is DDP, 2 is MPA.
     pub layer: u8,
+    /// The error type within the layer.
     pub kind: u8,
+    /// The error code within the type.
     pub code: u8,
+    /// Whether the segment's length follows.
     pub has_length: bool,
+    /// Whether its DDP header follows.
     pub has_ddp: bool,
+    /// Whether its Read Request follows.
     pub has_request: bool,
 }
 
 impl ReadRequest {
-    /// The request at the front, and what stands past it. `Short` where there are fewer than 28 octets.
+    /// Reads the request at the front, and answers it with the octets after it.
+    /// `Short` if there are fewer than 28 octets.
     #[tactic(auto, unfolding(crate::specs::Payload::read_request))]
     pub fn read(octets: &[u8]) -> Result<(ReadRequest, &[u8]), Short>
         ensures read { shown result ≡ read_request octets.now }
@@ -66,7 +78,7 @@ impl ReadRequest {
     }
 }
 
-/// The octet of the three flags. The bits past them are reserved, and zero.
+/// The octet of the three flags. The other five bits are reserved, and zero.
 fn flags_octet(has_length: bool, has_ddp: bool, has_request: bool) -> u8
     ensures { result ≡ flags_octet has_length has_ddp has_request }
 {
@@ -77,7 +89,7 @@ fn flags_octet(has_length: bool, has_ddp: bool, has_request: bool) -> u8
 }
 
 impl TerminateWord {
-    /// The word at the front, and what stands past it. `Short` where there are fewer than 4 octets.
+    /// Reads the word at the front, and answers it with the octets after it. `Short` if there are fewer than 4 octets.
     #[tactic(auto, unfolding(crate::specs::Payload::read_word))]
     pub fn read(octets: &[u8]) -> Result<(TerminateWord, &[u8]), Short>
         ensures read { shown result ≡ read_word octets.now }

@@ -22,6 +22,7 @@ impl<'a> Model for InPieces<'a> {
 }
 
 impl<'a> InPieces<'a> {
+    /// The octets in pieces of `size` octets; the last has what is left.
     pub fn new(octets: &'a [u8], size: usize) -> InPieces<'a>
         requires { 0 < size }
         ensures { result ≡ octets.now }
@@ -48,7 +49,7 @@ impl<'a> Iterator for InPieces<'a> {
     }
 }
 
-/// Writes the octets over those that stand at a place.
+/// Overwrites the octets at a place.
 fn write_at(out: &mut [u8], at: usize, octets: &[u8])
     requires { at + length octets.now ≤ length out.old }
     ensures { take (at + length octets.now) out.new ≡ take at out.old ++ octets.now }
@@ -56,7 +57,7 @@ fn write_at(out: &mut [u8], at: usize, octets: &[u8])
     out[at..at + octets.len()].copy_from_slice(octets);
 }
 
-/// Writes pieces one after the other; their lengths add up to that of `out`.
+/// Copies pieces into `out`, one after the other. Their lengths must add up to that of `out`.
 pub fn gather<'a, I: Iterator<Item = &'a [u8]>>(pieces: I, out: &mut [u8])
     requires can { I.can_next pieces }
     requires ends { IsFinite (I.remaining pieces) }

@@ -4,7 +4,7 @@ ghost use Rattle.iw_octets.specs.ShownSegment.{shown_segment};
 
 use crate::head::{Short, TaggedHead, UntaggedHead, is_tagged};
 
-/// A header with the payload after it: what one FPDU carries (RFC 5041 4).
+/// A header and its payload: what one FPDU carries (RFC 5041 4).
 #[derive(Clone, Copy, Debug, PartialEq)]
 pub enum Segment<P> {
     Tagged(TaggedHead, P),
@@ -12,8 +12,8 @@ pub enum Segment<P> {
 }
 
 impl<'a> Segment<&'a [u8]> {
-    /// The segment that these octets are; its payload is lent.
-    /// `Short` where there are none, fewer than 14 with the tagged flag set, or fewer than 18 without it.
+    /// Reads a segment; its payload is borrowed from the octets.
+    /// `Short` if there are no octets, fewer than 14 with the tagged flag set, or fewer than 18 without it.
     #[tactic(auto, unfolding(crate::specs::Segment::read_segment))]
     #[inline(always)]
     pub fn read(octets: &'a [u8]) -> Result<Segment<&'a [u8]>, Short>

@@ -5,10 +5,10 @@ ghost use Rattle.iw_octets.specs.Stag.{FitsStag, number_of, spelled, stag_at};
 use std::fmt;
 use std::marker::Model;
 
-/// Names a region: a domain, a slot of that domain, and a key that tells the uses of the slot apart.
+/// The name of a region: a domain, a slot of that domain, and a key that tells the uses of the slot apart.
 ///
-/// As a number of 32 bits, and in a header, the domain stands highest, then the slot, then the key. Its `Debug` is that
-/// number in eight hexadecimal digits, as `Stag(01000000)`.
+/// As a number of 32 bits, and in a header, the domain is the high octet, the slot the next two, the key the low one.
+/// `Debug` prints that number in eight hexadecimal digits, as `Stag(01000000)`.
 #[derive(Clone, Copy, PartialEq, Eq)]
 pub struct Stag {
     number: u32,
@@ -66,7 +66,7 @@ impl Stag {
         self.number.to_be_bytes()
     }
 
-    /// Says that the numbers fit their fields.
+    /// States that the numbers fit their fields.
     pub fn known(&self)
         ensures { FitsStag self.now }
     {
