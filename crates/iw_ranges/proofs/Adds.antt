@@ -83,12 +83,12 @@ merge_apart m from to (s ∷ ss) low h apart =
           rw t (merge_apart m (min from s.from) (max to s.to) ss (omega (arith, apart.0)) (omega arith) rest)
     ]
 
-pub add_apart : (m from to : ℕ) (ss : List Span) → m < from → from < to → IsApart m ss → IsApart m (add_span from to ss)
+pub add_slow : (m from to : ℕ) (ss : List Span) → m < from → from < to → IsApart m ss → IsApart m (add_span from to ss)
 unfolding add_span
-add_apart m from to [] low h apart = (low, h, tt)
-add_apart m from to (s ∷ ss) low h apart =
+add_slow m from to [] low h apart = (low, h, tt)
+add_slow m from to (s ∷ ss) low h apart =
     elim (cases_lt s.to from) [
-      | inl before ↦ let t : nat_lt s.to from ≡ true = grind (arith, nat_tests) in rw t (apart.0, apart.1, add_apart s.to from to ss before h apart.2)
+      | inl before ↦ let t : nat_lt s.to from ≡ true = grind (arith, nat_tests) in rw t (apart.0, apart.1, add_slow s.to from to ss before h apart.2)
       | inr reaches ↦ let t : nat_lt s.to from ≡ false = grind (arith, nat_tests) in rw t (merge_apart m from to (s ∷ ss) low h apart)
     ]
 
@@ -106,7 +106,7 @@ unfolding add_span merge_span
 add_from_start from to [] h order = elim order [ ]
 add_from_start from to (s ∷ ss) h order =
     elim (cases_lt s.to from) [
-      | inl before ↦ let t : nat_lt s.to from ≡ true = grind (arith, nat_tests) in rw t (order.0, add_apart s.to from to ss before h order.1)
+      | inl before ↦ let t : nat_lt s.to from ≡ true = grind (arith, nat_tests) in rw t (order.0, add_slow s.to from to ss before h order.1)
       | inr reaches ↦
           let t : nat_lt s.to from ≡ false = grind (arith, nat_tests) in
           let u : nat_lt to s.from ≡ false = grind (arith, nat_tests, order.0) in
@@ -153,7 +153,7 @@ unfolding add_span merge_span
 add_spans from to [] some order = (some, tt)
 add_spans from to (s ∷ ss) some order =
     elim (cases_lt s.to from) [
-      | inl before ↦ let t : nat_lt s.to from ≡ true = grind (arith, nat_tests) in rw t (order.0, add_apart s.to from to ss before some order.1)
+      | inl before ↦ let t : nat_lt s.to from ≡ true = grind (arith, nat_tests) in rw t (order.0, add_slow s.to from to ss before some order.1)
       | inr reaches ↦
           let t : nat_lt s.to from ≡ false = grind (arith, nat_tests) in
           elim (cases_lt to s.from) [

@@ -149,12 +149,12 @@ impl<A: Allocator> Islands<A> {
             self.end = self.end.max(self.missing);
             return Ok(Delivery::Kept);
         }
-        self.add_apart(place, octets)
+        self.add_slow(place, octets)
     }
 
-    /// The same, whether or not they touch other spans than the first.
+    /// The slow path of `add_among`: the octets may touch other spans than the first.
     #[inline(always)]
-    fn add_apart(&mut self, place: u64, octets: &[u8]) -> Result<Delivery, NoMemory>
+    fn add_slow(&mut self, place: u64, octets: &[u8]) -> Result<Delivery, NoMemory>
         requires some { 0 < length octets.now }
         requires near { place + length octets.now ≤ self.old.arrived.floor + window }
         ensures answer { IfOk result (λ answer. answer ≡ delivery self.old.arrived place (length octets.now)) }
@@ -242,12 +242,12 @@ impl<A: Allocator> Islands<A> {
             }
             return to <= second.to;
         }
-        self.came_apart(from, to)
+        self.came_slow(from, to)
     }
 
-    /// The same, for places of which the last may lie past the second span.
+    /// The slow path of `came`: the last place may lie past the second span.
     #[inline(never)]
-    fn came_apart(&self, from: u64, to: u64) -> bool
+    fn came_slow(&self, from: u64, to: u64) -> bool
         requires { from < to }
         ensures { MatchBool result ((p : ℕ) → from ≤ p → p < to → has_come self.now.arrived p ≡ true)
             ((p : ℕ) × (from ≤ p) × (p < to) × (has_come self.now.arrived p ≡ false)) }
