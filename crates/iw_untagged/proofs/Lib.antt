@@ -1,3 +1,4 @@
 pub mod Splices
 pub mod Receivings
 pub mod Placements
+pub mod Bounds

@@ -1,3 +1,4 @@
+pub mod Bound
 pub mod Receiving
 pub mod Store
 pub mod Laws

@@ -1,21 +1,18 @@
-ghost use Rattle.std.specs.Prelude.{◌≡◌, count_by, replicate, ◌+◌, ◌<◌, ◌≤◌, ℕ, List, [], ◌∷◌, ◌++◌, length, None, IsSome, IfOk};
-ghost use Rattle.std.specs.Prelude.{slice_get, slice_set, slice_index_or, drop, is_some, is_none, unwrap_or, if◌then◌else◌};
-ghost use Rattle.std.specs.List.{position_or_len};
-ghost use Rattle.std.specs.Option.{option_map, option_or};
+ghost use Rattle.std.specs.Prelude.{◌≡◌, ◌+◌, ◌≤◌, ℕ, List, [], length, None, IsSome, IfOk};
+ghost use Rattle.std.specs.Prelude.{slice_get, unwrap_or};
+ghost use Rattle.std.specs.Option.{option_map};
 ghost use Rattle.std.specs.Iterator.{IsFinite};
 ghost use Rattle.iw_octets.specs.Octets.{splice};
 ghost use Rattle.iw_octets.specs.Pieces.{AddUpTo, JoinTo};
 ghost use Rattle.iw_untagged.specs.Receiving.{Pooled, seeing, exchanged, buffer_in, buffer_for, bound_to, written_in, count_in};
-ghost use Rattle.iw_untagged.specs.Receiving.{due_buffer, shifted, first_buffer, without_first, HoldsPlaces};
+ghost use Rattle.iw_untagged.specs.Receiving.{due_buffer, shifted, first_buffer, without_first};
 
+use crate::places::Places;
 use crate::pool::SharedQueue;
 use iw_octets::Octets;
 use std::alloc::{AllocError, Allocator};
 use std::collections::VecDeque;
 use std::mem::swap;
-
-/// How many messages, from the due one on, may have a buffer in a queue that shares a pool.
-const PLACES: usize = 256;
 
 /// The buffers of a receive queue.
 #[derive(Drop)]
@@ -29,8 +26,8 @@ pub(crate) enum Buffers<A: Allocator> {
 /// What a queue that shares a pool holds.
 #[derive(Drop)]
 pub(crate) struct Bound<A: Allocator> {
-    /// A place for each of the next 256 messages, with the buffer that is bound to it.
-    pub(crate) places: VecDeque<Option<Octets<A>>, A>,
+    /// The buffers that are bound to the next messages.
+    pub(crate) places: Places<A>,
     /// The pool, while it is lent; else an empty one.
     pub(crate) pool: SharedQueue<A>,
 }
@@ -45,7 +42,7 @@ impl<A: Allocator> Buffers<A> {
         A: Copy,
         ensures { IfOk result (λ buffers. source_of buffers ≡ sharing.source) }
     {
-        let places = no_places(alloc)?;
+        let places = Places::new(alloc)?;
         let pool = SharedQueue::new(alloc)?;
         let bound = Box::new(alloc, Bound { places, pool })?;
         Ok(Buffers::Shared(bound))
@@ -69,7 +66,7 @@ impl<A: Allocator> Buffers<A> {
     {
         match self {
             Buffers::Own(buffers) => posted_len(buffers, ahead),
-            Buffers::Shared(bound) => bound_len(&bound.places, ahead, &bound.pool),
+            Buffers::Shared(bound) => bound.places.len_for(ahead, &bound.pool),
         }
     }
 
@@ -79,7 +76,7 @@ impl<A: Allocator> Buffers<A> {
     {
         match self {
             Buffers::Own(buffers) => posted_len(buffers, 0),
-            Buffers::Shared(bound) => place_len(&bound.places, 0),
+            Buffers::Shared(bound) => bound.places.len_at(0),
         }
     }
 
@@ -89,7 +86,7 @@ impl<A: Allocator> Buffers<A> {
     {
         match self {
             Buffers::Own(buffers) => buffers.len(),
-            Buffers::Shared(bound) => count_bound(&bound.places),
+            Buffers::Shared(bound) => bound.places.count(),
         }
     }
 
@@ -123,7 +120,7 @@ impl<A: Allocator> Buffers<A> {
     {
         match self {
             Buffers::Own(buffers) => write_pieces(&mut buffers[ahead], at, n, pieces),
-            Buffers::Shared(bound) => write_place(&mut bound.places[ahead], at, n, pieces),
+            Buffers::Shared(bound) => bound.places.write(ahead, at, n, pieces),
         }
     }
 
@@ -135,7 +132,7 @@ impl<A: Allocator> Buffers<A> {
     {
         match self {
             Buffers::Own(buffers) => buffers.pop_front().unwrap(),
-            Buffers::Shared(bound) => shift(&mut bound.places),
+            Buffers::Shared(bound) => bound.places.shift(),
         }
     }
 
@@ -146,7 +143,7 @@ impl<A: Allocator> Buffers<A> {
     {
         match self {
             Buffers::Own(buffers) => buffers.pop_front(),
-            Buffers::Shared(bound) => take_bound(&mut bound.places),
+            Buffers::Shared(bound) => bound.places.take_first(),
         }
     }
 }
@@ -160,122 +157,17 @@ fn posted_len<A: Allocator>(buffers: &VecDeque<Octets<A>, A>, ahead: usize) -> O
     }
 }
 
-fn no_places<A: Allocator>(alloc: A) -> Result<VecDeque<Option<Octets<A>>, A>, AllocError>
-    ensures { IfOk result (λ places. places.items ≡ replicate 256 None) }
-{
-    let mut places = VecDeque::with_capacity(alloc, PLACES)?;
-    for _ in 0..PLACES {
-        places.push_back_reserved(None);
-    }
-    Ok(places)
-}
-
-fn place_len<A: Allocator>(places: &VecDeque<Option<Octets<A>>, A>, ahead: usize) -> Option<usize>
-    ensures { result ≡ option_map length (slice_index_or places.now.items ahead None) }
-{
-    match places.get(ahead) {
-        Some(Some(buffer)) => Some(buffer.len()),
-        Some(None) => None,
-        None => None,
-    }
-}
-
-fn bound_len<A: Allocator>(
-    places: &VecDeque<Option<Octets<A>>, A>,
-    ahead: usize,
-    pool: &SharedQueue<A>,
-) -> Option<usize>
-    ensures { result ≡ option_map length (buffer_for (Pooled places.now.items pool.now) ahead) }
-{
-    match places.get(ahead) {
-        Some(Some(buffer)) => Some(buffer.len()),
-        Some(None) => pool.room(),
-        None => None,
-    }
-}
-
-fn count_bound<A: Allocator>(places: &VecDeque<Option<Octets<A>>, A>) -> usize
-    ensures { result ≡ count_by is_some places.now.items }
-{
-    places.iter().filter(|place| place.is_some()).count()
-}
-
 // Binds the pool's oldest buffer to the message that is `ahead` after the due one, unless one is bound to it.
+#[inline(always)]
 fn bind_place<A: Allocator>(bound: &mut Bound<A>, ahead: usize)
-    requires { IsSome (buffer_for (Pooled bound.old.places.items bound.old.pool) ahead) }
-    ensures { Pooled bound.new.places.items bound.new.pool ≡ bound_to (Pooled bound.old.places.items bound.old.pool) ahead }
+    requires { IsSome (buffer_for (Pooled bound.old.places bound.old.pool) ahead) }
+    ensures { Pooled bound.new.places bound.new.pool ≡ bound_to (Pooled bound.old.places bound.old.pool) ahead }
 {
-    fill_place(&mut bound.places[ahead], &mut bound.pool);
-}
-
-// The same, given the message's place.
-fn fill_place<A: Allocator>(place: &mut Option<Octets<A>>, pool: &mut SharedQueue<A>)
-    ensures place { place.new ≡ option_or place.old (slice_get pool.old 0) }
-    ensures pool { pool.new ≡ (if is_none place.old then drop 1 pool.old else pool.old) }
-{
-    if place.is_none() {
-        *place = pool.take_oldest();
-    }
-}
-
-// Writes pieces into the buffer at a place.
-fn write_place<'a, A: Allocator, I: Iterator<Item = &'a [u8]>>(
-    place: &mut Option<Octets<A>>,
-    at: usize,
-    n: usize,
-    pieces: I,
-)
-    requires can { I.can_next pieces }
-    requires ends { IsFinite (I.remaining pieces) }
-    requires fills { AddUpTo I.next_gives pieces n }
-    requires there { IsSome place.old }
-    requires room { at + n ≤ length (unwrap_or place.old []) }
-    ensures { (octets : List ℕ) × JoinTo I.next_gives pieces octets
-        × (place.new ≡ option_map (λ buffer. splice buffer at octets) place.old) }
-{
-    match place {
-        Some(buffer) => write_pieces(buffer, at, n, pieces),
-        None => unreachable!(),
-    }
-}
-
-// Takes the buffer at the first place, and moves the others up.
-fn shift<A: Allocator>(places: &mut VecDeque<Option<Octets<A>>, A>) -> Octets<A>
-    requires { IsSome (slice_index_or places.old.items 0 None) }
-    ensures buffer { result ≡ unwrap_or (slice_index_or places.old.items 0 None) [] }
-    ensures places { places.new.items ≡ drop 1 places.old.items ++ None ∷ [] }
-{
-    let buffer = places[0].take().unwrap();
-    places.rotate_left(1);
-    buffer
-}
-
-// The first place that has a buffer; the number of places if none has.
-fn first_bound<A: Allocator>(places: &VecDeque<Option<Octets<A>>, A>) -> usize
-    ensures { result ≡ position_or_len is_some places.now.items }
-{
-    for index in 0..places.len() {
-        if places[index].is_some() {
-            return index;
-        }
-    }
-    places.len()
-}
-
-// Takes the buffer at the first place that has one.
-fn take_bound<A: Allocator>(places: &mut VecDeque<Option<Octets<A>>, A>) -> Option<Octets<A>>
-    ensures buffer { result ≡ slice_index_or places.old.items (position_or_len is_some places.old.items) None }
-    ensures places { places.new.items ≡ slice_set places.old.items (position_or_len is_some places.old.items) None }
-{
-    let index = first_bound(places);
-    if index >= places.len() {
-        return None;
-    }
-    places[index].take()
+    bound.places.bind(ahead, &mut bound.pool);
 }
 
 // Writes pieces, one after the other, over the octets from a place on.
-fn write_pieces<'a, A: Allocator, I: Iterator<Item = &'a [u8]>>(
+pub(crate) fn write_pieces<'a, A: Allocator, I: Iterator<Item = &'a [u8]>>(
     buffer: &mut Octets<A>,
     at: usize,
     n: usize,

@@ -8,6 +8,7 @@
 
 mod buffers;
 mod laws;
+mod places;
 mod pool;
 mod queue;
 mod received;
