@@ -1,5 +1,5 @@
 -- What a stream keeps of its fields stays so from call to call.
-use Rattle.std.proofs.Common.{◌≡◌, ℕ, ◌+◌, ◌-◌, ◌<◌, ◌≤◌, ◌%◌, ◌^◌, Bool, true, false, max, nat_lt, if◌then◌else◌, List, length, Option, Some, None, Ok, Err, refl, sym, ap, ◌∙◌, subst, arith}
+use Rattle.std.proofs.Common.{◌≡◌, ℕ, ◌+◌, ◌-◌, ◌<◌, ◌≤◌, ◌%◌, ◌^◌, Bool, true, false, max, nat_lt, if◌then◌else◌, List, [], length, Option, Some, None, Ok, Err, refl, sym, ap, ◌∙◌, subst, arith}
 use Rattle.std.specs.Prelude.{Result, OnOk, OnErr, IfSome, IsSome, not, ◌&&◌}
 use Rattle.std.specs.Option.{option_map_or}
 use Rattle.iw_fpdu.specs.declared.fpdu.Mismatch.{Mismatch}
@@ -44,10 +44,11 @@ use Rattle.std.specs.List.{Contains}
 use Rattle.iw_locate.specs.Records.{from_of, kept_from}
 use Rattle.iw_locate.specs.Free.{point_of}
 use Rattle.iw_locate.proofs.Holds.{keeps_from}
+use Rattle.iw_locate.proofs.Starting.{none_in}
 use Rattle.iw_stream.specs.Frames.{EarlyRecord}
 use Rattle.iw_stream.specs.Kept.{HasBuffer, HasRoomInTurn, KeepsBuffer, Stands, IsPlaced, NoneReachesOver, AreAwaited, Keeps}
 use Rattle.iw_stream.specs.Starting.{StartState, is_open, expecting, first_place_in, first_place_out}
-use Rattle.iw_stream.specs.Stream.{StreamState, ended, is_silent, over, owes_frame}
+use Rattle.iw_stream.specs.Stream.{StreamState, ended, quits, is_silent, over, owes_frame}
 use Rattle.iw_stream.specs.Work.{place_past, scene, standing}
 use Rattle.iw_stream.proofs.Buffers.{StaysSo, StaysThere, buffer_written, finishes_so, has_room, room_still, stays_posted, stays_same, stays_so, stays_turned, stays_written}
 use Rattle.iw_stream.proofs.Headers.{header_read, header_short, kept_buffer}
@@ -233,16 +234,35 @@ keeps_ended s ending over silent k = record {
 pub keeps_over : (s : StreamState) (ending : Ending) → is_open s.start ≡ true → has_ended ending ≡ true → Keeps s → Keeps (record s { ending = ending })
 keeps_over s ending running over k = keeps_ended s ending over (λ e. absurd (true≢false (sym running ∙ e))) k
 
--- an open stream ends by a fault
-over_ended : (start : StartState) (arrived : Arrived) (payload : List ℕ) → has_ended (over start arrived payload) ≡ true
+-- by a fault, too
+pub over_ended : (start : StartState) (arrived : Arrived) (payload : List ℕ) → has_ended (over start arrived payload) ≡ true
 over_ended start arrived payload = go (is_silent start arrived)
   where
     go : (b : Bool) → has_ended (if b then Over None else with_last_word payload) ≡ true
     go true = refl
     go false = refl
 
-pub keeps_faulted : (s : StreamState) (payload : List ℕ) (ending : Ending) → is_open s.start ≡ true → ending ≡ over s.start s.arrived payload → Keeps s → Keeps (record s { ending = ending })
-keeps_faulted s payload ending running is k = keeps_over s ending running (ap has_ended is ∙ over_ended s.start s.arrived payload) k
+-- what came is given up as a stream ends
+pub keeps_quits : (s : StreamState) (ending : Ending) → has_ended ending ≡ true → (is_open s.start ≡ false → last_word ending ≡ None) → Keeps s → Keeps (record (quits s) { ending = ending })
+keeps_quits s ending over silent k = record {
+  started = record {
+    unopened = λ e. ((k.started.unopened e).0, refl, silent e);
+    unsent = k.started.unsent;
+    alone = k.started.alone;
+    beyond = k.started.beyond;
+  };
+  between = k.between;
+  aligned = k.aligned;
+  enough = k.enough;
+  few = k.few;
+  is_placed = λ e. absurd (true≢false (sym over ∙ e));
+  clear = λ e. absurd (true≢false (sym over ∙ e));
+  headed = λ r within. absurd (none_in [] refl r within);
+  buffered = λ e. absurd (true≢false (sym over ∙ e));
+  unopened = λ e. refl;
+  first = k.first;
+  awaited = λ e. absurd (true≢false (sym over ∙ e));
+}
 
 -- ---- how far the in-order point moves
 pub reaches : (s t : StreamState) (after : Arrived) (to : ℕ) → after ≡ advanced s.arrived to → to ≤ s.arrived.floor + 2 ^ 18 → s ≡ t → after.floor ≤ t.arrived.floor + 2 ^ 18

@@ -13,6 +13,7 @@ pub mod Started
 pub mod Tasks
 pub mod Dues
 pub mod Handing
+pub mod Resting
 pub mod Sharing
 pub mod Origins
 pub mod Stags
@@ -22,3 +23,5 @@ pub mod Waiting
 pub mod Early
 pub mod Lengths
 pub mod Passing
+pub mod InPlace
+pub mod TakenIn

@@ -9,3 +9,4 @@ pub mod Work
 pub mod Kept
 pub mod Emitting
 pub mod Fields
+pub mod Reading

@@ -9,7 +9,7 @@ use Rattle.iw_octets.specs.Segment.{segment_octets}
 use Rattle.iw_memory.specs.Table.{Table}
 use Rattle.iw_ranges.specs.declared.Delivery.{Delivery}
 use Rattle.iw_ranges.specs.declared.Delivery.TheVariants.{Kept, Dropped}
-use Rattle.iw_ranges.specs.Arrived.{Arrived, nothing, delivery, taken_in}
+use Rattle.iw_ranges.specs.Arrived.{Arrived, nothing, delivery, taken_in, emptied}
 use Rattle.iw_ranges.specs.Nearest.{place_near, before_start}
 use Rattle.iw_fpdu.specs.Frame.{frame_octets}
 use Rattle.iw_untagged.specs.declared.queue.BufferRefusal.{BufferRefusal}
@@ -116,20 +116,24 @@ is_silent start arrived = is_responder start && (arrived.floor == first_place_in
 abbrev pub keeps_silent : StreamState → Bool
 keeps_silent s = is_silent s.start s.arrived
 
+-- what came and had no turn is given up, with what is kept of frames: a stream that has ended never looks at it again. The in-order point stays.
+abbrev pub quits : StreamState → StreamState
+quits s = record s { arrived = emptied s.arrived; front = None; early = [] }
+
 -- it has ended, and no Terminate is due
 abbrev pub ends : StreamState → StreamState
-ends s = record s { ending = Over None }
+ends s = record (quits s) { ending = Over None }
 
 -- the end by a fault: a Terminate with this payload is due (RFC 5040 5.4), but of a responder that keeps silent
 abbrev pub over : StartState → Arrived → List ℕ → Ending
 over start arrived payload = if is_silent start arrived then Over None else with_last_word payload
 
 abbrev pub ends_by : StreamState → List ℕ → StreamState
-ends_by s payload = record s { ending = over s.start s.arrived payload }
+ends_by s payload = record (quits s) { ending = over s.start s.arrived payload }
 
 -- its link broke
 abbrev pub breaks : StreamState → StreamState
-breaks s = record s { ending = Broken }
+breaks s = record (quits s) { ending = Broken }
 
 -- ---- a responder's answer
 
@@ -146,7 +150,7 @@ accepted s private = record s { start = answered_with s.start (Accept private) }
 
 -- the stream has ended; the Reply is still to be emitted
 abbrev pub rejected : StreamState → ArrayVec ℕ → StreamState
-rejected s private = record s { start = answered_with s.start (Reject private); ending = Over None }
+rejected s private = record (quits s) { start = answered_with s.start (Reject private); ending = Over None }
 
 -- ---- emission
 
@@ -190,6 +194,13 @@ due s =
     else option_map_or LastWord (last_word s.ending)
     (if is_mute s then NoneDue
     else option_map_or Response (response_due s) (option_map_or NextPart (part_due s) NoneDue))
+
+abbrev pub is_none_due : Due → Bool
+is_none_due StartUp = false
+is_none_due (LastWord payload) = false
+is_none_due (Response part) = false
+is_none_due (NextPart part) = false
+is_none_due NoneDue = true
 
 -- the frame that carries a segment, at the place that is next
 abbrev pub frame_of : StreamState → Segment (List ℕ) → List ℕ

@@ -1,5 +1,5 @@
 -- What a call to work does: one task, by the state alone, and what it answers and leaves.
-use Rattle.std.specs.Prelude.{ℕ, ◌+◌, ◌-◌, not, Bool, List, length, if◌then◌else◌, Option, Some, None, Result, Ok, Err}
+use Rattle.std.specs.Prelude.{ℕ, ◌+◌, ◌-◌, not, Bool, true, false, ◌&&◌, List, length, if◌then◌else◌, Option, Some, None, Result, Ok, Err}
 use Rattle.std.specs.Option.{option_map, option_map_or, option_or}
 use Rattle.arrayvec.specs.ArrayVec.{ArrayVec}
 use Rattle.iw_octets.specs.declared.fault.Fault.{Fault}
@@ -32,7 +32,7 @@ use Rattle.iw_stream.specs.declared.judging.Turning.TheVariants.{Passed, Complet
 use Rattle.iw_stream.specs.Frames.{Frame, frame_by, frame_at, segment_in, payload_of, placed, payload_len, record_tried, state_tried, placed_at, without}
 use Rattle.iw_stream.specs.Judging.{Standing, verdict, early_verdict, table_landed, receiving_landed, turn_of, table_turned, receiving_turned, reads_left, table_tried, receiving_tried}
 use Rattle.iw_stream.specs.Starting.{StartState, is_open, expecting, first_place_in, awaits_frame, progress_in, heard, agreement_in, mismatch_in, negotiation_fault}
-use Rattle.iw_stream.specs.Stream.{StreamState, sees, ended, ends, ends_by}
+use Rattle.iw_stream.specs.Stream.{StreamState, sees, ended, ends, ends_by, due, is_none_due}
 use Rattle.iw_stream.specs.Terminating.{terminate_alone, terminate_judged, terminate_turned}
 
 -- the octets that came without a gap from the in-order point on
@@ -104,6 +104,21 @@ task s =
     else if awaits_frame s.start then Hear
     else if not (is_open s.start) then Rest
     else frame_task s)
+
+abbrev pub is_rest : Task → Bool
+is_rest (HandOut done) = false
+is_rest (GiveUp done) = false
+is_rest (GiveBack buffer) = false
+is_rest Hear = false
+is_rest (Turn frame) = false
+is_rest (Clash frame) = false
+is_rest (Judge frame) = false
+is_rest (Try frame) = false
+is_rest Rest = true
+
+-- the stream has ended, and neither work nor emit has anything left to do: whatever comes, they answer that from then on
+abbrev pub is_at_rest : StreamState → Bool
+is_at_rest s = ended s && (is_rest (task s) && is_none_due (due s))
 
 -- what its checks look at
 abbrev pub standing : Table → StreamState → Standing

@@ -1,5 +1,5 @@
-ghost use Rattle.std.specs.Prelude.{◌≡◌};
-ghost use Rattle.iw_stream.specs.Ending.{has_ended, is_broken};
+ghost use Rattle.std.specs.Prelude.{◌≡◌, is_some};
+ghost use Rattle.iw_stream.specs.Ending.{has_ended, is_broken, last_word};
 
 use arrayvec::ArrayVec;
 use iw_rdmap::MAX_TERMINATE;
@@ -28,5 +28,12 @@ impl Ending {
         ensures { result ≡ is_broken self.now }
     {
         matches!(self, Ending::Broken)
+    }
+
+    // Whether a Terminate is due.
+    pub(crate) fn has_last_word(&self) -> bool
+        ensures { result ≡ is_some (last_word self.now) }
+    {
+        matches!(self, Ending::Over(Some(_)))
     }
 }

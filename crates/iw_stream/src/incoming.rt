@@ -2,7 +2,7 @@ ghost use Rattle.std.specs.Prelude.{◌≡◌, ◌+◌, ◌-◌, ◌<◌, ◌≤
 ghost use Rattle.std.specs.Prelude.{IfOk, IfSome, OnOk, OnErr, IsTrue, MatchOption, Some, None};
 ghost use Rattle.std.specs.Option.{option_map};
 ghost use Rattle.iw_ranges.specs.Arrived.{Missing, cell_at, has_come, IsWithinLimits};
-ghost use Rattle.iw_ranges.specs.Arrived.{delivery, delivered, advanced, BringsOctets};
+ghost use Rattle.iw_ranges.specs.Arrived.{delivery, delivered, advanced, emptied, BringsOctets};
 ghost use Rattle.iw_fpdu.specs.Places.{frame_start, span_start};
 ghost use Rattle.iw_fpdu.specs.Found.{HoldsSpan, IsKept};
 ghost use Rattle.iw_fpdu.specs.Laws.{IsBetween, found_at};
@@ -14,6 +14,8 @@ ghost use Rattle.iw_locate.specs.Keeping.{IsFrontUnplaced, IsPassed, record_of};
 ghost use Rattle.iw_locate.specs.Unsearched.{IsFollowed};
 ghost use Rattle.iw_stream.specs.Incoming.{IsClearAt};
 ghost use Rattle.iw_stream.specs.Frames.{IsNext as IsNextFrame, frame_at, frame_by, placed_at, without};
+
+mod reading;
 
 use crate::judging::{Header, PlacedFrame, copy_of};
 use iw_fpdu::{Fpdu, Layout, span_of};
@@ -165,6 +167,7 @@ impl<A: Allocator> Incoming<A> {
         ensures layout { self.new.layout ≡ layout }
         ensures base { self.new.base ≡ self.old.base }
     {
+        // The frames begin where octets are counted from: no start-up frame stands before them.
         self.unsearched.start_up_ended(0);
         self.locator.layout = layout;
     }
@@ -182,6 +185,18 @@ impl<A: Allocator> Incoming<A> {
         self.unsearched.passed(&self.judged, frame_place);
         self.islands.advance(place);
         self.judged.drop_to(frame_place);
+    }
+
+    /// Gives up what came from the in-order point on, and the records, and gives back their memory.
+    pub(crate) fn give_up(&mut self)
+        ensures arrived { self.new.arrived ≡ emptied self.old.arrived }
+        ensures early { self.new.early ≡ [] }
+        ensures same { IsSameStart self.old self.new }
+    {
+        let point = self.islands.floor() - self.locator.base;
+        self.islands.give_up();
+        self.judged.give_up();
+        self.unsearched.gave_up(point);
     }
 
     /// What is kept of the frame that begins at frame place `start`, if it was placed early.

@@ -6,25 +6,28 @@
 //!
 //! 1. posts receive buffers (`post_recv`) and, once the stream is open, messages and Reads (`post`);
 //! 2. sends what `emit` appends, until it answers [`Emission::Nothing`];
-//! 3. hands in octets that came, with their sequence number (`deliver`; `first_number` sets that of the peer's first octet), in
-//!    any order;
+//! 3. reads octets from the connection right to where they are to stand (`read_from`), or hands in octets that came, with their
+//!    sequence number (`deliver`; `first_number` sets that of the peer's first octet), in any order;
 //! 4. calls `work` until it answers [`Step::Idle`]: each call does one step and says what it did. If it answers
 //!    [`Step::Asked`], the owner accepts or rejects the peer's Request.
 //!
 //! A stream ends by a fault, by the peer's Terminate, in its start-up, or when its owner says that the link broke
 //! (`break_link`). After a fault `emit` appends one Terminate, behind a start-up frame that is still due, and nothing more; a
-//! responder at which no frame of the peer had its turn sends none (RFC 5044 7.1.2). `work` hands back what was posted.
+//! responder at which no frame of the peer had its turn sends none (RFC 5044 7.1.2). `work` hands back what was posted. What
+//! came and had no turn is given up in the step that ends the stream, and its memory given back; `is_at_rest` tells when nothing
+//! is left to do.
 //!
 //! After 3 and 4 there may be more to emit. The regions that the peer may use are an `iw_memory::Memory`, lent to each call
-//! of `work`, and of `emit`, which answers the peer's Reads from them. No call does input or output. `post`, `post_recv`,
-//! `deliver` and `emit` may be out of memory, and so may `work` when it judges a frame before its turn; such a call changes
-//! nothing.
+//! of `work`, and of `emit`, which answers the peer's Reads from them. No call but `read_from` does input or output. `post`,
+//! `post_recv`, `deliver`, `read_from` and `emit` may be out of memory, and so may `work` when it judges a frame before its
+//! turn; such a call changes nothing.
 #![tactic(auto)]
 
 mod answer;
 mod emitting;
 mod ending;
 mod incoming;
+mod intake;
 mod judging;
 mod starting;
 mod stream;
@@ -36,6 +39,7 @@ pub use answer::{
     PostRefusal, RecvRefusal, Role, SizeRefusal, Step,
 };
 pub use ending::Ending;
+pub use intake::{Intake, MOST_READ};
 pub use iw_queues::{Kind, Request};
 pub use iw_ranges::Delivery;
 pub use iw_reads::{Asked, Outstanding, ResponsePart};

@@ -1,11 +1,13 @@
-ghost use Rattle.std.specs.Prelude.{◌≡◌, ◌-◌, length, false, IfSome, IfNone, IfOk, IfErr, IsErr, OnOk, OnErr};
+ghost use Rattle.std.specs.Prelude.{◌≡◌, ◌-◌, length, true, false, None, IfSome, IfNone, IfOk, IfErr, IsErr, OnOk, OnErr};
 ghost use Rattle.std.specs.Result.{result_err};
 ghost use Rattle.iw_ranges.specs.Arrived.{BringsOctets};
-ghost use Rattle.iw_stream.specs.Starting.{exceeds_request, private_in, told_in, agreement_in};
+ghost use Rattle.iw_stream.specs.Ending.{has_ended, last_word};
+ghost use Rattle.iw_stream.specs.Starting.{is_open, exceeds_request, private_in, told_in, agreement_in};
 ghost use Rattle.iw_stream.specs.Stream.{post_refusal_of, recv_refusal_of};
 
 mod emission;
 mod judgement;
+mod reading;
 mod room;
 mod tasks;
 mod turns;
@@ -17,6 +19,7 @@ use crate::ending::Ending;
 use crate::incoming::Incoming;
 use crate::judging::PlacedFrame;
 use crate::starting::Start;
+use crate::terminating::{LastWord, over};
 use bytes::Bytes;
 use iw_octets::MAX_ULPDU;
 use iw_queues::{Refusal, Request, SendQueue};
@@ -91,7 +94,7 @@ fn recv_refusal_of(refusal: BufferRefusal) -> RecvRefusal
 }
 
 impl<A: Allocator> Stream<A> {
-    ghost use Rattle.iw_stream.specs.Stream.{opened, opened_shared, shares, ended, breaks, answer_refusal, accepted, rejected};
+    ghost use Rattle.iw_stream.specs.Stream.{opened, opened_shared, shares, ended, quits, ends_by, breaks, answer_refusal, accepted, rejected};
     ghost use Rattle.iw_stream.specs.Stream.{post_refusal, with_request, recv_refusal, with_buffer};
     ghost use Rattle.iw_stream.specs.Stream.{first_refusal, with_first, place_of, left_out};
     ghost use Rattle.iw_stream.specs.Stream.{delivery_of, after_deliver, size_refusal, with_mulpdu};
@@ -238,7 +241,7 @@ impl<A: Allocator> Stream<A> {
             return Err(AnswerRefusal::NotAsked);
         }
         self.start.reject(private)?;
-        self.ending = Ending::Over(None);
+        self.end(Ending::Over(None));
         Ok(())
     }
 
@@ -367,6 +370,28 @@ impl<A: Allocator> Stream<A> {
     pub fn break_link(&mut self)
         ensures { self.new ≡ breaks self.old }
     {
-        self.ending = Ending::Broken;
+        self.end(Ending::Broken);
+    }
+
+    // The stream has ended so. What came and had no turn is given up, with what is kept of frames, and their memory.
+    #[inline(never)]
+    pub(crate) fn end(&mut self, ending: Ending)
+        requires over { has_ended ending ≡ true }
+        requires silent { is_open self.old.start ≡ false → last_word ending ≡ None }
+        ensures { self.new ≡ record (quits self.old) { ending = ending } }
+    {
+        self.arrived.give_up();
+        self.front = None;
+        self.ending = ending;
+    }
+
+    // An open stream has ended by a fault, which has this Terminate.
+    #[inline(never)]
+    pub(crate) fn end_by(&mut self, terminate: LastWord)
+        requires { is_open self.old.start ≡ true }
+        ensures { self.new ≡ ends_by self.old terminate.items }
+    {
+        let ending = over(terminate, &self.start, &self.arrived);
+        self.end(ending);
     }
 }

@@ -35,8 +35,13 @@ pub(crate) fn over<A: Allocator>(
     Ending::Over(Some(terminate))
 }
 
-// The payload of the Terminate for a whole frame that was judged and found to have this fault.
-fn terminate_judged<A: Allocator>(fpdu: &Fpdu<'_, A>, fault: Fault, asked: &Requests) -> LastWord
+/// The payload of the Terminate for a whole frame that was judged and found to have this fault.
+#[inline(never)]
+pub(crate) fn terminate_judged<A: Allocator>(
+    fpdu: &Fpdu<'_, A>,
+    fault: Fault,
+    asked: &Requests,
+) -> LastWord
     requires holds { HoldsSpan fpdu.now }
     requires fits { FitsFault fault }
     requires cause { HasCause fault (take 46 (ulpdu fpdu.now)) (is_request_of asked.now (ulpdu fpdu.now)) }
@@ -51,35 +56,13 @@ fn terminate_judged<A: Allocator>(fpdu: &Fpdu<'_, A>, fault: Fault, asked: &Requ
     terminate(fault, first.as_slice(), len, asks)
 }
 
-/// The end by the fault of a whole frame that was judged.
+/// The payload of the Terminate for a frame at the in-order point that lies over one that was placed early. Nothing of the
+/// frame comes with it, so that its octets, some of which were given up, are not looked at.
 #[inline(never)]
-pub(crate) fn end_judged<A: Allocator>(
-    fpdu: &Fpdu<'_, A>,
-    fault: Fault,
-    asked: &Requests,
-    start: &Start,
-    arrived: &Incoming<A>,
-) -> Ending
-    requires holds { HoldsSpan fpdu.now }
-    requires fits { FitsFault fault }
-    requires cause { HasCause fault (take 46 (ulpdu fpdu.now)) (is_request_of asked.now (ulpdu fpdu.now)) }
-    ensures { result ≡ over start.now arrived.now.arrived (terminate_judged asked.now (frame_by fpdu.now) fault) }
+pub(crate) fn terminate_clashed() -> LastWord
+    ensures { (asked : Requested) → (frame : Frame) → result.items ≡ terminate_judged asked frame clash_fault }
 {
-    let terminate = terminate_judged(fpdu, fault, asked);
-    over(terminate, start, arrived)
-}
-
-/// The end by a frame at the in-order point that lies over one that was placed early. Nothing of the frame comes with the
-/// Terminate, so that its octets, some of which were given up, are not looked at.
-#[inline(never)]
-pub(crate) fn end_clashed<A: Allocator>(start: &Start, arrived: &Incoming<A>) -> Ending
-    ensures { (asked : Requested) → (frame : Frame) → result ≡ over start.now arrived.now.arrived (terminate_judged asked frame clash_fault) }
-{
-    over(
-        terminate(Fault::MARKER_MISMATCH, &[], 0, false),
-        start,
-        arrived,
-    )
+    terminate(Fault::MARKER_MISMATCH, &[], 0, false)
 }
 
 /// The payload of the Terminate for a fault of no frame.

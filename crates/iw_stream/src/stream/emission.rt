@@ -15,7 +15,7 @@ use super::Stream;
 use crate::answer::Emission;
 use crate::emitting::{Numbers, write_part, write_tagged, write_terminate};
 use crate::ending::Ending;
-use crate::terminating::{over, terminate_fetched};
+use crate::terminating::terminate_fetched;
 use bytes::Bytes;
 use iw_memory::Memory;
 use iw_octets::Message;
@@ -215,7 +215,7 @@ impl<A: Allocator> Stream<A> {
             Ok(octets) => self.emit_fetched(part, octets, out),
             Err(fault) => {
                 let terminate = terminate_fetched(&self.asked, fault);
-                self.ending = over(terminate, &self.start, &self.arrived);
+                self.end_by(terminate);
                 Ok(Emission::Fault(fault))
             }
         }

@@ -22,7 +22,7 @@ use crate::judging::{
     Header, Landing, PlacedFrame, header_of, keep_frame, keep_tagged, land_early, land_frame,
     land_tagged, landing_of, placed_frame, tagged_parts,
 };
-use crate::terminating::{end_clashed, end_judged};
+use crate::terminating::{terminate_clashed, terminate_judged};
 use crate::turning::is_response;
 use iw_fpdu::Fpdu;
 use iw_locate::{Frame as EarlyFrame, Next, State};
@@ -186,9 +186,9 @@ impl<A: Allocator> Stream<A> {
         }
     }
 
-    // Judges the frame at the in-order point, whatever it is, if it is whole, in a call of its own.
+    // The slow path of `judge`: judges the frame at the in-order point, whatever it is, if it is whole.
     #[inline(always)]
-    pub(crate) fn judge_aside(&mut self, memory: &mut Memory<A>) -> Step<Octets<A>>
+    pub(crate) fn judge_slow(&mut self, memory: &mut Memory<A>) -> Step<Octets<A>>
         requires open { is_open self.old.start ≡ true }
         requires runs { ended self.old ≡ false }
         requires place { self.old.arrived.floor + 2 ^ 18 ≤ 2 ^ 63 }
@@ -200,12 +200,12 @@ impl<A: Allocator> Stream<A> {
         ensures reach { self.new.arrived.floor ≤ self.old.arrived.floor + 2 ^ 18 }
         ensures within { IsWithinBuffer result }
     {
-        self.judge_apart(memory)
+        self.judge_slow_outlined(memory)
     }
 
-    // The same.
+    // The same, out of line.
     #[inline(never)]
-    fn judge_apart(&mut self, memory: &mut Memory<A>) -> Step<Octets<A>>
+    fn judge_slow_outlined(&mut self, memory: &mut Memory<A>) -> Step<Octets<A>>
         requires open { is_open self.old.start ≡ true }
         requires runs { ended self.old ≡ false }
         requires place { self.old.arrived.floor + 2 ^ 18 ≤ 2 ^ 63 }
@@ -233,7 +233,8 @@ impl<A: Allocator> Stream<A> {
             &mut self.receiving,
         ) {
             Err(fault) => {
-                self.ending = end_judged(&fpdu, fault, &self.asked, &self.start, &self.arrived);
+                let terminate = terminate_judged(&fpdu, fault, &self.asked);
+                self.end_by(terminate);
                 Step::Fault(fault)
             }
             Ok(Landing::Write(placed)) => {
@@ -312,7 +313,7 @@ impl<A: Allocator> Stream<A> {
         let place = self.start.first_place_in() + end;
         self.front = None;
         self.arrived.advance(place);
-        self.ending = Ending::Over(None);
+        self.end(Ending::Over(None));
         Step::Terminated(fault)
     }
 
@@ -335,7 +336,7 @@ impl<A: Allocator> Stream<A> {
         ensures within { IfOk result IsWithinBuffer }
     {
         match self.waiting() {
-            Some(frame) => Ok(self.turn_checked(frame, memory)),
+            Some(frame) => Ok(self.turn_by_kind(frame, memory)),
             None => self.judge_among(memory),
         }
     }
@@ -362,10 +363,10 @@ impl<A: Allocator> Stream<A> {
             return self.try_early(memory);
         };
         if self.arrived.overlaps_placed(start, fpdu.end()) {
-            self.ending = end_clashed(&self.start, &self.arrived);
+            self.end_by(terminate_clashed());
             return Ok(Step::Fault(Fault::MARKER_MISMATCH));
         }
-        Ok(self.judge_apart(memory))
+        Ok(self.judge_slow_outlined(memory))
     }
 
     // Whether it is clear without a search that no frame can be judged early. `false` is always a right answer: it only costs
@@ -402,15 +403,12 @@ impl<A: Allocator> Stream<A> {
         if self.is_quiet() {
             return Ok(Step::Idle);
         }
-        self.try_apart(memory)
+        self.try_slow_outlined(memory)
     }
 
-    // The same, with a search, in a call of its own.
+    // The slow path of an early look: with a search.
     #[inline(always)]
-    pub(crate) fn try_aside(
-        &mut self,
-        memory: &mut Memory<A>,
-    ) -> Result<Step<Octets<A>>, AllocError>
+    pub(crate) fn try_slow(&mut self, memory: &mut Memory<A>) -> Result<Step<Octets<A>>, AllocError>
         requires open { is_open self.old.start ≡ true }
         requires runs { ended self.old ≡ false }
         requires place { self.old.arrived.floor ≤ 2 ^ 62 }
@@ -424,12 +422,12 @@ impl<A: Allocator> Stream<A> {
         ensures floor { self.new.arrived.floor ≡ self.old.arrived.floor }
         ensures within { IfOk result IsWithinBuffer }
     {
-        self.try_apart(memory)
+        self.try_slow_outlined(memory)
     }
 
-    // The same.
+    // The same, out of line.
     #[inline(never)]
-    fn try_apart(&mut self, memory: &mut Memory<A>) -> Result<Step<Octets<A>>, AllocError>
+    fn try_slow_outlined(&mut self, memory: &mut Memory<A>) -> Result<Step<Octets<A>>, AllocError>
         requires open { is_open self.old.start ≡ true }
         requires runs { ended self.old ≡ false }
         requires place { self.old.arrived.floor ≤ 2 ^ 62 }

@@ -7,7 +7,7 @@ use super::judgement::landed_step;
 use crate::answer::Step;
 use crate::ending::Ending;
 use crate::starting::{negotiation_fault, octets_in_order};
-use crate::terminating::{over, terminate_alone};
+use crate::terminating::terminate_alone;
 use iw_memory::Memory;
 use iw_octets::Octets;
 use iw_startup::Progress;
@@ -15,9 +15,9 @@ use iw_untagged::SharedQueue;
 use std::alloc::{AllocError, Allocator};
 
 impl<A: Allocator> Stream<A> {
-    ghost use Rattle.iw_stream.specs.Stream.{ended, shares, sees};
+    ghost use Rattle.iw_stream.specs.Stream.{ended, shares, sees, due, is_none_due};
     ghost use Rattle.iw_untagged.specs.Receiving.{exchanged};
-    ghost use Rattle.iw_stream.specs.Work.{Hear, IsTry, task, frame_task, handing_back, opened_step, after_opening};
+    ghost use Rattle.iw_stream.specs.Work.{Hear, IsTry, task, frame_task, handing_back, is_rest, is_at_rest, opened_step, after_opening};
     ghost use Rattle.iw_stream.specs.Work.{step_of, left_by, table_left, work_step, worked, table_worked, worked_with, pool_left};
     ghost use Rattle.iw_stream.specs.Kept.{IsWithinBuffer};
 
@@ -89,6 +89,43 @@ impl<A: Allocator> Stream<A> {
         step
     }
 
+    /// Whether the stream has ended, nothing is left to hand out, and nothing is due to go out: [`Stream::work`] then answers
+    /// [`Step::Idle`] and [`Stream::emit`] that there is nothing, and so they do from then on. A stream that shares a pool has
+    /// nothing left to hand out once each buffer that it has taken was handed back.
+    pub fn is_at_rest(&self) -> bool
+        ensures { result ≡ is_at_rest self.now }
+    {
+        if !self.ending.has_ended() {
+            return false;
+        }
+        if !self.has_handed_out() {
+            return false;
+        }
+        self.has_gone_out()
+    }
+
+    // Whether nothing is left to hand out of a stream that has ended.
+    fn has_handed_out(&self) -> bool
+        requires { ended self.now ≡ true }
+        ensures { result ≡ is_rest (task self.now) }
+    {
+        if !self.queue.is_empty() {
+            return false;
+        }
+        self.receiving.is_empty()
+    }
+
+    // Whether nothing is due to go out of a stream that has ended.
+    fn has_gone_out(&self) -> bool
+        requires { ended self.now ≡ true }
+        ensures { result ≡ is_none_due (due self.now) }
+    {
+        if self.owes_frame() {
+            return false;
+        }
+        !self.ending.has_last_word()
+    }
+
     // Exchanges the pool that is lent to the stream; one that shares none takes none.
     fn lend(&mut self, pool: &mut SharedQueue<A>)
         ensures after { self.new ≡ sees self.old pool.old }
@@ -115,30 +152,30 @@ impl<A: Allocator> Stream<A> {
             if self.turn() {
                 return Ok(Step::Passed);
             }
-            return Ok(self.turn_aside(memory));
+            return Ok(self.turn_slow(memory));
         }
         let Ok(turned) = self.turn_early() else {
-            return self.work_aside(memory);
+            return self.work_slow(memory);
         };
         if turned {
             return Ok(Step::Passed);
         }
         let Ok(found) = self.judge(memory) else {
-            return Ok(self.judge_aside(memory));
+            return Ok(self.judge_slow(memory));
         };
         let Some(landing) = found else {
             if self.is_quiet() {
                 return Ok(Step::Idle);
             }
-            return self.try_aside(memory);
+            return self.try_slow(memory);
         };
         Ok(landed_step(landing))
     }
 
-    // The step of frames if one that was placed early may be that at the in-order point, or lie over it, in a call of its
-    // own. Its answer has a place of its own, so that the others need none in memory; likewise in each call of such a name.
+    // The slow path of frames: one that was placed early may be that at the in-order point, or lie over it. The answer of a
+    // `.._slow` call has a place of its own, so that the fast path needs none in memory; what is `.._outlined` is its body.
     #[inline(always)]
-    fn work_aside(&mut self, memory: &mut Memory<A>) -> Result<Step<Octets<A>>, AllocError>
+    fn work_slow(&mut self, memory: &mut Memory<A>) -> Result<Step<Octets<A>>, AllocError>
         requires open { is_open self.old.start ≡ true }
         requires runs { ended self.old ≡ false }
         requires place { self.old.arrived.floor ≤ 2 ^ 62 }
@@ -163,12 +200,12 @@ impl<A: Allocator> Stream<A> {
         ensures reach { self.new.arrived.floor ≤ self.old.arrived.floor + 2 ^ 18 }
         ensures within { IsWithinBuffer result }
     {
-        self.hear_apart()
+        self.hear_outlined()
     }
 
-    // The same, in a call of its own.
+    // The same, out of line.
     #[inline(never)]
-    fn hear_apart(&mut self) -> Step<Octets<A>>
+    fn hear_outlined(&mut self) -> Step<Octets<A>>
         requires { awaits_frame self.old.start ≡ true }
         ensures step { (table : Table) → result ≡ step_of table self.old Hear }
         ensures after { (table : Table) → self.new ≡ left_by table self.old Hear }
@@ -187,7 +224,7 @@ impl<A: Allocator> Stream<A> {
             }
             Progress::Faulted(fault) => {
                 self.start.hear(&mut self.arrived);
-                self.ending = Ending::Over(None);
+                self.end(Ending::Over(None));
                 Step::Closed(fault)
             }
         }
@@ -203,7 +240,7 @@ impl<A: Allocator> Stream<A> {
     {
         if let Some(mismatch) = self.start.mismatch() {
             let fault = negotiation_fault(mismatch);
-            self.ending = over(terminate_alone(fault), &self.start, &self.arrived);
+            self.end_by(terminate_alone(fault));
             return Step::Fault(fault);
         }
         let Some(agreed) = self.start.agreed() else {
@@ -221,12 +258,12 @@ impl<A: Allocator> Stream<A> {
         ensures floor { self.new.arrived.floor ≡ self.old.arrived.floor }
         ensures within { IsWithinBuffer result }
     {
-        self.hand_back_apart()
+        self.hand_back_outlined()
     }
 
-    // The same, in a call of its own.
+    // The same, out of line.
     #[inline(never)]
-    fn hand_back_apart(&mut self) -> Step<Octets<A>>
+    fn hand_back_outlined(&mut self) -> Step<Octets<A>>
         requires ended { ended self.old ≡ true }
         ensures step { (table : Table) → result ≡ step_of table self.old (handing_back self.old) }
         ensures after { (table : Table) → self.new ≡ left_by table self.old (handing_back self.old) }

@@ -9,7 +9,7 @@ use super::judgement::Apart;
 use crate::answer::Step;
 use crate::incoming::frame_at;
 use crate::judging::{PlacedFrame, Turning};
-use crate::terminating::{over, terminate_turned};
+use crate::terminating::terminate_turned;
 use crate::turning::{is_response, turn_frame, turn_reads};
 use iw_memory::Memory;
 use iw_octets::{Octets, Segment};
@@ -140,9 +140,9 @@ impl<A: Allocator> Stream<A> {
         true
     }
 
-    // Gives the frame at the in-order point, which was placed, its turn, whatever it is, in a call of its own.
+    // The slow path of a turn: gives the frame at the in-order point, which was placed, its turn, whatever it is.
     #[inline(always)]
-    pub(crate) fn turn_aside(&mut self, memory: &mut Memory<A>) -> Step<Octets<A>>
+    pub(crate) fn turn_slow(&mut self, memory: &mut Memory<A>) -> Step<Octets<A>>
         requires open { is_open self.old.start ≡ true }
         requires runs { ended self.old ≡ false }
         requires placed { IsSome self.old.front }
@@ -153,12 +153,12 @@ impl<A: Allocator> Stream<A> {
         ensures reach { self.new.arrived.floor ≤ self.old.arrived.floor + 2 ^ 18 }
         ensures within { IsWithinBuffer result }
     {
-        self.turn_apart(memory)
+        self.turn_slow_outlined(memory)
     }
 
-    // The same. Most are Read Responses.
+    // The same, out of line. Most are Read Responses.
     #[inline(never)]
-    fn turn_apart(&mut self, memory: &mut Memory<A>) -> Step<Octets<A>>
+    fn turn_slow_outlined(&mut self, memory: &mut Memory<A>) -> Step<Octets<A>>
         requires open { is_open self.old.start ≡ true }
         requires runs { ended self.old ≡ false }
         requires placed { IsSome self.old.front }
@@ -173,13 +173,13 @@ impl<A: Allocator> Stream<A> {
             return Step::Idle;
         };
         let Some(head) = tagged_head(frame.header.as_slice()) else {
-            return self.turn_front(memory);
+            return self.turn_due(memory);
         };
         let end = self.start.expecting().end_of(frame.start, frame.len);
         let place = self.start.first_place_in() + end;
         match turn_reads(head, frame.payload_len(), &mut self.reads) {
             // Nothing has changed.
-            Err(_) => self.turn_front(memory),
+            Err(_) => self.turn_due(memory),
             Ok(None) => {
                 self.front = None;
                 self.arrived.advance(place);
@@ -196,7 +196,7 @@ impl<A: Allocator> Stream<A> {
 
     // Gives the frame that was placed at the in-order point its turn by the checks of its kind.
     #[inline(never)]
-    fn turn_front(&mut self, memory: &mut Memory<A>) -> Step<Octets<A>>
+    fn turn_due(&mut self, memory: &mut Memory<A>) -> Step<Octets<A>>
         requires open { is_open self.old.start ≡ true }
         requires runs { ended self.old ≡ false }
         requires placed { IsSome self.old.front }
@@ -211,7 +211,7 @@ impl<A: Allocator> Stream<A> {
             return Step::Idle;
         };
         let frame = frame.copied();
-        self.turn_checked(frame, memory)
+        self.turn_by_kind(frame, memory)
     }
 
     // What is kept of the frame at the in-order point, if it was placed, there or before its turn.
@@ -227,7 +227,7 @@ impl<A: Allocator> Stream<A> {
 
     // Gives the frame at the in-order point, which was placed, there or before its turn, its turn by the checks of its kind.
     #[inline(never)]
-    pub(crate) fn turn_checked(
+    pub(crate) fn turn_by_kind(
         &mut self,
         frame: PlacedFrame,
         memory: &mut Memory<A>,
@@ -255,7 +255,7 @@ impl<A: Allocator> Stream<A> {
         ) {
             Ok(turning) => turning,
             Err(fault) => {
-                self.ending = over(terminate_turned(&frame, fault), &self.start, &self.arrived);
+                self.end_by(terminate_turned(&frame, fault));
                 return Step::Fault(fault);
             }
         };

@@ -1,14 +1,13 @@
-use Rattle.std.proofs.Common.{◌≡◌, ◌+◌, false, true, None, refl, ap, sym, ◌∙◌, subst, arith}
+use Rattle.std.proofs.Common.{◌≡◌, ◌+◌, false, true, refl, ap, sym, ◌∙◌, subst, arith}
 use Rattle.iw_fpdu.specs.declared.layout.Layout.{Layout}
 use Rattle.iw_fpdu.specs.Frame.{frame_end}
-use Rattle.iw_stream.specs.declared.ending.Ending.TheVariants.{Over}
 use Rattle.iw_stream.specs.Fields.{state_of}
 use Rattle.iw_stream.specs.Kept.{Stands, NoneReachesOver}
 use Rattle.iw_stream.specs.Starting.{is_open, first_place_in}
 use Rattle.iw_stream.specs.Stream.{StreamState, ended}
 use Rattle.iw_stream.specs.Work.{place_past}
 use Rattle.iw_stream.proofs.Waiting.{passed}
-use Rattle.iw_stream.proofs.Keeping.{keeps_past, keeps_over, reaches, turn_stays}
+use Rattle.iw_stream.proofs.Keeping.{keeps_past, reaches, turn_stays}
 use Rattle.iw_stream.proofs.Buffers.{stays_same}
 use Rattle.iw_stream.proofs.stream.Stream.hear_out.Goals as goal
 
@@ -23,10 +22,9 @@ invariant_of-self g c = record {
       let there : c.first_place_in.result + c.end_of-end.result ≡ place_past (state_of c.self.inside) c.args.frame =
       (λ i. c.first_place_in.ensures.place i + c.end_of-end.ensures i)
       ∙ ap (λ (l : Layout). first_place_in c.self.inside.start + frame_end l.markers c.args.frame.start c.args.frame.len) c.expecting.ensures in
-      keeps_over (record s { front = None; arrived = c.advance.new.self.arrived; early = c.advance.new.self.early }) (Over None) running refl
-      (keeps_past s frame (c.first_place_in.result + c.end_of-end.result) c.advance.new.self.arrived s.receiving s.queue s.reads s.asked c.advance.new.self.early c.self.inside.arrived.base running stands there c.advance.ensures.arrived c.advance.ensures.early
+      keeps_past s frame (c.first_place_in.result + c.end_of-end.result) c.advance.new.self.arrived s.receiving s.queue s.reads s.asked c.advance.new.self.early c.self.inside.arrived.base running stands there c.advance.ensures.arrived c.advance.ensures.early
       (turn_stays s frame s.receiving (stays_same s.receiving s.receiving refl) c.self.invariant.keeps stands)
-      c.self.invariant.keeps.first (c.self.invariant.keeps.awaited runs) c.self.invariant.keeps);
+      c.self.invariant.keeps.first (c.self.invariant.keeps.awaited runs) c.self.invariant.keeps;
   layout = c.advance.ensures.same.layout ∙ c.self.invariant.layout;
   base = c.advance.ensures.same.base ∙ c.self.invariant.base;
 }
@@ -38,7 +36,8 @@ returns-clause-reach g c =
     let there : c.first_place_in.result + c.end_of-end.result ≡ place_past (state_of c.self.inside) c.args.frame =
     (λ i. c.first_place_in.ensures.place i + c.end_of-end.ensures i)
     ∙ ap (λ (l : Layout). first_place_in c.self.inside.start + frame_end l.markers c.args.frame.start c.args.frame.len) c.expecting.ensures in
-    reaches s c.args.self.now c.advance.new.self.arrived (c.first_place_in.result + c.end_of-end.result) c.advance.ensures.arrived (omega (arith, there, stands.near)) c.self.view_is
+    let near = reaches s c.args.self.now c.advance.new.self.arrived (c.first_place_in.result + c.end_of-end.result) c.advance.ensures.arrived (omega (arith, there, stands.near)) c.self.view_is in
+    omega (arith, near, ap (λ (t : StreamState). t.arrived.floor) c.end.ensures)
 
 pub advance-requires-clause-passed : goal.advance-requires-clause-passed
 advance-requires-clause-passed g c =

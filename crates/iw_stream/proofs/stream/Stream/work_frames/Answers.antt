@@ -8,7 +8,7 @@ use Rattle.iw_stream.proofs.stream.Stream.work_frames.Given as given
 use Rattle.iw_stream.proofs.stream.Stream.work_frames.Goals as goal
 
 -- nothing waits, and no frame is whole
-rests : (g : given.Over) (c : goal.After-try_aside g) → IsUnjudged c.args.memory.now c.judge.new.memory c.args.self.now c.judge.new.self
+rests : (g : given.Over) (c : goal.After-try_slow g) → IsUnjudged c.args.memory.now c.judge.new.memory c.args.self.now c.judge.new.self
 rests g c =
     let table = c.args.memory.now in
     let same : c.turn_early.new.self ≡ c.args.self.now = c.in-Ok.ensures.kept c.if-turned.false in
@@ -18,15 +18,15 @@ rests g c =
 
 pub returns-in_default-found-clause-step : goal.returns-in_default-found-clause-step
 returns-in_default-found-clause-step g c =
-    subst (λ x. IfOk c.try_aside.result (λ step. step ≡ x)) (tries step_of c.args.memory.now c.judge.new.memory c.args.self.now c.judge.new.self (rests g c)) c.try_aside.ensures.step
+    subst (λ x. IfOk c.try_slow.result (λ step. step ≡ x)) (tries step_of c.args.memory.now c.judge.new.memory c.args.self.now c.judge.new.self (rests g c)) c.try_slow.ensures.step
 
 pub returns-in_default-found-clause-after : goal.returns-in_default-found-clause-after
 returns-in_default-found-clause-after g c =
-    subst (λ x. OnOk c.try_aside.result (c.try_aside.new.self ≡ x)) (tries left_by c.args.memory.now c.judge.new.memory c.args.self.now c.judge.new.self (rests g c)) c.try_aside.ensures.after
+    subst (λ x. OnOk c.try_slow.result (c.try_slow.new.self ≡ x)) (tries left_by c.args.memory.now c.judge.new.memory c.args.self.now c.judge.new.self (rests g c)) c.try_slow.ensures.after
 
 pub returns-in_default-found-clause-memory : goal.returns-in_default-found-clause-memory
 returns-in_default-found-clause-memory g c =
-    subst (λ x. OnOk c.try_aside.result (c.try_aside.new.memory ≡ x)) (tries table_left c.args.memory.now c.judge.new.memory c.args.self.now c.judge.new.self (rests g c)) c.try_aside.ensures.memory
+    subst (λ x. OnOk c.try_slow.result (c.try_slow.new.memory ≡ x)) (tries table_left c.args.memory.now c.judge.new.memory c.args.self.now c.judge.new.self (rests g c)) c.try_slow.ensures.memory
 
 -- the one there was judged
 judges : (g : given.Over) (c : goal.After-landed_step g) → option_map_or Judge (next_frame c.turn_early.new.self) Rest ≡ frame_task c.args.self.now
@@ -55,12 +55,12 @@ returns-clause-memory g c =
     c.in-Ok-judge.ensures.memory ∙ (λ i. table_left c.args.memory.now (same i) (judges g c i))
 
 -- there is one of another kind, or with a fault, and nothing was done
-record IsOther (g : given.Over) (c : goal.After-judge_aside g) : Type 0 where
+record IsOther (g : given.Over) (c : goal.After-judge_slow g) : Type 0 where
   same : c.judge.new.self ≡ c.args.self.now
   table : c.judge.new.memory ≡ c.args.memory.now
   task : option_map_or Judge (next_frame c.judge.new.self) Rest ≡ frame_task c.args.self.now
 
-other : (g : given.Over) (c : goal.After-judge_aside g) → IsOther g c
+other : (g : given.Over) (c : goal.After-judge_slow g) → IsOther g c
 other g c =
     let early : c.turn_early.new.self ≡ c.args.self.now = c.in-Ok.ensures.kept c.if-turned.false in
     let same : c.judge.new.self ≡ c.args.self.now = c.in_default-judge.ensures.err.0 ∙ early in
@@ -75,14 +75,14 @@ other g c =
 pub returns-in_default-judge-clause-step : goal.returns-in_default-judge-clause-step
 returns-in_default-judge-clause-step g c =
     let w = other g c in
-    c.judge_aside.ensures.step ∙ (λ i. step_of (w.table i) (w.same i) (w.task i))
+    c.judge_slow.ensures.step ∙ (λ i. step_of (w.table i) (w.same i) (w.task i))
 
 pub returns-in_default-judge-clause-after : goal.returns-in_default-judge-clause-after
 returns-in_default-judge-clause-after g c =
     let w = other g c in
-    c.judge_aside.ensures.after ∙ (λ i. left_by (w.table i) (w.same i) (w.task i))
+    c.judge_slow.ensures.after ∙ (λ i. left_by (w.table i) (w.same i) (w.task i))
 
 pub returns-in_default-judge-clause-memory : goal.returns-in_default-judge-clause-memory
 returns-in_default-judge-clause-memory g c =
     let w = other g c in
-    c.judge_aside.ensures.memory ∙ (λ i. table_left (w.table i) (w.same i) (w.task i))
+    c.judge_slow.ensures.memory ∙ (λ i. table_left (w.table i) (w.same i) (w.task i))

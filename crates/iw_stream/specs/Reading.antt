@@ -1,0 +1,58 @@
+-- Octets that are read from the connection in place.
+use Rattle.std.specs.Prelude.{ℕ, ◌≡◌, ◌+◌, ◌-◌, ◌%◌, ◌^◌, ◌<◌, ◌≤◌, min, false, List, [], length, Option, slice_index}
+use Rattle.std.specs.Io.KnownBytes.{Consumes, IsAtEnd, Keeps}
+use Rattle.iw_ranges.specs.declared.Delivery.TheVariants.{Kept}
+use Rattle.iw_ranges.specs.Arrived.{Arrived, delivery, delivered, end_of, HasNoGap, window}
+use Rattle.iw_stream.specs.declared.intake.Intake.{Intake}
+use Rattle.iw_stream.specs.declared.intake.Intake.TheVariants.{Came, End, Full, Gap}
+use Rattle.iw_stream.specs.declared.intake.TheConstants.{MOST_READ}
+use Rattle.iw_stream.specs.Stream.{StreamState, ended, delivery_of, after_deliver}
+
+-- ---- what came, octet by octet
+-- for how many octets the window has room past the last that came
+abbrev pub room_ahead : Arrived → ℕ
+room_ahead a = window - length a.cells
+
+-- n octets came right past the last that came, and they are what the reader gave
+pub record Brings (old new : Arrived) (before after : Option (List ℕ)) (n : ℕ) : Type 0 where
+  pub octets : List ℕ
+  pub len : length octets ≡ n
+  pub given : Consumes before after octets
+  pub taken : new ≡ delivered old (end_of old) octets
+  pub kept : delivery old (end_of old) n ≡ Kept
+  pub near : end_of old ≤ old.floor + window
+  pub small : (k : ℕ) → slice_index octets k < 256
+
+-- what one read leaves of what came, and of the reader
+abbrev pub Reads : Arrived → Arrived → Option (List ℕ) → Option (List ℕ) → Intake → Type 0
+Reads old new before after (Came n) = (0 < n) × (n ≤ min MOST_READ (room_ahead old)) × Brings old new before after n
+Reads old new before after End = (new ≡ old) × Consumes before after [] × IsAtEnd after
+Reads old new before after Full = (new ≡ old) × Keeps before after × (room_ahead old ≡ 0)
+Reads old new before after Gap = (new ≡ old) × Keeps before after × (HasNoGap old → ⊥)
+
+-- ---- the same of a stream
+-- the number of the octet past the last that came
+abbrev pub number_past : StreamState → ℕ
+number_past s = (s.first + end_of s.arrived) % 2 ^ 32
+
+-- octets that are read are delivered there
+abbrev pub after_read : StreamState → List ℕ → StreamState
+after_read s octets = after_deliver s (number_past s) octets (delivery_of s (number_past s) (length octets))
+
+-- n octets came, and they are what the reader gave; none is dropped if the stream runs
+pub record Took (old new : StreamState) (before after : Option (List ℕ)) (n : ℕ) : Type 0 where
+  pub octets : List ℕ
+  pub len : length octets ≡ n
+  pub given : Consumes before after octets
+  pub delivered : new ≡ after_read old octets
+  pub some : 0 < n
+  pub most : n ≤ MOST_READ
+  pub kept : ended old ≡ false → delivery_of old (number_past old) n ≡ Kept
+  pub fits : ended old ≡ false → n ≤ room_ahead old.arrived
+
+-- what one read leaves of a stream, and of the reader
+abbrev pub IsRead : StreamState → StreamState → Option (List ℕ) → Option (List ℕ) → Intake → Type 0
+IsRead old new before after (Came n) = Took old new before after n
+IsRead old new before after End = (new ≡ old) × Consumes before after [] × IsAtEnd after
+IsRead old new before after Full = (new ≡ old) × Keeps before after × (ended old ≡ false) × (room_ahead old.arrived ≡ 0)
+IsRead old new before after Gap = (new ≡ old) × Keeps before after × (ended old ≡ false) × (HasNoGap old.arrived → ⊥)

@@ -1,0 +1,90 @@
+//! Octets that are read in place: to where they stand past the last that came.
+ghost use Rattle.std.specs.Prelude.{◌≡◌, ◌<◌, ◌≤◌, take, [], IfOk, OnErr};
+ghost use Rattle.std.specs.Io.KnownBytes.{Consumes, IsAtEnd, Keeps};
+ghost use Rattle.iw_ranges.specs.Arrived.{HasNoGap, IsReadyFor};
+ghost use Rattle.iw_stream.specs.Reading.{Brings, Reads, room_ahead};
+
+use super::Incoming;
+use crate::intake::{Intake, MOST_READ};
+use iw_ranges::{Islands, WINDOW};
+use std::alloc::Allocator;
+use std::io::{self, Read};
+
+// One read of at most `n` octets to where they stand past the last that came. They are not counted as come.
+fn read_ahead<A: Allocator, R: Read>(
+    islands: &mut Islands<A>,
+    from: &mut R,
+    n: usize,
+) -> io::Result<usize>
+    requires { IsReadyFor n islands.old }
+    ensures ready { IsReadyFor n islands.new }
+    ensures arrived { islands.new.arrived ≡ islands.old.arrived }
+    ensures few { IfOk result (λ got. got ≤ n) }
+    ensures octets { IfOk result (λ got. Consumes (R.remaining from.old) (R.remaining from.new) (take got islands.new.ahead)) }
+    ensures end { IfOk result (λ got. 0 < n → got ≡ 0 → IsAtEnd (R.remaining from.new)) }
+    ensures err { OnErr result (Keeps (R.remaining from.old) (R.remaining from.new)) }
+{
+    from.read(islands.lend(n))
+}
+
+// The same, and counts the octets as come.
+fn read_in_place<A: Allocator, R: Read>(
+    islands: &mut Islands<A>,
+    from: &mut R,
+    n: usize,
+) -> io::Result<usize>
+    requires ready { IsReadyFor n islands.old }
+    requires some { 0 < n }
+    ensures few { IfOk result (λ got. got ≤ n) }
+    ensures none { IfOk result (λ got. got ≡ 0 →
+        (islands.new.arrived ≡ islands.old.arrived) × Consumes (R.remaining from.old) (R.remaining from.new) [] × IsAtEnd (R.remaining from.new)) }
+    ensures came { IfOk result (λ got. 0 < got →
+        Brings islands.old.arrived islands.new.arrived (R.remaining from.old) (R.remaining from.new) got) }
+    ensures err { OnErr result ((islands.new.arrived ≡ islands.old.arrived) × Keeps (R.remaining from.old) (R.remaining from.new)) }
+{
+    let got = read_ahead(islands, from, n)?;
+    if got == 0 {
+        return Ok(0);
+    }
+    let place = islands.missing();
+    islands.came_in_place(place, got);
+    Ok(got)
+}
+
+impl<A: Allocator> Incoming<A> {
+    ghost use Rattle.iw_stream.specs.Incoming.{IsSameStart};
+
+    // For how many octets the window has room past the last that came, if none before it is missing.
+    fn room(&self) -> usize
+        ensures room { HasNoGap self.now.arrived → result ≡ room_ahead self.now.arrived }
+        ensures none { result ≡ 0 → room_ahead self.now.arrived ≡ 0 }
+    {
+        (self.islands.floor() + WINDOW - self.islands.missing()) as usize
+    }
+
+    /// One read of at most 65,536 octets, and no more than the window has room for, to where they are to stand. An `Err`
+    /// means out of memory, or that the read failed.
+    pub(crate) fn read_from<R: Read>(&mut self, from: &mut R) -> io::Result<Intake>
+        ensures ok { IfOk result (λ intake. Reads self.old.arrived self.new.arrived (R.remaining from.old) (R.remaining from.new) intake) }
+        ensures err { OnErr result ((self.new.arrived ≡ self.old.arrived) × Keeps (R.remaining from.old) (R.remaining from.new)) }
+        ensures early { self.new.early ≡ self.old.early }
+        ensures same { IsSameStart self.old self.new }
+    {
+        let n = self.room().min(MOST_READ);
+        if n == 0 {
+            return Ok(Intake::Full);
+        }
+        if !self.islands.make_room(n)? {
+            return Ok(Intake::Gap);
+        }
+        let place = self.islands.missing();
+        let got = read_in_place(&mut self.islands, from, n)?;
+        if got == 0 {
+            return Ok(Intake::End);
+        }
+        let from = place.saturating_sub(self.locator.base);
+        let to = (place + got as u64).saturating_sub(self.locator.base);
+        self.unsearched.delivered(from, to);
+        Ok(Intake::Came(got))
+    }
+}

@@ -1,0 +1,75 @@
+//! Octets that are read from the connection in place.
+ghost use Rattle.std.specs.Prelude.{◌≡◌, ◌<◌, ◌≤◌, length, List, ℕ, false, true, IfOk, OnErr};
+ghost use Rattle.std.specs.Io.KnownBytes.{Consumes, IsAtEnd, Keeps};
+
+use super::Stream;
+use crate::intake::Intake;
+use std::alloc::Allocator;
+use std::io::{self, Read};
+
+// How many octets one read at a stream that has ended takes.
+const DROPPED_OCTETS: usize = 4096;
+
+// One read whose octets go nowhere.
+fn read_past<R: Read>(from: &mut R) -> io::Result<usize>
+    ensures few { IfOk result (λ got. got ≤ 4096) }
+    ensures given { IfOk result (λ got. (octets : List ℕ) × (length octets ≡ got) × Consumes (R.remaining from.old) (R.remaining from.new) octets) }
+    ensures end { IfOk result (λ got. got ≡ 0 → IsAtEnd (R.remaining from.new)) }
+    ensures err { OnErr result (Keeps (R.remaining from.old) (R.remaining from.new)) }
+{
+    let mut octets = [0u8; DROPPED_OCTETS];
+    from.read(&mut octets)
+}
+
+impl<A: Allocator> Stream<A> {
+    ghost use Rattle.iw_stream.specs.Stream.{ended};
+    ghost use Rattle.iw_stream.specs.Reading.{IsRead};
+
+    /// Reads once from the connection, right to where the octets are to stand: at most 65,536 octets, and no more than the
+    /// window has room for. It is one delivery ([`Stream::deliver`]) of what was read, past the last octet that came, and
+    /// none of it is dropped, unless the stream has ended: such a stream still reads, and drops.
+    ///
+    /// An `Err` is that of the reader, also for a read that would block or was interrupted, or one of the kind
+    /// `OutOfMemory`. Nothing was read then, and nothing changed.
+    pub fn read_from<R: Read>(&mut self, from: &mut R) -> io::Result<Intake>
+        ensures ok { IfOk result (λ intake. IsRead self.old self.new (R.remaining from.old) (R.remaining from.new) intake) }
+        ensures err { OnErr result ((self.new ≡ self.old) × Keeps (R.remaining from.old) (R.remaining from.new)) }
+    {
+        if self.ending.has_ended() {
+            return self.read_ended(from);
+        }
+        self.read_running(from)
+    }
+
+    // The same of a stream that has ended.
+    fn read_ended<R: Read>(&mut self, from: &mut R) -> io::Result<Intake>
+        requires { ended self.old ≡ true }
+        ensures ok { IfOk result (λ intake. IsRead self.old self.new (R.remaining from.old) (R.remaining from.new) intake) }
+        ensures err { OnErr result ((self.new ≡ self.old) × Keeps (R.remaining from.old) (R.remaining from.new)) }
+    {
+        let got = read_past(from)?;
+        if got == 0 {
+            return Ok(Intake::End);
+        }
+        self.answered = true;
+        Ok(Intake::Came(got))
+    }
+
+    // The same of a stream that runs.
+    fn read_running<R: Read>(&mut self, from: &mut R) -> io::Result<Intake>
+        requires { ended self.old ≡ false }
+        ensures ok { IfOk result (λ intake. IsRead self.old self.new (R.remaining from.old) (R.remaining from.new) intake) }
+        ensures err { OnErr result ((self.new ≡ self.old) × Keeps (R.remaining from.old) (R.remaining from.new)) }
+    {
+        match self.arrived.read_from(from) {
+            Ok(Intake::Came(got)) => {
+                self.answered = true;
+                Ok(Intake::Came(got))
+            }
+            Ok(Intake::End) => Ok(Intake::End),
+            Ok(Intake::Full) => Ok(Intake::Full),
+            Ok(Intake::Gap) => Ok(Intake::Gap),
+            Err(error) => Err(error),
+        }
+    }
+}
