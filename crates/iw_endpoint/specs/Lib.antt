@@ -1,4 +1,6 @@
+pub mod Inside
 pub mod Endpoint
 pub mod Lending
 pub mod Places
 pub mod Isolation
+pub mod Reading

@@ -4,6 +4,7 @@ ghost use Rattle.std.specs.Prelude.{Ok, is_ok, IsErr, IfOk, IfErr, OnOk, OnErr, 
 ghost use Rattle.std.specs.Result.{result_err, result_ok};
 ghost use Rattle.std.specs.Option.{option_map};
 ghost use Rattle.std.specs.Borrow.{sem};
+ghost use Rattle.std.specs.Io.KnownBytes.{Keeps};
 ghost use Rattle.iw_memory.specs.Region.{IsWithinLimits};
 ghost use Rattle.iw_memory.specs.Table.{region_at, register_refusal, next_stag};
 ghost use Rattle.iw_ranges.specs.Arrived.{BringsOctets};
@@ -24,12 +25,13 @@ use iw_memory::{
 };
 use iw_octets::Octets;
 use iw_stream::{
-    Agreed, AnswerRefusal, Config, Delivery, Emission, EnhancedData, FirstRefusal, OpenRefusal,
-    PostRefusal, PrivateData, RecvRefusal, Request, Role, SizeRefusal, Step, Stream,
+    Agreed, AnswerRefusal, Config, Delivery, Emission, EnhancedData, FirstRefusal, Intake,
+    OpenRefusal, PostRefusal, PrivateData, RecvRefusal, Request, Role, SizeRefusal, Step, Stream,
     exceeds_request,
 };
 use iw_untagged::{BufferRefusal, SharedQueue};
 use std::alloc::{AllocError, Allocator, Global};
+use std::io::{self, Read};
 use std::marker::Model;
 
 /// An endpoint: its registered regions, the pools of receive buffers that streams of a domain share, and its streams,
@@ -82,6 +84,7 @@ impl<A: Allocator> Endpoint<A> {
     ghost use Rattle.iw_endpoint.specs.Endpoint.{first_refusal, with_first, first_at};
     ghost use Rattle.iw_endpoint.specs.Endpoint.{delivery_at, after_deliver, step_at, after_work, point_at};
     ghost use Rattle.iw_endpoint.specs.Endpoint.{emission_at, emitted_at, after_emit, sent_at};
+    ghost use Rattle.iw_endpoint.specs.Reading.{IsRead};
     ghost use Rattle.iw_endpoint.specs.Lending.{LendsLocal};
 
     /// An endpoint with no domain and no stream. An `Err` means out of memory.
@@ -93,7 +96,7 @@ impl<A: Allocator> Endpoint<A> {
         Ok(Endpoint {
             memory: Memory::new(alloc)?,
             pools: Pools::new(alloc)?,
-            streams: Streams::new(alloc)?,
+            streams: Streams::new(alloc),
         })
     }
 
@@ -232,10 +235,10 @@ impl<A: Allocator> Endpoint<A> {
             return Err(OpenRefusal::PrivateTooLong);
         }
         match Stream::new(self.streams.allocator(), pd, role, config) {
-            Ok(stream) => {
-                self.streams.put(number, stream);
-                Ok(())
-            }
+            Ok(stream) => match self.streams.put(number, stream) {
+                Ok(()) => Ok(()),
+                Err(_) => Err(OpenRefusal::NoMemory),
+            },
             Err(_) => Err(OpenRefusal::NoMemory),
         }
     }
@@ -337,10 +340,10 @@ impl<A: Allocator> Endpoint<A> {
             return Err(OpenSharedRefusal::PrivateTooLong);
         }
         match Stream::new_shared(self.streams.allocator(), pd, role, config) {
-            Ok(stream) => {
-                self.streams.put(number, stream);
-                Ok(())
-            }
+            Ok(stream) => match self.streams.put(number, stream) {
+                Ok(()) => Ok(()),
+                Err(_) => Err(OpenSharedRefusal::NoMemory),
+            },
             Err(_) => Err(OpenSharedRefusal::NoMemory),
         }
     }
@@ -492,6 +495,31 @@ impl<A: Allocator> Endpoint<A> {
             Some(stream) => match stream.deliver(from, octets) {
                 Ok(delivery) => Ok(delivery),
                 Err(refusal) => Err(CallRefusal::Refused(refusal)),
+            },
+            None => Err(CallRefusal::NoSuchStream),
+        }
+    }
+
+    /// Reads once from a stream's connection, right to where the octets are to stand: at most 65,536 octets, and no more than
+    /// the window has room for. It is one delivery of what was read, past the last octet that came, and none of it is dropped,
+    /// unless the stream has ended: such a stream still reads, and drops. The first octet that is read has the sequence number
+    /// of [`Endpoint::first_number`], if nothing came before.
+    ///
+    /// `Refused` has the error of the reader, also if the read would block or was interrupted, or one of the kind
+    /// `OutOfMemory`. Nothing was read then. An `Err` changes nothing.
+    pub fn read_from<R: Read>(
+        &mut self,
+        number: u8,
+        from: &mut R,
+    ) -> Result<Intake, CallRefusal<io::Error>>
+        ensures stream { (result ≡ Err CallRefusal.NoSuchStream) ↔ (has_stream self.old number ≡ false) }
+        ensures ok { IfOk result (λ intake. IsRead self.old self.new number (R.remaining from.old) (R.remaining from.new) intake) }
+        ensures err { OnErr result ((self.new ≡ self.old) × Keeps (R.remaining from.old) (R.remaining from.new)) }
+    {
+        match self.streams.get_mut(number) {
+            Some(stream) => match stream.read_from(from) {
+                Ok(intake) => Ok(intake),
+                Err(error) => Err(CallRefusal::Refused(error)),
             },
             None => Err(CallRefusal::NoSuchStream),
         }

@@ -1,7 +1,7 @@
 //! What an application uses: an [`Endpoint`] holds the registered regions of one end and its streams, by number.
 //!
-//! An endpoint does no input or output. Each stream is one connection, over a socket that the application owns. The
-//! application
+//! An endpoint does no input or output but in `read_from`. Each stream is one connection, over a socket that the
+//! application owns. The application
 //!
 //! 1. adds a protection domain (`add_domain`), registers the octets that peers may use (`register`, which returns the
 //!    STag), and opens a stream in the domain under a number from 0 to 63 (`open`);
@@ -10,7 +10,8 @@
 //!    `take_shared`);
 //! 3. when the socket is writable, calls `emit` until it answers [`Emission::Nothing`], and writes out what was
 //!    appended;
-//! 4. when octets came, hands them in with their sequence number (`deliver`), then calls `work` until it answers
+//! 4. when the socket is readable, reads from it right to where the octets are to stand (`read_from`), or hands in octets
+//!    that came apart from a socket's order with their sequence number (`deliver`), then calls `work` until it answers
 //!    [`Step::Idle`]. Each call does one step and returns what it did. After [`Step::Asked`] the application calls
 //!    `accept` or `reject`, then `work` again. Afterwards there may be more to emit.
 //!
@@ -25,9 +26,9 @@
 //! once it was opened. What a domain's calls answer and change does not depend on any other domain
 //! ([`domains_are_alone`]).
 //!
-//! `new`, `register`, `share`, `post_shared`, `open`, `open_shared`, `post`, `post_recv`, `deliver` and `emit` can run
-//! out of memory; so can `work`, when it judges a frame before its turn. Then nothing has changed, what was handed in
-//! is given back, and the call may be made again. No other call allocates.
+//! `new`, `register`, `share`, `post_shared`, `open`, `open_shared`, `post`, `post_recv`, `deliver`, `read_from` and
+//! `emit` can run out of memory; so can `work`, when it judges a frame before its turn. Then nothing has changed, what
+//! was handed in is given back, and the call may be made again. No other call allocates.
 //!
 //! # Example
 //!
@@ -89,8 +90,8 @@ pub use iw_memory::{
 pub use iw_octets::{Fault, MAX_PLACE, MAX_PRIVATE, Message, Octets, ReadRequest};
 pub use iw_stream::{
     Agreed, AnswerRefusal, Config, Delivery, Emission, EnhancedData, Establishment, FirstRefusal,
-    INSUFFICIENT_IRD, Kind, MAX_ENHANCED_PRIVATE, NO_MATCHING_RTR, OpenRefusal, PostRefusal,
-    PrivateData, RecvRefusal, Request, Role, SizeRefusal, StartupFault, Step,
+    INSUFFICIENT_IRD, Intake, Kind, MAX_ENHANCED_PRIVATE, MOST_READ, NO_MATCHING_RTR, OpenRefusal,
+    PostRefusal, PrivateData, RecvRefusal, Request, Role, SizeRefusal, StartupFault, Step,
 };
 pub use laws::{calls_concern_one_domain, domains_are_alone};
 pub use refusal::{

@@ -1,46 +1,112 @@
-ghost use Rattle.std.specs.Prelude.{◌≡◌, ◌<◌, length, slice_index_or, slice_set, IfOk, None, Some};
+ghost use Rattle.std.specs.Prelude.{◌≡◌, ◌<◌, length, nat_eq, slice_index_or, slice_set, OnOk, OnErr, None, Some};
 ghost use Rattle.std.specs.Option.{option_copied, option_copied_mut};
 ghost use Rattle.std.specs.Borrow.{sem};
+ghost use Rattle.std.specs.HashMap as hash;
+ghost use Rattle.slab.specs.Slab as slab;
+ghost use Rattle.iw_endpoint.specs.Inside.{Stays, IsLaid};
 
 use iw_stream::Stream;
+use slab::Slab;
 use std::alloc::{AllocError, Allocator, Global};
+use std::collections::HashMap;
+use std::hash::{BuildHasherDefault, FoldHasher};
 use std::marker::Model;
 
 /// How many numbers there are for streams, from 0 on.
 pub const STREAM_NUMBERS: usize = 64;
 
-/// The streams, by number: a place for each number, `None` until a stream is opened under it.
+/// A stream, in memory of its own.
+#[derive(Drop)]
+struct Place<A: Allocator = Global> {
+    stream: Box<Stream<A>, A>,
+}
+
+impl<A: Allocator> Model for Place<A> {
+    ghost use Rattle.iw_stream.specs.Stream.{StreamState};
+
+    ghost Value = { StreamState };
+
+    ghost view = { λ p. p.stream.value };
+}
+
+impl<A: Allocator> Place<A> {
+    ghost use Rattle.iw_endpoint.specs.Places.{LendsPlace};
+
+    fn get(&self) -> &Stream<A>
+        ensures { result.now ≡ self.now }
+    {
+        self.stream.as_ref()
+    }
+
+    fn get_mut(&mut self) -> &mut Stream<A>
+        ensures* lends { sem 𝓛 (LendsPlace A.row A.Allocator self.entry result) }
+        ensures found { result.now ≡ self.old }
+    {
+        self.stream.as_mut()
+    }
+}
+
+// Puts a stream into a place of its own, under a number that has none. An `Err` means out of memory and changes nothing.
+fn lay<A: Allocator>(
+    keys: &mut HashMap<u8, usize, BuildHasherDefault<FoldHasher>, A>,
+    places: &mut Slab<Place<A>, A>,
+    alloc: A,
+    number: u8,
+    stream: Stream<A>,
+) -> Result<(), AllocError>
+where
+    A: Copy,
+    ensures ok { OnOk result (IsLaid (hash.get nat_eq keys.old) (hash.get nat_eq keys.new) (slab.get places.old) (slab.get places.new) number stream) }
+    ensures err { OnErr result (Stays (hash.get nat_eq keys.old) (hash.get nat_eq keys.new) × Stays (slab.get places.old) (slab.get places.new)) }
+{
+    keys.reserve(1)?;
+    places.reserve(1)?;
+    let stream = Box::new(alloc, stream)?;
+    let place = places.insert_reserved(Place { stream });
+    // There is room for it.
+    let _ = keys.insert(number, place);
+    Ok(())
+}
+
+/// The streams, by number. Each takes memory when it is opened; none is taken before.
 #[derive(Drop)]
 pub(crate) struct Streams<A: Allocator = Global> {
-    places: Vec<Option<Stream<A>>, A>,
+    // The place of the stream that was opened under a number.
+    keys: HashMap<u8, usize, BuildHasherDefault<FoldHasher>, A>,
+    places: Slab<Place<A>, A>,
+    alloc: A,
 }
 
 impl<A: Allocator> Model for Streams<A> {
-    ghost use Rattle.std.specs.Prelude.{◌≡◌, List, Option, length};
+    ghost use Rattle.std.specs.Prelude.{List, Option, nat_eq};
+    ghost use Rattle.std.specs.HashMap as hash;
+    ghost use Rattle.slab.specs.Slab as slab;
     ghost use Rattle.iw_stream.specs.Stream.{StreamState};
 
     ghost Value = { List (Option StreamState) };
 
-    ghost view = { λ s. s.places.items };
+    ghost use Rattle.iw_endpoint.specs.Inside.{listed, Keeps};
 
-    ghost invariant = { λ s. length s.places.items ≡ 64 };
+    ghost view = { λ s. listed (hash.get nat_eq s.keys) (slab.get s.places) 64 };
+
+    ghost invariant = { λ s. Keeps (hash.get nat_eq s.keys) (slab.get s.places) 64 };
 }
 
 impl<A: Allocator> Streams<A> {
     ghost use Rattle.iw_endpoint.specs.Endpoint.{no_streams, stream_numbers};
     ghost use Rattle.iw_endpoint.specs.Places.{LendsStream};
 
-    /// No stream was opened. An `Err` means out of memory.
-    pub(crate) fn new(alloc: A) -> Result<Streams<A>, AllocError>
+    /// No stream was opened.
+    pub(crate) fn new(alloc: A) -> Streams<A>
     where
         A: Copy,
-        ensures { IfOk result (λ streams. streams ≡ no_streams) }
+        ensures { result ≡ no_streams }
     {
-        let mut places = Vec::with_capacity(alloc, STREAM_NUMBERS)?;
-        for _i in 0..64usize {
-            places.push(None)?;
+        Streams {
+            keys: HashMap::new(alloc),
+            places: Slab::new(alloc),
+            alloc,
         }
-        Ok(Streams { places })
     }
 
     /// Does nothing; its clause states that there is a place for each number.
@@ -55,14 +121,15 @@ impl<A: Allocator> Streams<A> {
     where
         A: Copy,
     {
-        *self.places.allocator()
+        self.alloc
     }
 
     /// The stream that was opened under this number, if one was.
     pub(crate) fn get(&self, number: u8) -> Option<&Stream<A>>
         ensures { option_copied result ≡ slice_index_or self.now number None }
     {
-        self.places.get(number as usize)?.as_ref()
+        let place = *self.keys.get(&number)?;
+        Some(self.places.get(place)?.get())
     }
 
     /// As `get`, for changing it.
@@ -70,14 +137,18 @@ impl<A: Allocator> Streams<A> {
         ensures* lends { sem 𝓛 (LendsStream A.row A.Allocator self.entry number result) }
         ensures found { option_copied_mut result ≡ slice_index_or self.old number None }
     {
-        self.places.get_mut(number as usize)?.as_mut()
+        let place = *self.keys.get(&number)?;
+        Some(self.places.get_mut(place)?.get_mut())
     }
 
-    /// Puts a stream under its number.
-    pub(crate) fn put(&mut self, number: u8, stream: Stream<A>)
+    /// Puts a stream under a number. An `Err` means out of memory and changes nothing.
+    pub(crate) fn put(&mut self, number: u8, stream: Stream<A>) -> Result<(), AllocError>
+    where
+        A: Copy,
         requires { number < stream_numbers }
-        ensures { self.new ≡ slice_set self.old number (Some stream) }
+        ensures ok { OnOk result (self.new ≡ slice_set self.old number (Some stream)) }
+        ensures err { OnErr result (self.new ≡ self.old) }
     {
-        self.places[number as usize] = Some(stream);
+        lay(&mut self.keys, &mut self.places, self.alloc, number, stream)
     }
 }

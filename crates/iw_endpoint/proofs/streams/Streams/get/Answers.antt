@@ -1,18 +1,26 @@
-use Rattle.std.proofs.Common.{rules, ◌≡◌, ◌<◌, ◌≤◌, ◌∙◌, ap, sym, arith, length, slice_index_or, None}
+use Rattle.std.proofs.Common.{rules, ◌≡◌, ◌∙◌, sym, ap, Some, None}
 use Rattle.std.specs.Option.{option_copied}
-use Rattle.std.proofs.lemmas.Bool.Decides.{nat_tests}
-use Rattle.std.proofs.lemmas.List.{get_or_default, get_or_past}
+use Rattle.std.specs.Prelude.{nat_eq}
+use Rattle.std.specs.HashMap as hash
+use Rattle.slab.specs.Slab as slab
+use Rattle.iw_endpoint.proofs.Numbers.{not_there, there_at}
 use Rattle.iw_endpoint.proofs.streams.Streams.get.Goals as goal
 
-pub returns : goal.returns
-returns g c =
-    let within : c.args.number < length c.deref.result.now = (let test = c.in_ok-get.ensures.lookup.0 in grind (arith, nat_tests)) in
-    let here : c.deref.result.now ≡ c.args.self.now = c.deref.ensures.value ∙ c.self.view_is in
-    c.as_ref.ensures.value ∙ c.in_ok-get.ensures.lookup.1 ∙ get_or_default c.deref.result.now c.args.number c.in_ok-get.field-0.now None within ∙ ap (λ xs. slice_index_or xs c.args.number None) here
+pub returns-in_err-place : goal.returns-in_err-place
+returns-in_err-place g c =
+    let none : option_copied c.from_residual.result ≡ None = search rules in
+    let key : hash.get nat_eq c.self.inside.keys c.args.number ≡ None = search rules in
+    none ∙ not_there _ _ 64 c.args.number c.args.self.now c.self.invariant c.self.view_is key
 
 pub returns-in_err-get : goal.returns-in_err-get
 returns-in_err-get g c =
-    let past : length c.deref.result.now ≤ c.args.number = (let test = c.in_err-get.ensures.lookup in grind (arith, nat_tests)) in
-    let here : c.deref.result.now ≡ c.args.self.now = c.deref.ensures.value ∙ c.self.view_is in
-    let none : option_copied c.from_residual.result ≡ None = search rules in
-    none ∙ sym (get_or_past c.deref.result.now c.args.number None past) ∙ ap (λ xs. slice_index_or xs c.args.number None) here
+    let none : option_copied c.from_residual-in_err-get.result ≡ None = search rules in
+    let key : hash.get nat_eq c.self.inside.keys c.args.number ≡ Some c.in_ok-place.field-0.now = search rules in
+    let place : slab.get c.self.inside.places c.in_ok-place.field-0.now ≡ None = search rules in
+    none ∙ sym place ∙ there_at _ _ 64 c.args.number c.in_ok-place.field-0.now c.args.self.now c.self.invariant c.self.view_is key
+
+pub returns : goal.returns
+returns g c =
+    let key : hash.get nat_eq c.self.inside.keys c.args.number ≡ Some c.in_ok-place.field-0.now = search rules in
+    let place : Some c.get-3.result.now ≡ slab.get c.self.inside.places c.in_ok-place.field-0.now = search rules in
+    place ∙ there_at _ _ 64 c.args.number c.in_ok-place.field-0.now c.args.self.now c.self.invariant c.self.view_is key

@@ -1,19 +1,12 @@
-use Rattle.std.proofs.Common.{◌≡◌, ◌++◌, ◌∷◌, [], ap, ◌∙◌, sym, None, length, replicate, arith}
-use Rattle.std.proofs.lemmas.List.{length-replicate}
+use Rattle.std.proofs.Common.{◌≡◌, ℕ, ap, None}
+use Rattle.std.specs.Prelude.{nat_eq}
+use Rattle.std.specs.HashMap as hash
+use Rattle.std.specs.Map.{lookup}
+use Rattle.slab.specs.Slab as slab
 use Rattle.iw_endpoint.specs.Endpoint.{no_streams}
-use Rattle.iw_endpoint.proofs.Lists.{replicate-push}
+use Rattle.iw_endpoint.proofs.Numbers.{listed_new}
 use Rattle.iw_endpoint.proofs.streams.Streams.new.Goals as goal
-
-pub loop-i-preserved : goal.loop-i-preserved
-loop-i-preserved g c = c.in_ok-push.ensures.items ∙ ap (λ z. z ++ None ∷ []) c.loop-i.invariant ∙ sym (replicate-push c.loop-i._i None)
-
-pub invariant_of-result : goal.invariant_of-result
-invariant_of-result g c =
-    let full : c.loop-i._i ≡ 64 = omega arith in
-    ap length c.loop-i.invariant ∙ length-replicate c.loop-i._i None ∙ full
 
 pub returns : goal.returns
 unfolding no_streams
-returns g c =
-    let full : c.loop-i._i ≡ 64 = omega arith in
-    c.loop-i.invariant ∙ ap (λ n. replicate n None) full
+returns g c = listed_new (hash.get nat_eq c.new.result) (slab.get c.new-2.result) 64 (λ n. ap (lookup (nat_eq n)) c.new.ensures.empty)

@@ -1,0 +1,8 @@
+use Rattle.std.specs.Prelude.{nat_eq}
+use Rattle.std.specs.HashMap as hash
+use Rattle.slab.specs.Slab as slab
+use Rattle.iw_endpoint.proofs.Numbers.{size_listed}
+use Rattle.iw_endpoint.proofs.streams.Streams.limits.Goals as goal
+
+pub returns : goal.returns
+returns g c = size_listed (hash.get nat_eq c.self.inside.keys) (slab.get c.self.inside.places) 64 c.args.self.now c.self.view_is

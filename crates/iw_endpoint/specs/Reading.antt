@@ -1,0 +1,29 @@
+-- Octets that are read from a stream's connection.
+use Rattle.std.specs.Prelude.{ℕ, ◌≡◌, ◌<◌, ◌≤◌, false, List, [], length, Option}
+use Rattle.std.specs.Io.KnownBytes.{Consumes, IsAtEnd, Keeps}
+use Rattle.iw_ranges.specs.declared.Delivery.TheVariants.{Kept}
+use Rattle.iw_ranges.specs.Arrived.{HasNoGap}
+use Rattle.iw_stream.specs.declared.intake.Intake.{Intake}
+use Rattle.iw_stream.specs.declared.intake.Intake.TheVariants.{Came, End, Full, Gap}
+use Rattle.iw_stream.specs.declared.intake.TheConstants.{MOST_READ}
+use Rattle.iw_stream.specs.Reading.{number_past, room_ahead}
+use Rattle.iw_stream.specs.Stream.{ended}
+use Rattle.iw_endpoint.specs.Endpoint.{EndpointState, stream_at, delivery_at, after_deliver}
+
+-- n octets came, and they are what the reader gave: one delivery, past the last octet that came; none is dropped if the stream runs
+pub record Took (old new : EndpointState) (number : ℕ) (before after : Option (List ℕ)) (n : ℕ) : Type 0 where
+  pub octets : List ℕ
+  pub len : length octets ≡ n
+  pub given : Consumes before after octets
+  pub delivered : new ≡ after_deliver old number (number_past (stream_at old number)) octets
+  pub some : 0 < n
+  pub most : n ≤ MOST_READ
+  pub kept : ended (stream_at old number) ≡ false → delivery_at old number (number_past (stream_at old number)) n ≡ Kept
+  pub fits : ended (stream_at old number) ≡ false → n ≤ room_ahead (stream_at old number).arrived
+
+-- what one read leaves of the endpoint, and of the reader
+abbrev pub IsRead : EndpointState → EndpointState → ℕ → Option (List ℕ) → Option (List ℕ) → Intake → Type 0
+IsRead old new number before after (Came n) = Took old new number before after n
+IsRead old new number before after End = (new ≡ old) × Consumes before after [] × IsAtEnd after
+IsRead old new number before after Full = (new ≡ old) × Keeps before after × (ended (stream_at old number) ≡ false) × (room_ahead (stream_at old number).arrived ≡ 0)
+IsRead old new number before after Gap = (new ≡ old) × Keeps before after × (ended (stream_at old number) ≡ false) × (HasNoGap (stream_at old number).arrived → ⊥)
