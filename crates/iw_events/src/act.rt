@@ -5,8 +5,8 @@ use iw_octets::{Fault, Stag};
 use iw_queues::Request;
 use iw_startup::{Agreed, StartupFault};
 use iw_stream::{
-    AnswerRefusal, Delivery, FirstRefusal, Kind, OpenRefusal, PostRefusal, RecvRefusal, Role,
-    SizeRefusal,
+    AnswerRefusal, Delivery, EnhancedData, FirstRefusal, Kind, OpenRefusal, PostRefusal,
+    RecvRefusal, Role, SizeRefusal,
 };
 
 /// What a call of `emit` appended, with the octets.
@@ -42,13 +42,16 @@ pub enum Seen<O> {
     /// The stream has ended: the oldest receive buffer is handed back. All its octets, with those that were placed in
     /// it.
     FlushedRecv(O),
-    /// The peer's MPA Request is complete, with this private data.
+    /// The peer's MPA Request is complete, with this word of IRD and ORD, if it has one (RFC 6581 9), and this private
+    /// data.
     Asked {
+        told: Option<EnhancedData>,
         private: O,
     },
-    /// The peer's MPA Reply has accepted: what was agreed, and the Reply's private data.
+    /// The peer's MPA Reply has accepted: what was agreed, and the Reply's word and private data.
     Opened {
         agreed: Agreed,
+        told: Option<EnhancedData>,
         private: O,
     },
     /// The peer's start-up frame has closed the stream.
@@ -84,7 +87,7 @@ pub enum Seen<O> {
     },
     /// The peer's Terminate has ended the stream: the fault that it names (RFC 5040 4.8).
     Terminated(Fault),
-    /// The stream has ended by this fault.
+    /// The stream has ended by this fault: of a frame, or of a Reply that wants what this end does not have (RFC 6581 8).
     Fault(Fault),
     /// There is nothing to do.
     Idle,

@@ -1,7 +1,7 @@
 use iw_memory::Rights;
 use iw_octets::Stag;
 use iw_queues::Request;
-use iw_stream::Role;
+use iw_stream::{Establishment, Role};
 
 /// One of the two ends. Stream n of one is connected to stream n of the other.
 #[derive(Clone, Copy, Debug, PartialEq, Eq)]
@@ -10,13 +10,15 @@ pub enum End {
     B,
 }
 
-/// What an end asks for on a stream (RFC 5044 7.1): markers in what the peer sends, CRCs in both directions.
+/// What an end asks for on a stream (RFC 5044 7.1): markers in what the peer sends, CRCs in both directions, and by
+/// which revision of MPA it is established (RFC 6581).
 ///
-/// With the role `Preset` both hold in both directions.
+/// With the role `Preset` both hold in both directions, and there is no start-up.
 #[derive(Clone, Copy, Debug, PartialEq, Eq)]
 pub struct Options {
     pub markers: bool,
     pub crc: bool,
+    pub establishment: Establishment,
 }
 
 /// A call on a stream.

@@ -12,4 +12,4 @@ pub use act::{Act, Entry, Seen, Shown, StreamAct};
 pub use call::{Call, End, Event, Options, StreamCall};
 pub use copies::{message_in, private_data, shared, standing, whole};
 pub use iw_queues::Request;
-pub use iw_stream::{AnswerRefusal, Role};
+pub use iw_stream::{AnswerRefusal, EnhancedData, Establishment, Role};

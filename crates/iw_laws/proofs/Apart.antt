@@ -25,12 +25,12 @@ use Rattle.iw_stream.specs.declared.judging.PlacedFrame.{PlacedFrame}
 use Rattle.iw_stream.specs.Frames.{Frame}
 use Rattle.iw_stream.specs.Judging.{verdict, early_verdict, table_tried, turn_of, fault_or}
 use Rattle.iw_startup.specs.declared.enhanced.Mismatch.{Mismatch}
-use Rattle.iw_stream.specs.Starting.{StartState, first_place_in, private_in, progress_in, heard, mismatch_in}
+use Rattle.iw_stream.specs.Starting.{StartState, first_place_in, progress_in, heard, mismatch_in}
 use Rattle.iw_stream.specs.Stream.{StreamState, sees, Due, StartUp, LastWord, NextPart, NoneDue, Response as ResponseDue, due, frame_of, frame_fetched, emission_of, emitted, emission_due, octets_due, emission_fetched, octets_fetched}
 use Rattle.iw_stream.specs.Work.{Task, HandOut, GiveUp, GiveBack, Hear, Turn, Clash, Judge, Try, Rest, task, inbox, standing, step_of, table_left, table_judged, table_passed, judged_step, tried_step, turned_step, heard_step, opened_step, work_step, worked, table_worked}
 use Rattle.iw_startup.specs.declared.config.Config.{Config}
 use Rattle.iw_stream.specs.declared.answer.Role.TheVariants.{Preset}
-use Rattle.iw_laws.proofs.Plain.{or_none}
+use Rattle.iw_laws.proofs.Rooms.{or_none}
 use Rattle.iw_endpoint.specs.Endpoint.{EndpointState, Pool as PoolOf, number_refusal, request_refusal, pool_of, lent_to, share_fault, pool_fault, take_fault, taken, open_shared_refusal_of, unshared, fresh, stream_of, unopened}
 use Rattle.iw_endpoint.specs.Isolation.{HasDomains, IsOwn, Concerns, OwnStep, OpensOwn, part_of, alone, answer_or, after, concerned}
 use Rattle.iw_endpoint.proofs.Tables.{AreAlike, worked-alike, verdict-alike, early-alike, turn-alike, judged-alike, fetched-alike, octets-alike, region-alike, none_taken, undenied}
@@ -91,68 +91,68 @@ module _ (s : StreamState) (t u : Table) (h : AreAlike s.domain t u) where
       go NoneDue = refl
 
   -- what was placed lies in a region of the domain
-  placed_there : (frame : Frame) (private : Octets) (r : Result Landing Fault) → LandsAs (standing t s) frame r → seen_of (table_judged t frame r) private (judged_step r) ≡ seen_of (table_judged u frame r) private (judged_step r)
-  placed_there frame private (Ok (landing.Write at)) lands = ap (λ z. seen.Placed rights.Write at.stag at.to z) (octets_there s.domain _ _ at.stag at.to at.n (lies lands) (judged-alike s.domain t u frame (Ok (landing.Write at)) h))
+  placed_there : (frame : Frame) (left : StartState) (r : Result Landing Fault) → LandsAs (standing t s) frame r → seen_of (table_judged t frame r) left (judged_step r) ≡ seen_of (table_judged u frame r) left (judged_step r)
+  placed_there frame left (Ok (landing.Write at)) lands = ap (λ z. seen.Placed rights.Write at.stag at.to z) (octets_there s.domain _ _ at.stag at.to at.n (lies lands) (judged-alike s.domain t u frame (Ok (landing.Write at)) h))
     where
       lies : LandsTagged (standing t s) frame 0 rights.Write at → (at.n ≡ 0) ⊎ (at.stag.domain ≡ s.domain)
       lies l = elim (allows t s.domain l.head.stag l.head.to (length l.payload) rights.Write l.admitted) [
         | inl nothing ↦ inl (ap (λ p. p.n) l.place ∙ nothing)
         | inr allowed ↦ inr (ap (λ p. p.stag.domain) l.place ∙ allowed.0)
       ]
-  placed_there frame private (Ok (landing.Response at)) lands = ap (λ z. seen.Placed rights.Sink at.stag at.to z) (octets_there s.domain _ _ at.stag at.to at.n (lies lands) (judged-alike s.domain t u frame (Ok (landing.Response at)) h))
+  placed_there frame left (Ok (landing.Response at)) lands = ap (λ z. seen.Placed rights.Sink at.stag at.to z) (octets_there s.domain _ _ at.stag at.to at.n (lies lands) (judged-alike s.domain t u frame (Ok (landing.Response at)) h))
     where
       lies : LandsTagged (standing t s) frame 2 rights.Sink at → (at.n ≡ 0) ⊎ (at.stag.domain ≡ s.domain)
       lies l = elim (allows t s.domain l.head.stag l.head.to (length l.payload) rights.Sink l.admitted) [
         | inl nothing ↦ inl (ap (λ p. p.n) l.place ∙ nothing)
         | inr allowed ↦ inr (ap (λ p. p.stag.domain) l.place ∙ allowed.0)
       ]
-  placed_there frame private (Ok (landing.Send msn mo len)) lands = refl
-  placed_there frame private (Ok (landing.Request request)) lands = refl
-  placed_there frame private (Ok (landing.Terminate fault)) lands = refl
-  placed_there frame private (Err fault) lands = refl
+  placed_there frame left (Ok (landing.Send msn mo len)) lands = refl
+  placed_there frame left (Ok (landing.Request request)) lands = refl
+  placed_there frame left (Ok (landing.Terminate fault)) lands = refl
+  placed_there frame left (Err fault) lands = refl
 
-  tried_there : (frame : Frame) (private : Octets) (place : ℕ) (o : Option Landing) → early_verdict (standing t s) frame ≡ o → seen_of (table_tried t frame o) private (tried_step place o) ≡ seen_of (table_tried u frame o) private (tried_step place o)
-  tried_there frame private place None e = refl
-  tried_there frame private place (Some at) e = placed_there frame private (Ok at) (subst (LandsAs (standing t s) frame) (early_lands (standing t s) frame at e).0 (lands_as (standing t s) frame))
+  tried_there : (frame : Frame) (left : StartState) (place : ℕ) (o : Option Landing) → early_verdict (standing t s) frame ≡ o → seen_of (table_tried t frame o) left (tried_step place o) ≡ seen_of (table_tried u frame o) left (tried_step place o)
+  tried_there frame left place None e = refl
+  tried_there frame left place (Some at) e = placed_there frame left (Ok at) (subst (LandsAs (standing t s) frame) (early_lands (standing t s) frame at e).0 (lands_as (standing t s) frame))
 
-  turned_seen : (frame : PlacedFrame) (private : Octets) (r : Result Turning Fault) → seen_of (table_passed t r) private (turned_step s.receiving frame r) ≡ seen_of (table_passed u r) private (turned_step s.receiving frame r)
-  turned_seen frame private (Ok turning.Passed) = refl
-  turned_seen frame private (Ok (turning.Completed solicited invalidate)) = refl
-  turned_seen frame private (Ok (turning.Answered ticket)) = refl
-  turned_seen frame private (Err fault) = refl
+  turned_seen : (frame : PlacedFrame) (left : StartState) (r : Result Turning Fault) → seen_of (table_passed t r) left (turned_step s.receiving frame r) ≡ seen_of (table_passed u r) left (turned_step s.receiving frame r)
+  turned_seen frame left (Ok turning.Passed) = refl
+  turned_seen frame left (Ok (turning.Completed solicited invalidate)) = refl
+  turned_seen frame left (Ok (turning.Answered ticket)) = refl
+  turned_seen frame left (Err fault) = refl
 
-  opened_seen : (private : Octets) (start : StartState) (m : Option Mismatch) → seen_of t private (opened_step start m) ≡ seen_of u private (opened_step start m)
-  opened_seen private x None = refl
-  opened_seen private x (Some mismatch) = refl
+  opened_seen : (left start : StartState) (m : Option Mismatch) → seen_of t left (opened_step start m) ≡ seen_of u left (opened_step start m)
+  opened_seen left x None = refl
+  opened_seen left x (Some mismatch) = refl
 
-  heard_seen : (private : Octets) (p : Progress) → seen_of t private (heard_step s.start (inbox s) p) ≡ seen_of u private (heard_step s.start (inbox s) p)
-  heard_seen private progress.More = refl
-  heard_seen private progress.Asked = refl
-  heard_seen private progress.Agreed = opened_seen private (heard s.start (inbox s)) (mismatch_in (heard s.start (inbox s)))
-  heard_seen private (progress.Faulted fault) = refl
+  heard_seen : (left : StartState) (p : Progress) → seen_of t left (heard_step s.start (inbox s) p) ≡ seen_of u left (heard_step s.start (inbox s) p)
+  heard_seen left progress.More = refl
+  heard_seen left progress.Asked = refl
+  heard_seen left progress.Agreed = opened_seen left (heard s.start (inbox s)) (mismatch_in (heard s.start (inbox s)))
+  heard_seen left (progress.Faulted fault) = refl
 
-  seen_alike : seen_of (table_worked t s) (private_in (worked t s).start) (work_step t s) ≡ seen_of (table_worked u s) (private_in (worked u s).start) (work_step u s)
-  seen_alike = ap (λ (w : StreamState). seen_of (table_worked t s) (private_in w.start) (work_step t s)) (worked-alike s t u h) ∙ go (task s)
+  seen_alike : seen_of (table_worked t s) (worked t s).start (work_step t s) ≡ seen_of (table_worked u s) (worked u s).start (work_step u s)
+  seen_alike = ap (λ (w : StreamState). seen_of (table_worked t s) w.start (work_step t s)) (worked-alike s t u h) ∙ go (task s)
     where
-      private : Octets
-      private = private_in (worked u s).start
+      left : StartState
+      left = (worked u s).start
 
-      go : (k : Task) → seen_of (table_left t s k) private (step_of t s k) ≡ seen_of (table_left u s k) private (step_of u s k)
+      go : (k : Task) → seen_of (table_left t s k) left (step_of t s k) ≡ seen_of (table_left u s k) left (step_of u s k)
       go (HandOut done) = refl
       go (GiveUp done) = refl
       go (GiveBack buffer) = refl
-      go Hear = heard_seen private (progress_in s.start (inbox s))
+      go Hear = heard_seen left (progress_in s.start (inbox s))
       go (Turn frame) =
           let r = turn_of (standing t s) frame in
-          subst (λ z. seen_of (table_passed t r) private (turned_step s.receiving frame r) ≡ seen_of (table_passed u z) private (turned_step s.receiving frame z)) (turn-alike s t u frame h) (turned_seen frame private r)
+          subst (λ z. seen_of (table_passed t r) left (turned_step s.receiving frame r) ≡ seen_of (table_passed u z) left (turned_step s.receiving frame z)) (turn-alike s t u frame h) (turned_seen frame left r)
       go (Clash frame) = refl
       go (Judge frame) =
           let r = verdict (standing t s) frame in
-          subst (λ z. seen_of (table_judged t frame r) private (judged_step r) ≡ seen_of (table_judged u frame z) private (judged_step z)) (verdict-alike s t u frame h) (placed_there frame private r (lands_as (standing t s) frame))
+          subst (λ z. seen_of (table_judged t frame r) left (judged_step r) ≡ seen_of (table_judged u frame z) left (judged_step z)) (verdict-alike s t u frame h) (placed_there frame left r (lands_as (standing t s) frame))
       go (Try frame) =
           let o = early_verdict (standing t s) frame in
           let place : ℕ = first_place_in s.start + frame.start in
-          subst (λ z. seen_of (table_tried t frame o) private (tried_step place o) ≡ seen_of (table_tried u frame z) private (tried_step place z)) (early-alike s t u frame h) (tried_there frame private place o refl)
+          subst (λ z. seen_of (table_tried t frame o) left (tried_step place o) ≡ seen_of (table_tried u frame z) left (tried_step place z)) (early-alike s t u frame h) (tried_there frame left place o refl)
       go Rest = refl
 
   stream_rule : (act : StreamAct Octets) → StreamRule t s act → StreamRule u s act

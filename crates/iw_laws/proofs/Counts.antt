@@ -3,7 +3,7 @@ use Rattle.std.proofs.Common.{◌≡◌, ℕ, zero, suc, ◌+◌, ◌/◌, ◌%�
 use Rattle.std.specs.Prelude.{slice_get, slice_set, is_some, nat_eq, nat_le, ◌&&◌, not}
 use Rattle.std.proofs.lemmas.Bool.{false≢true, true≢false}
 use Rattle.std.specs.Option.{option_map_or}
-use Rattle.std.proofs.lemmas.List.{append-nil, map-append, length_push, length-drop, length-set, drop-drop, take-append-le}
+use Rattle.std.proofs.lemmas.List.{append-nil, map-append, length-map, length_push, length-drop, length-set, drop-drop, take-append-le}
 use Rattle.std.proofs.lemmas.Option.{none-some, same_Some, some_pair_parts}
 use Rattle.std.proofs.lemmas.Bool.Decides.{nat_tests}
 use Rattle.iw_octets.specs.declared.message.Message.TheVariants.{Write, Send}
@@ -286,6 +286,16 @@ pub record Counts (q : Queue) (segments : List (Segment Octets)) (posted : List 
   pub some : answered ≤ count_reads first
   pub done : count_reads (take (length handed) first) ≤ answered
   pub tickets : map (λ (r : Outstanding). r.ticket) reads ≡ map ticket_for (drop answered (places 0 first))
+
+-- where no segment was sent, no Read is outstanding
+pub none_outstanding : {q : Queue} {us : List (Segment Octets)} {ms : List (Request Octets)} {ks : List Kind} {a : ℕ} {rs : List Outstanding} → us ≡ [] → Counts q us ms ks a rs → length rs ≡ 0
+none_outstanding {us} {a} {rs} none n =
+    let empty : length n.first ≡ 0 = sym n.lasts ∙ ap count_last none in
+    sym (length-map rs (λ (r : Outstanding). r.ticket)) ∙ ap length n.tickets ∙ length-map (drop a (places 0 n.first)) ticket_for ∙ ap (λ (z : List (Request Octets)). length (drop a (places 0 z))) (no_messages n.first empty) ∙ omega (arith, length-drop a (places 0 []))
+  where
+    no_messages : (xs : List (Request Octets)) → length xs ≡ 0 → xs ≡ []
+    no_messages [] h = refl
+    no_messages (x ∷ xs) h = absurd (omega (arith, h))
 
 abbrev pub same_counts : {q q' : Queue} {us : List (Segment Octets)} {ms ms' : List (Request Octets)} {ks ks' : List Kind} {a a' : ℕ} {rs rs' : List Outstanding} → q' ≡ q → ms' ≡ ms → ks' ≡ ks → a' ≡ a → rs' ≡ rs → Counts q us ms ks a rs → Counts q' us ms' ks' a' rs'
 same_counts {q} {q'} {us} {ms} {ms'} {ks} {ks'} {a} {a'} {rs} {rs'} e f g h i n = record {

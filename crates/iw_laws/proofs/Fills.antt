@@ -42,7 +42,8 @@ use Rattle.iw_octets.specs.Operation.{opcode_of, untagged_operation}
 use Rattle.iw_stream.specs.Judging as judging
 use Rattle.iw_stream.specs.Starting.{is_open, expecting, first_place_in}
 use Rattle.iw_stream.specs.Stream.{StreamState, Due, StartUp, LastWord, Response, NextPart, NoneDue, due, ended}
-use Rattle.iw_stream.specs.Work.{scene, waiting}
+use Rattle.iw_stream.specs.Work.{scene, waiting, inbox}
+use Rattle.iw_laws.proofs.Rooms.{heard_open}
 use Rattle.iw_stream.specs.Work as work
 use Rattle.iw_startup.specs.declared.progress.Progress.TheVariants as progresses
 use Rattle.iw_events.specs.declared.act.StreamAct.{StreamAct}
@@ -63,7 +64,7 @@ use Rattle.iw_laws.proofs.Judged.{open_at}
 use Rattle.iw_laws.proofs.EarlySent.{WasSent, scene_sent, free_sent}
 use Rattle.iw_laws.proofs.Nexts.{place_past as place_past_front}
 use Rattle.iw_laws.proofs.Nexts.{fore, segment_in, segment_at, standing, turned_by}
-use Rattle.iw_laws.proofs.Told.{Told, Fronts, IsPassing, early_left, judged_payload, payload_there, payload_early, after_act, after_shown, left_frame}
+use Rattle.iw_laws.proofs.Told.{Told, Fronts, IsPassing, early_left, fault_open, judged_payload, payload_there, payload_early, after_act, after_shown, left_frame}
 use Rattle.iw_laws.proofs.Tales.{Tale, tale_after}
 use Rattle.iw_laws.proofs.Tracks.{Track, start_octets, first_is, first_early, shown_stays, accepting, refusing, left_there, left_early, left_tried, turning}
 use Rattle.iw_laws.proofs.Onces.{not_heard, not_answered}
@@ -621,11 +622,12 @@ fill_after table s t act rule due_is over k f = by act rule (λ h. ran (ended s)
     by (Work (seen.Done kind)) rule runs = calls (after_act s (Work (seen.Done kind))) (Work (seen.Done kind)) refl refl refl (λ all of. of) refl (append-nil t.received) runs [] none
     by (Work (seen.Flushed kind)) rule runs = calls (after_act s (Work (seen.Flushed kind))) (Work (seen.Flushed kind)) refl refl refl (λ all of. of) refl (append-nil t.received) runs [] none
     by (Work seen.Idle) rule runs = calls s (Work seen.Idle) refl refl refl (λ all of. of) refl (append-nil t.received) runs [] none
-    by (Work (seen.Fault fault)) rule runs = calls (after_act s (Work (seen.Fault fault))) (Work (seen.Fault fault)) refl refl refl (λ all of. of) refl (append-nil t.received) runs [] none
+    by (Work (seen.Fault fault)) (inl m) runs = shut_filled s (after_act s (Work (seen.Fault fault))) t (tale_after t (Work (seen.Fault fault))) (not_heard s progresses.Agreed m.hears_it) refl refl refl (append-nil t.received) k
+    by (Work (seen.Fault fault)) (inr j) runs = calls (after_act s (Work (seen.Fault fault))) (Work (seen.Fault fault)) (heard_open s.start (inbox s) (fault_open table s fault j)) refl refl (λ all of. of) refl (append-nil t.received) runs [] none
     by (Work (seen.FlushedRecv octets)) rule runs =
         steps s (after_act s (Work (seen.FlushedRecv octets))) t (seen.FlushedRecv octets) refl refl refl refl refl (append-nil t.received) runs (λ h. absurd (true≢false (sym rule.over ∙ runs h))) f
-    by (Work (seen.Asked private)) rule runs = shut_filled s (after_act s (Work (seen.Asked private))) t (tale_after t (Work (seen.Asked private))) (not_heard s progresses.Asked rule.0) refl refl refl (append-nil t.received) k
-    by (Work (seen.Opened agreed private)) rule runs = shut_filled s (after_act s (Work (seen.Opened agreed private))) t (tale_after t (Work (seen.Opened agreed private))) (not_heard s progresses.Agreed rule.0) refl refl refl (append-nil t.received) k
+    by (Work (seen.Asked word private)) rule runs = shut_filled s (after_act s (Work (seen.Asked word private))) t (tale_after t (Work (seen.Asked word private))) (not_heard s progresses.Asked rule.0) refl refl refl (append-nil t.received) k
+    by (Work (seen.Opened agreed word private)) rule runs = shut_filled s (after_act s (Work (seen.Opened agreed word private))) t (tale_after t (Work (seen.Opened agreed word private))) (not_heard s progresses.Agreed rule.0.hears_it) refl refl refl (append-nil t.received) k
     by (Work (seen.Closed fault)) rule runs = shut_filled s (after_act s (Work (seen.Closed fault))) t (tale_after t (Work (seen.Closed fault))) (not_heard s (progresses.Faulted fault) rule) refl refl refl (append-nil t.received) k
     by (Work (seen.Placed right stag to octets)) rule runs = elim rule [
       | inl (judged, w) ↦ λ us ss short reads numbered of.

@@ -14,14 +14,16 @@ use Rattle.iw_startup.specs.declared.side.Side.{Side}
 use Rattle.iw_startup.specs.declared.side.Side.TheVariants as sides
 use Rattle.iw_startup.specs.declared.side.Reply.{Reply}
 use Rattle.iw_startup.specs.declared.side.Reply.TheVariants as replies
-use Rattle.iw_startup.specs.State.{StartupState, IsReached, own_frame, reply_frame, agreed_of, private_in, frame_of, is_answered}
+use Rattle.iw_startup.specs.State.{StartupState, IsReached, progress, own_frame, reply_frame, agreed_of, private_in, frame_of, is_answered}
 use Rattle.iw_startup.specs.Enhanced.{at_responder, asked_revision}
 use Rattle.iw_startup.specs.Frame.{private_room, revision_of}
-use Rattle.iw_startup.specs.Laws.{IsAskable, understands}
+use Rattle.iw_startup.specs.Laws.{IsAskable}
 use Rattle.iw_startup.proofs.Ends.{least_end}
 use Rattle.iw_startup.proofs.Written.{takes}
 use Rattle.iw_startup.proofs.Openings.{nothing_agreed, unanswered_not_agreed}
-use Rattle.iw_startup.proofs.Agreement.{IsAgreed, Asking, Accepting, is_agreed, HasRead, has_read, request_read, reply_read, rejection_read, Agree, both_agree}
+use Rattle.iw_startup.proofs.Agreement.{IsAgreed, Asking, Accepting, is_agreed, HasRead, has_read, request_taken, understood, request_read, reply_read, rejection_read, Agree, both_agree}
+use Rattle.iw_startup.proofs.Handshake.{asked_by}
+use Rattle.iw_startup.proofs.Reached.{responds as responds_as}
 use Rattle.iw_stream.specs.declared.answer.Role.TheVariants.{Preset, Initiator, Responder}
 use Rattle.iw_stream.specs.Starting.{StartState, AtOnce, Unheard, Heard, IsFresh, is_open, plain, layout_in, layout_out, sending, expecting}
 use Rattle.iw_stream.specs.Starting as starting
@@ -31,10 +33,10 @@ use Rattle.iw_laws.specs.Words.{Octets, Opening}
 use Rattle.iw_laws.proofs.States.{Connected}
 use Rattle.iw_laws.specs.Safe.{Fits}
 use Rattle.iw_laws.proofs.Tales.{Tale}
-use Rattle.iw_laws.proofs.Plain.{AsksOne, IsRevisionOne}
+use Rattle.iw_laws.proofs.Rooms.{request_room, reply_room}
 use Rattle.iw_laws.proofs.Tracks.{OnStart, start_octets, Track, IsBare}
 use Rattle.iw_laws.proofs.Reached.{reaches}
-use Rattle.iw_laws.proofs.Owns.{Own, out_of, IsFramed, Unspoken, Spoken, IsStartOf, StartsAs, IsSmall, role_of}
+use Rattle.iw_laws.proofs.Owns.{Own, out_of, IsFramed, Unspoken, Spoken, IsStartOf, StartsAs, role_of}
 
 -- a stream that begins with start-up frames, by their exchange
 pub record Exchanges (start : StartState) (u : StartupState) : Type 0 where
@@ -57,7 +59,6 @@ pub record Starts (o : Opening) (s : StreamState) (u : StartupState) : Type 0 wh
   pub is : Exchanges s.start u
   pub begun : StartsAs o u
   pub reached : IsReached u
-  pub one : AsksOne u
 
 role_not_preset : (side : Side) → role_of side ≡ Preset → ⊥
 role_not_preset sides.Initiator e = cc
@@ -65,12 +66,12 @@ role_not_preset (sides.Responder reply) e = cc
 
 -- a stream that is not open at once has a start-up
 starts : (o : Opening) (c : Connected) (t : Tale) → Own o c t → (o.role ≡ Preset → ⊥) → (u : StartupState) × Starts o c.stream u
-starts o c t own other = go c.stream.start refl own.starts own.track.begins.reached own.track.begins.plain own.track.begins.fresh
+starts o c t own other = go c.stream.start refl own.starts own.track.begins.reached own.track.begins.fresh
   where
-    go : (z : StartState) → c.stream.start ≡ z → IsStartOf o z → OnStart IsReached z → IsRevisionOne z → IsFresh z → (u : StartupState) × Starts o c.stream u
-    go (AtOnce layout) e h r p f = absurd (other h.0)
-    go (Unheard u) e h r p f = (u, record { is = subst (λ z. Exchanges z u) (sym e) (unheard_exchanges u f.0); begun = h; reached = r; one = p })
-    go (Heard u) e h r p f = (u, record { is = subst (λ z. Exchanges z u) (sym e) (heard_exchanges u); begun = h; reached = r; one = p })
+    go : (z : StartState) → c.stream.start ≡ z → IsStartOf o z → OnStart IsReached z → IsFresh z → (u : StartupState) × Starts o c.stream u
+    go (AtOnce layout) e h r f = absurd (other h.0)
+    go (Unheard u) e h r f = (u, record { is = subst (λ z. Exchanges z u) (sym e) (unheard_exchanges u f.0); begun = h; reached = r })
+    go (Heard u) e h r f = (u, record { is = subst (λ z. Exchanges z u) (sym e) (heard_exchanges u); begun = h; reached = r })
 
 -- and one that is has the layout that was asked for
 no_start : (o : Opening) (c : Connected) (t : Tale) → Own o c t → o.role ≡ Preset → c.stream.start ≡ AtOnce (record { markers = o.config.markers; crc = o.config.crc })
@@ -145,33 +146,59 @@ not_both side private e f = let same : sides.Initiator ≡ sides.Responder (Some
 module _ (a : Opening) (c : Connected) (t : Tale) (own : Own a c t) (w : StartupState) (sw : Starts a c.stream w) (asks : w.side ≡ sides.Initiator)
     (b : Opening) (d : Connected) (u : Tale) (other : Own b d u) (v : StartupState) (sv : Starts b d.stream v)
     (there : IsOf u.story.came t.sent) (back : IsOf t.story.came u.sent) where
-  asked_few : length w.config.private.items ≤ 512
-  asked_few = omega (arith, sw.begun.few, own.small)
-
-  -- a Request of revision 1, and an answer to it
-  room : (private : Octets) → length private ≤ 512 → length private ≤ private_room (asked_revision w.config.establishment)
-  room private few = subst (λ e. length private ≤ private_room (asked_revision e)) (sym sw.one) few
-
-  taken : takes (sides.Responder None) v.config.establishment (asked_revision w.config.establishment) ≡ true
-  taken = λ i. takes (sides.Responder None) (sv.one i) (asked_revision (sw.one i))
-
-  in_kind : revision_of v.config.establishment v.octets ≡ asked_revision w.config.establishment
-  in_kind = (λ i. revision_of (sv.one i) v.octets) ∙ (λ i. asked_revision (sym sw.one i))
+  asked_room : length w.config.private.items ≤ private_room (asked_revision w.config.establishment)
+  asked_room = request_room w sw.reached asks
 
   frame_is : frame_of w ≡ own_frame w.config sides.Initiator []
   frame_is = ap (λ side. own_frame w.config side w.octets) asks
 
-  -- the responder has read the Request
-  has_request : (reply : Option Reply) → v.side ≡ sides.Responder reply → HasRead v → v.octets ≡ own_frame w.config sides.Initiator []
-  has_request reply side h =
+  -- a responder that was asked has read the Request
+  asked_read : progress v ≡ progresses.Asked → HasRead v
+  asked_read asked = has_read v progresses.Asked sv.reached asked (λ e. cc)
+
+  -- what came after it, on both sides
+  pub record IsRequest : Type 0 where
+    pub more : Octets
+    pub beyond : Octets
+    pub is : v.octets ++ more ≡ own_frame w.config sides.Initiator [] ++ beyond
+
+  request_is : progress v ≡ progresses.Asked → IsRequest
+  request_is asked =
       let r = read_of b d u other v t.sent sv.is there in
       go r.0 r.1 (sent_first a c t own w sw.is)
     where
-      go : (more : Octets) → v.octets ++ more ≡ t.sent → (t.sent ≡ []) ⊎ (t.sent ≡ frame_of w ++ sequence (sending c.stream.start) 0 (map segment_octets (out_of c.stream t own.emits))) → v.octets ≡ own_frame w.config sides.Initiator []
-      go more e (inl none) = absurd (not_read v more h (e ∙ none))
-      go more e (inr first) =
-          request_read v reply w.config more (sequence (sending c.stream.start) 0 (map segment_octets (out_of c.stream t own.emits))) side h taken (room w.config.private.items asked_few)
-          (e ∙ first ∙ ap (λ z. z ++ sequence (sending c.stream.start) 0 (map segment_octets (out_of c.stream t own.emits))) frame_is)
+      go : (more : Octets) → v.octets ++ more ≡ t.sent → (t.sent ≡ []) ⊎ (t.sent ≡ frame_of w ++ sequence (sending c.stream.start) 0 (map segment_octets (out_of c.stream t own.emits))) → IsRequest
+      go more e (inl none) = absurd (not_read v more (asked_read asked) (e ∙ none))
+      go more e (inr first) = record {
+        more = more;
+        beyond = sequence (sending c.stream.start) 0 (map segment_octets (out_of c.stream t own.emits));
+        is = e ∙ first ∙ ap (λ z. z ++ sequence (sending c.stream.start) 0 (map segment_octets (out_of c.stream t own.emits))) frame_is;
+      }
+
+  -- it takes its revision, and has read it as it was sent
+  taken : (reply : Option Reply) → v.side ≡ sides.Responder reply → progress v ≡ progresses.Asked → takes (sides.Responder None) v.config.establishment (asked_revision w.config.establishment) ≡ true
+  taken reply side asked = let r = request_is asked in request_taken v reply w.config r.more r.beyond side (asked_read asked) asked r.is
+
+  has_request : (reply : Option Reply) → v.side ≡ sides.Responder reply → progress v ≡ progresses.Asked → v.octets ≡ own_frame w.config sides.Initiator []
+  has_request reply side asked = let r = request_is asked in request_read v reply w.config r.more r.beyond side (asked_read asked) (taken reply side asked) asked_room r.is
+
+  responds_one : (reply : Option Reply) → v.side ≡ sides.Responder reply → at_responder v.config.establishment ≡ v.config.establishment
+  responds_one reply side = responds_as v reply sv.reached side
+
+  askable : (reply : Option Reply) → v.side ≡ sides.Responder reply → progress v ≡ progresses.Asked → IsAskable w.config v.config
+  askable reply side asked = record { room = asked_room; understood = understood v.config.establishment w.config.establishment (taken reply side asked) }
+
+  -- and answers in kind
+  in_kind : (reply : Option Reply) → v.side ≡ sides.Responder reply → progress v ≡ progresses.Asked → revision_of v.config.establishment v.octets ≡ asked_revision w.config.establishment
+  in_kind reply side asked =
+      (λ i. revision_of (sym (responds_one reply side) i) (has_request reply side asked i)) ∙ asked_by w.config v.config (askable reply side asked)
+
+  -- an answer was given to a whole Request
+  was_asked : (reply : Reply) → v.side ≡ sides.Responder (Some reply) → progress v ≡ progresses.Asked
+  was_asked reply side = sv.reached.asked (subst (λ z. IsTrue (is_answered z)) (sym side) refl)
+
+  room : (reply : Reply) → v.side ≡ sides.Responder (Some reply) → length (private_in reply).items ≤ private_room (asked_revision w.config.establishment)
+  room reply side = subst (λ n. length (private_in reply).items ≤ n) (ap private_room (in_kind (Some reply) side (was_asked reply side))) (reply_room v reply sv.reached side)
 
   -- the initiator has read the Reply
   has_reply : (reply : Reply) → v.side ≡ sides.Responder (Some reply) → HasRead w → w.octets ≡ reply_frame v.config reply v.octets
@@ -179,23 +206,11 @@ module _ (a : Opening) (c : Connected) (t : Tale) (own : Own a c t) (w : Startup
       let r = read_of a c t own w u.sent sw.is back in
       go r.0 r.1 (sent_first b d u other v sv.is)
     where
-      few : length (private_in reply).items ≤ 512
-      few = subst IsSmall side sv.begun.small
-
       go : (more : Octets) → w.octets ++ more ≡ u.sent → (u.sent ≡ []) ⊎ (u.sent ≡ frame_of v ++ sequence (sending d.stream.start) 0 (map segment_octets (out_of d.stream u other.emits))) → w.octets ≡ reply_frame v.config reply v.octets
       go more e (inl none) = absurd (not_read w more h (e ∙ none))
       go more e (inr first) =
-          reply_read w v.config reply v.octets more (sequence (sending d.stream.start) 0 (map segment_octets (out_of d.stream u other.emits))) asks h in_kind (room (private_in reply).items few)
+          reply_read w v.config reply v.octets more (sequence (sending d.stream.start) 0 (map segment_octets (out_of d.stream u other.emits))) asks h (in_kind (Some reply) side (was_asked reply side)) (room reply side)
           (e ∙ first ∙ ap (λ z. own_frame v.config z v.octets ++ sequence (sending d.stream.start) 0 (map segment_octets (out_of d.stream u other.emits))) side)
-
-  responds_one : at_responder v.config.establishment ≡ v.config.establishment
-  responds_one = ap at_responder sv.one ∙ sym sv.one
-
-  askable : IsAskable w.config v.config
-  askable = record {
-    room = room w.config.private.items asked_few;
-    understood = subst (λ e. IsTrue (understands v.config.establishment e)) (sym sw.one) refl;
-  }
 
   -- without an answer there is no Reply
   no_reply : v.side ≡ sides.Responder None → HasRead w → ⊥
@@ -210,13 +225,11 @@ module _ (a : Opening) (c : Connected) (t : Tale) (own : Own a c t) (w : Startup
       unsent (inl none) = none
       unsent (inr first) = first ∙ (λ i. own_frame v.config (side i) v.octets ++ nothing_sent (sending d.stream.start) (out_of d.stream u other.emits) shut i)
 
-  agree : (private : ArrayVec ℕ) → v.side ≡ sides.Responder (Some (replies.Accept private)) → HasRead w → HasRead v → Agree w v
-  agree private side hw hv =
-      both_agree w v private asks side responds_one askable (room private.items (subst IsSmall side sv.begun.small)) (has_reply (replies.Accept private) side hw) (has_request (Some (replies.Accept private)) side hv)
-
-  -- an answer was given to a whole Request
-  has_answered : (reply : Reply) → v.side ≡ sides.Responder (Some reply) → HasRead v
-  has_answered reply side = has_read v progresses.Asked sv.reached (sv.reached.asked (subst (λ z. IsTrue (is_answered z)) (sym side) refl)) (λ e. cc)
+  agree : (private : ArrayVec ℕ) → v.side ≡ sides.Responder (Some (replies.Accept private)) → HasRead w → Agree w v
+  agree private side hw =
+      let reply : Reply = replies.Accept private in
+      let asked = was_asked reply side in
+      both_agree w v private asks side (responds_one (Some reply) side) (askable (Some reply) side asked) (room reply side) (has_reply reply side hw) (has_request (Some reply) side asked)
 
   -- behind the Request stand the frames that the initiator has sent
   responder_hears : is_open d.stream.start ≡ true → IsResponding v.side → t.sent ≡ other.track.intro ++ sequence (expecting d.stream.start) 0 (map segment_octets (out_of c.stream t own.emits))
@@ -225,26 +238,26 @@ module _ (a : Opening) (c : Connected) (t : Tale) (own : Own a c t) (w : Startup
       us : List (Segment Octets)
       us = out_of c.stream t own.emits
 
-      laid : (private : ArrayVec ℕ) → v.side ≡ sides.Responder (Some (replies.Accept private)) → HasRead v → (z : Bool) → is_open c.stream.start ≡ z → (us ≡ []) ⊎ ((sending c.stream.start) ≡ (expecting d.stream.start))
-      laid private side hv false closed = inl (own.emits.parts.shut closed).none
-      laid private side hv true closed = inr (agreed (is_agreed w (sym (sw.is.open_is) ∙ closed)))
+      laid : (private : ArrayVec ℕ) → v.side ≡ sides.Responder (Some (replies.Accept private)) → (z : Bool) → is_open c.stream.start ≡ z → (us ≡ []) ⊎ ((sending c.stream.start) ≡ (expecting d.stream.start))
+      laid private side false closed = inl (own.emits.parts.shut closed).none
+      laid private side true closed = inr (agreed (is_agreed w (sym (sw.is.open_is) ∙ closed)))
         where
           agreed : IsAgreed w → (sending c.stream.start) ≡ (expecting d.stream.start)
           agreed (Accepting p s e) = absurd (not_both w.side p asks s)
           agreed (Asking s e) =
-              let both = agree private side (has_read w progresses.Agreed sw.reached e (λ x. cc)) hv in
+              let both = agree private side (has_read w progresses.Agreed sw.reached e (λ x. cc)) in
               sw.is.sends ∙ ap (λ z. option_map_or layout_out z plain) both.asking ∙ sym (sv.is.expects ∙ ap (λ z. option_map_or layout_in z plain) both.accepting)
 
-      said : (private : ArrayVec ℕ) → v.side ≡ sides.Responder (Some (replies.Accept private)) → HasRead v → (t.sent ≡ []) ⊎ (t.sent ≡ frame_of w ++ sequence (sending c.stream.start) 0 (map segment_octets us))
+      said : (private : ArrayVec ℕ) → v.side ≡ sides.Responder (Some (replies.Accept private)) → progress v ≡ progresses.Asked → (t.sent ≡ []) ⊎ (t.sent ≡ frame_of w ++ sequence (sending c.stream.start) 0 (map segment_octets us))
           → t.sent ≡ other.track.intro ++ sequence (expecting d.stream.start) 0 (map segment_octets us)
-      said private side hv (inl none) = (let r = read_of b d u other v t.sent sv.is there in absurd (not_read v r.0 hv (r.1 ∙ none)))
-      said private side hv (inr first) =
-          first ∙ same_frames (sending c.stream.start) (expecting d.stream.start) (frame_of w) us (laid private side hv (is_open c.stream.start) refl)
-          ∙ ap (λ z. z ++ sequence (expecting d.stream.start) 0 (map segment_octets us)) (frame_is ∙ sym (has_request (Some (replies.Accept private)) side hv) ∙ sym (intro_is b d u other v sv.is))
+      said private side asked (inl none) = (let r = read_of b d u other v t.sent sv.is there in absurd (not_read v r.0 (asked_read asked) (r.1 ∙ none)))
+      said private side asked (inr first) =
+          first ∙ same_frames (sending c.stream.start) (expecting d.stream.start) (frame_of w) us (laid private side (is_open c.stream.start) refl)
+          ∙ ap (λ z. z ++ sequence (expecting d.stream.start) 0 (map segment_octets us)) (frame_is ∙ sym (has_request (Some (replies.Accept private)) side asked) ∙ sym (intro_is b d u other v sv.is))
 
       go : IsAgreed v → t.sent ≡ other.track.intro ++ sequence (expecting d.stream.start) 0 (map segment_octets us)
       go (Asking s e) = absurd (not_asking v.side s responding)
-      go (Accepting private side e) = said private side (has_read v progresses.Asked sv.reached e (λ x. cc)) (sent_first a c t own w sw.is)
+      go (Accepting private side e) = said private side e (sent_first a c t own w sw.is)
 
   -- behind the Reply stand the frames that the responder has sent
   initiator_hears : is_open c.stream.start ≡ true → (reply : Option Reply) → v.side ≡ sides.Responder reply → u.sent ≡ own.track.intro ++ sequence (expecting c.stream.start) 0 (map segment_octets (out_of d.stream u other.emits))
@@ -257,7 +270,7 @@ module _ (a : Opening) (c : Connected) (t : Tale) (own : Own a c t) (w : Startup
           → u.sent ≡ own.track.intro ++ sequence (expecting c.stream.start) 0 (map segment_octets us)
       said private side hw (inl none) = (let r = read_of a c t own w u.sent sw.is back in absurd (not_read w r.0 hw (r.1 ∙ none)))
       said private side hw (inr first) =
-          let both = agree private side hw (has_answered (replies.Accept private) side) in
+          let both = agree private side hw in
           let laid : (sending d.stream.start) ≡ (expecting c.stream.start) =
           sv.is.sends ∙ ap (λ z. option_map_or layout_out z plain) both.accepting ∙ sym (sw.is.expects ∙ ap (λ z. option_map_or layout_in z plain) both.asking) in
           first ∙ same_frames (sending d.stream.start) (expecting c.stream.start) (frame_of v) us (inr laid)
@@ -267,7 +280,7 @@ module _ (a : Opening) (c : Connected) (t : Tale) (own : Own a c t) (w : Startup
       answered_by None s hw = absurd (no_reply s hw)
       answered_by (Some (replies.Accept private)) s hw = said private s hw (sent_first b d u other v sv.is)
       answered_by (Some (replies.Reject private)) s hw =
-          let none = rejection_read w v.config v.octets private asks in_kind (room private.items (subst IsSmall s sv.begun.small)) (has_reply (replies.Reject private) s hw) in
+          let none = rejection_read w v.config v.octets private asks (in_kind (Some (replies.Reject private)) s (was_asked (replies.Reject private) s)) (room (replies.Reject private) s) (has_reply (replies.Reject private) s hw) in
           absurd (false≢true (ap is_some (sym none) ∙ sym (sw.is.open_is) ∙ started))
 
       go : IsAgreed w → u.sent ≡ own.track.intro ++ sequence (expecting c.stream.start) 0 (map segment_octets us)

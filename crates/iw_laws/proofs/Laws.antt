@@ -2,7 +2,7 @@
 use Rattle.iw_ranges.specs.Nearest.{place_near, before_start}
 use Rattle.iw_ranges.specs.declared.Delivery.{Delivery}
 use Rattle.iw_stream.specs.declared.answer.FirstRefusal.TheVariants.{Late}
-use Rattle.std.proofs.Common.{◌≡◌, ◌⊎◌, ℕ, zero, suc, ◌+◌, ◌-◌, ◌%◌, ◌^◌, ◌<◌, ◌≤◌, List, [], ◌∷◌, ◌++◌, length, take, drop, length-take, length-drop, length-append, cond, map, Option, Some, None, Ok, Err, true, false, refl, sym, ap, ◌∙◌, subst, inl, inr, arith}
+use Rattle.std.proofs.Common.{◌≡◌, ◌⊎◌, ℕ, zero, suc, ◌+◌, ◌-◌, ◌%◌, ◌^◌, ◌<◌, ◌≤◌, List, [], ◌∷◌, ◌++◌, length, take, drop, length-take, length-drop, length-append, cond, map, Option, Some, None, true, false, refl, sym, ap, ◌∙◌, subst, inl, inr, arith}
 use Rattle.std.proofs.lemmas.List.{append-nil, length-map}
 use Rattle.std.specs.Prelude.{option_map, is_some, not, nat_eq, nat_le, nat_lt, min, Bool, ◌&&◌, ◌||◌, Result, IfOk}
 use Rattle.std.specs.Result.{result_err}
@@ -23,8 +23,9 @@ use Rattle.iw_queues.specs.Segments.{Numbers, first_numbers, segment_with, segme
 use Rattle.iw_octets.specs.declared.operation.TaggedOperation.TheVariants as tagged
 use Rattle.iw_octets.specs.declared.operation.UntaggedOperation.TheVariants as untagged
 use Rattle.iw_octets.specs.Operation.{control_of, tagged_opcode, untagged_opcode}
-use Rattle.iw_stream.specs.Starting.{is_asked, most_reads_in, sending, own_frame, first_place_out, agreement_in}
-use Rattle.iw_stream.specs.Stream.{StreamState, is_read, may_go, part_due, response_due, owes_frame, recv_refusal, recv_refusal_of, post_refusal, post_refusal_of, answer_refusal, may_answer, delivery_of, ended, place_of, left_out}
+use Rattle.iw_stream.specs.Starting as starting
+use Rattle.iw_stream.specs.Starting.{most_reads_in, sending, own_frame, first_place_out, agreement_in}
+use Rattle.iw_stream.specs.Stream.{StreamState, is_read, may_go, part_due, response_due, owes_frame, recv_refusal, recv_refusal_of, post_refusal, post_refusal_of, answer_refusal, delivery_of, ended, place_of, left_out}
 use Rattle.iw_stream.specs.Ending.{has_ended, is_broken, last_word}
 use Rattle.iw_stream.specs.Work as work
 use Rattle.iw_stream.specs.declared.answer.PostRefusal.TheVariants as post_refusals
@@ -46,7 +47,6 @@ use Rattle.iw_octets.proofs.Spelled.{length-request_octets}
 use Rattle.iw_memory.specs.declared.rights.Right.TheVariants as rights
 use Rattle.iw_memory.proofs.Callers.{allows}
 use Rattle.iw_reads.specs.declared.requests.Asked.{Asked}
-use Rattle.iw_reads.specs.Outstanding.{most_reads}
 use Rattle.iw_reads.specs.Requests.{Requested, part_for}
 use Rattle.iw_reads.specs.Requests as requests
 use Rattle.iw_reads.specs.Response.{fetch_fault}
@@ -62,16 +62,9 @@ use Rattle.iw_octets.proofs.Segments.{length-segment_octets_tagged, length-segme
 use Rattle.iw_fpdu.specs.Frame.{frame_octets}
 use Rattle.iw_ranges.specs.declared.Delivery.TheVariants.{Dropped}
 use Rattle.iw_ranges.specs.Arrived.{advanced, delivery}
-use Rattle.iw_startup.specs.declared.config.Agreed.{Agreed}
 use Rattle.iw_startup.specs.declared.config.Config.{Config}
-use Rattle.iw_startup.specs.declared.config.Establishment.TheVariants.{Plain}
-use Rattle.iw_stream.specs.declared.answer.AnswerRefusal.{AnswerRefusal}
-use Rattle.iw_stream.specs.declared.answer.AnswerRefusal.TheVariants.{NotAsked, PrivateTooLong}
-use Rattle.iw_stream.specs.declared.answer.OpenRefusal.{OpenRefusal}
-use Rattle.iw_stream.specs.declared.answer.OpenRefusal.TheVariants as open_refusals
+use Rattle.iw_stream.specs.declared.answer.AnswerRefusal.TheVariants.{NotAsked}
 use Rattle.iw_stream.specs.declared.answer.Role.{Role}
-use Rattle.iw_laws.proofs.Plain.{most_plain, refusal_plain, request_fits, or_none}
-use Rattle.iw_endpoint.specs.declared.refusal.OpenSharedRefusal.{OpenSharedRefusal}
 use Rattle.iw_stream.specs.declared.answer.OpenRefusal.TheVariants.{NumberTaken, BadNumber, NoDomain}
 use Rattle.iw_events.specs.declared.call.End.{End}
 use Rattle.iw_events.specs.declared.call.Call.{Call}
@@ -91,10 +84,10 @@ use Rattle.iw_laws.specs.Merged.{AreMerged, posts_in, response_segment}
 use Rattle.iw_laws.specs.Faithful.{FetchShown, FetchStream, count_done, AnswersReads, Answering}
 use Rattle.iw_laws.specs.Sends.{farewells, terminate_segment, IsStartFrame, IsLastWord, AreFirstFrames, Emission, AreAllFrames, HasNothing, Over, Closed, AllSent, ReadWaits, MaySend, FewReads, NothingShown, NothingStream, NothingOnlyAtRest, FrameSized, SizedStream, Sized, FrameAllowed, SpeaksStream, Speaks, CanFinish, FinishedStream, Finished}
 use Rattle.iw_laws.specs.Sends.{Silent as Muted}
-use Rattle.iw_laws.specs.Turns.{pool_by, Answer, Story, is_last, story, story_of, receiving_of, standing, TurnsSeen, TurnsStream, Turns, in_order_point}
+use Rattle.iw_laws.specs.Turns.{Answer, Story, is_last, story, story_of, receiving_of, standing, TurnsSeen, TurnsStream, Turns, in_order_point}
 use Rattle.iw_laws.specs.Rest.{IdleStream, IdleOnlyAtRest}
 use Rattle.iw_laws.specs.Ends.{HoldsNoMessage, HoldsNothing, EndSeen, IsStartDue, EndShown, EndsStream, Ends}
-use Rattle.iw_laws.specs.Calls.{deregister_answer, invalidate_refusal, IsNew, open_refusal_by, open_shared_refusal_by, EndAnswered, ShowsMemory, recv_refusal_by, post_refusal_by, may_answer_by, Accepted, Rejected, StreamAnswered, AnsweredStream, Answered, delivery_by, KeptStream, KeepsOctets, IsCarried, CarriedStream, CarriesOctets, OpenedStream, OpensFirst}
+use Rattle.iw_laws.specs.Calls.{deregister_answer, invalidate_refusal, IsNew, number_refusal_by, open_refusal_by, open_shared_refusal_by, EndAnswered, ShowsMemory, recv_refusal_by, post_refusal_by, answer_refusal_by, StreamAnswered, AnsweredStream, Answered, delivery_by, KeptStream, KeepsOctets, IsCarried, CarriedStream, CarriesOctets, OpenedStream, OpensFirst}
 use Rattle.iw_laws.specs.Words.{OnSome, OnStream, AtEach}
 use Rattle.iw_endpoint.specs.Endpoint.{stream_numbers, pool_of, stream_at, share_fault, pool_fault, take_fault, taken, open_shared_refusal_of, unshared, has_stream, number_refusal, request_refusal, open_refusal, open_shared_refusal}
 use Rattle.iw_endpoint.specs.Isolation.{answer_or}
@@ -125,7 +118,7 @@ use Rattle.iw_laws.specs.Once.{AreOnce, PlacesOnce, spans_placed}
 use Rattle.iw_laws.proofs.EarlyLaws.{judges_early, checks_once}
 use Rattle.iw_laws.proofs.Onces.{are_once}
 use Rattle.iw_laws.proofs.Placements.{placements}
-use Rattle.iw_laws.proofs.Releases.{left_acts}
+use Rattle.iw_laws.proofs.Releases.{left_acts, left_apart}
 use Rattle.iw_laws.proofs.Whole.{Seen as BothSeen, seen_at, follows_split}
 
 -- ---- honest streams
@@ -234,7 +227,7 @@ each_stream P trace follows one past e future is =
     on_stream P (acts e.end past) s e.act m.1.0 (λ n act opened rule.
     let h = (m.0.pairs e.end n).own in
     let there = left_acts s.endpoint.table (connected_at s n).stream h.stream (tale n (acts e.end past)) act h.is_left h.own.track rule in
-    one (acts e.end past) s n (held h) act (m.0.ends e.end) (sym (ap (λ (z : StreamState). z.domain) h.is_left.has.same) ∙ lent_domain (pool_of s.endpoint (stream_at s.endpoint n).domain) (stream_at s.endpoint n) ∙ (m.0.ends e.end).domain n opened) there.0 h.own)
+    one (acts e.end past) s n (held h) act (m.0.ends e.end) (sym (ap (λ (z : StreamState). z.domain) (left_apart h.is_left)) ∙ lent_domain (pool_of s.endpoint (stream_at s.endpoint n).domain) (stream_at s.endpoint n) ∙ (m.0.ends e.end).domain n opened) there.0 h.own)
 
 pub within_all : (trace : List (Entry Octets)) → Follows start trace → Within trace
 within_all trace follows = each_stream WithinStream trace follows (λ done s n c act k domain rule own.
@@ -311,24 +304,24 @@ record WaitsFor (s : StreamState) : Type 0 where
   pub request : ReadRequest
   pub messages : List (Request Octets)
   pub unsent : s.queue.unsent ≡ Read request ∷ messages
-  pub full : most_reads ≤ length s.reads
+  pub full : most_reads_in s.start ≤ length s.reads
 
-part_waits : (s : StreamState) → most_reads_in s.start ≡ most_reads → part_due s ≡ None → (s.queue.unsent ≡ []) ⊎ WaitsFor s
-part_waits s most e = go (next_part s.queue s.mulpdu) refl (ap (λ n. may_go n s.reads (next_part s.queue s.mulpdu)) (sym most) ∙ e)
+part_waits : (s : StreamState) → part_due s ≡ None → (s.queue.unsent ≡ []) ⊎ WaitsFor s
+part_waits s e = go (next_part s.queue s.mulpdu) refl e
   where
-    read_of : (m : Request Octets) (ms : List (Request Octets)) → s.queue.unsent ≡ m ∷ ms → (is_read m && nat_le most_reads (length s.reads)) ≡ true → (s.queue.unsent ≡ []) ⊎ WaitsFor s
+    read_of : (m : Request Octets) (ms : List (Request Octets)) → s.queue.unsent ≡ m ∷ ms → (is_read m && nat_le (most_reads_in s.start) (length s.reads)) ≡ true → (s.queue.unsent ≡ []) ⊎ WaitsFor s
     read_of (Posted m) ms is b = absurd (false≢true b)
-    read_of (Read request) ms is b = inr (record { request = request; messages = ms; unsent = is; full = (let le : nat_le most_reads (length s.reads) ≡ true = b in grind (arith, nat_tests)) })
+    read_of (Read request) ms is b = inr (record { request = request; messages = ms; unsent = is; full = (let le : nat_le (most_reads_in s.start) (length s.reads) ≡ true = b in grind (arith, nat_tests)) })
 
-    go : (p : Option (Part (Request Octets))) → next_part s.queue s.mulpdu ≡ p → may_go most_reads s.reads p ≡ None → (s.queue.unsent ≡ []) ⊎ WaitsFor s
+    go : (p : Option (Part (Request Octets))) → next_part s.queue s.mulpdu ≡ p → may_go (most_reads_in s.start) s.reads p ≡ None → (s.queue.unsent ≡ []) ⊎ WaitsFor s
     go None is h = inl (none_left s.queue s.mulpdu is)
     go (Some part) is h =
         let w = shows s.queue s.mulpdu part is in
-        by (is_read part.message && nat_le most_reads (length s.reads)) refl h w.message w.messages w.unsent (ap (λ (p : Part (Request Octets)). p.message) w.is)
+        by (is_read part.message && nat_le (most_reads_in s.start) (length s.reads)) refl h w.message w.messages w.unsent (ap (λ (p : Part (Request Octets)). p.message) w.is)
       where
-        by : (b : Bool) → (is_read part.message && nat_le most_reads (length s.reads)) ≡ b → cond b None (Some part) ≡ None → (m : Request Octets) (ms : List (Request Octets)) → s.queue.unsent ≡ m ∷ ms → part.message ≡ m → (s.queue.unsent ≡ []) ⊎ WaitsFor s
+        by : (b : Bool) → (is_read part.message && nat_le (most_reads_in s.start) (length s.reads)) ≡ b → cond b None (Some part) ≡ None → (m : Request Octets) (ms : List (Request Octets)) → s.queue.unsent ≡ m ∷ ms → part.message ≡ m → (s.queue.unsent ≡ []) ⊎ WaitsFor s
         by false b h m ms is same = absurd (none-some _ (sym h))
-        by true b h m ms is same = read_of m ms is (ap (λ z. is_read z && nat_le most_reads (length s.reads)) (sym same) ∙ b)
+        by true b h m ms is same = read_of m ms is (ap (λ z. is_read z && nat_le (most_reads_in s.start) (length s.reads)) (sym same) ∙ b)
 
 nothing_stream : (o : Opening) (c : Connected) (done : List (StreamAct Octets)) (queue : Receiving) (table : Table) (act : StreamAct Octets) → StreamRule table c.stream act → Own o c (tale_with o done queue) → OnSome (NothingShown (story_with o done queue) done) (deed act).shown
 nothing_stream o c done queue table (Emit Nothing) rule own =
@@ -361,7 +354,7 @@ nothing_stream o c done queue table (Emit Nothing) rule own =
         let split : posted done ≡ items ++ Read w.request ∷ w.messages = sym e.merges.posts ∙ ap (λ z. items ++ z) unsent in
         let here : slice_get (posted done) (length items) ≡ Some (Read w.request) = ap (λ z. slice_get z (length items)) split ∙ get_after items (Read w.request) w.messages in
         let firsts : items ≡ take (length items) (posted done) = sym (take-append_seam items (Read w.request ∷ w.messages)) ∙ ap (take (length items)) (sym split) in
-        ReadWaits (length items) w.request here (omega (arith, w.full, ap length e.asks.reads))
+        ReadWaits (length items) w.request here (omega (arith, w.full, ap length e.asks.reads, ap most_reads_in own.track.begins.start))
         (subst (AreAllFrames (story_with o done queue) (sent done)) firsts (all_frames o c (tale_with o done queue) own running owes unbegun (none_waits c.stream unbegun quiet)))
       where
         zero_of : (n : ℕ) → (0 < n → n < 0) → n ≡ 0
@@ -374,7 +367,7 @@ nothing_stream o c done queue table (Emit Nothing) rule own =
 
     runs_or : (b : Bool) → ended c.stream ≡ b → owes_frame c.stream ≡ false → response_due c.stream ≡ None → part_due c.stream ≡ None → HasNothing (has_ended_by done) (story_with o done queue) (sent done) (posted done)
     runs_or true over owes quiet none = Over (sym own.ended ∙ over)
-    runs_or false running owes quiet none = all running owes quiet (part_waits c.stream (most_plain c.stream.start own.track.begins.plain) none)
+    runs_or false running owes quiet none = all running owes quiet (part_waits c.stream none)
 
     go : owes_frame c.stream ≡ false → Rests c.stream → HasNothing (has_ended_by done) (story_with o done queue) (sent done) (posted done)
     go owes (Ended over) = Over (sym own.ended ∙ over)
@@ -631,7 +624,7 @@ fetched_all trace follows = each_stream FetchStream trace follows (λ done s n c
 pub few_reads : (trace : List (Entry Octets)) → Follows start trace → FewReads trace
 few_reads trace follows past future is x n =
     let own = ((seen_at past future trace follows is).pairs x n).own.own in
-    omega (arith, own.emits.asks.few, ap length own.emits.asks.reads)
+    omega (arith, own.emits.asks.few, ap length own.emits.asks.reads, ap most_reads_in own.track.begins.start)
 
 -- ---- finished messages
 
@@ -640,8 +633,8 @@ finished_stream done n s c (Work (seen.Done kind)) rule own =
     let d = (sees s.endpoint.table c.stream (sound c.stream (tale n done) own.track) (seen.Done kind) rule).0 in
     subst (CanFinish (story_of n done) (stream_acts n done)) (sym d.2) (can_finish c.stream (tale n done) own.track own.emits d.0 d.1)
 finished_stream done n s c (Work seen.Idle) rule own = tt
-finished_stream done n s c (Work (seen.Asked private)) rule own = tt
-finished_stream done n s c (Work (seen.Opened agreed private)) rule own = tt
+finished_stream done n s c (Work (seen.Asked word private)) rule own = tt
+finished_stream done n s c (Work (seen.Opened agreed word private)) rule own = tt
 finished_stream done n s c (Work (seen.Closed fault)) rule own = tt
 finished_stream done n s c (Work (seen.Placed right stag to octets)) rule own = tt
 finished_stream done n s c (Work (seen.Tried place)) rule own = tt
@@ -674,8 +667,8 @@ idle_stream s c done n (Work seen.Idle) rule o = record {
   reason = idles s.endpoint.table c.stream (tale n done) rule o.track o.ended;
   unfinished = cannot_finish c.stream (tale n done) o.track o.emits (idle_unfinished s.endpoint.table c.stream (tale n done) rule o.track);
 }
-idle_stream s c done n (Work (seen.Asked private)) rule o = tt
-idle_stream s c done n (Work (seen.Opened agreed private)) rule o = tt
+idle_stream s c done n (Work (seen.Asked word private)) rule o = tt
+idle_stream s c done n (Work (seen.Opened agreed word private)) rule o = tt
 idle_stream s c done n (Work (seen.Closed fault)) rule o = tt
 idle_stream s c done n (Accept private answer) rule o = tt
 idle_stream s c done n (Reject private refused) rule o = tt
@@ -765,8 +758,8 @@ end_seen o c done queue table step rule own = told step (sees table c.stream (so
         }
     told (seen.FlushedRecv octets) h = record { over_so = sym own.ended ∙ h.over; messages = none_held h.none; is = ap (λ (r : Receiving). first_buffer r.source) own.track.receiving ∙ h.is }
     told seen.Idle h = rests h.1
-    told (seen.Asked private) h = runs h.0.running
-    told (seen.Opened agreed private) h = runs h.0.running
+    told (seen.Asked word private) h = runs h.0.running
+    told (seen.Opened agreed word private) h = runs h.0.hears_it.running
     told (seen.Closed fault) h = runs h.running
     told (seen.Placed right stag to octets) (inl h) = runs h.0.runs.running
     told (seen.Placed right stag to octets) (inr h) = runs h.0.runs.running
@@ -777,8 +770,9 @@ end_seen o c done queue table step rule own = told step (sees table c.stream (so
     told seen.Passed h = runs h.0.runs.running
     told (seen.Received octets solicited invalidate) h = runs h.0.runs.running
     told (seen.Terminated fault) h = runs h.0.runs.running
-    told (seen.Fault fault) (inl h) = runs h.runs.running
-    told (seen.Fault fault) (inr h) = runs h.runs.running
+    told (seen.Fault fault) (inl h) = runs h.hears_it.running
+    told (seen.Fault fault) (inr (inl h)) = runs h.runs.running
+    told (seen.Fault fault) (inr (inr h)) = runs h.runs.running
 
 -- what goes out of a stream that has ended
 end_shown : (o : Opening) (c : Connected) (done : List (StreamAct Octets)) (queue : Receiving) (table : Table) (shown : Shown Octets) → StreamRule table c.stream (Emit shown) → Own o c (tale_with o done queue) → EndShown (has_ended_by done) (story_with o done queue) (sent done) shown
@@ -823,27 +817,16 @@ ended_told trace follows x n =
 -- ---- calls
 
 -- an opening is refused by what was done
-number_refused : (s : EndState) (done : List (Act Octets)) (n pd : ℕ) → EndKept s done → number_refusal s.endpoint n pd ≡ open_refusal_by done n pd
+number_refused : (s : EndState) (done : List (Act Octets)) (n pd : ℕ) → EndKept s done → number_refusal s.endpoint n pd ≡ number_refusal_by done n pd
 number_refused s done n pd k = λ i. cond (k.opened n i) (Some NumberTaken) (cond (nat_le stream_numbers n) (Some BadNumber) (cond (not (is_added (k.table i) pd)) (Some NoDomain) None))
 
--- and never for its private data
-request_taken : (role : Role) (config : Config) → config.establishment ≡ Plain → request_refusal role config ≡ None
-request_taken role config plain = ap (λ b. cond b (Some open_refusals.PrivateTooLong) None) (request_fits role config plain)
+open_refused : (s : EndState) (done : List (Act Octets)) (n pd : ℕ) (role : Role) (config : Config) → EndKept s done → open_refusal s.endpoint n pd role config ≡ open_refusal_by done n pd role config
+open_refused s done n pd role config k = λ i. option_or (number_refused s done n pd k i) (request_refusal role config)
 
-first_shared : (o : Option OpenRefusal) (p : Option OpenSharedRefusal) → option_or (option_map open_shared_refusal_of o) (option_or p None) ≡ option_or (option_map open_shared_refusal_of o) p
-first_shared (Some refusal) p = refl
-first_shared None None = refl
-first_shared None (Some refusal) = refl
-
-open_refused : (s : EndState) (done : List (Act Octets)) (n pd : ℕ) (role : Role) (config : Config) → config.establishment ≡ Plain → EndKept s done → open_refusal s.endpoint n pd role config ≡ open_refusal_by done n pd
-open_refused s done n pd role config plain k =
-    (λ i. option_or (number_refused s done n pd k i) (request_taken role config plain i)) ∙ or_none (open_refusal_by done n pd)
-
-open_shared_refused : (s : EndState) (done : List (Act Octets)) (n pd : ℕ) (role : Role) (config : Config) → config.establishment ≡ Plain → EndKept s done → PoolsSeen s done
-    → open_shared_refusal s.endpoint n pd role config ≡ open_shared_refusal_by done n pd
-open_shared_refused s done n pd role config plain k pools =
-    (λ i. option_or (option_map open_shared_refusal_of (number_refused s done n pd k i)) (option_or (unshared (pools pd i)) (option_map open_shared_refusal_of (request_taken role config plain i))))
-    ∙ first_shared (open_refusal_by done n pd) (unshared (pool_by pd done))
+open_shared_refused : (s : EndState) (done : List (Act Octets)) (n pd : ℕ) (role : Role) (config : Config) → EndKept s done → PoolsSeen s done
+    → open_shared_refusal s.endpoint n pd role config ≡ open_shared_refusal_by done n pd role config
+open_shared_refused s done n pd role config k pools =
+    λ i. option_or (option_map open_shared_refusal_of (number_refused s done n pd k i)) (option_or (unshared (pools pd i)) (option_map open_shared_refusal_of (request_refusal role config)))
 
 -- the STag of the next region names nothing
 next_free : (table : Table) (pd base len : ℕ) (region : Region) → register_refusal table pd base len ≡ None → region_at table (next_stag table pd) ≡ None
@@ -869,11 +852,11 @@ end_answered done s (Register pd base rights octets answer) k pools rule =
 end_answered done s (Deregister stag answer) k pools rule = subst (λ t. answer ≡ deregister_answer t stag) k.table rule
 end_answered done s (Invalidate stag refused) k pools rule = subst (λ t. refused ≡ invalidate_refusal t stag) k.table rule
 end_answered done s (Store stag to octets refused) k pools rule = subst (λ t. refused ≡ store_refusal t stag to (length octets)) k.table rule
-end_answered done s (Open n pd role options private refused) k pools rule = rule ∙ open_refused s done n pd role (config_for options private) refl k
+end_answered done s (Open n pd role options private refused) k pools rule = rule ∙ open_refused s done n pd role (config_for options private) k
 end_answered done s (Share pd refused) k pools rule = rule ∙ (λ i. share_fault (is_added (k.table i) pd) (pools pd i))
 end_answered done s (Pool pd len refused) k pools rule = rule ∙ (λ i. pool_fault (is_added (k.table i) pd) (pools pd i))
 end_answered done s (Unpool pd answer) k pools rule = rule ∙ (λ i. answer_or (take_fault (is_added (k.table i) pd) (pools pd i)) (taken (pools pd i)))
-end_answered done s (OpenShared n pd role options private refused) k pools rule = rule ∙ open_shared_refused s done n pd role (config_for options private) refl k pools
+end_answered done s (OpenShared n pd role options private refused) k pools rule = rule ∙ open_shared_refused s done n pd role (config_for options private) k pools
 end_answered done s (Stream n act) k pools rule = tt
 
 pub shows_memory : (trace : List (Entry Octets)) → Follows start trace → ShowsMemory trace
@@ -901,13 +884,8 @@ recv_refused o c done queue own =
 post_refused : (o : Opening) (c : Connected) (done : List (StreamAct Octets)) (queue : Receiving) (m : Request Octets) → Own o c (tale_with o done queue) → post_refusal c.stream m ≡ post_refusal_by (story_with o done queue) done m
 post_refused o c done queue m own =
     (λ i. cond (own.ended i || not (sym (open_is c.stream (tale_with o done queue) own.track) i)) (Some post_refusals.NotOpen)
-    (cond (readable m i) (Some post_refusals.NoReads) (of_queue (nat_le 256 (held i)) (nat_lt 16777216 (size_of m)) i)))
+    (cond (is_read m && nat_eq (most_reads_in (sym own.track.begins.start i)) 0) (Some post_refusals.NoReads) (of_queue (nat_le 256 (held i)) (nat_lt 16777216 (size_of m)) i)))
   where
-    -- sixteen Reads may be outstanding
-    readable : (m : Request Octets) → (is_read m && nat_eq (most_reads_in c.stream.start) 0) ≡ false
-    readable (Posted message) = refl
-    readable (Read request) = ap (λ n. nat_eq n 0) (most_plain c.stream.start own.track.begins.plain)
-
     q : Queue
     q = c.stream.queue
 
@@ -931,53 +909,18 @@ post_refused o c done queue m own =
     of_queue false true = refl
     of_queue false false = refl
 
--- whether the user may answer
-asked_is : (o : Opening) (c : Connected) (done : List (StreamAct Octets)) (queue : Receiving) → Own o c (tale_with o done queue) → may_answer c.stream ≡ may_answer_by (story_with o done queue) done
-asked_is o c done queue own = λ i. not (own.ended i) && is_asked (sym own.track.begins.start i)
-
--- a Request is refused an answer where none waits, and for no other reason
-refused_asked : (o : Opening) (c : Connected) (done : List (StreamAct Octets)) (queue : Receiving) (private : Octets) → Own o c (tale_with o done queue)
-    → answer_refusal c.stream private ≡ cond (may_answer_by (story_with o done queue) done) None (Some NotAsked)
-refused_asked o c done queue private own = refusal_plain c.stream private own.track.begins.plain ∙ ap (λ b. cond b None (Some NotAsked)) (asked_is o c done queue own)
-
-accepts_asked : (o : Opening) (c : Connected) (done : List (StreamAct Octets)) (queue : Receiving) (private : Octets) (answer : Result Agreed AnswerRefusal) → answer ≡ answer_or (answer_refusal c.stream private) (agreement_in c.stream.start) → Own o c (tale_with o done queue)
-    → Accepted (story_with o done queue) done answer
-accepts_asked o c done queue private answer rule own =
-    go answer (may_answer_by (story_with o done queue) done) refl (rule ∙ (λ i. answer_or (refused_asked o c done queue private own i) (agreement_in (sym own.track.begins.start i))))
-  where
-    t : Story
-    t = story_with o done queue
-
-    go : (answer : Result Agreed AnswerRefusal) (b : Bool) → may_answer_by t done ≡ b → answer ≡ answer_or (cond b None (Some NotAsked)) (agreement_in t.start) → Accepted t done answer
-    go (Ok agreed) true is e = (is, cc)
-    go (Ok agreed) false is e = cc
-    go (Err NotAsked) true is e = cc
-    go (Err NotAsked) false is e = is
-    go (Err PrivateTooLong) true is e = cc
-    go (Err PrivateTooLong) false is e = cc
-
-rejects_asked : (o : Opening) (c : Connected) (done : List (StreamAct Octets)) (queue : Receiving) (private : Octets) (refused : Option AnswerRefusal) → refused ≡ answer_refusal c.stream private → Own o c (tale_with o done queue)
-    → Rejected (story_with o done queue) done refused
-rejects_asked o c done queue private refused rule own = go refused (may_answer_by (story_with o done queue) done) refl (rule ∙ refused_asked o c done queue private own)
-  where
-    t : Story
-    t = story_with o done queue
-
-    go : (refused : Option AnswerRefusal) (b : Bool) → may_answer_by t done ≡ b → refused ≡ cond b None (Some NotAsked) → Rejected t done refused
-    go None true is e = is
-    go None false is e = cc
-    go (Some NotAsked) true is e = cc
-    go (Some NotAsked) false is e = is
-    go (Some PrivateTooLong) true is e = cc
-    go (Some PrivateTooLong) false is e = cc
+-- a Request is refused an answer by what was done
+answer_refused : (o : Opening) (c : Connected) (done : List (StreamAct Octets)) (queue : Receiving) (private : Octets) → Own o c (tale_with o done queue)
+    → answer_refusal c.stream (private_data private).items ≡ answer_refusal_by (story_with o done queue) done private
+answer_refused o c done queue private own = λ i. cond (own.ended i) (Some NotAsked) (starting.answer_refusal (sym own.track.begins.start i) (private_data private).items)
 
 stream_answered : (o : Opening) (c : Connected) (done : List (StreamAct Octets)) (queue : Receiving) (table : Table) (act : StreamAct Octets) → StreamRule table c.stream act → Own o c (tale_with o done queue) → StreamAnswered (story_with o done queue) done act
 stream_answered o c done queue table (Recv len refused) rule own = rule ∙ recv_refused o c done queue own
 stream_answered o c done queue table (Post m refused) rule own = rule.1 ∙ post_refused o c done queue m own
 stream_answered o c done queue table (First number refused) rule own = rule ∙ (λ i. cond (sym own.numbered.delivered i) (Some Late) None)
 stream_answered o c done queue table (Mulpdu size refused) rule own = rule
-stream_answered o c done queue table (Accept private answer) rule own = accepts_asked o c done queue (private_data private).items answer rule own
-stream_answered o c done queue table (Reject private refused) rule own = rejects_asked o c done queue (private_data private).items refused rule own
+stream_answered o c done queue table (Accept private answer) rule own = rule ∙ (λ i. answer_or (answer_refused o c done queue private own i) (agreement_in (sym own.track.begins.start i)))
+stream_answered o c done queue table (Reject private refused) rule own = rule ∙ answer_refused o c done queue private own
 stream_answered o c done queue table (Emit shown) rule own = tt
 stream_answered o c done queue table (Deliver from number octets delivery) rule own = tt
 stream_answered o c done queue table (Raw number octets delivery) rule own = tt

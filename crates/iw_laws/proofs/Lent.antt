@@ -67,7 +67,7 @@ module _ (s : StreamState) (t : Tale) (x y : Source) where
 
   -- ---- what came
   begins : (intro : Octets) → Begins s t intro → Begins (requeued s x) (retold t y) intro
-  begins intro k = record { start = k.start; plain = k.plain; reached = k.reached; fresh = k.fresh; octets = k.octets }
+  begins intro k = record { start = k.start; reached = k.reached; fresh = k.fresh; octets = k.octets }
 
   early : (shown : List Placing) → Early s t shown → Early (requeued s x) (retold t y) shown
   early shown k = record { records_are = k.records_are; unopened = k.unopened; judged = k.judged; clear = k.clear; written_are = k.written_are; sunk_are = k.sunk_are }
@@ -127,7 +127,6 @@ requeued_own o c t x y e same k = record {
   due = k.due;
   numbered = record { first = k.numbered.first; delivered = k.numbered.delivered };
   starts = k.starts;
-  small = k.small;
   emits = emits c.stream t x y k.emits;
   track = track c.stream t x y e k.track;
   doing = record { answered = k.doing.answered; among = k.doing.among };

@@ -1,4 +1,4 @@
-pub mod Plain
+pub mod Rooms
 pub mod Nexts
 pub mod Tales
 pub mod Seeing
@@ -51,3 +51,4 @@ pub mod Laws
 pub mod Shorts
 pub mod RefusedEarly
 pub mod RefusedPools
+pub mod RefusedEnhanced

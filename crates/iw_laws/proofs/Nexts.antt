@@ -24,7 +24,6 @@ use Rattle.iw_stream.specs.Stream.{StreamState}
 use Rattle.iw_stream.specs.Work.{inbox, next_frame, waiting}
 use Rattle.iw_stream.specs.Work as work
 use Rattle.iw_stream.proofs.Fronts.{carried_by, first_here, none_here}
-use Rattle.iw_laws.proofs.Plain.{IsRevisionOne}
 
 -- ---- the first frame of what came, and the octets behind it
 
@@ -75,7 +74,6 @@ pub record IsFore (s : StreamState) (f : PlacedFrame) : Type 0 where
 
 -- what the frames of a stream keep
 pub record Sound (s : StreamState) : Type 0 where
-  pub plain : IsRevisionOne s.start
   pub low : first_place_in s.start ≤ s.arrived.floor
   pub between : IsBetween (expecting s.start).markers (place_in s)
   pub held : IsHeld s.arrived

@@ -25,6 +25,7 @@ use Rattle.iw_locate.proofs.Telling.{overlaps_are_told}
 use Rattle.iw_stream.specs.declared.judging.PlacedFrame.{PlacedFrame}
 use Rattle.iw_stream.specs.Frames.{Frame, EarlyRecord, placed, record_of, placed_at}
 use Rattle.iw_stream.specs.Starting.{is_open, expecting, first_place_in}
+use Rattle.iw_laws.proofs.Rooms.{heard_open}
 use Rattle.iw_stream.specs.Stream.{StreamState, Due, StartUp, LastWord, Response, NextPart, NoneDue, due, may_answer, place_of, left_out}
 use Rattle.iw_stream.specs.Work.{scene, waiting, clashes, inbox}
 use Rattle.iw_stream.specs.Work as work
@@ -44,7 +45,7 @@ use Rattle.iw_laws.specs.Turns.{early_frame}
 use Rattle.iw_laws.specs.Once.{Span, span_of, judged_span, spans_by, AreOnce}
 use Rattle.iw_laws.proofs.Judged.{View, frame_in, Stands, IsFirstRecord, IsOpenAt, open_at}
 use Rattle.iw_laws.proofs.Nexts.{fore, place_past, past_front, standing, IsFore, past_is}
-use Rattle.iw_laws.proofs.Told.{Told, Hears, Fronts, JudgedEarly, kept_of, early_left, after_act, after_shown, left_frame, nothing_waits}
+use Rattle.iw_laws.proofs.Told.{Told, Hears, Fronts, JudgedEarly, kept_of, early_left, arrived_open, fault_open, after_act, after_shown, left_frame, nothing_waits}
 use Rattle.iw_laws.proofs.Told as told_of
 use Rattle.iw_laws.proofs.Tales.{Tale}
 use Rattle.iw_laws.proofs.Tracks.{Track, sound, next_whole, next_none, early_frame_is, first_early, accepting, refusing, may, unanswered}
@@ -336,9 +337,12 @@ once_after table s t (Work (seen.Done kind)) spans rule k o = same_once s (after
 once_after table s t (Work (seen.Flushed kind)) spans rule k o = same_once s (after_act s (Work (seen.Flushed kind))) spans refl refl refl refl o
 once_after table s t (Work (seen.FlushedRecv octets)) spans rule k o = same_once s (after_act s (Work (seen.FlushedRecv octets))) spans refl refl refl refl o
 once_after table s t (Work seen.Idle) spans rule k o = same_once s s spans refl refl refl refl o
-once_after table s t (Work (seen.Fault fault)) spans rule k o = same_once s (after_act s (Work (seen.Fault fault))) spans refl refl refl refl o
-once_after table s t (Work (seen.Asked private)) spans rule k o = shut_once s (after_act s (Work (seen.Asked private))) spans (not_heard s progresses.Asked rule.0) o
-once_after table s t (Work (seen.Opened agreed private)) spans rule k o = shut_once s (after_act s (Work (seen.Opened agreed private))) spans (not_heard s progresses.Agreed rule.0) o
+once_after table s t (Work (seen.Fault fault)) spans (inl m) k o = shut_once s (after_act s (Work (seen.Fault fault))) spans (not_heard s progresses.Agreed m.hears_it) o
+once_after table s t (Work (seen.Fault fault)) spans (inr j) k o =
+    let started : is_open s.start ≡ true = fault_open table s fault j in
+    same_once s (after_act s (Work (seen.Fault fault))) spans (heard_open s.start (inbox s) started) refl (arrived_open s started) refl o
+once_after table s t (Work (seen.Asked word private)) spans rule k o = shut_once s (after_act s (Work (seen.Asked word private))) spans (not_heard s progresses.Asked rule.0) o
+once_after table s t (Work (seen.Opened agreed word private)) spans rule k o = shut_once s (after_act s (Work (seen.Opened agreed word private))) spans (not_heard s progresses.Agreed rule.0.hears_it) o
 once_after table s t (Work (seen.Closed fault)) spans rule k o = shut_once s (after_act s (Work (seen.Closed fault))) spans (not_heard s (progresses.Faulted fault) rule) o
 once_after table s t (Work (seen.Placed right stag to octets)) spans rule k o = elim rule [
   | inl (judged, w) ↦

@@ -32,7 +32,7 @@ use Rattle.iw_octets.specs.declared.message.Message.TheVariants.{Write, Send}
 use Rattle.iw_reads.specs.declared.reads.Outstanding.{Outstanding}
 use Rattle.iw_reads.specs.declared.requests.Asked.{Asked}
 use Rattle.iw_reads.specs.declared.response.ResponsePart.{ResponsePart}
-use Rattle.iw_reads.specs.Outstanding.{most_reads, asked_for, reads_turned, finished_read}
+use Rattle.iw_reads.specs.Outstanding.{asked_for, reads_turned, finished_read}
 use Rattle.iw_reads.specs.Requests.{Requested, part_for, part_fetched, taken_up}
 use Rattle.iw_reads.specs.Requests.{oldest_headers}
 use Rattle.iw_reads.specs.Requests as requests
@@ -87,12 +87,13 @@ use Rattle.iw_startup.proofs.Openings.{unanswered_not_agreed}
 use Rattle.iw_stream.specs.declared.answer.Role.{Role}
 use Rattle.iw_stream.specs.declared.answer.Role.TheVariants.{Preset, Initiator, Responder}
 use Rattle.iw_stream.specs.Frames.{payload_of}
-use Rattle.iw_stream.specs.Starting.{StartState, AtOnce, Unheard, Heard, is_open, sending, own_frame, first_place_in, is_responder, heard, answered_with, first_place_out}
+use Rattle.iw_stream.specs.Starting.{StartState, AtOnce, Unheard, Heard, is_open, sending, own_frame, first_place_in, is_responder, awaits_frame, heard, most_reads_in, answered_with, first_place_out}
 use Rattle.iw_stream.specs.Stream.{StreamState, Due, StartUp, Response as NextResponse, NextPart, NoneDue, LastWord, ended, size_refusal, due, emission_of, emitted, response_due, frame_of, is_read, reads_with, owes_frame, keeps_silent, place_of, left_out}
 use Rattle.iw_stream.specs.declared.ending.Ending.{Ending}
 use Rattle.iw_stream.specs.declared.ending.Ending.TheVariants.{Runs, Over, Broken}
 use Rattle.iw_stream.specs.Ending.{has_ended, is_broken, last_word, with_last_word}
-use Rattle.iw_stream.specs.Terminating.{is_request_of, terminate_judged, terminate_turned, terminate_fetched}
+use Rattle.iw_laws.specs.Turns as turns
+use Rattle.iw_stream.specs.Terminating.{is_request_of, terminate_alone, terminate_judged, terminate_turned, terminate_fetched}
 use Rattle.iw_laws.specs.Sends.{farewells, terminate_segment, count_reads}
 use Rattle.iw_laws.specs.Faithful.{count_done}
 use Rattle.iw_octets.specs.declared.fault.Fault.{Fault}
@@ -108,15 +109,15 @@ use Rattle.iw_laws.proofs.States.{Connected}
 use Rattle.iw_laws.specs.Safe.{InBuffer}
 use Rattle.iw_laws.specs.Words.{OnSome}
 use Rattle.iw_laws.proofs.Nexts.{Front, fore, segment_at, turned_by, standing}
-use Rattle.iw_laws.proofs.Told.{Told, Hears, GivesUp, fault_front, left_frame, after_shown, after_act, told, asked_front, reads_front, finishes_read, with_finished}
+use Rattle.iw_laws.proofs.Rooms.{wants_open, heard_open}
+use Rattle.iw_laws.proofs.Told.{Told, Hears, HearsMismatch, Judged, Turned, GivesUp, fault_front, fault_for, hears_due, faults_open, left_frame, after_shown, after_act, told, asked_front, reads_front, finishes_read, with_finished}
 use Rattle.iw_laws.proofs.Tales.{Tale, tale_after}
 use Rattle.iw_laws.proofs.Paid.{IsPaid, paying}
 use Rattle.iw_laws.proofs.Onces.{Onces, once_after}
 use Rattle.iw_laws.proofs.Fills.{Fills, fill_after}
-use Rattle.iw_laws.proofs.Plain.{IsRevisionOne, most_plain}
-use Rattle.iw_laws.proofs.Tracks.{OnStart, Track, by_ended, shown_stays, sound, silent_is, next_whole, next_none, next_reads_are, was_placed_is, tracking, MayAnswer, may, accepting, refusing, unanswered}
+use Rattle.iw_laws.proofs.Tracks.{fault_heard, told_open, OnStart, Track, by_ended, shown_stays, sound, silent_is, next_whole, next_none, next_reads_are, was_placed_is, tracking, MayAnswer, may, accepting, refusing, unanswered}
 use Rattle.iw_laws.proofs.Lists.{Each, each-push, each-first, each-last}
-use Rattle.iw_laws.proofs.Counts.{marks, length-marks, count_reads-kinds, map-take, take-all, count_done-append, read_mark, message_at, Hands, Counts, Handing, handing_of, same_handing, one_handed, same_counts, posted_counts, part_counts, handed_counts, answered_counts, part_ticket, hands, one_for, count_last, count_last-append, last_of, plain_part, whole_of}
+use Rattle.iw_laws.proofs.Counts.{marks, length-marks, count_reads-kinds, map-take, take-all, count_done-append, read_mark, message_at, Hands, Counts, Handing, handing_of, same_handing, one_handed, same_counts, posted_counts, part_counts, handed_counts, answered_counts, part_ticket, hands, one_for, count_last, count_last-append, none_outstanding, last_of, plain_part, whole_of}
 use Rattle.iw_laws.proofs.Sending.{FitsNumbers, IsSendable, accepted, EmitsStart, EmitsLast, EmitsPart, EmitsResponse, emits_as, shown_good, response_good, shows, past_small, terminate_few, terminate_good}
 use Rattle.iw_laws.proofs.Checks.{checked_buffer}
 
@@ -131,7 +132,7 @@ pub record Asks (s : StreamState) (t : Story) : Type 0 where
   pub asked : t.asked ≡ s.asked
   pub fetched : s.asked.fetched ≡ length t.begun
   pub begun : requests.IsBegun s.asked.unanswered s.asked.fetched
-  pub few : length s.reads ≤ 16
+  pub few : length s.reads ≤ most_reads_in s.start
 
 -- no frame went out, and no Terminate is due
 pub record IsMute (s : StreamState) (t : Story) (segments : List (Segment Octets)) : Type 0 where
@@ -181,20 +182,12 @@ pub record Emits (s : StreamState) (t : Tale) : Type 0 where
 abbrev pub out_of : (s : StreamState) (t : Tale) → Emits s t → List (Segment Octets)
 out_of s t e = e.segments ++ farewells t.story.farewell
 
--- the private data of a Reply has room in its frame
-abbrev pub IsSmall : Side → Type 0
-IsSmall sides.Initiator = Unit {0}
-IsSmall (sides.Responder None) = Unit {0}
-IsSmall (sides.Responder (Some reply)) = length (private_in reply).items ≤ 512
-
 abbrev pub role_of : Side → Role
 role_of sides.Initiator = Initiator
 role_of (sides.Responder reply) = Responder
 
 pub record StartsAs (o : Opening) (u : StartupState) : Type 0 where
-  pub few : length u.config.private.items ≤ length o.config.private.items
   pub role : role_of u.side ≡ o.role
-  pub small : IsSmall u.side
 
 -- a start-up is that of a stream that was opened so
 abbrev pub IsStartOf : Opening → StartState → Type 0
@@ -218,7 +211,6 @@ pub record Own (o : Opening) (c : Connected) (t : Tale) : Type 0 where
   pub due : c.stream.receiving.due ≡ (1 + length t.received) % 2 ^ 32
   pub numbered : KnowsNumbers c.stream t.story
   pub starts : IsStartOf o c.stream.start
-  pub small : length o.config.private.items ≤ 512
   pub emits : Emits c.stream t
   pub track : Track c.stream t
   pub doing : Doing t
@@ -270,8 +262,8 @@ knows_numbers s t (Accept private (Ok agreed)) h = record { first = h.first; del
 knows_numbers s t (Accept private (Err refusal)) h = record { first = h.first; delivered = h.delivered }
 knows_numbers s t (Reject private None) h = record { first = h.first; delivered = h.delivered }
 knows_numbers s t (Reject private (Some refusal)) h = record { first = h.first; delivered = h.delivered }
-knows_numbers s t (Work (seen.Asked private)) h = record { first = h.first; delivered = h.delivered }
-knows_numbers s t (Work (seen.Opened agreed private)) h = record { first = h.first; delivered = h.delivered }
+knows_numbers s t (Work (seen.Asked word private)) h = record { first = h.first; delivered = h.delivered }
+knows_numbers s t (Work (seen.Opened agreed word private)) h = record { first = h.first; delivered = h.delivered }
 knows_numbers s t (Work (seen.Closed fault)) h = record { first = h.first; delivered = h.delivered }
 knows_numbers s t (Deliver from number octets Kept) h = record { first = h.first; delivered = refl }
 knows_numbers s t (Raw number octets Kept) h = record { first = h.first; delivered = refl }
@@ -375,8 +367,8 @@ due_is s (Accept private (Ok agreed)) done e = same_due s.receiving.due done e
 due_is s (Accept private (Err refusal)) done e = same_due s.receiving.due done e
 due_is s (Reject private None) done e = same_due s.receiving.due done e
 due_is s (Reject private (Some refusal)) done e = same_due s.receiving.due done e
-due_is s (Work (seen.Asked private)) done e = same_due s.receiving.due done e
-due_is s (Work (seen.Opened agreed private)) done e = same_due s.receiving.due done e
+due_is s (Work (seen.Asked word private)) done e = same_due s.receiving.due done e
+due_is s (Work (seen.Opened agreed word private)) done e = same_due s.receiving.due done e
 due_is s (Work (seen.Closed fault)) done e = same_due s.receiving.due done e
 due_is s (Deliver from number octets Kept) done e = same_due s.receiving.due done e
 due_is s (Raw number octets Kept) done e = same_due s.receiving.due done e
@@ -396,8 +388,8 @@ sent_is table s (Accept private (Ok agreed)) sent rule e = same_sent s.sent sent
 sent_is table s (Accept private (Err refusal)) sent rule e = same_sent s.sent sent e
 sent_is table s (Reject private None) sent rule e = same_sent s.sent sent e
 sent_is table s (Reject private (Some refusal)) sent rule e = same_sent s.sent sent e
-sent_is table s (Work (seen.Asked private)) sent rule e = same_sent s.sent sent e
-sent_is table s (Work (seen.Opened agreed private)) sent rule e = same_sent s.sent sent e
+sent_is table s (Work (seen.Asked word private)) sent rule e = same_sent s.sent sent e
+sent_is table s (Work (seen.Opened agreed word private)) sent rule e = same_sent s.sent sent e
 sent_is table s (Work (seen.Closed fault)) sent rule e = same_sent s.sent sent e
 sent_is table s (Work (seen.Received octets solicited invalidate)) sent rule e = same_sent s.sent sent e
 sent_is table s (Work (seen.Requested size stag to)) sent rule e = same_sent s.sent sent e
@@ -441,13 +433,13 @@ pub record StaysSaid (t t' : Story) : Type 0 where
 pub stays_said : (t : Story) → StaysSaid t t
 stays_said t = record { whole = refl; reads = refl; answered = refl; asked = refl; answers = refl; begun = refl }
 
-same_asks : (s s' : StreamState) (t t' : Story) → s'.reads ≡ s.reads → s'.asked ≡ s.asked → StaysSaid t t' → Asks s t → Asks s' t'
-same_asks s s' t t' reads asked said k = record {
+same_asks : (s s' : StreamState) (t t' : Story) → s'.reads ≡ s.reads → s'.asked ≡ s.asked → StaysSaid t t' → length s.reads ≤ most_reads_in s'.start → Asks s t → Asks s' t'
+same_asks s s' t t' reads asked said few k = record {
   reads = said.reads ∙ k.reads ∙ sym reads;
   asked = said.asked ∙ k.asked ∙ sym asked;
   fetched = ap (λ (z : Requested). z.fetched) asked ∙ k.fetched ∙ ap length (sym said.begun);
   begun = subst (λ (z : Requested). requests.IsBegun z.unanswered z.fetched) (sym asked) k.begun;
-  few = subst (λ z. length z ≤ 16) (sym reads) k.few;
+  few = subst (λ z. length z ≤ most_reads_in s'.start) (sym reads) few;
 }
 
 pub same_merges : {q q' : Queue} {n n' : Numbers} {w w' : List Asked} {b b' : Octets} {ms ms' : List (Request Octets)} {an an' : List Answer} {us : List (Segment Octets)} → q' ≡ q → n' ≡ n → w' ≡ w → b' ≡ b → ms' ≡ ms → an' ≡ an → Merges q n w b ms an us → Merges q' n' w' b' ms' an' us
@@ -480,8 +472,8 @@ record StaysQuiet (s s' : StreamState) (t : Tale) (act : StreamAct Octets) : Typ
   pub farewell : (story_after t.story act).farewell ≡ t.story.farewell
 
 -- the segments stay, with what is said of what was sent of them
-stays : (s s' : StreamState) (t : Tale) (act : StreamAct Octets) → StaysQuiet s s' t act → (e : Emits s t) → IsFramed s'.start (t.sent ++ sent_by act) (out_of s t e) → Parts s' (story_after t.story act) e.segments → Emits s' (tale_after t act)
-stays s s' t act q e framed parts =
+stays : (s s' : StreamState) (t : Tale) (act : StreamAct Octets) → StaysQuiet s s' t act → length s.reads ≤ most_reads_in s'.start → (e : Emits s t) → IsFramed s'.start (t.sent ++ sent_by act) (out_of s t e) → Parts s' (story_after t.story act) e.segments → Emits s' (tale_after t act)
+stays s s' t act q most e framed parts =
     let same : t.posted ++ posted_by act ≡ t.posted = ap (λ z. t.posted ++ z) q.posted ∙ append-nil t.posted in
     let handed : t.handed ++ handed_by act ≡ t.handed = ap (λ z. t.handed ++ z) q.handed ∙ append-nil t.handed in
     record {
@@ -490,7 +482,7 @@ stays s s' t act q e framed parts =
       before = e.before;
       live = λ h. let l = e.live (q.running h) in record { queue = q.queue ∙ l.queue; handed = handed ∙ l.handed };
       merges = same_merges refl q.numbers (ap (λ (z : Requested). z.unanswered) q.asked) q.said.begun same q.said.answers e.merges;
-      asks = same_asks s s' t.story (story_after t.story act) q.reads q.asked q.said e.asks;
+      asks = same_asks s s' t.story (story_after t.story act) q.reads q.asked q.said most e.asks;
       good = subst (λ z. Each IsSendable (e.segments ++ farewells z)) (sym q.farewell) e.good;
       framed = subst (λ z. IsFramed s'.start (t.sent ++ sent_by act) (e.segments ++ farewells z)) (sym q.farewell) framed;
       parts = parts;
@@ -552,13 +544,17 @@ fault_parts s s' t t' us payload said running started start silent ending told s
     by true word h = absurd (none-some _ h)
     by false word h = subst (λ (z : Octets). length z ≤ 52) (same_Some _ _ h) few
 
+-- as many Reads may be outstanding
+same_most : (s s' : StreamState) (t : Tale) → s'.start ≡ s.start → Emits s t → length s.reads ≤ most_reads_in s'.start
+same_most s s' t start e = subst (λ z. length s.reads ≤ most_reads_in z) (sym start) e.asks.few
+
 -- what was sent stays
 nothing_more : (s s' : StreamState) (t : Tale) (act : StreamAct Octets) → s'.start ≡ s.start → sent_by act ≡ [] → (e : Emits s t) → IsFramed s'.start (t.sent ++ sent_by act) (out_of s t e)
 nothing_more s s' t act start sent e = subst (λ z. IsFramed s'.start z (out_of s t e)) (sym (ap (λ z. t.sent ++ z) sent ∙ append-nil t.sent)) (subst (λ z. IsFramed z t.sent (out_of s t e)) (sym start) e.framed)
 
 quiet : (s s' : StreamState) (t : Tale) (act : StreamAct Octets) → s'.start ≡ s.start → StaysQuiet s s' t act → StaysApart s s' t.story (story_after t.story act) → StillSilent s s' → Emits s t → Emits s' (tale_after t act)
 quiet s s' t act start q apart silent e =
-    stays s s' t act q e (nothing_more s s' t act start q.sent e) (same_parts s s' t.story (story_after t.story act) e.segments apart e.parts (λ h. ap is_open (sym start) ∙ h) silent)
+    stays s s' t act q (same_most s s' t start e) e (nothing_more s s' t act start q.sent e) (same_parts s s' t.story (story_after t.story act) e.segments apart e.parts (λ h. ap is_open (sym start) ∙ h) silent)
 
 bare : (xs : Octets) (l : Layout) (us : List (Segment Octets)) → us ≡ [] → xs ++ sequence l 0 (map segment_octets us) ≡ xs
 unfolding sequence
@@ -567,10 +563,17 @@ bare xs l us none = ap (λ z. xs ++ sequence l 0 (map segment_octets z)) none �
 -- the start-up goes on, at a stream that was not open: this end's frame stays, or there was none
 restarts : (s s' : StreamState) (t : Tale) (act : StreamAct Octets) → is_open s.start ≡ false → StaysQuiet s s' t act → (own_frame s'.start ≡ own_frame s.start) ⊎ (own_frame s.start ≡ []) → (e : Emits s t) → Parts s' (story_after t.story act) e.segments
     → Emits s' (tale_after t act)
-restarts s s' t act closed q own e parts = stays s s' t act q e (go (e.parts.shut closed).none (ap (λ z. t.sent ++ z) q.sent ∙ append-nil t.sent) e.framed own) parts
+restarts s s' t act closed q own e parts = stays s s' t act q none_asked e (go (e.parts.shut closed).none (ap (λ z. t.sent ++ z) q.sent ∙ append-nil t.sent) e.framed own) parts
   where
     us : List (Segment Octets)
     us = out_of s t e
+
+    first_none : (xs ys : List (Segment Octets)) → xs ++ ys ≡ [] → xs ≡ []
+    first_none [] ys h = refl
+    first_none (x ∷ xs) ys h = cc
+
+    none_asked : length s.reads ≤ most_reads_in s'.start
+    none_asked = omega (arith, none_outstanding (first_none e.segments (farewells t.story.farewell) (e.parts.shut closed).none) e.counts)
 
     go : {sent' : Octets} → us ≡ [] → sent' ≡ t.sent → IsFramed s.start t.sent us → (own_frame s'.start ≡ own_frame s.start) ⊎ (own_frame s.start ≡ []) → IsFramed s'.start sent' us
     go none unsent (Unspoken b c) own = Unspoken (unsent ∙ b) c
@@ -635,7 +638,7 @@ posts table s t m rule e =
       before = t.handed ++ [];
       live = λ h. record { queue = refl; handed = refl };
       merges = merges_post s.queue s.numbers s.asked.unanswered t.story.begun t.posted t.story.answers e.segments m l.limits.begun l.merges;
-      asks = same_asks s (after_act s (Post m None)) t.story t.story refl refl (stays_said t.story) e.asks;
+      asks = same_asks s (after_act s (Post m None)) t.story t.story refl refl (stays_said t.story) e.asks.few e.asks;
       good = e.good;
       framed = subst (λ z. IsFramed s.start z (out_of s t e)) (sym (append-nil t.sent)) e.framed;
       parts = same_parts s (after_act s (Post m None)) t.story t.story e.segments (record { ending = refl; told = refl; farewell = refl }) e.parts (λ h. h) (λ h. h);
@@ -746,11 +749,11 @@ asks_read numbers part reads ticket fits same = go part.message fits
         ap (λ o. option_map_or (asked_for reads ticket) (option_map (λ (read : ReadRequest × Octets). read.0) o) reads) (again request fits)
         ∙ ap (λ n. asked_for reads n request) (sym same)
 
--- fewer than 16 are outstanding where a Read goes out
-still_few : (reads : List Outstanding) (ticket : ℕ) (m : Request Octets) → length reads ≤ 16 → (is_read m && nat_le most_reads (length reads)) ≡ false → length (reads_with reads ticket m) ≤ 16
-still_few reads ticket (Posted m) few room = few
-still_few reads ticket (Read request) few room =
-    let less : length reads < 16 = grind (arith, nat_tests) in
+-- fewer than may be are outstanding where a Read goes out
+still_few : (most : ℕ) (reads : List Outstanding) (ticket : ℕ) (m : Request Octets) → length reads ≤ most → (is_read m && nat_le most (length reads)) ≡ false → length (reads_with reads ticket m) ≤ most
+still_few most reads ticket (Posted m) few room = few
+still_few most reads ticket (Read request) few room =
+    let less : length reads < most = grind (arith, nat_tests) in
     omega (arith, less, length_push reads (record { ticket = ticket; request = request; turned = 0 }))
 
 part_fits : (s : StreamState) (part : Part (Request Octets)) → next_part s.queue s.mulpdu ≡ Some part → Each FitsPosted s.queue.unsent → FitsPosted part.message
@@ -772,8 +775,8 @@ unbegun s t e apart calm = elim apart [ inl zero_is ↦ by_waiting s.asked.unans
         absurd (none-some _ (sym calm ∙ (λ i. cond (nat_lt 0 (zero_is i)) None (part_for (is i) s.asked.fetched s.mulpdu))))
 
 -- a part is sent
-sends_part : (s : StreamState) (t : Tale) (from : ℕ) (octets : Octets) → (p : EmitsPart s from octets) → IsRevisionOne s.start → t.story.start ≡ s.start → s.sent ≡ length t.sent → Emits s t → Emits (left_frame s (NextPart p.part)) (tale_after t (Emit (Frame from octets)))
-sends_part s t from octets p one start sent e =
+sends_part : (s : StreamState) (t : Tale) (from : ℕ) (octets : Octets) → (p : EmitsPart s from octets) → t.story.start ≡ s.start → s.sent ≡ length t.sent → Emits s t → Emits (left_frame s (NextPart p.part)) (tale_after t (Emit (Frame from octets)))
+sends_part s t from octets p start sent e =
     let part : Part (Request Octets) = p.part in
     let loud = p.is_loud in
     let l = lives s t e loud.running in
@@ -804,7 +807,7 @@ sends_part s t from octets p one start sent e =
         asked = e.asks.asked;
         fetched = e.asks.fetched;
         begun = e.asks.begun;
-        few = still_few s.reads part.ticket part.message e.asks.few (ap (λ most. is_read part.message && nat_le most (length s.reads)) (sym (most_plain s.start one)) ∙ loud.room);
+        few = still_few (most_reads_in s.start) s.reads part.ticket part.message e.asks.few loud.room;
       };
       good = subst (Each IsSendable) (sym out) (each-push IsSendable e.segments segment l.good good);
       framed = subst (IsFramed s.start (t.sent ++ octets)) (sym out) (Spoken r.framed);
@@ -842,7 +845,7 @@ sends_start s t from octets p start sent e =
       before = e.before;
       live = λ h. let l = e.live h in record { queue = l.queue; handed = append-nil t.handed ∙ l.handed };
       merges = same_merges refl refl refl refl (append-nil t.posted) refl e.merges;
-      asks = same_asks s s' t.story t.story refl refl (stays_said t.story) e.asks;
+      asks = same_asks s s' t.story t.story refl refl (stays_said t.story) e.asks.few e.asks;
       good = e.good;
       framed = Spoken
           (ap (λ z. z ++ octets) before.0 ∙ p.octets_are ∙ sym (append-nil (own_frame s.start)) ∙ (λ i. own_frame s.start ++ sym (nothing_framed (sending s.start)) i)
@@ -900,13 +903,13 @@ sends_last s t from octets p start sent e =
     })
 
 -- a frame is sent
-sends_frame : (table : Table) (s : StreamState) (t : Tale) (from : ℕ) (octets : Octets) → Frame from octets ≡ shown_of table (emission_of table s) (emitted table s) → IsRevisionOne s.start → t.story.start ≡ s.start → s.sent ≡ length t.sent → Emits s t → Emits (after_act s (Emit (Frame from octets))) (tale_after t (Emit (Frame from octets)))
-sends_frame table s t from octets rule one start sent e = go (emits_as table s (Frame from octets) rule)
+sends_frame : (table : Table) (s : StreamState) (t : Tale) (from : ℕ) (octets : Octets) → Frame from octets ≡ shown_of table (emission_of table s) (emitted table s) → t.story.start ≡ s.start → s.sent ≡ length t.sent → Emits s t → Emits (after_act s (Emit (Frame from octets))) (tale_after t (Emit (Frame from octets)))
+sends_frame table s t from octets rule start sent e = go (emits_as table s (Frame from octets) rule)
   where
     go : EmitsStart s from octets ⊎ (EmitsLast s from octets ⊎ EmitsPart s from octets) → Emits (left_frame s (due s)) (tale_after t (Emit (Frame from octets)))
     go (inl p) = subst (λ d. Emits (left_frame s d) (tale_after t (Emit (Frame from octets)))) (sym p.next) (sends_start s t from octets p start sent e)
     go (inr (inl p)) = subst (λ d. Emits (left_frame s d) (tale_after t (Emit (Frame from octets)))) (sym p.next) (sends_last s t from octets p start sent e)
-    go (inr (inr p)) = subst (λ d. Emits (left_frame s d) (tale_after t (Emit (Frame from octets)))) (sym p.next) (sends_part s t from octets p one start sent e)
+    go (inr (inr p)) = subst (λ d. Emits (left_frame s d) (tale_after t (Emit (Frame from octets)))) (sym p.next) (sends_part s t from octets p start sent e)
 
 -- of what is shown as a frame alone nothing is of a response
 abbrev IsPlain : Option (Segment Octets) → Type 0
@@ -1288,7 +1291,7 @@ sets_size s t size rule e =
       before = e.before;
       live = λ h. let l = e.live h in record { queue = l.queue; handed = append-nil t.handed ∙ l.handed };
       merges = same_merges refl refl refl refl (append-nil t.posted) refl e.merges;
-      asks = same_asks s s' t.story t.story refl refl (stays_said t.story) e.asks;
+      asks = same_asks s s' t.story t.story refl refl (stays_said t.story) e.asks.few e.asks;
       good = e.good;
       framed = subst (λ z. IsFramed s.start z (out_of s t e)) (sym (append-nil t.sent)) e.framed;
       parts = same_parts s s' t.story t.story e.segments (record { ending = refl; told = refl; farewell = refl }) e.parts (λ h. h) (λ h. h);
@@ -1345,6 +1348,20 @@ rejects_frame s s' t act m q ending told e =
     let none = (e.parts.shut (unanswered_shut s m)).none in
     answers_frame s s' t act m q e (quiet_parts s s' t.story (story_after t.story act) e.segments (Over None) ending told refl refl q.farewell e.parts (λ z. none) (λ z. none))
 
+-- a Reply that wants what this end does not have ends the stream, and a Terminate is due
+hears_fault : (s s' : StreamState) (t : Tale) (act : StreamAct Octets) (fault : Fault) → OnStart IsReached s.start → HearsMismatch s fault → s'.start ≡ heard s.start (inbox s) → StaysQuiet s s' t act
+    → s'.ending ≡ with_last_word (terminate_alone fault) → (story_after t.story act).ending ≡ with_last_word (terminate_alone fault) → Emits s t → Emits s' (tale_after t act)
+hears_fault s s' t act fault reached h start q ending told e =
+    let wants = wants_open (heard s.start (inbox s)) h.mismatch h.is in
+    hears_frame s s' t act progresses.Agreed reached h.hears_it start q e
+    (record {
+      ending = told ∙ sym ending;
+      once = elim e.parts.once [ inl none ↦ inl (q.farewell ∙ none) | inr o ↦ absurd (true≢false (sym o.over ∙ h.hears_it.running)) ];
+      short = λ payload due. subst (λ (z : Octets). length z ≤ 52) (same_Some _ _ (ap last_word (sym ending) ∙ due)) (terminate_few fault [] 0 false);
+      shut = λ closed. absurd (true≢false (sym wants.0 ∙ ap is_open (sym start) ∙ closed));
+      silent = λ mute. absurd (false≢true (sym (ap (λ z. is_responder z && nat_eq s'.arrived.floor (first_place_in z)) start ∙ ap (λ b. b && nat_eq s'.arrived.floor (first_place_in (heard s.start (inbox s)))) wants.1) ∙ mute));
+    })
+
 -- behind a frame that had its turn a stream may speak
 late : (b : Bool) (n : ℕ) → (b && nat_eq (n + 1) 0) ≡ false
 late true n = grind (arith, nat_tests)
@@ -1358,19 +1375,19 @@ loud table s t act rule same first k turns =
 -- the stream ends, and no Terminate is due: it may speak, or its link broke
 ends_loud : (s s' : StreamState) (t : Tale) (act : StreamAct Octets) → s'.start ≡ s.start → StaysQuiet s s' t act → s'.ending ≡ Over None → (story_after t.story act).ending ≡ Over None → is_open s.start ≡ true → keeps_silent s' ≡ false → Emits s t → Emits s' (tale_after t act)
 ends_loud s s' t act start q ending told started loud e =
-    stays s s' t act q e (nothing_more s s' t act start q.sent e)
+    stays s s' t act q (same_most s s' t start e) e (nothing_more s s' t act start q.sent e)
     (quiet_parts s s' t.story (story_after t.story act) e.segments (Over None) ending told refl refl q.farewell e.parts (λ h. absurd (true≢false (sym started ∙ ap is_open (sym start) ∙ h))) (λ h. absurd (false≢true (sym loud ∙ h))))
 
 ends_broken : (s s' : StreamState) (t : Tale) (act : StreamAct Octets) → s'.start ≡ s.start → StaysQuiet s s' t act → s'.ending ≡ Broken → (story_after t.story act).ending ≡ Broken → StillSilent s s' → Emits s t → Emits s' (tale_after t act)
 ends_broken s s' t act start q ending told silent e =
-    stays s s' t act q e (nothing_more s s' t act start q.sent e)
+    stays s s' t act q (same_most s s' t start e) e (nothing_more s s' t act start q.sent e)
     (quiet_parts s s' t.story (story_after t.story act) e.segments Broken ending told refl refl q.farewell e.parts (λ h. (e.parts.shut (ap is_open (sym start) ∙ h)).none) (λ h. (e.parts.silent (silent h)).none))
 
 -- it ends by a fault: this Terminate is due
 ends_fault : (s s' : StreamState) (t : Tale) (act : StreamAct Octets) (payload said : Octets) → Track s t → s'.start ≡ s.start → StaysQuiet s s' t act → ended s ≡ false → is_open s.start ≡ true → StillSilent s s'
     → s'.ending ≡ cond (keeps_silent s) (Over None) (with_last_word payload) → (story_after t.story act).ending ≡ cond (is_silent t.story) (Over None) (with_last_word said) → said ≡ payload → length payload ≤ 52 → Emits s t → Emits s' (tale_after t act)
 ends_fault s s' t act payload said k start q running started silent ending told same few e =
-    stays s s' t act q e (nothing_more s s' t act start q.sent e)
+    stays s s' t act q (same_most s s' t start e) e (nothing_more s s' t act start q.sent e)
     (fault_parts s s' t.story (story_after t.story act) e.segments payload said running started start silent ending told (sym (silent_is s t k)) same few q.farewell e.parts)
 
 -- the Terminate for a fault of the frame at the in-order point
@@ -1403,7 +1420,7 @@ record IsRunningOpen (s : StreamState) : Type 0 where
   pub running : ended s ≡ false
   pub started : is_open s.start ≡ true
 
-fault_runs : (table : Table) (s : StreamState) (fault : Fault) → Told table s (Work (seen.Fault fault)) → IsRunningOpen s
+fault_runs : (table : Table) (s : StreamState) (fault : Fault) → Judged table s (seen.Fault fault) ⊎ Turned table s (seen.Fault fault) → IsRunningOpen s
 fault_runs table s fault (inl j) = record { running = j.runs.running; started = j.runs.started }
 fault_runs table s fault (inr j) = record { running = j.runs.running; started = j.runs.started }
 
@@ -1568,26 +1585,38 @@ takes table s t size stag to rule k loud e =
 
 emitting : (table : Table) (s : StreamState) (t : Tale) (act : StreamAct Octets) → Told table s act → s.sent ≡ length t.sent → Track s t → Emits s t → Emits (after_act s act) (tale_after t act)
 emitting table s t (Post m None) rule sent k e = posts table s t m rule e
-emitting table s t (Emit (Frame from octets)) rule sent k e = sends_frame table s t from octets rule k.begins.plain k.begins.start sent e
+emitting table s t (Emit (Frame from octets)) rule sent k e = sends_frame table s t from octets rule k.begins.start sent e
 emitting table s t (Emit (Fetched from frame stag to octets)) rule sent k e = sends_response table s t from frame stag to octets (emits_as table s (Fetched from frame stag to octets) rule) k.begins.start sent e
 emitting table s t (Emit (Denied fault)) rule sent k e =
     let p = emits_as table s (Denied fault) rule in
     ends_fault s (after_act s (Emit (Denied fault))) t (Emit (Denied fault)) (terminate_fetched s.asked fault) (terminate_fetched t.story.asked fault) k refl
     (record { queue = refl; numbers = refl; mulpdu = refl; reads = refl; asked = refl; posted = refl; handed = refl; size = refl; sent = refl; said = record { whole = refl; reads = refl; answered = refl; asked = refl; answers = refl; begun = refl }; running = λ h. absurd (true≢false (sym (by_ended s (terminate_fetched s.asked fault)) ∙ h)); farewell = refl })
     p.speaks.running p.speaks.started (λ h. h) refl refl (ap (λ z. terminate_fetched z fault) e.asks.asked) (terminate_few fault (oldest_headers s.asked) 46 true) e
-emitting table s t (Work (seen.Fault fault)) rule sent k e =
+emitting table s t (Work (seen.Fault fault)) (inl m) sent k e =
+    let s' : StreamState = after_act s (Work (seen.Fault fault)) in
+    let wants = wants_open (heard s.start (inbox s)) m.mismatch m.is in
+    let awaits : awaits_frame s.start ≡ true = ap awaits_frame m.hears_it.is in
+    let told : awaits_frame t.story.start ≡ true = ap awaits_frame k.begins.start ∙ awaits in
+    let start : (turns.hears t.story).start ≡ heard s.start (inbox s) = (fault_heard s t fault m k).begins.start in
+    hears_fault s s' t (Work (seen.Fault fault)) fault k.begins.reached m refl
+    (record { queue = refl; numbers = refl; mulpdu = refl; reads = refl; asked = refl; posted = refl; handed = refl; size = refl; sent = refl; said = record { whole = refl; reads = refl; answered = refl; asked = refl; answers = refl; begun = refl }; running = λ h. absurd (true≢false (sym (by_ended (hears_due s) (fault_for s fault)) ∙ h)); farewell = refl })
+    (λ i. cond (wants.1 i && nat_eq s'.arrived.floor (first_place_in (heard s.start (inbox s)))) (Over None) (with_last_word (cond (awaits i) (terminate_alone fault) (fault_front s fault))))
+    ((λ i. cond (is_responder (start i) && nat_eq t.story.turns 0) (Over None) (with_last_word (cond (told i) (terminate_alone fault) (terminate_next t.story fault))))
+    ∙ ap (λ b. cond (b && nat_eq t.story.turns 0) (Over None) (with_last_word (terminate_alone fault))) wants.1) e
+emitting table s t (Work (seen.Fault fault)) (inr rule) sent k e =
     let r = fault_runs table s fault rule in
-    ends_fault s (after_act s (Work (seen.Fault fault))) t (Work (seen.Fault fault)) (fault_front s fault) (terminate_next t.story fault) k refl
-    (record { queue = refl; numbers = refl; mulpdu = refl; reads = refl; asked = refl; posted = refl; handed = refl; size = refl; sent = refl; said = record { whole = refl; reads = refl; answered = refl; asked = refl; answers = refl; begun = refl }; running = λ h. absurd (true≢false (sym (by_ended s (fault_front s fault)) ∙ h)); farewell = refl })
-    r.running r.started (λ h. h) refl refl (terminate_is s t fault k e.asks.asked) (front_few s fault) e
+    ends_fault s (after_act s (Work (seen.Fault fault))) t (Work (seen.Fault fault)) (fault_front s fault) (terminate_next t.story fault) k (heard_open s.start (inbox s) r.started)
+    (record { queue = refl; numbers = refl; mulpdu = refl; reads = refl; asked = refl; posted = refl; handed = refl; size = refl; sent = refl; said = record { whole = refl; reads = refl; answered = refl; asked = refl; answers = refl; begun = refl }; running = λ h. absurd (true≢false (sym (by_ended (hears_due s) (fault_for s fault)) ∙ h)); farewell = refl })
+    r.running r.started (λ h. ap keeps_silent (sym (faults_open s fault r.started)) ∙ h) (ap (λ (z : StreamState). z.ending) (faults_open s fault r.started)) (ap (λ (z : Story). z.ending) (told_open t.story fault (ap is_open k.begins.start ∙ r.started)))
+    (terminate_is s t fault k e.asks.asked) (front_few s fault) e
 emitting table s t (First number None) rule sent k e = quiet s (after_act s (First number None)) t (First number None) refl (record { queue = refl; numbers = refl; mulpdu = refl; reads = refl; asked = refl; posted = refl; handed = refl; size = refl; sent = refl; said = record { whole = refl; reads = refl; answered = refl; asked = refl; answers = refl; begun = refl }; running = λ h. h; farewell = refl }) (record { ending = refl; told = refl; farewell = refl }) (λ h. h) e
 emitting table s t (Mulpdu size None) rule sent k e = sets_size s t size rule e
 emitting table s t (Work (seen.Done kind)) rule sent k e = hands_out s t kind rule.0 rule.1 rule.2 e
 emitting table s t (Work (seen.Flushed kind)) rule sent k e = gives_up s t kind rule e
 emitting table s t (Accept private (Ok agreed)) rule sent k e = accepts_frame s (after_act s (Accept private (Ok agreed))) t (Accept private (Ok agreed)) (may s (accepting s (private_data private).items agreed rule)) (record { queue = refl; numbers = refl; mulpdu = refl; reads = refl; asked = refl; posted = refl; handed = refl; size = refl; sent = refl; said = record { whole = refl; reads = refl; answered = refl; asked = refl; answers = refl; begun = refl }; running = λ h. h; farewell = refl }) (record { ending = refl; told = refl; farewell = refl }) e
 emitting table s t (Reject private None) rule sent k e = rejects_frame s (after_act s (Reject private None)) t (Reject private None) (may s (refusing s (private_data private).items rule)) (record { queue = refl; numbers = refl; mulpdu = refl; reads = refl; asked = refl; posted = refl; handed = refl; size = refl; sent = refl; said = record { whole = refl; reads = refl; answered = refl; asked = refl; answers = refl; begun = refl }; running = λ h. absurd (true≢false h); farewell = refl }) refl refl e
-emitting table s t (Work (seen.Asked private)) rule sent k e = hears_on s (after_act s (Work (seen.Asked private))) t (Work (seen.Asked private)) progresses.Asked k.begins.reached rule.0 refl (record { queue = refl; numbers = refl; mulpdu = refl; reads = refl; asked = refl; posted = refl; handed = refl; size = refl; sent = refl; said = record { whole = refl; reads = refl; answered = refl; asked = refl; answers = refl; begun = refl }; running = λ h. h; farewell = refl }) (record { ending = refl; told = refl; farewell = refl }) e
-emitting table s t (Work (seen.Opened agreed private)) rule sent k e = hears_on s (after_act s (Work (seen.Opened agreed private))) t (Work (seen.Opened agreed private)) progresses.Agreed k.begins.reached rule.0 refl (record { queue = refl; numbers = refl; mulpdu = refl; reads = refl; asked = refl; posted = refl; handed = refl; size = refl; sent = refl; said = record { whole = refl; reads = refl; answered = refl; asked = refl; answers = refl; begun = refl }; running = λ h. h; farewell = refl }) (record { ending = refl; told = refl; farewell = refl }) e
+emitting table s t (Work (seen.Asked word private)) rule sent k e = hears_on s (after_act s (Work (seen.Asked word private))) t (Work (seen.Asked word private)) progresses.Asked k.begins.reached rule.0 refl (record { queue = refl; numbers = refl; mulpdu = refl; reads = refl; asked = refl; posted = refl; handed = refl; size = refl; sent = refl; said = record { whole = refl; reads = refl; answered = refl; asked = refl; answers = refl; begun = refl }; running = λ h. h; farewell = refl }) (record { ending = refl; told = refl; farewell = refl }) e
+emitting table s t (Work (seen.Opened agreed word private)) rule sent k e = hears_on s (after_act s (Work (seen.Opened agreed word private))) t (Work (seen.Opened agreed word private)) progresses.Agreed k.begins.reached rule.0.hears_it refl (record { queue = refl; numbers = refl; mulpdu = refl; reads = refl; asked = refl; posted = refl; handed = refl; size = refl; sent = refl; said = record { whole = refl; reads = refl; answered = refl; asked = refl; answers = refl; begun = refl }; running = λ h. h; farewell = refl }) (record { ending = refl; told = refl; farewell = refl }) e
 emitting table s t (Work (seen.Closed fault)) rule sent k e = hears_end s (after_act s (Work (seen.Closed fault))) t (Work (seen.Closed fault)) (progresses.Faulted fault) k.begins.reached rule refl (record { queue = refl; numbers = refl; mulpdu = refl; reads = refl; asked = refl; posted = refl; handed = refl; size = refl; sent = refl; said = record { whole = refl; reads = refl; answered = refl; asked = refl; answers = refl; begun = refl }; running = λ h. absurd (true≢false h); farewell = refl }) refl refl e
 emitting table s t (Work (seen.Terminated fault)) rule sent k e = ends_loud s (after_act s (Work (seen.Terminated fault))) t (Work (seen.Terminated fault)) refl (record { queue = refl; numbers = refl; mulpdu = refl; reads = refl; asked = refl; posted = refl; handed = refl; size = refl; sent = refl; said = record { whole = refl; reads = refl; answered = refl; asked = refl; answers = refl; begun = refl }; running = λ h. absurd (true≢false h); farewell = refl }) refl refl rule.1.fronts.started (loud table s t (Work (seen.Terminated fault)) rule e.asks.reads tt k refl) e
 emitting table s t Break rule sent k e = ends_broken s (after_act s Break) t Break refl (record { queue = refl; numbers = refl; mulpdu = refl; reads = refl; asked = refl; posted = refl; handed = refl; size = refl; sent = refl; said = record { whole = refl; reads = refl; answered = refl; asked = refl; answers = refl; begun = refl }; running = λ h. absurd (true≢false h); farewell = refl }) refl refl (λ h. h) e
@@ -1613,7 +1642,7 @@ emitting table s t (Work (seen.Requested size stag to)) rule sent k e = takes ta
 emitting table s t (Work (seen.Received octets solicited invalidate)) rule sent k e = quiet s (after_act s (Work (seen.Received octets solicited invalidate))) t (Work (seen.Received octets solicited invalidate)) refl (record { queue = refl; numbers = refl; mulpdu = refl; reads = refl; asked = refl; posted = refl; handed = refl; size = refl; sent = refl; said = record { whole = refl; reads = refl; answered = refl; asked = refl; answers = refl; begun = refl }; running = λ h. h; farewell = refl }) (record { ending = refl; told = refl; farewell = refl }) (λ h. absurd (false≢true (sym (loud table s t (Work (seen.Received octets solicited invalidate)) rule e.asks.reads tt k refl) ∙ h))) e
 
 ended_is : (table : Table) (s : StreamState) (act : StreamAct Octets) → Told table s act → ended (after_act s act) ≡ ended_after (ended s) act
-ended_is table s (Work (seen.Fault fault)) rule = by_ended s (fault_front s fault)
+ended_is table s (Work (seen.Fault fault)) rule = by_ended (hears_due s) (fault_for s fault)
 ended_is table s (Work (seen.Terminated fault)) rule = refl
 ended_is table s (Work (seen.Flushed kind)) rule = refl
 ended_is table s (Work (seen.FlushedRecv octets)) rule = refl
@@ -1635,8 +1664,8 @@ ended_is table s (Accept private (Ok agreed)) rule = refl
 ended_is table s (Accept private (Err refusal)) rule = refl
 ended_is table s (Reject private None) rule = refl
 ended_is table s (Reject private (Some refusal)) rule = refl
-ended_is table s (Work (seen.Asked private)) rule = refl
-ended_is table s (Work (seen.Opened agreed private)) rule = refl
+ended_is table s (Work (seen.Asked word private)) rule = refl
+ended_is table s (Work (seen.Opened agreed word private)) rule = refl
 ended_is table s (Work (seen.Closed fault)) rule = refl
 ended_is table s (Deliver from number octets Kept) rule = refl
 ended_is table s (Raw number octets Kept) rule = refl
@@ -1651,26 +1680,26 @@ ended_is table s (Mulpdu size (Some refusal)) rule = refl
 
 pushed_starts : (o : Opening) (u : StartupState) (xs : Octets) → StartsAs o u → StartsAs o (pushed u xs)
 unfolding pushed
-pushed_starts o u xs h = record { few = h.few; role = h.role; small = h.small }
+pushed_starts o u xs h = record { role = h.role }
 
 heard_starts : (o : Opening) (start : StartState) (xs : Octets) → IsStartOf o start → IsStartOf o (heard start xs)
 heard_starts o (AtOnce layout) xs h = h
 heard_starts o (Unheard u) xs h = pushed_starts o u xs h
 heard_starts o (Heard u) xs h = h
 
-answered_starts : (o : Opening) (s : StreamState) (reply : Reply) → length (private_in reply).items ≤ 512 → (m : MayAnswer s) → IsStartOf o s.start → IsStartOf o (answered_with s.start reply)
-answered_starts o s reply small m h =
+answered_starts : (o : Opening) (s : StreamState) (reply : Reply) → (m : MayAnswer s) → IsStartOf o s.start → IsStartOf o (answered_with s.start reply)
+answered_starts o s reply m h =
     let was : StartsAs o m.startup = subst (IsStartOf o) m.is h in
     let responds : Responder ≡ o.role = ap role_of (sym (unanswered m.startup m.asked)) ∙ was.role in
-    let now : StartsAs o (answered m.startup reply) = record { few = was.few; role = responds; small = small } in
+    let now : StartsAs o (answered m.startup reply) = record { role = responds } in
     subst (IsStartOf o) (ap (λ z. answered_with z reply) (sym m.is)) now
 
 starting : (o : Opening) (table : Table) (s : StreamState) (act : StreamAct Octets) → Told table s act → IsStartOf o s.start → IsStartOf o (after_act s act).start
 starting o table s (Emit shown) rule h = subst (IsStartOf o) (sym (left_heard s shown).start) h
-starting o table s (Accept private (Ok agreed)) rule h = answered_starts o s (replies.Accept (private_data private)) (omega (arith, length-take 512 private)) (may s (accepting s (private_data private).items agreed rule)) h
-starting o table s (Reject private None) rule h = answered_starts o s (replies.Reject (private_data private)) (omega (arith, length-take 512 private)) (may s (refusing s (private_data private).items rule)) h
-starting o table s (Work (seen.Asked private)) rule h = heard_starts o s.start (inbox s) h
-starting o table s (Work (seen.Opened agreed private)) rule h = heard_starts o s.start (inbox s) h
+starting o table s (Accept private (Ok agreed)) rule h = answered_starts o s (replies.Accept (private_data private)) (may s (accepting s (private_data private).items agreed rule)) h
+starting o table s (Reject private None) rule h = answered_starts o s (replies.Reject (private_data private)) (may s (refusing s (private_data private).items rule)) h
+starting o table s (Work (seen.Asked word private)) rule h = heard_starts o s.start (inbox s) h
+starting o table s (Work (seen.Opened agreed word private)) rule h = heard_starts o s.start (inbox s) h
 starting o table s (Work (seen.Closed fault)) rule h = heard_starts o s.start (inbox s) h
 starting o table s (Post m None) rule h = h
 starting o table s (Post m (Some refusal)) rule h = h
@@ -1696,7 +1725,7 @@ starting o table s (Work (seen.Received octets solicited invalidate)) rule h = h
 starting o table s (Work (seen.Flushed kind)) rule h = h
 starting o table s (Work (seen.FlushedRecv octets)) rule h = h
 starting o table s (Work (seen.Terminated fault)) rule h = h
-starting o table s (Work (seen.Fault fault)) rule h = h
+starting o table s (Work (seen.Fault fault)) rule h = heard_starts o s.start (inbox s) h
 starting o table s Break rule h = h
 starting o table s (Work seen.Idle) rule h = h
 
@@ -1792,8 +1821,8 @@ doing table s t (Reject private None) rule e k = quiet_doing t (Reject private N
 doing table s t (Reject private (Some refusal)) rule e k = quiet_doing t (Reject private (Some refusal)) refl refl (omega arith) k
 doing table s t Break rule e k = quiet_doing t Break refl refl (omega arith) k
 doing table s t (Work (seen.FlushedRecv octets)) rule e k = quiet_doing t (Work (seen.FlushedRecv octets)) refl refl (omega arith) k
-doing table s t (Work (seen.Asked private)) rule e k = quiet_doing t (Work (seen.Asked private)) refl refl (omega arith) k
-doing table s t (Work (seen.Opened agreed private)) rule e k = quiet_doing t (Work (seen.Opened agreed private)) refl refl (omega arith) k
+doing table s t (Work (seen.Asked word private)) rule e k = quiet_doing t (Work (seen.Asked word private)) refl refl (omega arith) k
+doing table s t (Work (seen.Opened agreed word private)) rule e k = quiet_doing t (Work (seen.Opened agreed word private)) refl refl (omega arith) k
 doing table s t (Work (seen.Closed fault)) rule e k = quiet_doing t (Work (seen.Closed fault)) refl refl (omega arith) k
 doing table s t (Work (seen.Placed right stag to octets)) rule e k = quiet_doing t (Work (seen.Placed right stag to octets)) refl refl (omega arith) k
 doing table s t (Work (seen.Tried place)) rule e k = quiet_doing t (Work (seen.Tried place)) refl refl (omega arith) k
@@ -1815,7 +1844,6 @@ owning o table c t act given own =
       due = due_is c.stream act t.received own.due;
       numbered = knows_numbers c.stream t act own.numbered;
       starts = starting o table c.stream act rule own.starts;
-      small = own.small;
       emits = emitting table c.stream t act rule own.sent own.track own.emits;
       doing = doing table c.stream t act rule own.emits own.doing;
       track = tracking table c.stream t act rule own.emits.asks.reads (on_any (deed act).coming own.numbered.first) own.track;
@@ -1869,6 +1897,6 @@ within opening table c t (First number refused) rule o = (tt, tt)
 within opening table c t (Mulpdu size refused) rule o = (tt, tt)
 within opening table c t (Accept private answer) rule o = (tt, tt)
 within opening table c t (Reject private refused) rule o = (tt, tt)
-within opening table c t (Work (seen.Asked private)) rule o = (tt, tt)
-within opening table c t (Work (seen.Opened agreed private)) rule o = (tt, tt)
+within opening table c t (Work (seen.Asked word private)) rule o = (tt, tt)
+within opening table c t (Work (seen.Opened agreed word private)) rule o = (tt, tt)
 within opening table c t (Work (seen.Closed fault)) rule o = (tt, tt)

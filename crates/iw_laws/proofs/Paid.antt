@@ -26,7 +26,8 @@ use Rattle.iw_startup.proofs.Heard.{octets-pushed}
 use Rattle.iw_startup.proofs.Openings.{unanswered_not_agreed}
 use Rattle.iw_fpdu.proofs.Follows.{frames_follow}
 use Rattle.iw_stream.specs.Frames.{Frame, segment_in, record_of, placed as placed_of}
-use Rattle.iw_stream.specs.Starting.{is_open, expecting, first_place_in, heard}
+use Rattle.iw_stream.specs.Starting.{is_open, awaits_frame, expecting, first_place_in, heard}
+use Rattle.iw_laws.proofs.Rooms.{heard_open}
 use Rattle.iw_stream.specs.Stream.{StreamState, Due, StartUp, LastWord, Response, NextPart, NoneDue, ended, due, place_of, left_out}
 use Rattle.iw_stream.specs.Work.{inbox, scene, early_frame}
 use Rattle.iw_stream.proofs.Fronts.{start_near}
@@ -45,7 +46,7 @@ use Rattle.iw_laws.specs.Words.{Octets, deed, ended_after, listed, private_data}
 use Rattle.iw_laws.proofs.Tales.{Tale}
 use Rattle.iw_laws.proofs.Nexts.{fore, place_in, place_past, past_front}
 use Rattle.iw_laws.proofs.Judged.{segments_early, placed_by, more_come, one_counts, open_at, same_segments}
-use Rattle.iw_laws.proofs.Told.{Told, Fronts, Hears, kept_of, early_left, left_frame, after_shown, after_act}
+use Rattle.iw_laws.proofs.Told.{Told, Fronts, Hears, kept_of, early_left, arrived_open, arrived_unheard, fault_open, left_frame, after_shown, after_act}
 use Rattle.iw_laws.proofs.Tracks.{Track, waiting_count, between_is, first_is, unread, ends_there, unclashed, none_left, segments_left, turning, left_early, left_tried, left_there, kept_whole, MayAnswer, may, accepting, refusing, unanswered}
 
 -- the in-order point, and a charge of 2^17 for each frame that was placed and is still to have its turn, which passes 2^18 octets at most
@@ -222,8 +223,8 @@ paying table s t act rule k n over p = by act rule (over_still s (after_act s ac
     by (Work (seen.Flushed kind)) rule still over = same (after_act s (Work (seen.Flushed kind))) still refl refl refl refl
     by (Work (seen.FlushedRecv octets)) rule still over = same (after_act s (Work (seen.FlushedRecv octets))) still refl refl refl refl
     by (Work seen.Idle) rule still over = same s still refl refl refl refl
-    by (Work (seen.Asked private)) rule still over = pays s (after_act s (Work (seen.Asked private))) n still (hears_few s (after_act s (Work (seen.Asked private))) t progress.Asked rule.0 refl refl refl k) p
-    by (Work (seen.Opened agreed private)) rule still over = pays s (after_act s (Work (seen.Opened agreed private))) n still (hears_few s (after_act s (Work (seen.Opened agreed private))) t progress.Agreed rule.0 refl refl refl k) p
+    by (Work (seen.Asked word private)) rule still over = pays s (after_act s (Work (seen.Asked word private))) n still (hears_few s (after_act s (Work (seen.Asked word private))) t progress.Asked rule.0 refl refl refl k) p
+    by (Work (seen.Opened agreed word private)) rule still over = pays s (after_act s (Work (seen.Opened agreed word private))) n still (hears_few s (after_act s (Work (seen.Opened agreed word private))) t progress.Agreed rule.0.hears_it refl refl refl k) p
     by (Work (seen.Closed fault)) rule still over = pays s (after_act s (Work (seen.Closed fault))) n still (hears_few s (after_act s (Work (seen.Closed fault))) t (progress.Faulted fault) rule refl refl refl k) p
     by (Work (seen.Placed right stag to octets)) (inl (j, w)) still over =
         let s' : StreamState = after_act s (Work (seen.Placed right stag to octets)) in
@@ -261,4 +262,7 @@ paying table s t act rule k n over p = by act rule (over_still s (after_act s ac
         let s' : StreamState = after_act s (Work (seen.Terminated fault)) in
         let few = judged_few s s' t (Untagged w.head w.payload) 262144 w.fronts refl refl refl refl (turn_far s t w.fronts.frame w.fronts.rest w.fronts.whole k).1 k in
         record { paid = omega (arith, p.paid, few, ap last_one w.fronts.running, ap last_one over) }
-    by (Work (seen.Fault fault)) rule still over = same (after_act s (Work (seen.Fault fault))) still refl refl refl refl
+    by (Work (seen.Fault fault)) (inl m) still over = pays s (after_act s (Work (seen.Fault fault))) n still (hears_few s (after_act s (Work (seen.Fault fault))) t progress.Agreed m.hears_it (arrived_unheard s (ap awaits_frame m.hears_it.is)) refl refl k) p
+    by (Work (seen.Fault fault)) (inr j) still over =
+        let started : is_open s.start ≡ true = fault_open table s fault j in
+        same (after_act s (Work (seen.Fault fault))) still (heard_open s.start (inbox s) started) (arrived_open s started) refl refl

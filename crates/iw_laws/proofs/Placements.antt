@@ -62,8 +62,8 @@ placed_seen over t s (seen.Fault fault) w = tt
 placed_seen over t s (seen.Done kind) w = tt
 placed_seen over t s (seen.Flushed kind) w = tt
 placed_seen over t s (seen.FlushedRecv octets) w = tt
-placed_seen over t s (seen.Asked private) w = tt
-placed_seen over t s (seen.Opened agreed private) w = tt
+placed_seen over t s (seen.Asked word private) w = tt
+placed_seen over t s (seen.Opened agreed word private) w = tt
 placed_seen over t s (seen.Closed fault) w = tt
 placed_seen over t s seen.Idle w = tt
 

@@ -24,7 +24,7 @@ use Rattle.iw_laws.specs.Rules.{EndState, StreamRule, EndRule, call_made, end_af
 use Rattle.iw_laws.proofs.Checks.{places_in, places_lent}
 use Rattle.iw_laws.proofs.Lent.{requeued, retold, requeued_own}
 use Rattle.iw_laws.proofs.Owns.{Own, owning}
-use Rattle.iw_laws.proofs.Releases.{IsLeft, left_acts}
+use Rattle.iw_laws.proofs.Releases.{IsLeft, left_acts, left_apart, left_requeued}
 use Rattle.iw_laws.proofs.States.{Connected, connected_at, connected_seen, connected_after, left_at, stream_after, found, granted, denied, pools_refused, pools_there, own_lent, own_left, own_pool}
 use Rattle.iw_laws.proofs.Tales.{Tale, tale_of, tale_after, tale-push, pooled, pooling-push, story_apart}
 use Rattle.iw_laws.proofs.Told.{after_act}
@@ -61,21 +61,15 @@ holding table l c t act rule h =
     record { stream = after_act h.stream act; is_left = x.1; own = owning l table (record { stream = h.stream; wire = c.wire }) t act x.0 h.own }
 
 receiving_is : {l : Opening} {c : Connected} {t : Tale} → Holds l c t → t.story.receiving ≡ c.stream.receiving
-receiving_is h = h.own.track.receiving ∙ sym (ap (λ (z : StreamState). z.receiving) h.is_left.has.same)
+receiving_is h = h.own.track.receiving ∙ sym (ap (λ (z : StreamState). z.receiving) (left_apart h.is_left))
 
 -- ---- a pool is lent, and taken back
 
 requeued_holds : (l : Opening) (c : Connected) (t : Tale) (x y : Source) → y ≡ x → places_in x ≡ places_in c.stream.receiving.source → Holds l c t → Holds l (record c { stream = requeued c.stream x }) (retold t y)
 requeued_holds l c t x y e same h = record {
   stream = requeued h.stream x;
-  is_left = record {
-    has = record {
-      same = λ i. record (h.is_left.has.same i) { receiving = record (h.is_left.has.same i).receiving { source = x } };
-      left = h.is_left.has.left;
-    };
-    only = h.is_left.only;
-  };
-  own = requeued_own l (record { stream = h.stream; wire = c.wire }) t x y e (same ∙ ap (λ (z : StreamState). places_in z.receiving.source) h.is_left.has.same) h.own;
+  is_left = left_requeued x h.is_left;
+  own = requeued_own l (record { stream = h.stream; wire = c.wire }) t x y e (same ∙ ap (λ (z : StreamState). places_in z.receiving.source) (left_apart h.is_left)) h.own;
 }
 
 abbrev lent_with : Option (List Octets) → Source → Source

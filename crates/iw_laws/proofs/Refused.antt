@@ -1,6 +1,6 @@
 -- Each wrong run breaks its law.
 use Rattle.iw_ranges.specs.Nearest.{numbers_ahead, place_near, before_start}
-use Rattle.std.proofs.Common.{◌≡◌, ℕ, zero, suc, ◌<◌, ◌≤◌, [], ◌∷◌, ◌++◌, length, map, subst, take, replicate, Some, None, Ok, true, false, refl, sym, ap, ◌∙◌, arith, inl, inr, get_or}
+use Rattle.std.proofs.Common.{◌≡◌, ℕ, zero, suc, ◌<◌, ◌≤◌, [], ◌∷◌, ◌++◌, length, map, subst, take, replicate, Some, None, Ok, Err, true, false, refl, sym, ap, ◌∙◌, arith, inl, inr, get_or}
 use Rattle.std.specs.Option.{option_map_or}
 use Rattle.std.proofs.lemmas.Bool.{false≢true, true≢false}
 use Rattle.std.proofs.lemmas.Option.{none-some, same_Some, some_pair_parts}
@@ -26,6 +26,10 @@ use Rattle.iw_queues.specs.Segments.{send_segment}
 use Rattle.iw_startup.specs.declared.progress.Progress.TheVariants as progress
 use Rattle.iw_startup.specs.Peer.{progress_of, frame_end as startup_end, fixed_fault}
 use Rattle.iw_startup.specs.State.{agreed_of, pushed}
+use Rattle.std.specs.Prelude.{Result}
+use Rattle.iw_startup.specs.declared.config.Agreed.{Agreed}
+use Rattle.iw_stream.specs.declared.answer.AnswerRefusal.{AnswerRefusal}
+use Rattle.iw_stream.specs.declared.answer.AnswerRefusal.TheVariants.{NotAsked}
 use Rattle.iw_stream.specs.Starting.{AtOnce, plain, sending, own_frame}
 use Rattle.iw_laws.proofs.Tracks.{shown_stays}
 use Rattle.iw_events.specs.declared.call.End.TheVariants.{A}
@@ -238,7 +242,9 @@ refuses_kept_past_end h = let r = h (take 4 keeps_past_end) (b (raw 8 (0 ∷ [])
 pub refuses_unasked_accept : RefusesUnaskedAccept
 unfolding acts stream_acts openings story ended progress_of startup_end numbers_ahead place_near before_start
 refuses_unasked_accept h =
-    false≢true (h (take 2 accepts_unasked) (b (on (Accept [] (Ok (record { send_markers = false; expect_markers = false; crc = false; ord = 16; rtr = None }))))) [] refl).0
+    let agreed : Agreed = record { send_markers = false; expect_markers = false; crc = false; ord = 16; rtr = None } in
+    let wrong : ◌≡◌ {A = Result Agreed AnswerRefusal} (Ok agreed) (Err NotAsked) = h (take 2 accepts_unasked) (b (on (Accept [] (Ok agreed)))) [] refl in
+    cc
 
 pub refuses_wrong_refusal : RefusesWrongRefusal
 unfolding acts table_after empty

@@ -1,6 +1,6 @@
 -- Each wrong run of streams that share a pool breaks its law.
 use Rattle.iw_startup.specs.declared.config.Establishment.TheVariants as establishments
-use Rattle.std.proofs.Common.{◌≡◌, ℕ, ◌+◌, List, [], ◌∷◌, ◌++◌, length, take, replicate, Option, Some, None, Result, Ok, Err, true, false, refl, sym, ap, ◌∙◌, arith, inl, inr, get_or}
+use Rattle.std.proofs.Common.{◌≡◌, ◌⊎◌, ℕ, ◌+◌, Bool, List, [], ◌∷◌, ◌++◌, length, take, replicate, Option, Some, None, Result, Ok, Err, true, false, refl, sym, ap, ◌∙◌, arith, inl, inr, get_or}
 use Rattle.std.specs.Prelude.{◌⊎◌, ◌||◌, is_some}
 use Rattle.std.specs.Option.{option_map, option_map_or, option_or}
 use Rattle.std.proofs.lemmas.Bool.{false≢true, true≢false}
@@ -32,7 +32,7 @@ use Rattle.iw_stream.specs.declared.judging.Landing.TheVariants as landing
 use Rattle.iw_stream.specs.declared.judging.Turning.TheVariants as turning
 use Rattle.iw_stream.specs.Frames.{Frame, standing_at, placed, placed_at, head_in, payload_len, payload_of, segment_in}
 use Rattle.iw_stream.specs.Judging.{Standing, verdict, fault_or, or_else, turn_of, turned_by, receiving_turned}
-use Rattle.iw_stream.specs.Starting.{AtOnce, plain, expecting}
+use Rattle.iw_stream.specs.Starting.{AtOnce, plain, awaits_frame, expecting}
 use Rattle.iw_endpoint.specs.declared.refusal.TakeRefusal.{TakeRefusal}
 use Rattle.iw_endpoint.specs.Endpoint.{no_streams, no_pools}
 use Rattle.iw_endpoint.specs.Isolation.{OpensOwn}
@@ -42,7 +42,7 @@ use Rattle.iw_events.specs.declared.act.Act.{Act}
 use Rattle.iw_events.specs.declared.act.Seen.{Seen}
 use Rattle.iw_events.specs.declared.act.Seen.TheVariants as seen
 use Rattle.iw_laws.specs.Words.{Octets, Opening, Sent, other, acts, stream_acts, openings, opening_of, ended, posted, received, placings, table_after}
-use Rattle.iw_laws.specs.Turns.{Story, story, pooling, pool_by, pool_back, taken_back, lent_in, story_of, standing, next_frame, early_frame, was_placed, judged_payload, front_verdict, seen_judged, seen_turned, IsJudged, HasTurn}
+use Rattle.iw_laws.specs.Turns.{Story, story, pooling, pool_by, pool_back, taken_back, lent_in, story_of, standing, next_frame, early_frame, was_placed, judged_payload, front_verdict, seen_judged, seen_turned, IsJudged, HasTurn, TurnsSeen}
 use Rattle.iw_laws.specs.Turns as turns
 use Rattle.iw_laws.specs.Rest.{Over, AwaitsFrame, AwaitsAnswer, NoFrame}
 use Rattle.iw_laws.specs.Once.{Span, judged_span, spans_placed, span_of}
@@ -277,6 +277,11 @@ module _ (t : Story) (s : Standing) (next : next_frame t ≡ Some the_send) (unp
       r.answer ∙ (λ i. seen_judged (same i) (front_verdict (early i) (expecting t.start) s (same i))) ∙ ap (seen_judged the_send) is
   judged_next at is (inr r) = absurd (false≢true (sym unplaced ∙ r.waited))
 
+-- a fault of a stream whose peer's start-up frame was read is a frame's
+fault_judged : (over : Bool) (t : Story) (s : Standing) (fault : Fault) → TurnsSeen over t s (seen.Fault fault) → awaits_frame t.start ≡ false → IsJudged t s (seen.Fault fault) ⊎ HasTurn t s (seen.Fault fault)
+fault_judged over t s fault (inl m) heard = absurd (false≢true (sym heard ∙ m.hears_it.awaited))
+fault_judged over t s fault (inr r) heard = r.1
+
 never_denied : (step : Seen Octets) → step ≡ seen.Buffered 1 0 1 → step ≡ seen.Fault faults.UNTAGGED_NO_BUFFER → ⊥
 never_denied step placed denied = cc
 
@@ -285,7 +290,7 @@ unfolding acts stream_acts openings story pooling numbers_ahead place_near befor
 refuses_denied_pooled h =
     let t : Story = story_of 0 (acts B (take 5 denies_pooled)) in
     let s : Standing = standing 0 (acts B (take 5 denies_pooled)) in
-    never_denied _ (judged_next t s (send_next t refl refl refl) refl refl _ _ (placed_front s refl) (h (take 5 denies_pooled) (b denies) [] refl).1) refl
+    never_denied _ (judged_next t s (send_next t refl refl refl) refl refl _ _ (placed_front s refl) (fault_judged _ t s faults.UNTAGGED_NO_BUFFER (h (take 5 denies_pooled) (b denies) [] refl) refl)) refl
 
 abbrev fault_code : Seen Octets → ℕ
 fault_code (seen.Fault fault) = fault.code
@@ -297,7 +302,7 @@ refuses_denied_short h =
     let t : Story = story_of 0 (acts B (take 5 denies_short)) in
     let s : Standing = standing 0 (acts B (take 5 denies_short)) in
     let too_long : verdict s the_send ≡ Err faults.UNTAGGED_TOO_LONG = judged_front s in
-    let wrong : 2 ≡ 5 = ap fault_code (judged_next t s (send_next t refl refl refl) refl refl _ _ too_long (h (take 5 denies_short) (b denies) [] refl).1) in
+    let wrong : 2 ≡ 5 = ap fault_code (judged_next t s (send_next t refl refl refl) refl refl _ _ too_long (fault_judged _ t s faults.UNTAGGED_NO_BUFFER (h (take 5 denies_short) (b denies) [] refl) refl)) in
     omega (arith, wrong)
 
 pub refuses_rest_pooled : RefusesRestPooled

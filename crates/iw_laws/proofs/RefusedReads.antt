@@ -41,7 +41,7 @@ use Rattle.iw_untagged.specs.Receiving.{Receiving}
 use Rattle.iw_stream.specs.declared.answer.Role.TheVariants.{Preset}
 use Rattle.iw_stream.specs.Frames.{Frame, standing_at, payload_of, segment_in, placed}
 use Rattle.iw_stream.specs.Judging.{Standing, response_verdict, head_verdict, verdict, segment_turn, turn_of, reads_left}
-use Rattle.iw_stream.specs.Starting.{AtOnce, plain, expecting, sending, first_place_in, first_place_out}
+use Rattle.iw_stream.specs.Starting.{AtOnce, plain, expecting, most_reads_in, sending, first_place_in, first_place_out}
 use Rattle.iw_stream.proofs.Headers.{turn_kept, left_kept}
 use Rattle.iw_events.specs.declared.call.End.{End}
 use Rattle.iw_events.specs.declared.call.End.TheVariants.{A, B}
@@ -151,6 +151,26 @@ asked_story t start quiet =
 asked_reads : (t : Story) (msn : ℕ) → (sends_segment t (request_segment msn read_one)).reads ≡ t.reads ++ record { ticket = t.whole % 2 ^ 64; request = read_one; turned = 0 } ∷ []
 asked_reads t msn = ap (λ o. option_map_or (asked_for t.reads (t.whole % 2 ^ 64)) o t.reads) (request_out msn)
 
+-- it goes out behind a start-up frame
+pub asked_out : (t : Story) (n : ℕ) → sending t.start ≡ plain → first_place_out t.start ≡ n → last_word t.ending ≡ None → length (story_shown t (shows.Frame n request_frame)).reads ≡ length t.reads + 1
+asked_out t n sends first quiet =
+    let segment : Segment Octets = request_segment 1 read_one in
+    let octets : Octets = frame_octets plain 0 (segment_octets segment) in
+    let never : nat_lt n n ≡ false = grind (arith, nat_tests) in
+    let place : n - n ≡ 0 = omega arith in
+    let whole : first_frame plain 0 octets ≡ Some (intact (segment_octets segment), []) =
+    ap (first_frame plain 0) (sym (append-nil octets)) ∙ written_is_first plain 0 (segment_octets segment) [] (frames_follow.first false) (request_short 1) in
+    let out : segment_out t n octets ≡ Some segment =
+    (λ i. cond (nat_lt n (first i)) None (option_map_or (λ (first : Carried × Octets). read_segment first.0.ulpdu) (first_frame (sends i) (n - first i) octets) None))
+    ∙ (λ i. cond (never i) None (option_map_or (λ (first : Carried × Octets). read_segment first.0.ulpdu) (first_frame plain (place i) octets) None))
+    ∙ ap (λ o. option_map_or (λ (first : Carried × Octets). read_segment first.0.ulpdu) o None) whole
+    ∙ read_segment-spelled segment (request_fits 1 (omega arith)) in
+    let story : story_shown t (shows.Frame n request_frame) ≡ sends_segment t segment =
+    (λ i. cond (nat_lt n (first i)) t (option_map_or (says_farewell t) (quiet i) (option_map_or (sends_segment t) (segment_out t n request_frame) t)))
+    ∙ ap (λ b. cond b t (option_map_or (sends_segment t) (segment_out t n request_frame) t)) never
+    ∙ ap (λ o. option_map_or (sends_segment t) o t) (ap (segment_out t n) (sym request_framed) ∙ out) in
+    ap (λ (z : Story). length z.reads) story ∙ ap length (asked_reads t 1) ∙ length_push t.reads (record { ticket = t.whole % 2 ^ 64; request = read_one; turned = 0 })
+
 -- ---- sixteen Reads, and one more
 
 out_reads : (n before : ℕ) (t : Story) → t.start ≡ AtOnce plain → last_word t.ending ≡ None → before + n ≤ 100 → length (fold story_after t (stream_acts 0 (acts A (reads_out n before)))).reads ≡ length t.reads + n
@@ -164,11 +184,20 @@ out_reads (suc n) before t start quiet few =
     let past : nat_lt (52 * before) (first_place_out t.start) ≡ false = ap (λ z. nat_lt (52 * before) (first_place_out z)) start ∙ (let never : nat_lt (52 * before) 0 ≡ false = grind (arith, nat_tests) in never) in
     (λ i. length (fold story_after (cond (past i) t (option_map_or (says_farewell t) (quiet i) (option_map_or (sends_segment t) (out i) t))) (stream_acts 0 (acts A (reads_out n (before + 1))))).reads) ∙ omega (arith, rest, one)
 
+-- the start-up stays
+out_starts : (n before : ℕ) (t : Story) → (fold story_after t (stream_acts 0 (acts A (reads_out n before)))).start ≡ t.start
+unfolding acts stream_acts reads_out
+out_starts zero before t = refl
+out_starts (suc n) before t =
+    let shown = shows.Frame (52 * before) (frame_octets plain (52 * before) (segment_octets (request_segment (before + 1) read_one))) in
+    out_starts n (before + 1) (story_shown t shown) ∙ (shown_stays t shown).start
+
 pub refuses_seventeen_reads : RefusesSeventeenReads
 unfolding acts stream_acts openings story numbers_ahead place_near before_start
 refuses_seventeen_reads h =
     let few = h seventeen_reads [] (sym (append-nil seventeen_reads)) A 0 in
-    omega (arith, few, out_reads 17 0 (untold (opening_of 0 (acts A seventeen_reads))) refl refl (omega arith))
+    let sixteen = ap most_reads_in (out_starts 17 0 (untold (opening_of 0 (acts A seventeen_reads)))) in
+    omega (arith, few, sixteen, out_reads 17 0 (untold (opening_of 0 (acts A seventeen_reads))) refl refl (omega arith))
 
 -- ---- another place than the one that was asked for
 

@@ -1,11 +1,12 @@
 -- A call to work at a stream at which octets of placed frames were given up is answered as at one at which all that came is held, and leaves what that leaves.
-use Rattle.std.proofs.Common.{◌≡◌, inl, inr, ℕ, ◌+◌, ◌-◌, ◌<◌, ◌≤◌, List, [], length, take, drop, Option, Some, None, Ok, Err, Result, Bool, true, false, not, cond, Contains, refl, sym, ap, ◌∙◌, subst, arith}
-use Rattle.std.specs.Prelude.{nat_eq, ◌&&◌, ◌||◌}
+use Rattle.std.proofs.Common.{◌≡◌, inl, inr, ℕ, ◌+◌, ◌-◌, ◌%◌, ◌^◌, ◌<◌, ◌≤◌, List, [], length, take, drop, Option, Some, None, Ok, Err, Result, Bool, true, false, not, cond, Contains, refl, sym, ap, ◌∙◌, subst, arith}
+use Rattle.std.specs.Prelude.{nat_eq, nat_lt, ◌&&◌, ◌||◌, replicate}
+use Rattle.std.proofs.lemmas.Bool.Decides.{nat_tests}
 use Rattle.std.specs.Option.{option_map_or}
 use Rattle.std.proofs.lemmas.Bool.{true≢false, false≢true}
 use Rattle.iw_octets.specs.declared.fault.Fault.{Fault}
 use Rattle.iw_memory.specs.Table.{Table}
-use Rattle.iw_ranges.specs.Arrived.{Arrived, delivery, taken_in, given_up, advanced, released}
+use Rattle.iw_ranges.specs.Arrived.{Arrived, Missing, Gone, nothing, delivery, taken_in, given_up, advanced, released, emptied}
 use Rattle.iw_ranges.specs.InOrder.{is_gone, IsHeld}
 use Rattle.iw_ranges.specs.Laws.{IsLeftOf}
 use Rattle.iw_ranges.specs.Nearest.{place_near, before_start}
@@ -13,14 +14,14 @@ use Rattle.iw_ranges.proofs.InOrder.{held_moves}
 use Rattle.iw_ranges.proofs.ByPlace.{gives_up_places, stays_come}
 use Rattle.iw_ranges.specs.declared.Delivery.{Delivery}
 use Rattle.iw_ranges.specs.declared.Delivery.TheVariants.{Kept, Dropped}
-use Rattle.iw_ranges.proofs.Left.{left_moves, left_drops, left_takes}
+use Rattle.iw_ranges.proofs.Left.{all_left, left_moves, left_drops, left_takes}
 use Rattle.iw_fpdu.specs.Frame.{frame_end}
 use Rattle.iw_fpdu.specs.Laws.{IsBetween}
 use Rattle.iw_locate.specs.Records.{from_of, IsPlaced, kept_from}
 use Rattle.iw_locate.specs.Free.{Scene, scene_of, point_of, GivesUpOnlyPlaced}
 use Rattle.iw_locate.proofs.GivesUp.{only_moves, only_adds, only_takes, only_places}
 use Rattle.iw_queues.specs.declared.completions.Done.{Done}
-use Rattle.iw_queues.specs.Queue.{done_in, oldest_in}
+use Rattle.iw_queues.specs.Queue.{done_in, oldest_in, handed_from}
 use Rattle.arrayvec.specs.ArrayVec.{ArrayVec}
 use Rattle.iw_reads.specs.Requests.{Requested}
 use Rattle.iw_rdmap.specs.Terminate.{terminate_octets}
@@ -32,28 +33,35 @@ use Rattle.iw_stream.specs.declared.judging.PlacedFrame.{PlacedFrame}
 use Rattle.iw_stream.specs.declared.judging.Turning.{Turning}
 use Rattle.iw_stream.specs.declared.judging.Turning.TheVariants as turning
 use Rattle.iw_stream.specs.Ending.{last_word, with_last_word}
-use Rattle.iw_stream.specs.declared.ending.Ending.TheVariants.{Over}
+use Rattle.iw_stream.specs.declared.ending.Ending.{Ending}
+use Rattle.iw_stream.specs.declared.ending.Ending.TheVariants.{Over, Broken}
 use Rattle.iw_stream.specs.Frames.{Frame, EarlyRecord, placed, record_tried}
 use Rattle.iw_stream.specs.Judging.{verdict, early_verdict, turn_of}
-use Rattle.iw_stream.specs.Starting.{StartState, AtOnce, Unheard, Heard, is_open, awaits_frame, is_responder, expecting, first_place_in, progress_in, heard, private_in, mismatch_in}
-use Rattle.iw_stream.specs.Stream.{StreamState, ended, ends_by, Due, StartUp, LastWord, Response, NextPart, NoneDue, due, owes_frame, response_due, part_due, emission_due, octets_due, left_due, left_fetched, frame_fetched, delivery_of, after_deliver, place_of, left_out}
-use Rattle.iw_stream.specs.Terminating.{terminate_judged, is_request_of}
+use Rattle.iw_stream.specs.Starting.{StartState, AtOnce, Unheard, Heard, is_open, awaits_frame, is_responder, expecting, first_place_in, progress_in, heard, mismatch_in, negotiation_fault, agreement_in}
+use Rattle.iw_stream.specs.Stream.{StreamState, ended, ends_by, Due, StartUp, LastWord, Response, NextPart, NoneDue, due, owes_frame, response_due, part_due, emission_due, octets_due, left_due, left_fetched, frame_fetched, delivery_of, after_deliver, place_of, left_out, quits, keeps_silent, recv_refusal, post_refusal, first_refusal, answer_refusal, with_buffer, with_request, with_first, with_mulpdu, accepted}
+use Rattle.iw_startup.specs.declared.enhanced.Mismatch.{Mismatch}
+use Rattle.iw_stream.specs.Terminating.{terminate_alone, terminate_judged, is_request_of, terminate_fetched}
 use Rattle.iw_stream.specs.Work.{Task, HandOut, GiveUp, GiveBack, Hear, Turn, Clash, Judge, Try, Rest, task, frame_task, front_task, handing_back, next_frame, waiting, clashes, clash_fault, early_frame, scene, inbox, standing, step_of, left_by, table_left, heard_step, after_hearing, after_opening, after_turn, after_judging, after_trying, work_step, worked, table_worked}
 use Rattle.iw_stream.specs.Work as work
-use Rattle.iw_untagged.specs.Receiving.{first_buffer}
+use Rattle.iw_untagged.specs.Receiving.{Source, first_buffer, flushed}
+use Rattle.iw_stream.proofs.Resting.{ended_task}
 use Rattle.iw_stream.proofs.Fronts.{carried_by}
 use Rattle.iw_stream.proofs.Tasks.{IsRunning, IsResting, Ended, Unanswered, Without, by_task, task_hands_back, task_hears, task_frame}
 use Rattle.iw_events.specs.declared.act.StreamAct.{StreamAct}
 use Rattle.iw_events.specs.declared.act.StreamAct.TheVariants.{Recv, Post, Emit, First, Deliver, Raw, Mulpdu, Accept, Reject, Work, Break}
-use Rattle.iw_laws.specs.Words.{Octets, private_data}
+use Rattle.iw_events.specs.declared.act.Shown.{Shown}
+use Rattle.iw_events.specs.declared.act.Shown.TheVariants as shows
+use Rattle.iw_events.specs.declared.act.Seen.{Seen}
+use Rattle.iw_events.specs.declared.act.Seen.TheVariants as seen
+use Rattle.iw_endpoint.specs.Isolation.{answer_or}
+use Rattle.iw_laws.specs.Words.{Octets, private_data, deed}
 use Rattle.iw_laws.specs.Rules.{StreamRule, seen_of, shown_of}
 use Rattle.iw_laws.proofs.States.{stream_after}
-use Rattle.iw_laws.proofs.Told.{after_act, left_told}
+use Rattle.iw_laws.proofs.Told.{after_act, fault_for, hears_due, left_told, quits_by, stops_asked, stops_broken}
 use Rattle.iw_laws.proofs.Left.{HasLeft, all, same_waiting, frame_left, next_left, none_left, clash_left, judge_left, same_early, held, same_inbox}
 use Rattle.iw_laws.proofs.Nexts.{standing as stands_at, first_is_here}
 use Rattle.iw_laws.proofs.Tales.{Tale}
-use Rattle.iw_laws.proofs.Plain.{plain_heard, matches_plain}
-use Rattle.iw_laws.proofs.Tracks.{Track, sound, between_is, first_is, accepting, refusing}
+use Rattle.iw_laws.proofs.Tracks.{Track, sound, between_is, first_is, accepting, by_ended}
 use Rattle.iw_laws.proofs.Onces.{not_answered, end_here, goes_judged, goes_turned, fore_end}
 
 -- of what is left less is left, where both give up the same octets
@@ -92,6 +100,25 @@ pub record Like (a b : StreamState) : Type 0 where
   pub left : IsLeftOf a.arrived b.arrived
   pub only : GivesUpOnlyPlaced (scene a)
 
+-- where nothing past the in-order point was given up
+pub nothing_given : (v : Scene (ArrayVec ℕ)) → IsHeld v.arrived → GivesUpOnlyPlaced v
+nothing_given v held q low gone = absurd (true≢false (sym (ap is_gone gone) ∙ held (v.base + q) (omega (arith, low))))
+
+-- nothing came past the in-order point of what was given up
+held_emptied : (a : Arrived) → IsHeld (emptied a)
+held_emptied a p low = let past : nat_lt p a.floor ≡ false = grind (arith, nat_tests) in ap (λ b. is_gone (cond b Gone Missing)) past
+
+left_emptied : (a b : Arrived) → a.floor ≡ b.floor → IsLeftOf (emptied a) (emptied b)
+left_emptied a b same = subst (IsLeftOf (emptied a)) (λ i. record { floor = same i; cells = [] }) (all_left (emptied a))
+
+-- both end so
+quits_like : (a b : StreamState) (ending : Ending) → Like a b → Like (record (quits a) { ending = ending }) (record (quits b) { ending = ending })
+quits_like a b ending h = record {
+  same = λ x. ap (λ (t : StreamState). record t { arrived = x; front = None; early = []; ending = ending }) (h.same x);
+  left = left_emptied a.arrived b.arrived h.left.floor;
+  only = nothing_given (scene (record (quits a) { ending = ending })) (held_emptied a.arrived);
+}
+
 -- a call to work is answered so at both
 pub record WorksAlike (table : Table) (s w : StreamState) : Type 0 where
   pub step : work_step table s ≡ work_step table w
@@ -114,10 +141,6 @@ clash_word asked f g = go (is_request_of asked f.ulpdu) (is_request_of asked g.u
     go true false = refl
     go false true = refl
     go false false = refl
-
--- where nothing past the in-order point was given up
-pub nothing_given : (v : Scene (ArrayVec ℕ)) → IsHeld v.arrived → GivesUpOnlyPlaced v
-nothing_given v held q low gone = absurd (true≢false (sym (ap is_gone gone) ∙ held (v.base + q) (omega (arith, low))))
 
 module _ (table : Table) (s : StreamState) (came : Arrived) (left : IsLeftOf s.arrived came) (only : GivesUpOnlyPlaced (scene s)) (t : Tale) (k : Track (all s came left only) t) where
   abbrev w : StreamState
@@ -157,9 +180,9 @@ module _ (table : Table) (s : StreamState) (came : Arrived) (left : IsLeftOf s.a
   -- it ends by a fault
   ends_like : (payload : List ℕ) → Like (ends_by s payload) (ends_by w payload)
   ends_like payload = record {
-    same = λ x i. record s { arrived = x; ending = cond (is_responder s.start && nat_eq (left.floor i) (first_place_in s.start)) (Over None) (with_last_word payload) };
-    left = left;
-    only = only;
+    same = λ x i. record s { arrived = x; front = None; early = []; ending = cond (is_responder s.start && nat_eq (left.floor i) (first_place_in s.start)) (Over None) (with_last_word payload) };
+    left = left_emptied s.arrived came left.floor;
+    only = nothing_given (scene (ends_by s payload)) (held_emptied s.arrived);
   }
 
   turn_like : (f : PlacedFrame) → waiting w ≡ Some f → (r : Result Turning Fault) → Like (after_turn s f r) (after_turn w f r)
@@ -173,7 +196,9 @@ module _ (table : Table) (s : StreamState) (came : Arrived) (left : IsLeftOf s.a
   judge_like f e calm (Ok (landing.Response at)) = record { same = λ x. refl; left = left; only = only }
   judge_like f e calm (Ok (landing.Send msn mo len)) = record { same = λ x. refl; left = left; only = only }
   judge_like f e calm (Ok (landing.Request request)) = record { same = λ x. refl; left = left_moves s.arrived came (work.place_past s (placed f)) left; only = moves_past (frame_end (expecting s.start).markers f.start (length f.ulpdu)) (judged_past f e calm) }
-  judge_like f e calm (Ok (landing.Terminate fault)) = record { same = λ x. refl; left = left_moves s.arrived came (work.place_past s (placed f)) left; only = moves_past (frame_end (expecting s.start).markers f.start (length f.ulpdu)) (judged_past f e calm) }
+  judge_like f e calm (Ok (landing.Terminate fault)) =
+      quits_like (work.beyond s (placed f)) (work.beyond w (placed f)) (Over None)
+      (record { same = λ x. refl; left = left_moves s.arrived came (work.place_past s (placed f)) left; only = moves_past (frame_end (expecting s.start).markers f.start (length f.ulpdu)) (judged_past f e calm) })
   judge_like f e calm (Err fault) = ends_like _
 
   -- a frame is judged before its turn
@@ -202,17 +227,25 @@ module _ (table : Table) (s : StreamState) (came : Arrived) (left : IsLeftOf s.a
 
   opens_like : s.early ≡ [] → Like (after_hearing s progress.Agreed) (after_hearing w progress.Agreed)
   opens_like none =
-      let matches : (octets : List ℕ) → mismatch_in (heard s.start octets) ≡ None = λ octets. matches_plain (heard s.start octets) (plain_heard s.start octets k.begins.plain) in
-      subst (λ m. Like (after_opening (work.hears s) m) (after_hearing w progress.Agreed)) (sym (matches (inbox s)))
-      (subst (λ m. Like (work.hears s) (after_opening (work.hears w) m)) (sym (matches (inbox w))) (hears_like none))
+      let same : inbox s ≡ inbox w = same_inbox s came left only k.early.judged between low none in
+      subst (λ m. Like (after_hearing s progress.Agreed) (after_opening (work.hears w) m)) (ap (λ octets. mismatch_in (heard s.start octets)) same) (go (mismatch_in (heard s.start (inbox s))))
+    where
+      go : (m : Option Mismatch) → Like (after_opening (work.hears s) m) (after_opening (work.hears w) m)
+      go None = hears_like none
+      go (Some mismatch) =
+          let h = hears_like none in
+          let payload : List ℕ = terminate_alone (negotiation_fault mismatch) in
+          record {
+            same = λ x i. record (h.same x i) { front = None; early = []; ending = cond (is_responder (h.same x i).start && nat_eq (h.left.floor i) (first_place_in (h.same x i).start)) (Over None) (with_last_word payload) };
+            left = left_emptied (work.hears s).arrived (work.hears w).arrived h.left.floor;
+            only = nothing_given (scene (ends_by (work.hears s) payload)) (held_emptied (work.hears s).arrived);
+          }
 
   hear_like : s.early ≡ [] → (p : Progress) → Like (after_hearing s p) (after_hearing w p)
   hear_like none progress.More = record { same = λ x. refl; left = left; only = only }
   hear_like none progress.Asked = hears_like none
   hear_like none progress.Agreed = opens_like none
-  hear_like none (progress.Faulted fault) =
-      let h = hears_like none in
-      record { same = λ x i. record (h.same x i) { ending = Over None }; left = h.left; only = h.only }
+  hear_like none (progress.Faulted fault) = quits_like (work.hears s) (work.hears w) (Over None) (hears_like none)
 
   shut_awaits : (z : StartState) → awaits_frame z ≡ true → is_open z ≡ false
   shut_awaits (AtOnce layout) e = absurd (false≢true e)
@@ -297,13 +330,226 @@ left_trans a b c x y = record {
   come = λ p. x.come p ∙ y.come p;
 }
 
+-- s has ended, and w is what it would be had it given nothing up as it ended: but what came, and what is kept of frames, all is the same
+pub record HasQuit (s w : StreamState) : Type 0 where
+  pub over : ended w ≡ true
+  pub floor : s.arrived.floor ≡ w.arrived.floor
+  pub same : (x : Arrived) (y : List EarlyRecord) (z : Option PlacedFrame) → record s { arrived = x; early = y; front = z } ≡ record w { arrived = x; early = y; front = z }
+
 -- w is what s would be, had no octets been given up
-pub record IsLeft (s w : StreamState) : Type 0 where
-  pub has : HasLeft s w
-  pub only : GivesUpOnlyPlaced (scene s)
+pub data IsLeft (s w : StreamState) : Type 0 where
+  Still : HasLeft s w → GivesUpOnlyPlaced (scene s) → IsLeft s w
+  Quit : HasQuit s w → IsLeft s w
+
+-- but for what came, and what is kept of frames
+pub left_apart : {s w : StreamState} → IsLeft s w → record s { arrived = w.arrived; early = w.early; front = w.front } ≡ w
+left_apart {s} {w} (Still has only) = ap (λ (t : StreamState). record t { early = w.early; front = w.front }) has.same
+left_apart {s} {w} (Quit q) = q.same w.arrived w.early w.front
+
+pub left_floor : {s w : StreamState} → IsLeft s w → s.arrived.floor ≡ w.arrived.floor
+left_floor (Still has only) = has.left.floor
+left_floor (Quit q) = q.floor
+
+-- the receive buffers come from elsewhere at both
+pub left_requeued : {s w : StreamState} (x : Source) → IsLeft s w → IsLeft (record s { receiving = record s.receiving { source = x } }) (record w { receiving = record w.receiving { source = x } })
+left_requeued {s} {w} x (Still has only) =
+    Still (record { same = λ i. record (has.same i) { receiving = record (has.same i).receiving { source = x } }; left = has.left }) only
+left_requeued {s} {w} x (Quit q) =
+    Quit (record { over = q.over; floor = q.floor; same = λ a b c. ap (λ (t : StreamState). record t { receiving = record t.receiving { source = x } }) (q.same a b c) })
 
 joins_left : (a b c : StreamState) → Like a b → HasLeft b c → IsLeft a c
-joins_left a b c x y = record { has = record { same = x.same c.arrived ∙ y.same; left = left_trans a.arrived b.arrived c.arrived x.left y.left }; only = x.only }
+joins_left a b c x y = Still (record { same = x.same c.arrived ∙ y.same; left = left_trans a.arrived b.arrived c.arrived x.left y.left }) x.only
+
+joins_quit : (a b c : StreamState) → Like a b → ended c ≡ true → HasLeft b (quits c) → HasQuit a c
+joins_quit a b c x over y = record {
+  over = over;
+  floor = x.left.floor ∙ y.left.floor;
+  same = λ p q r. ap (λ (t : StreamState). record t { early = q; front = r }) (x.same p) ∙ ap (λ (t : StreamState). record t { arrived = p; early = q; front = r }) y.same;
+}
+
+left_after : (a b c : StreamState) (gone : Bool) → (gone ≡ true → ended c ≡ true) → Like a b → HasLeft b (quits_by gone c) → IsLeft a c
+left_after a b c true over x y = Quit (joins_quit a b c x (over refl) y)
+left_after a b c false over x y = joins_left a b c x y
+
+-- a stream has ended after an act that ends it
+ends_over : (s : StreamState) (act : StreamAct Octets) → (deed act).ends ≡ true → ended (after_act s act) ≡ true
+ends_over s (Work (seen.Closed fault)) e = refl
+ends_over s (Work (seen.Terminated fault)) e = refl
+ends_over s (Work (seen.Fault fault)) e = by_ended (hears_due s) (fault_for s fault)
+ends_over s (Work (seen.Done kind)) e = absurd (false≢true e)
+ends_over s (Work (seen.Flushed kind)) e = absurd (false≢true e)
+ends_over s (Work (seen.FlushedRecv octets)) e = absurd (false≢true e)
+ends_over s (Work (seen.Asked word private)) e = absurd (false≢true e)
+ends_over s (Work (seen.Opened agreed word private)) e = absurd (false≢true e)
+ends_over s (Work (seen.Placed right stag to octets)) e = absurd (false≢true e)
+ends_over s (Work (seen.Buffered msn mo len)) e = absurd (false≢true e)
+ends_over s (Work (seen.Requested size stag to)) e = absurd (false≢true e)
+ends_over s (Work (seen.Tried place)) e = absurd (false≢true e)
+ends_over s (Work seen.Passed) e = absurd (false≢true e)
+ends_over s (Work (seen.Received octets solicited invalidate)) e = absurd (false≢true e)
+ends_over s (Work seen.Idle) e = absurd (false≢true e)
+ends_over s (Emit (shows.Frame from octets)) e = absurd (false≢true e)
+ends_over s (Emit (shows.Fetched from frame stag to octets)) e = absurd (false≢true e)
+ends_over s (Emit (shows.Fault fault)) e = by_ended s (terminate_fetched s.asked fault)
+ends_over s (Emit shows.Nothing) e = absurd (false≢true e)
+ends_over s (Recv len refused) e = absurd (false≢true e)
+ends_over s (Post request refused) e = absurd (false≢true e)
+ends_over s (First number refused) e = absurd (false≢true e)
+ends_over s (Deliver from number octets delivery) e = absurd (false≢true e)
+ends_over s (Raw number octets delivery) e = absurd (false≢true e)
+ends_over s (Mulpdu size refused) e = absurd (false≢true e)
+ends_over s (Accept private answer) e = absurd (false≢true e)
+ends_over s (Reject private None) e = refl
+ends_over s (Reject private (Some refusal)) e = absurd (false≢true e)
+ends_over s Break e = refl
+
+-- ---- every act of a stream that has ended
+
+-- what is told of both is the same
+quit_joins : (a b c : StreamState) (gone : Bool) → HasQuit a b → HasLeft b (quits_by gone c) → HasQuit a c
+quit_joins a b c true x y = record {
+  over = sym (ap ended y.same) ∙ x.over;
+  floor = x.floor ∙ y.left.floor;
+  same = λ p q r. x.same p q r ∙ ap (λ (t : StreamState). record t { arrived = p; early = q; front = r }) y.same;
+}
+quit_joins a b c false x y = record {
+  over = sym (ap ended y.same) ∙ x.over;
+  floor = x.floor ∙ y.left.floor;
+  same = λ p q r. x.same p q r ∙ ap (λ (t : StreamState). record t { arrived = p; early = q; front = r }) y.same;
+}
+
+module _ (table : Table) (s w : StreamState) (q : HasQuit s w) where
+  -- whatever does not read what came, or what is kept of frames, is the same at both
+  abbrev bare : record s { arrived = nothing; early = []; front = None } ≡ record w { arrived = nothing; early = []; front = None }
+  bare = q.same nothing [] None
+
+  quit_over : ended s ≡ true
+  quit_over = ap ended bare ∙ q.over
+
+  -- ---- a call to work
+  record HandsAlike (a : Task) : Type 0 where
+    step : step_of table s a ≡ step_of table w a
+    regions : table_left table s a ≡ table_left table w a
+    leaves : HasQuit (left_by table s a) (left_by table w a)
+
+  hands_alike : (done oldest : Option Done) (buffer : Option (List ℕ)) → HandsAlike (option_map_or HandOut done (option_map_or GiveUp oldest (option_map_or GiveBack buffer Rest)))
+  hands_alike (Some done) oldest buffer = record {
+    step = refl;
+    regions = refl;
+    leaves = record { over = q.over; floor = q.floor; same = λ x y z. ap (λ (t : StreamState). record t { queue = handed_from t.queue (Some done) }) (q.same x y z) };
+  }
+  hands_alike None (Some oldest) buffer = record {
+    step = refl;
+    regions = refl;
+    leaves = record { over = q.over; floor = q.floor; same = λ x y z. ap (λ (t : StreamState). record t { queue = handed_from t.queue (Some oldest) }) (q.same x y z) };
+  }
+  hands_alike None None (Some buffer) = record {
+    step = refl;
+    regions = refl;
+    leaves = record { over = q.over; floor = q.floor; same = λ x y z. ap (λ (t : StreamState). record t { receiving = flushed t.receiving }) (q.same x y z) };
+  }
+  hands_alike None None None = record { step = refl; regions = refl; leaves = q }
+
+  abbrev hand : Task
+  hand = option_map_or HandOut (done_in s.queue) (handing_back s)
+
+  hand_there : task w ≡ hand
+  hand_there = ended_task w q.over ∙ sym (ap (λ (t : StreamState). option_map_or HandOut (done_in t.queue) (handing_back t)) bare)
+
+  works_quit : (step : Seen Octets) → StreamRule table s (Work step) → StreamRule table w (Work step) × HasQuit (worked table s) (worked table w)
+  works_quit step rule =
+      let here : task s ≡ hand = ended_task s quit_over in
+      let h = hands_alike (done_in s.queue) (oldest_in s.queue) (first_buffer s.receiving.source) in
+      let leaves : HasQuit (worked table s) (worked table w) =
+      subst (λ a. HasQuit (left_by table s a) (worked table w)) (sym here) (subst (λ a. HasQuit (left_by table s hand) (left_by table w a)) (sym hand_there) h.leaves) in
+      let regions : table_worked table s ≡ table_worked table w = ap (table_left table s) here ∙ h.regions ∙ ap (table_left table w) (sym hand_there) in
+      let answers : work_step table s ≡ work_step table w = ap (step_of table s) here ∙ h.step ∙ ap (step_of table w) (sym hand_there) in
+      let start : (worked table s).start ≡ (worked table w).start = ap (λ (t : StreamState). t.start) (leaves.same nothing [] None) in
+      (rule ∙ (λ i. seen_of (regions i) (start i) (answers i)), leaves)
+
+  -- ---- what goes out
+  abbrev last_due : StreamState → Due
+  last_due t = cond (owes_frame t) StartUp (option_map_or LastWord (last_word t.ending) NoneDue)
+
+  due_over : (t : StreamState) → ended t ≡ true → due t ≡ last_due t
+  due_over t over =
+      ap (λ b. cond (owes_frame t) StartUp (option_map_or LastWord (last_word t.ending) (cond (b || (not (is_open t.start) || keeps_silent t)) NoneDue (option_map_or Response (response_due t) (option_map_or NextPart (part_due t) NoneDue))))) over
+
+  record GoesAlike (d : Due) : Type 0 where
+    shown : shown_of table (emission_due table s d) (octets_due table s d) ≡ shown_of table (emission_due table w d) (octets_due table w d)
+    leaves : HasQuit (left_due table s d) (left_due table w d)
+
+  goes_alike : (owes : Bool) (o : Option Octets) → GoesAlike (cond owes StartUp (option_map_or LastWord o NoneDue))
+  goes_alike true o = record {
+    shown = ap (λ (t : StreamState). shown_of table (emission_due table t StartUp) (octets_due table t StartUp)) bare;
+    leaves = record { over = q.over; floor = q.floor; same = λ x y z. ap (λ (t : StreamState). left_due table t StartUp) (q.same x y z) };
+  }
+  goes_alike false (Some payload) = record {
+    shown = ap (λ (t : StreamState). shown_of table (emission_due table t (LastWord payload)) (octets_due table t (LastWord payload))) bare;
+    leaves = record { over = refl; floor = q.floor; same = λ x y z. ap (λ (t : StreamState). left_due table t (LastWord payload)) (q.same x y z) };
+  }
+  goes_alike false None = record { shown = refl; leaves = q }
+
+  emits_quit : (shown : Shown Octets) → StreamRule table s (Emit shown) → StreamRule table w (Emit shown) × HasQuit (left_due table s (due s)) (left_due table w (due w))
+  emits_quit shown rule =
+      let here : due s ≡ last_due s = due_over s quit_over in
+      let there : due w ≡ last_due s = due_over w q.over ∙ sym (ap last_due bare) in
+      let h = goes_alike (owes_frame s) (last_word s.ending) in
+      let leaves : HasQuit (left_due table s (due s)) (left_due table w (due w)) =
+      subst (λ d. HasQuit (left_due table s d) (left_due table w (due w))) (sym here) (subst (λ d. HasQuit (left_due table s (last_due s)) (left_due table w d)) (sym there) h.leaves) in (
+        rule ∙ ap (λ d. shown_of table (emission_due table s d) (octets_due table s d)) here ∙ h.shown ∙ ap (λ d. shown_of table (emission_due table w d) (octets_due table w d)) (sym there),
+        leaves,
+      )
+
+  -- ---- what comes
+  drops : (t : StreamState) (number n : ℕ) → ended t ≡ true → delivery_of t number n ≡ Dropped
+  drops t number n over = ap (λ b. cond b Dropped (delivery t.arrived (place_of t number) (n - left_out t number))) over
+
+  drops_quit : (number : ℕ) (octets : Octets) (answer : Delivery) → answer ≡ delivery_of s number (length octets)
+      → (answer ≡ delivery_of w number (length octets)) × HasQuit (after_deliver s number octets answer) (after_deliver w number octets answer)
+  drops_quit number octets answer rule =
+      let dropped : answer ≡ Dropped = rule ∙ drops s number (length octets) quit_over in (
+        dropped ∙ sym (drops w number (length octets) q.over),
+        subst (λ d. HasQuit (after_deliver s number octets d) (after_deliver w number octets d)) (sym dropped)
+            (record { over = q.over; floor = q.floor; same = λ x y z. ap (λ (t : StreamState). record t { answered = true }) (q.same x y z) }),
+      )
+
+  -- the rule of an act that reads nothing else is the same
+  acts_quit : (act : StreamAct Octets) → StreamRule table s act → StreamRule table w act × HasQuit (stream_after table s act) (stream_after table w act)
+  acts_quit (Work step) rule = works_quit step rule
+  acts_quit (Emit shown) rule = emits_quit shown rule
+  acts_quit (Deliver from number octets answer) rule =
+      let d = drops_quit number octets answer rule.1 in
+      ((rule.0 ∙ ap (λ (t : StreamState). (t.first + from) % 2 ^ 32) bare, d.0), d.1)
+  acts_quit (Raw number octets answer) rule = drops_quit number octets answer rule
+  acts_quit (Recv len None) rule = (
+    rule ∙ ap recv_refusal bare,
+    record { over = q.over; floor = q.floor; same = λ x y z. ap (λ (t : StreamState). with_buffer t (replicate len 0)) (q.same x y z) },
+  )
+  acts_quit (Recv len (Some refusal)) rule = (rule ∙ ap recv_refusal bare, q)
+  acts_quit (Post request None) rule = (
+    (rule.0, rule.1 ∙ ap (λ (t : StreamState). post_refusal t request) bare),
+    record { over = q.over; floor = q.floor; same = λ x y z. ap (λ (t : StreamState). with_request t request) (q.same x y z) },
+  )
+  acts_quit (Post request (Some refusal)) rule = ((rule.0, rule.1 ∙ ap (λ (t : StreamState). post_refusal t request) bare), q)
+  acts_quit (First number None) rule = (
+    rule ∙ ap first_refusal bare,
+    record { over = q.over; floor = q.floor; same = λ x y z. ap (λ (t : StreamState). with_first t number) (q.same x y z) },
+  )
+  acts_quit (First number (Some refusal)) rule = (rule ∙ ap first_refusal bare, q)
+  acts_quit (Mulpdu size None) rule = (rule, record { over = q.over; floor = q.floor; same = λ x y z. ap (λ (t : StreamState). with_mulpdu t size) (q.same x y z) })
+  acts_quit (Mulpdu size (Some refusal)) rule = (rule, q)
+  acts_quit (Accept private (Ok agreed)) rule = (
+    rule ∙ ap (λ (t : StreamState). answer_or (answer_refusal t (private_data private).items) (agreement_in t.start)) bare,
+    record { over = q.over; floor = q.floor; same = λ x y z. ap (λ (t : StreamState). accepted t (private_data private)) (q.same x y z) },
+  )
+  acts_quit (Accept private (Err refusal)) rule = (rule ∙ ap (λ (t : StreamState). answer_or (answer_refusal t (private_data private).items) (agreement_in t.start)) bare, q)
+  acts_quit (Reject private None) rule = (
+    rule ∙ ap (λ (t : StreamState). answer_refusal t (private_data private).items) bare,
+    record { over = refl; floor = q.floor; same = λ x y z. ap (λ (t : StreamState). stops_asked t private) (q.same x y z) },
+  )
+  acts_quit (Reject private (Some refusal)) rule = (rule ∙ ap (λ (t : StreamState). answer_refusal t (private_data private).items) bare, q)
+  acts_quit Break rule = (rule, record { over = refl; floor = q.floor; same = λ x y z. ap stops_broken (q.same x y z) })
 
 module _ (table : Table) (s : StreamState) (came : Arrived) (left : IsLeftOf s.arrived came) (only : GivesUpOnlyPlaced (scene s)) (t : Tale) (k : Track (all s came left only) t) where
   abbrev v : StreamState
@@ -377,7 +623,7 @@ module _ (table : Table) (s : StreamState) (came : Arrived) (left : IsLeftOf s.a
   acts_like (Work step) rule =
       let a = works_alike table s came left only t k in
       let start : (worked table s).start ≡ (worked table v).start = ap (λ (z : StreamState). z.start) (a.leaves.same came) in
-      (rule ∙ (λ i. seen_of (a.regions i) (private_in (start i)) (a.step i)), a.leaves)
+      (rule ∙ (λ i. seen_of (a.regions i) (start i) (a.step i)), a.leaves)
   acts_like (Recv len None) rule = (rule, record { same = λ x. refl; left = left; only = only })
   acts_like (Recv len (Some refusal)) rule = (rule, stays_alike)
   acts_like (Post request None) rule = (rule, record { same = λ x. refl; left = left; only = only })
@@ -392,17 +638,27 @@ module _ (table : Table) (s : StreamState) (came : Arrived) (left : IsLeftOf s.a
   acts_like (Mulpdu size (Some refusal)) rule = (rule, stays_alike)
   acts_like (Accept private (Ok agreed)) rule = (rule, answers_like (stream_after table s (Accept private (Ok agreed))) (stream_after table v (Accept private (Ok agreed))) (not_answered s (accepting s (private_data private).items agreed rule)) (λ x. refl) refl refl)
   acts_like (Accept private (Err refusal)) rule = (rule, stays_alike)
-  acts_like (Reject private None) rule = (rule, answers_like (stream_after table s (Reject private None)) (stream_after table v (Reject private None)) (not_answered s (refusing s (private_data private).items rule)) (λ x. refl) refl refl)
+  acts_like (Reject private None) rule = (
+    rule,
+    record {
+      same = λ x. refl;
+      left = left_emptied s.arrived came left.floor;
+      only = nothing_given (scene (stream_after table s (Reject private None))) (held_emptied s.arrived);
+    },
+  )
   acts_like (Reject private (Some refusal)) rule = (rule, stays_alike)
-  acts_like Break rule = (rule, record { same = λ x. refl; left = left; only = only })
+  acts_like Break rule = (rule, quits_like s v Broken stays_alike)
 
   acts_left : (act : StreamAct Octets) → StreamRule table s act → StreamRule table v act × IsLeft (stream_after table s act) (after_act v act)
   acts_left act rule =
       let a = acts_like act rule in
-      (a.0, joins_left (stream_after table s act) (stream_after table v act) (after_act v act) a.1 (left_told table v act (sound v t k) a.0))
+      (a.0, left_after (stream_after table s act) (stream_after table v act) (after_act v act) (deed act).ends (ends_over v act) a.1 (left_told table v act (sound v t k) a.0))
 
 -- the answer is the right one there too, and what is left stays so
 pub left_acts : (table : Table) (s w : StreamState) (t : Tale) (act : StreamAct Octets) → IsLeft s w → Track w t → StreamRule table s act → StreamRule table w act × IsLeft (stream_after table s act) (after_act w act)
-left_acts table s w t act x k rule =
-    subst (λ z. Track z t → StreamRule table z act × IsLeft (stream_after table s act) (after_act z act)) x.has.same
-    (λ track. acts_left table s w.arrived x.has.left x.only t track act rule) k
+left_acts table s w t act (Still has only) k rule =
+    subst (λ z. Track z t → StreamRule table z act × IsLeft (stream_after table s act) (after_act z act)) has.same
+    (λ track. acts_left table s w.arrived has.left only t track act rule) k
+left_acts table s w t act (Quit q) k rule =
+    let a = acts_quit table s w q act rule in
+    (a.0, Quit (quit_joins (stream_after table s act) (stream_after table w act) (after_act w act) (deed act).ends a.1 (left_told table w act (sound w t k) a.0)))

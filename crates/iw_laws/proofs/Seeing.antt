@@ -266,17 +266,17 @@ stands at frame opcode right p w =
     ∙ octets_at-put at.table at.domain w.head.stag w.head.to w.payload right w.admitted
 
 -- what is shown of a frame that is judged leaves the regions as the frame does
-abbrev ShowsTable : Standing → Octets → Frame → Result Landing Fault → Type 0
-ShowsTable at private frame r = table_judged at.table frame r ≡ table_seen at.table (seen_of (table_judged at.table frame r) private (judged_step r))
+abbrev ShowsTable : Standing → StartState → Frame → Result Landing Fault → Type 0
+ShowsTable at left frame r = table_judged at.table frame r ≡ table_seen at.table (seen_of (table_judged at.table frame r) left (judged_step r))
 
-shown_table : (at : Standing) (private : Octets) (frame : Frame) (r : Result Landing Fault) → LandsAs at frame r → ShowsTable at private frame r
-shown_table at private frame = go
+shown_table : (at : Standing) (left : StartState) (frame : Frame) (r : Result Landing Fault) → LandsAs at frame r → ShowsTable at left frame r
+shown_table at left frame = go
   where
     placed : (opcode : ℕ) (right : Right) (p : Placed) → (w : LandsTagged at frame opcode right p)
         → put at.table p.stag p.to (payload_of (segment_in frame)) ≡ put at.table p.stag p.to (octets_at (put at.table p.stag p.to (payload_of (segment_in frame))) p.stag p.to p.n)
     placed opcode right p w = ap (put at.table p.stag p.to) (ap payload_of w.carries ∙ sym (stands at frame opcode right p w))
 
-    go : (r : Result Landing Fault) → LandsAs at frame r → ShowsTable at private frame r
+    go : (r : Result Landing Fault) → LandsAs at frame r → ShowsTable at left frame r
     go (Err fault) w = refl
     go (Ok (landing.Write p)) w = placed 0 rights.Write p w
     go (Ok (landing.Response p)) w = placed 2 rights.Sink p w
@@ -285,43 +285,43 @@ shown_table at private frame = go
     go (Ok (landing.Terminate fault)) w = refl
 
 -- and so does what is shown of one that is judged before its turn
-shown_tried : (at : Standing) (private : Octets) (frame : Frame) (place : ℕ) → table_tried at.table frame (early_verdict at frame) ≡ table_seen at.table (seen_of (table_tried at.table frame (early_verdict at frame)) private (tried_step place (early_verdict at frame)))
-shown_tried at private frame place = go (early_verdict at frame) refl
+shown_tried : (at : Standing) (left : StartState) (frame : Frame) (place : ℕ) → table_tried at.table frame (early_verdict at frame) ≡ table_seen at.table (seen_of (table_tried at.table frame (early_verdict at frame)) left (tried_step place (early_verdict at frame)))
+shown_tried at left frame place = go (early_verdict at frame) refl
   where
-    go : (o : Option Landing) → early_verdict at frame ≡ o → table_tried at.table frame o ≡ table_seen at.table (seen_of (table_tried at.table frame o) private (tried_step place o))
+    go : (o : Option Landing) → early_verdict at frame ≡ o → table_tried at.table frame o ≡ table_seen at.table (seen_of (table_tried at.table frame o) left (tried_step place o))
     go None e = refl
-    go (Some x) e = shown_table at private frame (Ok x) (subst (LandsAs at frame) (early_lands at frame x e).0 (lands_as at frame))
+    go (Some x) e = shown_table at left frame (Ok x) (subst (LandsAs at frame) (early_lands at frame x e).0 (lands_as at frame))
 
 -- the table that a step leaves is the one that what is seen of it leaves
-pub table_of_seen : (table : Table) (s : StreamState) (private : Octets) → table_worked table s ≡ table_seen table (seen_of (table_worked table s) private (work_step table s))
-table_of_seen table s private = go (task s)
+pub table_of_seen : (table : Table) (s : StreamState) (left : StartState) → table_worked table s ≡ table_seen table (seen_of (table_worked table s) left (work_step table s))
+table_of_seen table s left = go (task s)
   where
-    opens : (start : StartState) (m : Option Unmatched) → table ≡ table_seen table (seen_of table private (opened_step start m))
+    opens : (start : StartState) (m : Option Unmatched) → table ≡ table_seen table (seen_of table left (opened_step start m))
     opens start None = refl
     opens start (Some mismatch) = refl
 
-    hears : (start : StartState) (octets : Octets) (p : Progress) → table ≡ table_seen table (seen_of table private (heard_step start octets p))
+    hears : (start : StartState) (octets : Octets) (p : Progress) → table ≡ table_seen table (seen_of table left (heard_step start octets p))
     hears start octets progress.More = refl
     hears start octets progress.Asked = refl
     hears start octets progress.Agreed = opens (heard start octets) (mismatch_in (heard start octets))
     hears start octets (progress.Faulted fault) = refl
 
-    turns : (r : Receiving) (frame : PlacedFrame) (o : Result Turning Fault) → table_passed table o ≡ table_seen table (seen_of (table_passed table o) private (turned_step r frame o))
+    turns : (r : Receiving) (frame : PlacedFrame) (o : Result Turning Fault) → table_passed table o ≡ table_seen table (seen_of (table_passed table o) left (turned_step r frame o))
     turns r frame (Ok turning.Passed) = refl
     turns r frame (Ok (turning.Completed solicited None)) = refl
     turns r frame (Ok (turning.Completed solicited (Some stag))) = refl
     turns r frame (Ok (turning.Answered ticket)) = refl
     turns r frame (Err fault) = refl
 
-    go : (t : Task) → table_left table s t ≡ table_seen table (seen_of (table_left table s t) private (step_of table s t))
+    go : (t : Task) → table_left table s t ≡ table_seen table (seen_of (table_left table s t) left (step_of table s t))
     go (HandOut done) = refl
     go (GiveUp done) = refl
     go (GiveBack buffer) = refl
     go Hear = hears s.start (inbox s) (progress_in s.start (inbox s))
     go (Turn frame) = turns s.receiving frame (turn_of (standing table s) frame)
     go (Clash frame) = refl
-    go (Judge frame) = shown_table (standing table s) private frame (verdict (standing table s) frame) (lands_as (standing table s) frame)
-    go (Try frame) = shown_tried (standing table s) private frame (first_place_in s.start + frame.start)
+    go (Judge frame) = shown_table (standing table s) left frame (verdict (standing table s) frame) (lands_as (standing table s) frame)
+    go (Try frame) = shown_tried (standing table s) left frame (first_place_in s.start + frame.start)
     go Rest = refl
 
 -- what is shown of an emission has the octets that were appended

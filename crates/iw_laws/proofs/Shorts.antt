@@ -16,7 +16,7 @@ use Rattle.iw_laws.proofs.Pools.{Holds, held, tale}
 use Rattle.iw_laws.specs.Bounds.{IsShortEnd, IsShortState}
 use Rattle.iw_laws.proofs.Tales.{stream_acts-push, acts_mine, acts_other}
 use Rattle.iw_stream.specs.Stream.{StreamState}
-use Rattle.iw_laws.proofs.Releases.{left_acts}
+use Rattle.iw_laws.proofs.Releases.{left_acts, left_apart, left_floor}
 use Rattle.iw_laws.proofs.Whole.{Keeps, acts_next, sent_next, emits_few, one_more, unsaid, keeps_after, both, acts_none}
 
 -- the octets emitted on a stream
@@ -160,10 +160,9 @@ short_end trace w k few bound x = record {
   streams = λ n.
       let p = k.pairs x n in
       let mine : sent_on n (acts x trace) ≤ 2 ^ 17 * length trace = few x n in
-      let same = p.own.is_left.has in
       record {
-        sent = omega (arith, p.own.own.sent, ap (λ (z : StreamState). z.sent) same.same, mine, bound);
-        point = omega (arith, p.own.own.paid.paid, same.left.floor, acts_all trace x n, last_few (ended p.own.stream), bound);
+        sent = omega (arith, p.own.own.sent, ap (λ (z : StreamState). z.sent) (left_apart p.own.is_left), mine, bound);
+        point = omega (arith, p.own.own.paid.paid, left_floor p.own.is_left, acts_all trace x n, last_few (ended p.own.stream), bound);
       };
   wires = λ n.
       let p = k.pairs x n in

@@ -15,7 +15,7 @@ use Rattle.iw_reads.specs.declared.response.ResponsePart.{ResponsePart}
 use Rattle.iw_untagged.specs.declared.queue.BufferRefusal.TheVariants.{Full}
 use Rattle.iw_untagged.specs.Receiving.{Source, Posted, Pooled, exchanged, is_full, seeing, shares_pool}
 use Rattle.iw_stream.specs.declared.answer.Role.{Role}
-use Rattle.iw_stream.specs.Starting.{private_in, agreement_in}
+use Rattle.iw_stream.specs.Starting.{agreement_in}
 use Rattle.iw_stream.specs.declared.answer.RecvRefusal.TheVariants as recv_refusals
 use Rattle.iw_stream.proofs.Sharing.{left_alone}
 use Rattle.iw_stream.proofs.Sharing.{work_shares}
@@ -296,7 +296,7 @@ stream_table e n (Raw number octets delivery) there rule = same_there (stream_of
 stream_table e n (Work step) there rule =
     let s : StreamState = seen_at e n in
     ap (λ (z : EndpointState). z.table) (found (stream_of e n) e (endpoint.after_work e n) there)
-    ∙ table_of_seen e.table s (private_in (worked e.table s).start)
+    ∙ table_of_seen e.table s (worked e.table s).start
     ∙ ap (λ z. table_by_stream e.table (Work z)) (sym rule)
 stream_table e n Break there rule = same_there (stream_of e n) e (endpoint.broken e n) refl
 

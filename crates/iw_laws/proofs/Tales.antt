@@ -139,8 +139,8 @@ module _ (t : Story) (r : Receiving) where
   seen_apart (seen.Done kind) = refl
   seen_apart (seen.Flushed kind) = refl
   seen_apart (seen.FlushedRecv octets) = refl
-  seen_apart (seen.Asked private) = refl
-  seen_apart (seen.Opened agreed private) = refl
+  seen_apart (seen.Asked word private) = refl
+  seen_apart (seen.Opened agreed word private) = refl
   seen_apart (seen.Closed fault) = refl
   seen_apart (seen.Placed right stag to octets) = refl
   seen_apart (seen.Buffered msn mo len) = refl

@@ -1,7 +1,6 @@
 -- The right answer at a stream, with steps of work told apart by what is seen of them, and what each leaves of the stream.
 use Rattle.std.proofs.Common.{◌≡◌, ◌⊎◌, ℕ, ◌+◌, ◌-◌, List, [], length, take, Option, Some, None, Result, Ok, Err, Bool, true, false, cond, refl, sym, ap, ◌∙◌, subst, inl, inr, arith}
 use Rattle.std.specs.Option.{option_map, option_map_or, option_or}
-use Rattle.std.proofs.lemmas.Option.{none-some}
 use Rattle.iw_locate.specs.Free.{front_of}
 use Rattle.std.specs.Prelude.{is_some, replicate}
 use Rattle.std.proofs.lemmas.Bool.{false≢true, true≢false}
@@ -52,12 +51,13 @@ use Rattle.arrayvec.specs.ArrayVec.{ArrayVec}
 use Rattle.iw_locate.specs.declared.judged.State.{State}
 use Rattle.iw_locate.specs.declared.judged.State.TheVariants as states
 use Rattle.iw_stream.specs.Frames as frames
-use Rattle.iw_stream.specs.declared.ending.Ending.TheVariants.{Over}
+use Rattle.iw_stream.specs.declared.ending.Ending.TheVariants.{Over, Broken}
 use Rattle.iw_stream.specs.Ending.{last_word}
-use Rattle.iw_stream.specs.Terminating.{terminate_judged, terminate_turned, terminate_fetched}
+use Rattle.iw_stream.specs.Terminating.{terminate_alone, terminate_judged, terminate_turned, terminate_fetched}
 use Rattle.iw_stream.specs.Judging.{or_else, fault_or, is_solicited, stag_to_invalidate, invalidation_fault, send_turning, early_verdict, table_tried, verdict, answering_by, is_response, tagged_turn, segment_turn, turn_of, receiving_turned, left_by_turn, reads_left, receiving_tried}
-use Rattle.iw_stream.specs.Starting.{StartState, AtOnce, Unheard, Heard, is_open, own_frame, awaits_frame, expecting, first_place_in, progress_in, heard, agreement_in, private_in, mismatch_in}
-use Rattle.iw_stream.specs.Stream.{StreamState, Due, StartUp, LastWord, Response, NextPart, NoneDue, ended, ends, ends_by, due, owes_frame, is_mute, part_due, response_due, frame_of_part, frame_of_terminate, frame_fetched, reads_with, octets_due, octets_fetched, emission_due, emission_fetched, emission_of, emitted, left_due, left_fetched, with_buffer, with_request, with_mulpdu, after_emit, after_deliver, accepted, rejected, breaks, with_first}
+use Rattle.iw_stream.specs.Starting.{StartState, AtOnce, Unheard, Heard, is_open, own_frame, awaits_frame, expecting, first_place_in, progress_in, heard, agreement_in, private_in, told_in, mismatch_in, negotiation_fault, answered_with}
+use Rattle.iw_stream.specs.Stream.{StreamState, Due, StartUp, LastWord, Response, NextPart, NoneDue, ended, ends, ends_by, due, owes_frame, is_mute, part_due, response_due, frame_of_part, frame_of_terminate, frame_fetched, reads_with, octets_due, octets_fetched, emission_due, emission_fetched, emission_of, emitted, left_due, left_fetched, with_buffer, with_request, with_mulpdu, after_emit, after_deliver, accepted, with_first, quits, over}
+use Rattle.iw_startup.specs.declared.side.Reply.TheVariants.{Reject as Rejecting}
 use Rattle.iw_stream.specs.Work.{Task, Hear, Turn, Clash, Judge, Try, inbox, scene, next_frame, early_frame, waiting, clashes, clash_fault, hears, heard_step, opened_step, turned_step, judged_step, tried_step, step_of, after_hearing, after_opening, after_turn, after_judging, after_trying, left_by, table_judged, table_passed, table_left, work_step, worked, table_worked}
 use Rattle.iw_stream.specs.Work as work
 use Rattle.iw_stream.proofs.Headers.{payload_kept, turn_kept, turned_kept, left_kept}
@@ -68,17 +68,34 @@ use Rattle.iw_events.specs.declared.act.Shown.{Shown}
 use Rattle.iw_events.specs.declared.act.Shown.TheVariants as shows
 use Rattle.iw_events.specs.declared.act.Seen.{Seen}
 use Rattle.iw_events.specs.declared.act.Seen.TheVariants as seen
-use Rattle.iw_laws.specs.Words.{Octets, private_data}
+use Rattle.iw_laws.specs.Words.{Octets, private_data, deed, deed_of_step, is_denied}
 use Rattle.iw_laws.specs.Turns.{asked_in, seen_judged, seen_tried, seen_turned, front_verdict}
 use Rattle.iw_laws.specs.Rules.{StreamRule, seen_of, shown_of}
 use Rattle.iw_laws.proofs.States.{stream_after}
-use Rattle.iw_laws.proofs.Plain.{plain_heard, matches_plain}
+use Rattle.iw_startup.specs.declared.config.Agreed.{Agreed}
+use Rattle.iw_laws.proofs.Rooms.{open_heard, heard_open}
 use Rattle.iw_laws.proofs.Nexts.{fore, place_past, segment_in, segment_at, turned_by, past_front, standing, Sound, none_first_here, first_is_here, past_is}
 use Rattle.iw_laws.specs.Early.{HasPlace}
 use Rattle.iw_laws.proofs.Left.{HasLeft, equal_has, trying_has}
 use Rattle.iw_laws.proofs.Seeing.{LandsTagged, LandsRequest, LandsAs, lands_as, early_lands, stands}
 
--- ---- what an act leaves of a stream, by what is seen of it
+-- ---- what an act leaves of a stream that gives nothing up as it ends, by what is seen of it
+
+-- it has ended, and no Terminate is due
+abbrev pub stops : StreamState → StreamState
+stops s = record s { ending = Over None }
+
+-- by a fault, with a Terminate that has this payload
+abbrev pub stops_by : StreamState → Octets → StreamState
+stops_by s payload = record s { ending = over s.start s.arrived payload }
+
+-- by a rejection
+abbrev pub stops_asked : StreamState → Octets → StreamState
+stops_asked s private = record s { start = answered_with s.start (Rejecting (private_data private)); ending = Over None }
+
+-- by a break of its link
+abbrev pub stops_broken : StreamState → StreamState
+stops_broken s = record s { ending = Broken }
 
 -- what is kept of the frame at the in-order point
 abbrev pub kept_of : StreamState → Option PlacedFrame
@@ -119,6 +136,14 @@ abbrev pub fault_front : StreamState → Fault → Octets
 fault_front s fault =
     option_map_or (λ x. cond (is_some (waiting s)) (terminate_turned (placed (standing s x.0)) fault) (terminate_judged s.asked (standing s x.0) fault)) (fore s) []
 
+-- and for any fault: of no frame, where the peer's start-up frame has it
+abbrev pub fault_for : StreamState → Fault → Octets
+fault_for s fault = cond (awaits_frame s.start) (terminate_alone fault) (fault_front s fault)
+
+-- the peer's start-up frame is read, if it is awaited
+abbrev pub hears_due : StreamState → StreamState
+hears_due s = record s { start = heard s.start (inbox s); arrived = cond (awaits_frame s.start) (advanced s.arrived (first_place_in (heard s.start (inbox s)))) s.arrived }
+
 abbrev pub with_finished : Queue → Option ℕ → Queue
 with_finished q None = q
 with_finished q (Some ticket) = sent_with q (completions.finished q.sent ticket)
@@ -139,16 +164,16 @@ left_frame s NoneDue = s
 abbrev pub after_shown : StreamState → Shown Octets → StreamState
 after_shown s (shows.Frame from octets) = left_frame s (due s)
 after_shown s (shows.Fetched from frame stag to octets) = record s { asked = part_fetched s.asked (response_due s); sent = s.sent + length frame }
-after_shown s (shows.Fault fault) = ends_by s (terminate_fetched s.asked fault)
+after_shown s (shows.Fault fault) = stops_by s (terminate_fetched s.asked fault)
 after_shown s shows.Nothing = s
 
 abbrev pub after_seen : StreamState → Seen Octets → StreamState
 after_seen s (seen.Done kind) = record s { queue = handed_from s.queue (done_in s.queue) }
 after_seen s (seen.Flushed kind) = record s { queue = handed_from s.queue (oldest_in s.queue) }
 after_seen s (seen.FlushedRecv octets) = record s { receiving = flushed s.receiving }
-after_seen s (seen.Asked private) = hears s
-after_seen s (seen.Opened agreed private) = hears s
-after_seen s (seen.Closed fault) = ends (hears s)
+after_seen s (seen.Asked word private) = hears s
+after_seen s (seen.Opened agreed word private) = hears s
+after_seen s (seen.Closed fault) = stops (hears s)
 after_seen s (seen.Placed right stag to octets) = places s
 after_seen s (seen.Tried place) = record s { early = early_with s (λ f. states.Tried) }
 after_seen s (seen.Requested size stag to) = record s { front = None; arrived = past_front s; early = early_left s; asked = asked_front s }
@@ -162,8 +187,8 @@ after_seen s seen.Passed = record s {
   queue = with_finished s.queue (finishes_read s.reads (segment_at (fore s)));
 }
 after_seen s (seen.Received octets solicited invalidate) = record s { front = None; receiving = finished s.receiving; arrived = past_front s; early = early_left s }
-after_seen s (seen.Terminated fault) = ends (record s { front = None; arrived = past_front s; early = early_left s })
-after_seen s (seen.Fault fault) = ends_by s (fault_front s fault)
+after_seen s (seen.Terminated fault) = stops (record s { front = None; arrived = past_front s; early = early_left s })
+after_seen s (seen.Fault fault) = stops_by (hears_due s) (fault_for s fault)
 after_seen s seen.Idle = s
 
 abbrev pub after_act : StreamState → StreamAct Octets → StreamState
@@ -180,10 +205,24 @@ after_act s (First number (Some refusal)) = s
 after_act s (Mulpdu size (Some refusal)) = s
 after_act s (Accept private (Ok agreed)) = accepted s (private_data private)
 after_act s (Accept private (Err refusal)) = s
-after_act s (Reject private None) = rejected s (private_data private)
+after_act s (Reject private None) = stops_asked s private
 after_act s (Reject private (Some refusal)) = s
 after_act s (Work step) = after_seen s step
-after_act s Break = breaks s
+after_act s Break = stops_broken s
+
+-- ---- and of one that gives up what came as it ends
+abbrev pub quits_by : Bool → StreamState → StreamState
+quits_by true s = quits s
+quits_by false s = s
+
+abbrev pub shown_left : StreamState → Shown Octets → StreamState
+shown_left s shown = quits_by (is_denied shown) (after_shown s shown)
+
+abbrev pub seen_left : StreamState → Seen Octets → StreamState
+seen_left s step = quits_by (deed_of_step step).ends (after_seen s step)
+
+abbrev pub act_left : StreamState → StreamAct Octets → StreamState
+act_left s act = quits_by (deed act).ends (after_act s act)
 
 -- no frame waits, and none was placed at the in-order point
 pub nothing_waits : (s : StreamState) → is_some (waiting s) ≡ false → s.front ≡ None
@@ -351,13 +390,25 @@ pub record Hears (s : StreamState) (outcome : Progress) : Type 0 where
   pub is : s.start ≡ Unheard startup
   pub comes : progress_in s.start (inbox s) ≡ outcome
 
+-- so an initiator's stream is open, or ends since the Reply wants what it does not have
+pub record HearsReply (s : StreamState) (agreed : Agreed) : Type 0 where
+  pub hears_it : Hears s progress.Agreed
+  pub fits : mismatch_in (heard s.start (inbox s)) ≡ None
+  pub agreed_is : agreed ≡ agreement_in (heard s.start (inbox s))
+
+pub record HearsMismatch (s : StreamState) (fault : Fault) : Type 0 where
+  pub hears_it : Hears s progress.Agreed
+  pub mismatch : Mismatch
+  pub is : mismatch_in (heard s.start (inbox s)) ≡ Some mismatch
+  pub fault_is : fault ≡ negotiation_fault mismatch
+
 abbrev pub Sees : Table → StreamState → Seen Octets → Type 0
 Sees table s (seen.Done kind) = (done : Done) × (done_in s.queue ≡ Some done) × (kind ≡ done.kind)
 Sees table s (seen.Flushed kind) = GivesUp s kind
 Sees table s (seen.FlushedRecv octets) = GivesBack s octets
 Sees table s seen.Idle = (done_in s.queue ≡ None) × (Hears s progress.More ⊎ IsResting s)
-Sees table s (seen.Asked private) = Hears s progress.Asked × (private ≡ private_in (hears s).start)
-Sees table s (seen.Opened agreed private) = Hears s progress.Agreed × (agreed ≡ agreement_in (heard s.start (inbox s))) × (private ≡ private_in (hears s).start)
+Sees table s (seen.Asked word private) = Hears s progress.Asked × (word ≡ told_in (hears s).start) × (private ≡ private_in (hears s).start)
+Sees table s (seen.Opened agreed word private) = HearsReply s agreed × (word ≡ told_in (hears s).start) × (private ≡ private_in (hears s).start)
 Sees table s (seen.Closed fault) = Hears s (progress.Faulted fault)
 Sees table s (seen.Placed right stag to octets) =
     (Judged table s (seen.Placed right stag to octets) × SeesPlaced table s right stag to octets)
@@ -370,14 +421,40 @@ Sees table s (seen.Buffered msn mo len) =
 Sees table s seen.Passed = Turned table s seen.Passed × Passes s
 Sees table s (seen.Received octets solicited invalidate) = Turned table s (seen.Received octets solicited invalidate) × SeesReceive s octets solicited invalidate
 Sees table s (seen.Terminated fault) = Judged table s (seen.Terminated fault) × SeesTerminate s
-Sees table s (seen.Fault fault) = Judged table s (seen.Fault fault) ⊎ Turned table s (seen.Fault fault)
+Sees table s (seen.Fault fault) = HearsMismatch s fault ⊎ (Judged table s (seen.Fault fault) ⊎ Turned table s (seen.Fault fault))
 
 abbrev Given : Table → StreamState → Seen Octets → StreamState → Type 0
-Given table s step left = Sees table s step × (left ≡ after_seen s step)
+Given table s step left = Sees table s step × (left ≡ seen_left s step)
 
 -- the same, where less is left of what came
 abbrev Gives : Table → StreamState → Seen Octets → StreamState → Type 0
-Gives table s step left = Sees table s step × HasLeft left (after_seen s step)
+Gives table s step left = Sees table s step × HasLeft left (seen_left s step)
+
+-- a fault of a frame is one of an open stream
+pub faults_open : (s : StreamState) (fault : Fault) → is_open s.start ≡ true → stops_by (hears_due s) (fault_for s fault) ≡ stops_by s (fault_front s fault)
+faults_open s fault started =
+    let heard_it : awaits_frame s.start ≡ false = open_heard s.start started in
+    λ i. stops_by
+    (record s { start = heard_open s.start (inbox s) started i; arrived = cond (heard_it i) (advanced s.arrived (first_place_in (heard s.start (inbox s)))) s.arrived })
+    (cond (heard_it i) (terminate_alone fault) (fault_front s fault))
+
+-- and one of a Reply is of one that awaits it
+pub faults_unheard : (s : StreamState) (fault : Fault) → awaits_frame s.start ≡ true → stops_by (hears_due s) (fault_for s fault) ≡ stops_by (hears s) (terminate_alone fault)
+faults_unheard s fault awaits =
+    λ i. stops_by
+    (record s { start = heard s.start (inbox s); arrived = cond (awaits i) (advanced s.arrived (first_place_in (heard s.start (inbox s)))) s.arrived })
+    (cond (awaits i) (terminate_alone fault) (fault_front s fault))
+
+-- where the in-order point lies then
+pub arrived_open : (s : StreamState) → is_open s.start ≡ true → (hears_due s).arrived ≡ s.arrived
+arrived_open s started = ap (λ b. cond b (advanced s.arrived (first_place_in (heard s.start (inbox s)))) s.arrived) (open_heard s.start started)
+
+pub arrived_unheard : (s : StreamState) → awaits_frame s.start ≡ true → (hears_due s).arrived ≡ advanced s.arrived (first_place_in (heard s.start (inbox s)))
+arrived_unheard s awaits = ap (λ b. cond b (advanced s.arrived (first_place_in (heard s.start (inbox s)))) s.arrived) awaits
+
+pub fault_open : (table : Table) (s : StreamState) (fault : Fault) → Judged table s (seen.Fault fault) ⊎ Turned table s (seen.Fault fault) → is_open s.start ≡ true
+fault_open table s fault (inl j) = j.runs.started
+fault_open table s fault (inr j) = j.runs.started
 
 -- a Read Request that passed its checks has 28 octets of payload
 request_short : (frame : Frame) (head : UntaggedHead) (next unanswered : ℕ) → request_fault head (length frame.ulpdu - 18) next unanswered ≡ None → length frame.ulpdu ≤ 46
@@ -385,9 +462,9 @@ request_short frame head next unanswered e = grind (arith, nat_tests, e)
 
 module _ (table : Table) (s : StreamState) (k : Sound s) (runs : IsRunning s) where
   -- a frame that was not placed is judged
-  module _ (frame : Frame) (is_next : next_frame s ≡ Some frame) (unplaced : waiting s ≡ None) (private : Octets) where
+  module _ (frame : Frame) (is_next : next_frame s ≡ Some frame) (unplaced : waiting s ≡ None) (start : StartState) where
     abbrev Lands_in : Result Landing Fault → Type 0
-    Lands_in r = verdict (work.standing table s) frame ≡ r → LandsAs (work.standing table s) frame r → Given table s (seen_of (table_judged table frame r) private (judged_step r)) (after_judging s frame r)
+    Lands_in r = verdict (work.standing table s) frame ≡ r → LandsAs (work.standing table s) frame r → Given table s (seen_of (table_judged table frame r) start (judged_step r)) (after_judging s frame r)
 
     abbrev by_front : Result Landing Fault
     by_front = front_verdict s.early (expecting s.start) (work.standing table s) frame
@@ -417,7 +494,7 @@ module _ (table : Table) (s : StreamState) (k : Sound s) (runs : IsRunning s) wh
         ∙ (λ i. option_map_or (λ (x : Carried × Octets). cond (is_some (sym unplaced i)) (terminate_turned (placed (standing s x.0)) fault) (terminate_judged s.asked (standing s x.0) fault)) (sym first.whole i) [])
 
     faulted : (fault : Fault) → by_front ≡ Err fault → Given table s (seen.Fault fault) (ends_by s (terminate_judged s.asked frame fault))
-    faulted fault e = (inl (judged (seen.Fault fault) (ap (seen_judged frame) (sym e))), ap (ends_by s) (terminates fault))
+    faulted fault e = (inr (inl (judged (seen.Fault fault) (ap (seen_judged frame) (sym e)))), ap (ends_by s) (terminates fault) ∙ sym (ap quits (faults_open s fault runs.started)))
 
     -- its segment, its place and the place behind it
     place_here : work.place_past s (placed frame) ≡ place_past s (fore s)
@@ -513,11 +590,11 @@ module _ (table : Table) (s : StreamState) (k : Sound s) (runs : IsRunning s) wh
         (λ i. ends (record s { front = None; arrived = past_here i; early = early_here i })),
       )
 
-      lands : Given table s (seen_of (table_judged table frame (verdict (work.standing table s) frame)) private (judged_step (verdict (work.standing table s) frame))) (after_judging s frame (verdict (work.standing table s) frame))
+      lands : Given table s (seen_of (table_judged table frame (verdict (work.standing table s) frame)) start (judged_step (verdict (work.standing table s) frame))) (after_judging s frame (verdict (work.standing table s) frame))
       lands = lands_by (verdict (work.standing table s) frame) refl (lands_as (work.standing table s) frame)
 
   -- none is whole at the in-order point, and one is judged before its turn
-  module _ (frame : Frame) (unplaced : waiting s ≡ None) (no_next : next_frame s ≡ None) (is_early : early_frame s ≡ Some frame) (private : Octets) where
+  module _ (frame : Frame) (unplaced : waiting s ≡ None) (no_next : next_frame s ≡ None) (is_early : early_frame s ≡ Some frame) (start : StartState) where
     abbrev at_place : ℕ
     at_place = first_place_in s.start + frame.start
 
@@ -564,7 +641,7 @@ module _ (table : Table) (s : StreamState) (k : Sound s) (runs : IsRunning s) wh
         λ i. option_map_or (λ f. payload_of (frames.segment_in f)) (option_or (option_map (λ (x : Carried × Octets). standing s x.0) (sym none i)) (sym is_early i)) []
 
     abbrev TriesIn : Option Landing → Type 0
-    TriesIn o = Gives table s (seen_of (table_tried table frame o) private (tried_step at_place o)) (after_trying s frame o)
+    TriesIn o = Gives table s (seen_of (table_tried table frame o) start (tried_step at_place o)) (after_trying s frame o)
 
     tries_to : (o : Option Landing) (w : StreamState) → record s { early = added s.early (record_tried frame o); receiving = receiving_tried s.receiving frame o } ≡ w → HasLeft (after_trying s frame o) w
     tries_to o w e = subst (HasLeft (after_trying s frame o)) e (trying_has s frame o)
@@ -590,10 +667,10 @@ module _ (table : Table) (s : StreamState) (k : Sound s) (runs : IsRunning s) wh
         go (Some x) e = let l = early_lands (work.standing table s) frame x e in in_place x l.1 e (subst (LandsAs (work.standing table s) frame) l.0 (lands_as (work.standing table s) frame))
 
   -- a frame that was placed has its turn
-  module _ (frame : Carried) (rest : Octets) (whole : fore s ≡ Some (frame, rest)) (segment : Segment Octets) (carries : segment_in frame ≡ Some segment) (kept : waiting s ≡ Some (placed (standing s frame))) (private : Octets) where
+  module _ (frame : Carried) (rest : Octets) (whole : fore s ≡ Some (frame, rest)) (segment : Segment Octets) (carries : segment_in frame ≡ Some segment) (kept : waiting s ≡ Some (placed (standing s frame))) (start : StartState) where
     abbrev Turns_to : Result Turning Fault → Type 0
     Turns_to r = turn_of (work.standing table s) (placed (standing s frame)) ≡ r
-        → Given table s (seen_of (table_passed table r) private (turned_step s.receiving (placed (standing s frame)) r)) (after_turn s (placed (standing s frame)) r)
+        → Given table s (seen_of (table_passed table r) start (turned_step s.receiving (placed (standing s frame)) r)) (after_turn s (placed (standing s frame)) r)
 
     turned : (step : Seen Octets) → step ≡ seen_turned s.receiving (placed (standing s frame)) (turn_of (work.standing table s) (placed (standing s frame))) → Turned table s step
     turned step e = record { runs = runs; frame = frame; rest = rest; whole = whole; kept = kept; answer = e }
@@ -675,7 +752,7 @@ module _ (table : Table) (s : StreamState) (k : Sound s) (runs : IsRunning s) wh
     passing e h = (turned seen.Passed e, record { segment = segment; fronts = fronted; passing = h })
 
     turns_by : (r : Result Turning Fault) → Turns_to r
-    turns_by (Err fault) e = (inr (turned (seen.Fault fault) (ap (seen_turned s.receiving (placed (standing s frame))) (sym e))), ap (ends_by s) (terminates_turned fault))
+    turns_by (Err fault) e = (inr (inr (turned (seen.Fault fault) (ap (seen_turned s.receiving (placed (standing s frame))) (sym e)))), ap (ends_by s) (terminates_turned fault) ∙ sym (ap quits (faults_open s fault runs.started)))
     turns_by (Ok turning.Passed) e =
         let c = subst Turned_as e as_turn in
         let none : finishes_read s.reads (segment_at (fore s)) ≡ None = ap (finishes_read s.reads) at ∙ c.1 in (
@@ -707,7 +784,7 @@ module _ (table : Table) (s : StreamState) (k : Sound s) (runs : IsRunning s) wh
           (λ i. record s { front = None; receiving = finished s.receiving; arrived = arrived_is i; early = early_is i }),
         )
 
-    turns : Given table s (seen_of (table_passed table (turn_of (work.standing table s) (placed (standing s frame)))) private (turned_step s.receiving (placed (standing s frame)) (turn_of (work.standing table s) (placed (standing s frame))))) (after_turn s (placed (standing s frame)) (turn_of (work.standing table s) (placed (standing s frame))))
+    turns : Given table s (seen_of (table_passed table (turn_of (work.standing table s) (placed (standing s frame)))) start (turned_step s.receiving (placed (standing s frame)) (turn_of (work.standing table s) (placed (standing s frame))))) (after_turn s (placed (standing s frame)) (turn_of (work.standing table s) (placed (standing s frame))))
     turns = turns_by (turn_of (work.standing table s) (placed (standing s frame))) refl
 
 unheard_by : (start : StartState) → awaits_frame start ≡ true → (u : StartupState) × (start ≡ Unheard u)
@@ -738,10 +815,10 @@ response_told s = go (owes_frame s) (is_mute s) (last_word s.ending) (response_d
 -- whatever the task is
 module _ (table : Table) (s : StreamState) (k : Sound s) where
   abbrev Shows : Step Octets → StreamState → Table → Type 0
-  Shows step left after = Gives table s (seen_of after (private_in left.start) step) left
+  Shows step left after = Gives table s (seen_of after left.start step) left
 
   abbrev Given_by : Step Octets → StreamState → Table → Type 0
-  Given_by step left after = Given table s (seen_of after (private_in left.start) step) left
+  Given_by step left after = Given table s (seen_of after left.start step) left
 
   hearing : done_in s.queue ≡ None → ended s ≡ false → awaits_frame s.start ≡ true → Given_by (heard_step s.start (inbox s) (progress_in s.start (inbox s))) (after_hearing s (progress_in s.start (inbox s))) table
   hearing none running awaits = go (progress_in s.start (inbox s)) refl
@@ -749,14 +826,15 @@ module _ (table : Table) (s : StreamState) (k : Sound s) where
       hears_to : (p : Progress) → progress_in s.start (inbox s) ≡ p → Hears s p
       hears_to p e = let u = unheard_by s.start awaits in record { running = running; startup = u.0; is = u.1; comes = e }
 
-      opens : (m : Option Mismatch) → m ≡ None → progress_in s.start (inbox s) ≡ progress.Agreed → Given_by (opened_step (heard s.start (inbox s)) m) (after_opening (hears s) m) table
-      opens None none e = ((hears_to progress.Agreed e, refl, refl), refl)
-      opens (Some mismatch) some e = absurd (none-some _ (sym some))
+      opens : (m : Option Mismatch) → mismatch_in (heard s.start (inbox s)) ≡ m → progress_in s.start (inbox s) ≡ progress.Agreed → Given_by (opened_step (heard s.start (inbox s)) m) (after_opening (hears s) m) table
+      opens None fits e = ((record { hears_it = hears_to progress.Agreed e; fits = fits; agreed_is = refl }, refl, refl), refl)
+      opens (Some mismatch) is e =
+          (inl (record { hears_it = hears_to progress.Agreed e; mismatch = mismatch; is = is; fault_is = refl }), sym (ap quits (faults_unheard s (negotiation_fault mismatch) awaits)))
 
       go : (p : Progress) → progress_in s.start (inbox s) ≡ p → Given_by (heard_step s.start (inbox s) p) (after_hearing s p) table
       go progress.More e = ((none, inl (hears_to progress.More e)), refl)
-      go progress.Asked e = ((hears_to progress.Asked e, refl), refl)
-      go progress.Agreed e = opens (mismatch_in (heard s.start (inbox s))) (matches_plain (heard s.start (inbox s)) (plain_heard s.start (inbox s) k.plain)) e
+      go progress.Asked e = ((hears_to progress.Asked e, refl, refl), refl)
+      go progress.Agreed e = opens (mismatch_in (heard s.start (inbox s))) refl e
       go (progress.Faulted fault) e = (hears_to (progress.Faulted fault) e, refl)
 
   gives : (t : Task) → Given_by (step_of table s t) (left_by table s t) (table_left table s t) → Shows (step_of table s t) (left_by table s t) (table_left table s t)
@@ -771,13 +849,13 @@ module _ (table : Table) (s : StreamState) (k : Sound s) where
       (λ f runs e.
       let w = k.placed_is f e in
       subst (λ z. Shows (step_of table s (Turn z)) (left_by table s (Turn z)) (table_left table s (Turn z))) (sym w.is)
-      (gives (Turn (placed (standing s w.frame))) (turns table s k runs w.frame w.rest w.whole w.segment w.carries (e ∙ ap Some w.is) (private_in (left_by table s (Turn (placed (standing s w.frame)))).start))))
-      (λ frame runs unplaced e over. gives (Clash frame) (clashing table s k runs frame e unplaced (private_in (left_by table s (Clash frame)).start) over))
-      (λ frame runs unplaced e clear. gives (Judge frame) (lands table s k runs frame e unplaced (private_in (left_by table s (Judge frame)).start) clear))
-      (λ frame runs unplaced no_next e. tried table s k runs frame unplaced no_next e (private_in (left_by table s (Try frame)).start))
+      (gives (Turn (placed (standing s w.frame))) (turns table s k runs w.frame w.rest w.whole w.segment w.carries (e ∙ ap Some w.is) (left_by table s (Turn (placed (standing s w.frame)))).start)))
+      (λ frame runs unplaced e over. gives (Clash frame) (clashing table s k runs frame e unplaced (left_by table s (Clash frame)).start over))
+      (λ frame runs unplaced e clear. gives (Judge frame) (lands table s k runs frame e unplaced (left_by table s (Judge frame)).start clear))
+      (λ frame runs unplaced no_next e. tried table s k runs frame unplaced no_next e (left_by table s (Try frame)).start)
       (λ none resting. ((none, inr resting), equal_has refl))
 
-  pub sees : (step : Seen Octets) → step ≡ seen_of (table_worked table s) (private_in (worked table s).start) (work_step table s) → Gives table s step (worked table s)
+  pub sees : (step : Seen Octets) → step ≡ seen_of (table_worked table s) (worked table s).start (work_step table s) → Gives table s step (worked table s)
   sees step e = subst (λ z. Gives table s z (worked table s)) (sym e) given
 
 -- the rule at a stream, with steps told apart
@@ -808,22 +886,22 @@ told table s (Mulpdu most refused) k rule = rule
 told table s Break k rule = rule
 
 -- what a call to emit leaves, by what it showed
-left_shown : (table : Table) (s : StreamState) (shown : Shown Octets) → shown ≡ shown_of table (emission_of table s) (emitted table s) → after_emit table s ≡ after_shown s shown
+left_shown : (table : Table) (s : StreamState) (shown : Shown Octets) → shown ≡ shown_of table (emission_of table s) (emitted table s) → after_emit table s ≡ shown_left s shown
 left_shown table s shown e = go (due s) refl (response_told s) shown e
   where
-    fetched : (part : ResponsePart) → response_due s ≡ Some part → (r : Result Octets Fault) → (shown : Shown Octets) → shown ≡ shown_of table (emission_fetched s part r) (octets_fetched r) → left_fetched s part r ≡ after_shown s shown
+    fetched : (part : ResponsePart) → response_due s ≡ Some part → (r : Result Octets Fault) → (shown : Shown Octets) → shown ≡ shown_of table (emission_fetched s part r) (octets_fetched r) → left_fetched s part r ≡ shown_left s shown
     fetched part due (Ok frame) shown e =
-        (λ i. record s { asked = part_fetched s.asked (sym due i); sent = s.sent + length frame }) ∙ ap (after_shown s) (sym e)
-    fetched part due (Err fault) shown e = ap (after_shown s) (sym e)
+        (λ i. record s { asked = part_fetched s.asked (sym due i); sent = s.sent + length frame }) ∙ ap (shown_left s) (sym e)
+    fetched part due (Err fault) shown e = ap (shown_left s) (sym e)
 
-    go : (d : Due) → due s ≡ d → IsResponse s d → (shown : Shown Octets) → shown ≡ shown_of table (emission_due table s d) (octets_due table s d) → left_due table s d ≡ after_shown s shown
-    go StartUp is t shown e = ap (left_frame s) (sym is) ∙ ap (after_shown s) (sym e)
-    go (LastWord payload) is t shown e = ap (left_frame s) (sym is) ∙ ap (after_shown s) (sym e)
+    go : (d : Due) → due s ≡ d → IsResponse s d → (shown : Shown Octets) → shown ≡ shown_of table (emission_due table s d) (octets_due table s d) → left_due table s d ≡ shown_left s shown
+    go StartUp is t shown e = ap (left_frame s) (sym is) ∙ ap (shown_left s) (sym e)
+    go (LastWord payload) is t shown e = ap (left_frame s) (sym is) ∙ ap (shown_left s) (sym e)
     go (Response part) is t shown e = fetched part t (frame_fetched table s part) shown e
-    go (NextPart part) is t shown e = ap (left_frame s) (sym is) ∙ ap (after_shown s) (sym e)
-    go NoneDue is t shown e = ap (after_shown s) (sym e)
+    go (NextPart part) is t shown e = ap (left_frame s) (sym is) ∙ ap (shown_left s) (sym e)
+    go NoneDue is t shown e = ap (shown_left s) (sym e)
 
-pub left_told : (table : Table) (s : StreamState) (act : StreamAct Octets) → Sound s → StreamRule table s act → HasLeft (stream_after table s act) (after_act s act)
+pub left_told : (table : Table) (s : StreamState) (act : StreamAct Octets) → Sound s → StreamRule table s act → HasLeft (stream_after table s act) (act_left s act)
 left_told table s (Work step) k rule = (sees table s k step rule).1
 left_told table s (Recv len None) k rule = equal_has refl
 left_told table s (Recv len (Some refusal)) k rule = equal_has refl

@@ -43,11 +43,13 @@ use Rattle.iw_startup.specs.declared.side.Reply.TheVariants as replies
 use Rattle.iw_startup.specs.declared.config.Agreed.{Agreed}
 use Rattle.iw_startup.specs.declared.config.Establishment.{Establishment}
 use Rattle.iw_stream.specs.declared.answer.AnswerRefusal.TheVariants.{NotAsked, PrivateTooLong}
+use Rattle.iw_octets.specs.declared.fault.Fault.{Fault}
 use Rattle.iw_startup.specs.declared.progress.StartupFault.{StartupFault}
 use Rattle.iw_startup.specs.declared.progress.Progress.{Progress}
 use Rattle.iw_startup.specs.declared.progress.Progress.TheVariants as progresses
 use Rattle.iw_startup.specs.Peer.{frame_end, frame_part, progress_of}
-use Rattle.iw_startup.specs.State.{StartupState, IsReached, private_in, pushed, answered, agreed_of, progress, is_unanswered, is_asked, awaits_answer}
+use Rattle.iw_startup.specs.declared.enhanced.EnhancedData.{EnhancedData}
+use Rattle.iw_startup.specs.State.{StartupState, IsReached, private_in, answer_room, pushed, answered, agreed_of, progress, is_unanswered, is_asked, awaits_answer}
 use Rattle.iw_startup.proofs.Reached.{reached-pushed}
 use Rattle.iw_startup.proofs.Answered.{reached-answered}
 use Rattle.iw_startup.proofs.Heard.{octets-pushed}
@@ -60,8 +62,8 @@ use Rattle.iw_stream.specs.Frames.{Frame, EarlyRecord, payload_of, standing_at, 
 use Rattle.iw_stream.specs.declared.judging.Landing.{Landing}
 use Rattle.iw_stream.specs.Frames as frames
 use Rattle.iw_stream.specs.Judging.{receiving_turned, is_read_response, is_response, tagged_left, left_by_turn, reads_left}
-use Rattle.iw_stream.specs.Terminating.{terminate_fetched}
-use Rattle.iw_stream.specs.Starting.{StartState, AtOnce, Unheard, Heard, IsFresh, is_open, expecting, first_place_in, is_responder, progress_in, heard, agreement_in, answered_with, first_place_out}
+use Rattle.iw_stream.specs.Terminating.{terminate_alone, terminate_fetched}
+use Rattle.iw_stream.specs.Starting.{StartState, AtOnce, Unheard, Heard, IsFresh, is_open, expecting, first_place_in, is_responder, awaits_frame, progress_in, heard, agreement_in, answered_with, first_place_out}
 use Rattle.iw_stream.specs.Starting as starting
 use Rattle.iw_stream.specs.Stream.{StreamState, Due, StartUp, LastWord, Response, NextPart, NoneDue, ended, due, answer_refusal, may_answer, keeps_silent, delivery_of, ends_by, place_of, left_out}
 use Rattle.iw_stream.specs.declared.ending.Ending.TheVariants.{Over}
@@ -84,13 +86,13 @@ use Rattle.iw_reads.specs.declared.reads.Outstanding.{Outstanding}
 use Rattle.iw_reads.specs.Outstanding.{response_turn_fault, reads_turned}
 use Rattle.iw_reads.specs.Requests.{Requested, taken_up}
 use Rattle.iw_laws.specs.Turns as turns
-use Rattle.iw_laws.specs.Turns.{Answer, Story, is_silent, hears, frames_in, next_frame, early_frame, was_placed, judged_payload, next_turned, next_reads, asked_in, next_asked, in_order_point, moves_on, segment_out, sends_segment, says_farewell, fetches_for, story_shown, story_after}
+use Rattle.iw_laws.specs.Turns.{Answer, Story, is_silent, hears, frames_in, next_frame, early_frame, was_placed, judged_payload, next_turned, next_reads, asked_in, next_asked, in_order_point, moves_on, terminate_next, terminate_for, segment_out, sends_segment, says_farewell, fetches_for, story_shown, story_after}
 use Rattle.iw_reads.specs.declared.requests.Asked.{Asked}
 use Rattle.iw_memory.specs.declared.rights.Right.TheVariants as rights
 use Rattle.iw_events.specs.declared.act.Shown.TheVariants as shows
 use Rattle.iw_laws.proofs.Located.{frames_at, located_are, located_first, located_none, past_last-push}
 use Rattle.iw_endpoint.specs.Isolation.{answer_or}
-use Rattle.iw_laws.proofs.Plain.{AsksOne, IsRevisionOne, plain_heard, room_plain}
+use Rattle.iw_laws.proofs.Rooms.{answer_fits, open_heard, heard_open}
 use Rattle.iw_laws.proofs.States.{granted}
 use Rattle.iw_laws.proofs.Nexts.{Front, fore, place_in, standing, segment_in, segment_at, place_past, past_front, past_is, first_is_here, IsFirstHere, turned_by, IsFore, Sound}
 use Rattle.iw_laws.proofs.Judged.{View, AreJudged, IsPlaceable, IsFirstRecord, Adds, frame_in, first_record, judges_one, more_come, moves_to, none_goes, none_in, none_judged, same_segments, one_counts, open_at, segments_early}
@@ -98,7 +100,7 @@ use Rattle.iw_laws.proofs.Judged as judged
 use Rattle.iw_locate.proofs.Honest.{of_earlier}
 use Rattle.iw_laws.proofs.EarlySent.{AreSent, scene_sent, none_sent, fewer_sent, one_more_sent}
 use Rattle.iw_laws.proofs.Told as told_of
-use Rattle.iw_laws.proofs.Told.{Fronts, IsPlacedBy, JudgedEarly, SeesEarly, SeesPlaced, SeesRequest, SeesTerminate, SeesSend, SeesEarlySend, IsPassing, SeesReceive, Hears, Told, kept_of, nothing_waits, early_left, fault_front, left_frame, after_act, reads_front}
+use Rattle.iw_laws.proofs.Told.{Fronts, IsPlacedBy, JudgedEarly, SeesEarly, SeesPlaced, SeesRequest, SeesTerminate, SeesSend, SeesEarlySend, IsPassing, SeesReceive, Hears, HearsMismatch, Told, kept_of, nothing_waits, early_left, fault_for, hears_due, arrived_open, arrived_unheard, fault_open, left_frame, after_act, reads_front}
 use Rattle.iw_laws.proofs.Tales.{Tale, tale_after}
 use Rattle.iw_laws.proofs.Joins.{Tells, plain_tells, last_tells, ended-append, requests_in, requests-append, requests_more, count-append, responses-append, count_responses, written-push, sunk-push, Joins, Waits, reshape, joins_buffer, joins_written, joins_front, joins_end, joins_over, joins_write, joins_response, joins_other, joins_send, joins_tagged, joins_part, joins_last}
 
@@ -118,7 +120,6 @@ start_octets (Heard u) = u.octets
 
 pub record Begins (s : StreamState) (t : Tale) (intro : Octets) : Type 0 where
   pub start : t.story.start ≡ s.start
-  pub plain : IsRevisionOne s.start
   pub reached : OnStart IsReached s.start
   pub fresh : IsFresh s.start
   pub octets : intro ≡ start_octets s.start
@@ -215,7 +216,6 @@ between_is s t k = subst (IsBetween (expecting s.start).markers) (sym (place_is 
 
 bare_sound : (s : StreamState) (t : Tale) → Track s t → Sound (bare_state s)
 bare_sound s t k = record {
-  plain = k.begins.plain;
   low = omega (arith, k.point, first_is s t k.intro k.begins);
   between = between_is s t k;
   held = k.held;
@@ -250,7 +250,6 @@ early_fore s t k f w = go (frames.segment_in (frame_in (scene s) (front_of (scen
 
 pub sound : (s : StreamState) (t : Tale) → Track s t → Sound s
 sound s t k = record {
-  plain = k.begins.plain;
   low = omega (arith, k.point, first_is s t k.intro k.begins);
   between = between_is s t k;
   held = k.held;
@@ -369,7 +368,6 @@ pub record SameStart (s s' : StreamState) (t t' : Tale) : Type 0 where
 same_begins : (s s' : StreamState) (t t' : Tale) (intro : Octets) → SameStart s s' t t' → Begins s t intro → Begins s' t' intro
 same_begins s s' t t' intro same b = record {
   start = same.tale_start ∙ b.start ∙ sym same.start;
-  plain = subst IsRevisionOne (sym same.start) b.plain;
   reached = subst (OnStart IsReached) (sym same.start) b.reached;
   fresh = subst IsFresh (sym same.start) b.fresh;
   octets = b.octets ∙ ap start_octets (sym same.start);
@@ -745,7 +743,6 @@ reads s s' t t' u r k joins placings =
       intro = part;
       begins = record {
         start = told ∙ sym start;
-        plain = subst IsRevisionOne (sym r.start) (plain_heard s.start (inbox s) k.begins.plain);
         reached = subst (OnStart IsReached) (sym start) (reached-pushed u (inbox s) (subst (OnStart IsReached) r.is k.begins.reached));
         fresh = subst IsFresh (sym start) tt;
         octets = sym octets ∙ ap start_octets (sym start);
@@ -1012,7 +1009,7 @@ same s s' t t' start arrived front early receiving story placings k joins =
 record Answers (s s' : StreamState) (t t' : Tale) (u : StartupState) (reply : Reply) : Type 0 where
   pub is : s.start ≡ Heard u
   pub asked : awaits_answer u ≡ true
-  pub small : length (private_in reply).items ≤ 512
+  pub room : length (private_in reply).items ≤ answer_room u
   pub start : s'.start ≡ Heard (answered u reply)
   pub arrived : s'.arrived ≡ s.arrived
   pub front : s'.front ≡ s.front
@@ -1034,7 +1031,6 @@ answers : (s s' : StreamState) (t t' : Tale) (u : StartupState) (reply : Reply) 
 answers s s' t t' u reply r k joins placings =
     let none : agreed_of u ≡ None = unanswered_not_agreed u (unanswered u r.asked) in
     let bare : IsBare k.frames k.before (is_some s.front) = k.shut (ap is_open r.is ∙ ap is_some none) in
-    let one : AsksOne u = subst IsRevisionOne r.is k.begins.plain in
     let still : IsBare k.frames k.before (is_some s'.front) = record { frames = bare.frames; before = bare.before; placed = ap is_some r.front ∙ bare.placed } in
     let told : t'.story.start ≡ Heard (answered u reply) = r.told ∙ ap (λ z. answered_with z reply) (k.begins.start ∙ r.is) in
     let same_came : t'.story.came ≡ t.story.came = r.story.came in
@@ -1042,8 +1038,7 @@ answers s s' t t' u reply r k joins placings =
       intro = k.intro;
       begins = record {
         start = told ∙ sym r.start;
-        plain = subst IsRevisionOne (sym r.start) one;
-        reached = subst (OnStart IsReached) (sym r.start) (reached-answered u reply r.asked (omega (arith, r.small, room_plain u one)) (subst (OnStart IsReached) r.is k.begins.reached));
+        reached = subst (OnStart IsReached) (sym r.start) (reached-answered u reply r.asked r.room (subst (OnStart IsReached) r.is k.begins.reached));
         fresh = subst IsFresh (sym r.start) tt;
         octets = k.begins.octets ∙ ap start_octets r.is ∙ ap start_octets (sym r.start);
       };
@@ -1081,9 +1076,9 @@ answers s s' t t' u reply r k joins placings =
 pub comes_to : (s : StreamState) (p : Progress) (h : Hears s p) → progress_of h.startup.config.establishment h.startup.side (inbox s) ≡ p
 comes_to s p h = sym (ap (λ z. progress_in z (inbox s)) h.is) ∙ h.comes
 
-asks : (s : StreamState) (t : Tale) (private : Octets) → Hears s progresses.Asked → Track s t → Track (after_act s (Work (seen.Asked private))) (tale_after t (Work (seen.Asked private)))
-asks s t private h k =
-    reads s (after_act s (Work (seen.Asked private))) t (tale_after t (Work (seen.Asked private))) h.startup
+asks : (s : StreamState) (t : Tale) (word : Option EnhancedData) (private : Octets) → Hears s progresses.Asked → Track s t → Track (after_act s (Work (seen.Asked word private))) (tale_after t (Work (seen.Asked word private)))
+asks s t word private h k =
+    reads s (after_act s (Work (seen.Asked word private))) t (tale_after t (Work (seen.Asked word private))) h.startup
     (record { is = h.is; whole = told_whole h.startup.config.establishment h.startup.side (inbox s) progresses.Asked (comes_to s progresses.Asked h) (λ e. cc); start = refl; arrived = refl; front = refl; early = refl; receiving = refl; told = refl; story = record { came = refl; turns = refl; placed = refl; early = refl; receiving = refl; answered = refl; asked = refl } })
     k (quiet s t k) (append-nil t.placings)
 
@@ -1093,11 +1088,20 @@ closes s t fault h k =
     (record { is = h.is; whole = told_whole h.startup.config.establishment h.startup.side (inbox s) (progresses.Faulted fault) (comes_to s (progresses.Faulted fault) h) (λ e. cc); start = refl; arrived = refl; front = refl; early = refl; receiving = refl; told = refl; story = record { came = refl; turns = refl; placed = refl; early = refl; receiving = refl; answered = refl; asked = refl } })
     k (joins_end k.segments s.receiving (is_some s.front) (ended s) (segment_at (fore s)) (t.received ++ []) k.shown (quiet s t k)) (append-nil t.placings)
 
-opens : (s : StreamState) (t : Tale) (agreed : Agreed) (private : Octets) → Hears s progresses.Agreed → Track s t → Track (after_act s (Work (seen.Opened agreed private))) (tale_after t (Work (seen.Opened agreed private)))
-opens s t agreed private h k =
-    reads s (after_act s (Work (seen.Opened agreed private))) t (tale_after t (Work (seen.Opened agreed private))) h.startup
+opens : (s : StreamState) (t : Tale) (agreed : Agreed) (word : Option EnhancedData) (private : Octets) → Hears s progresses.Agreed → Track s t → Track (after_act s (Work (seen.Opened agreed word private))) (tale_after t (Work (seen.Opened agreed word private)))
+opens s t agreed word private h k =
+    reads s (after_act s (Work (seen.Opened agreed word private))) t (tale_after t (Work (seen.Opened agreed word private))) h.startup
     (record { is = h.is; whole = told_whole h.startup.config.establishment h.startup.side (inbox s) progresses.Agreed (comes_to s progresses.Agreed h) (λ e. cc); start = refl; arrived = refl; front = refl; early = refl; receiving = refl; told = refl; story = record { came = refl; turns = refl; placed = refl; early = refl; receiving = refl; answered = refl; asked = refl } })
     k (quiet s t k) (append-nil t.placings)
+
+-- it wants what this end does not have: the stream ends
+pub fault_heard : (s : StreamState) (t : Tale) (fault : Fault) → HearsMismatch s fault → Track s t → Track (after_act s (Work (seen.Fault fault))) (tale_after t (Work (seen.Fault fault)))
+fault_heard s t fault m k =
+    let h = m.hears_it in
+    let awaits : awaits_frame s.start ≡ true = ap awaits_frame h.is in
+    reads s (after_act s (Work (seen.Fault fault))) t (tale_after t (Work (seen.Fault fault))) h.startup
+    (record { is = h.is; whole = told_whole h.startup.config.establishment h.startup.side (inbox s) progresses.Agreed (comes_to s progresses.Agreed h) (λ e. cc); start = refl; arrived = arrived_unheard s awaits; front = refl; early = refl; receiving = refl; told = refl; story = record { came = refl; turns = refl; placed = refl; early = refl; receiving = refl; answered = refl; asked = refl } })
+    k (over_joins (by_ended (hears_due s) (fault_for s fault)) (quiet s t k)) (append-nil t.placings)
 
 -- the user may answer
 pub record MayAnswer (s : StreamState) : Type 0 where
@@ -1115,6 +1119,16 @@ may s e = go (ended s) s.start refl refl e
     go false (Unheard u) a b h = absurd (false≢true h)
     go false (Heard u) a b h = record { running = a; startup = u; is = b; asked = h }
 
+-- the answer has room for the private data
+fits_answer : (s : StreamState) (private : Octets) (m : MayAnswer s) → None ≡ answer_refusal s private → length private ≤ 512 → length private ≤ answer_room m.startup
+fits_answer s private m e few = answer_fits m.startup private few (ap (λ z. starting.exceeds_answer z private) (sym m.is) ∙ go (ended s) (starting.is_asked s.start) (starting.exceeds_answer s.start private) e)
+  where
+    go : (over asked exceeds : Bool) → None ≡ cond over (Some NotAsked) (cond (not asked) (Some NotAsked) (cond exceeds (Some PrivateTooLong) None)) → exceeds ≡ false
+    go true asked exceeds h = absurd (none-some _ h)
+    go false false exceeds h = absurd (none-some _ h)
+    go false true true h = absurd (none-some _ h)
+    go false true false h = refl
+
 pub refusing : (s : StreamState) (private : Octets) → None ≡ answer_refusal s private → may_answer s ≡ true
 refusing s private e = go (ended s) (starting.is_asked s.start) e
   where
@@ -1126,20 +1140,20 @@ refusing s private e = go (ended s) (starting.is_asked s.start) e
 pub accepting : (s : StreamState) (private : Octets) (agreed : Agreed) → Ok agreed ≡ answer_or (answer_refusal s private) (agreement_in s.start) → may_answer s ≡ true
 accepting s private agreed e = refusing s private (granted (answer_refusal s private) agreed (agreement_in s.start) e).0
 
-accepts : (s : StreamState) (t : Tale) (private : Octets) (agreed : Agreed) → may_answer s ≡ true → Track s t → Track (after_act s (Accept private (Ok agreed))) (tale_after t (Accept private (Ok agreed)))
+accepts : (s : StreamState) (t : Tale) (private : Octets) (agreed : Agreed) → None ≡ answer_refusal s (private_data private).items → Track s t → Track (after_act s (Accept private (Ok agreed))) (tale_after t (Accept private (Ok agreed)))
 accepts s t private agreed e k =
-    let m = may s e in
+    let m = may s (refusing s (private_data private).items e) in
     let reply : Reply = replies.Accept (private_data private) in
     answers s (after_act s (Accept private (Ok agreed))) t (tale_after t (Accept private (Ok agreed))) m.startup reply
-    (record { is = m.is; asked = m.asked; small = omega (arith, length-take 512 private); start = ap (λ z. answered_with z reply) m.is; arrived = refl; front = refl; early = refl; receiving = refl; told = refl; story = record { came = refl; turns = refl; placed = refl; early = refl; receiving = refl; answered = refl; asked = refl } })
+    (record { is = m.is; asked = m.asked; room = fits_answer s (private_data private).items m e (omega (arith, length-take 512 private)); start = ap (λ z. answered_with z reply) m.is; arrived = refl; front = refl; early = refl; receiving = refl; told = refl; story = record { came = refl; turns = refl; placed = refl; early = refl; receiving = refl; answered = refl; asked = refl } })
     k (quiet s t k) (append-nil t.placings)
 
-rejects : (s : StreamState) (t : Tale) (private : Octets) → may_answer s ≡ true → Track s t → Track (after_act s (Reject private None)) (tale_after t (Reject private None))
+rejects : (s : StreamState) (t : Tale) (private : Octets) → None ≡ answer_refusal s (private_data private).items → Track s t → Track (after_act s (Reject private None)) (tale_after t (Reject private None))
 rejects s t private e k =
-    let m = may s e in
+    let m = may s (refusing s (private_data private).items e) in
     let reply : Reply = replies.Reject (private_data private) in
     answers s (after_act s (Reject private None)) t (tale_after t (Reject private None)) m.startup reply
-    (record { is = m.is; asked = m.asked; small = omega (arith, length-take 512 private); start = ap (λ z. answered_with z reply) m.is; arrived = refl; front = refl; early = refl; receiving = refl; told = refl; story = record { came = refl; turns = refl; placed = refl; early = refl; receiving = refl; answered = refl; asked = refl } })
+    (record { is = m.is; asked = m.asked; room = fits_answer s (private_data private).items m e (omega (arith, length-take 512 private)); start = ap (λ z. answered_with z reply) m.is; arrived = refl; front = refl; early = refl; receiving = refl; told = refl; story = record { came = refl; turns = refl; placed = refl; early = refl; receiving = refl; answered = refl; asked = refl } })
     k (joins_end k.segments s.receiving (is_some s.front) (ended s) (segment_at (fore s)) (t.received ++ []) k.shown (quiet s t k)) (append-nil t.placings)
 
 -- what goes out changes nothing of what came
@@ -1219,6 +1233,24 @@ emits_any s t (shows.Fault fault) k =
     goes_out s (after_act s (Emit (shows.Fault fault))) t (tale_after t (Emit (shows.Fault fault))) refl refl refl refl refl (shown_stays t.story (shows.Fault fault)) (append-nil t.placings) k
     (over_joins (by_ended s (terminate_fetched s.asked fault)) (quiet s t k))
 emits_any s t shows.Nothing k = goes_out s s t (tale_after t (Emit shows.Nothing)) refl refl refl refl refl (shown_stays t.story shows.Nothing) (append-nil t.placings) k (quiet s t k)
+
+-- a fault of the peer's start-up frame is none of an open stream
+pub told_open : (t : Story) (fault : Fault) → is_open t.start ≡ true → turns.ends_by (turns.hears t) (terminate_for t fault) ≡ turns.ends_by t (terminate_next t fault)
+told_open t fault started =
+    λ i. turns.ends_by (record t { start = heard_open t.start (in_order t.came) started i }) (cond (open_heard t.start started i) (terminate_alone fault) (terminate_next t fault))
+
+-- a frame has a fault: the stream ends
+fault_there : (s : StreamState) (t : Tale) (fault : Fault) → is_open s.start ≡ true → Track s t → Track (after_act s (Work (seen.Fault fault))) (tale_after t (Work (seen.Fault fault)))
+fault_there s t fault started k =
+    let told : is_open t.story.start ≡ true = ap is_open k.begins.start ∙ started in
+    let start = sym (heard_open s.start (inbox s) started) in
+    let arrived = sym (arrived_open s started) in
+    let front : segment_at (fore s) ≡ segment_at (fore (after_act s (Work (seen.Fault fault)))) =
+    λ i. segment_at (first_frame (expecting (start i)) ((arrived i).floor - first_place_in (start i)) (in_order (arrived i))) in
+    goes_out s (after_act s (Work (seen.Fault fault))) t (tale_after t (Work (seen.Fault fault))) (heard_open s.start (inbox s) started)
+    (arrived_open s started) refl refl refl
+    (record { came = refl; first = refl; was_delivered = refl; strays = refl; start = heard_open t.story.start (in_order t.story.came) told; turns = refl; placed = refl; early = refl; receiving = refl; answered = refl; asked = refl })
+    (append-nil t.placings) k (reshape refl refl refl front refl refl (over_joins (by_ended (hears_due s) (fault_for s fault)) (quiet s t k)))
 
 -- what is kept of the frame that is placed
 pub kept_whole : (s : StreamState) (was : Bool) (segment : Segment Octets) (w : Fronts s was segment) → kept_of s ≡ Some (placed_of (standing s w.frame))
@@ -1568,10 +1600,10 @@ tracking table s t (Mulpdu size None) rule r f k = same s (after_act s (Mulpdu s
 tracking table s t (Post m None) rule r f k = same s (after_act s (Post m None)) t (tale_after t (Post m None)) refl refl refl refl refl refl (append-nil t.placings) k (quiet s t k)
 tracking table s t (Work (seen.Done kind)) rule r f k = same s (after_act s (Work (seen.Done kind))) t (tale_after t (Work (seen.Done kind))) refl refl refl refl refl refl (append-nil t.placings) k (quiet s t k)
 tracking table s t (Emit shown) rule r f k = emits_any s t shown k
-tracking table s t (Accept private (Ok agreed)) rule r f k = accepts s t private agreed (accepting s (private_data private).items agreed rule) k
-tracking table s t (Reject private None) rule r f k = rejects s t private (refusing s (private_data private).items rule) k
-tracking table s t (Work (seen.Asked private)) rule r f k = asks s t private rule.0 k
-tracking table s t (Work (seen.Opened agreed private)) rule r f k = opens s t agreed private rule.0 k
+tracking table s t (Accept private (Ok agreed)) rule r f k = accepts s t private agreed (granted (answer_refusal s (private_data private).items) agreed (agreement_in s.start) rule).0 k
+tracking table s t (Reject private None) rule r f k = rejects s t private rule k
+tracking table s t (Work (seen.Asked word private)) rule r f k = asks s t word private rule.0 k
+tracking table s t (Work (seen.Opened agreed word private)) rule r f k = opens s t agreed word private rule.0.hears_it k
 tracking table s t (Work (seen.Closed fault)) rule r f k = closes s t fault rule k
 tracking table s t (Recv len None) rule r f k =
     let s' : StreamState = after_act s (Recv len None) in
@@ -1616,11 +1648,8 @@ tracking table s t (Work (seen.Terminated fault)) rule r f k =
     let t' : Tale = tale_after t (Work (seen.Terminated fault)) in
     turned s s' t t' w.fronts.frame w.fronts.rest (Untagged w.head w.payload) w.fronts.whole w.fronts.carries w.fronts.started (kept_start s s' t t' refl refl) refl refl refl refl refl refl refl
     k.receiving k k.shown (same_counts s t t' k (Untagged w.head w.payload) w.fronts (append-nil t.placings)) (terminates s t (segment_at (fore s')) w k) (last_tells k.segments w.head w.payload w.queue k.tells)
-tracking table s t (Work (seen.Fault fault)) rule r f k =
-    goes_out s (after_act s (Work (seen.Fault fault))) t (tale_after t (Work (seen.Fault fault))) refl refl refl refl refl stays_heard (append-nil t.placings) k (over_joins (by_ended s (fault_front s fault)) (quiet s t k))
-  where
-    stays_heard : StaysHeard t.story (tale_after t (Work (seen.Fault fault))).story
-    stays_heard = record { came = refl; first = refl; was_delivered = refl; strays = refl; start = refl; turns = refl; placed = refl; early = refl; receiving = refl; answered = refl; asked = refl }
+tracking table s t (Work (seen.Fault fault)) (inl m) r f k = fault_heard s t fault m k
+tracking table s t (Work (seen.Fault fault)) (inr j) r f k = fault_there s t fault (fault_open table s fault j) k
 tracking table s t Break rule r f k =
     goes_out s (after_act s Break) t (tale_after t Break) refl refl refl refl refl (record { came = refl; first = refl; was_delivered = refl; strays = refl; start = refl; turns = refl; placed = refl; early = refl; receiving = refl; answered = refl; asked = refl }) (append-nil t.placings) k (over_joins refl (quiet s t k))
 tracking table s t (Work (seen.Flushed kind)) rule r f k = same s (after_act s (Work (seen.Flushed kind))) t (tale_after t (Work (seen.Flushed kind))) refl refl refl refl refl refl (append-nil t.placings) k (quiet s t k)

@@ -13,14 +13,11 @@ use Rattle.iw_ranges.specs.InOrder.{IsOf}
 use Rattle.iw_ranges.proofs.InOrder.{held_nothing, window_nothing, of_nothing, of_takes, of_more}
 use Rattle.std.proofs.lemmas.Option.{none-some}
 use Rattle.iw_startup.specs.declared.config.Config.{Config}
-use Rattle.iw_startup.specs.declared.config.Establishment.TheVariants.{Plain}
-use Rattle.iw_startup.specs.Enhanced.{at_responder, asked_revision}
-use Rattle.iw_startup.specs.Frame.{private_room}
 use Rattle.iw_startup.specs.State.{IsReached}
 use Rattle.iw_startup.proofs.Reached.{reached-initiator, reached-responder}
 use Rattle.iw_stream.specs.declared.answer.Role.{Role}
 use Rattle.iw_stream.specs.declared.answer.Role.TheVariants.{Preset, Initiator, Responder}
-use Rattle.iw_stream.specs.Starting.{StartState, AtOnce, Unheard, Heard, IsFresh, start_at_first, without_rtr, sending, expecting}
+use Rattle.iw_stream.specs.Starting.{StartState, AtOnce, Unheard, Heard, IsFresh, start_at_first, without_rtr, exceeds_request, sending, expecting}
 use Rattle.iw_stream.specs.Starting as starting
 use Rattle.iw_untagged.specs.Receiving.{Receiving, sharing}
 use Rattle.iw_stream.specs.Stream.{StreamState, shares, frame_of}
@@ -49,7 +46,9 @@ use Rattle.iw_laws.specs.Turns.{story, in_order_point, is_near, first_queue, Poo
 use Rattle.iw_laws.specs.Sends.{terminate_segment}
 use Rattle.std.specs.Prelude.{nat_lt}
 use Rattle.iw_laws.specs.Words.{Octets, other, acts, stream_acts, stream_acts_by, Opening, config_for, no_opening, opening_in, opening_of, domain_of, openings, openings_by, posted, finished_kinds, handed_kinds, size_set, received, ended, sent, sent_by, placings, table_after, OnSome, deed}
-use Rattle.iw_endpoint.specs.Endpoint.{EndpointState, Pool as PoolOf, pool_of, stream_of, stream_at, unopened as no_stream, has_stream, no_pools, no_streams}
+use Rattle.std.specs.Option.{option_map}
+use Rattle.iw_stream.specs.declared.answer.OpenRefusal.TheVariants as open_refusals
+use Rattle.iw_endpoint.specs.Endpoint.{EndpointState, Pool as PoolOf, number_refusal, open_shared_refusal_of, unshared, pool_of, stream_of, stream_at, unopened as no_stream, has_stream, no_pools, no_streams}
 use Rattle.iw_endpoint.proofs.Parts.{fresh_domains}
 use Rattle.iw_laws.specs.Rules.{EndState, State, end_of, with_end, at_first, start, Rule, EndRule, WireRule, StreamRule, stream_for, end_after, after_entry, state_after, Follows, wire_at, no_wires}
 use Rattle.iw_laws.proofs.States.{opening_by, Connected, connected, unconnected, connected_at, connected_seen, left_at, streams_after, wire_still, wire_more}
@@ -60,10 +59,10 @@ use Rattle.iw_laws.specs.Once.{spans_placed}
 use Rattle.iw_laws.proofs.Spent.{none_spent}
 use Rattle.iw_laws.proofs.Tales.{Tale, tale_of, tale_after, tale-push, stream_acts-push, openings-push, acts_mine, acts_other, pooled, pooling-push, queue_other, queue_unused}
 use Rattle.iw_laws.proofs.Sending.{shown_good, EmitsStart, EmitsLast, EmitsPart, emits_as, terminate_small}
-use Rattle.iw_laws.proofs.Plain.{plain_first}
+use Rattle.iw_laws.proofs.Rooms.{opening_fits, last_reason, last_shared}
 use Rattle.iw_laws.proofs.Tracks.{OnStart, start_octets, Track, shown_stays}
 use Rattle.iw_laws.proofs.Left.{equal_has}
-use Rattle.iw_laws.proofs.Releases.{IsLeft, nothing_given}
+use Rattle.iw_laws.proofs.Releases.{IsLeft, Still, left_apart, nothing_given}
 use Rattle.iw_laws.proofs.Fills.{nothing_placed}
 use Rattle.iw_laws.proofs.Owns.{Own, answers_part, first_fits, Emits, out_of, lives, all_spoken, word_unbroken, runs_unbroken, Unspoken, IsStartOf, past_start}
 use Rattle.iw_laws.proofs.Pools.{told_by, tale, tale_seen, Holds, PoolsSeen, HeldAt, next_held, pools_next, seen_held}
@@ -139,8 +138,8 @@ still_of t u (Accept private (Ok agreed)) rule n h calm = h calm
 still_of t u (Accept private (Err refusal)) rule n h calm = h calm
 still_of t u (Reject private None) rule n h calm = h calm
 still_of t u (Reject private (Some refusal)) rule n h calm = h calm
-still_of t u (Work (seen.Asked private)) rule n h calm = h calm
-still_of t u (Work (seen.Opened agreed private)) rule n h calm = h calm
+still_of t u (Work (seen.Asked word private)) rule n h calm = h calm
+still_of t u (Work (seen.Opened agreed word private)) rule n h calm = h calm
 still_of t u (Work (seen.Closed fault)) rule n h calm = h calm
 still_of t u (Emit shown) rule n h calm = subst (λ z. IsOf z u.sent) (sym (shown_stays t.story shown).came) (h (sym (shown_stays t.story shown).strays ∙ calm))
 still_of t u (Post m refused) rule n h calm = h calm
@@ -166,17 +165,16 @@ nothing_moves : nothing ≡ advanced nothing 0
 unfolding advanced
 nothing_moves = refl
 
--- what each opening asks for: revision 1, with little private data
-record OpensPlain (o : Opening) : Type 0 where
+-- each opening has private data that fits
+record OpensFit (o : Opening) : Type 0 where
   pub small : length o.config.private.items ≤ 512
-  pub plain : o.config.establishment ≡ Plain
+  pub fits : exceeds_request o.role o.config ≡ false
 
 -- how a stream begins
-reached_at_first : (role : Role) (config : Config) → config.establishment ≡ Plain → length config.private.items ≤ 512 → OnStart IsReached (start_at_first role config)
-reached_at_first Preset config plain small = tt
-reached_at_first Initiator config plain small =
-    reached-initiator (without_rtr config) (subst (λ e. length config.private.items ≤ private_room (asked_revision (at_responder e))) (sym plain) small)
-reached_at_first Responder config plain small = reached-responder config
+reached_at_first : (role : Role) (config : Config) → length config.private.items ≤ 512 → exceeds_request role config ≡ false → OnStart IsReached (start_at_first role config)
+reached_at_first Preset config small fits = tt
+reached_at_first Initiator config small fits = reached-initiator (without_rtr config) (opening_fits config small fits)
+reached_at_first Responder config small fits = reached-responder config
 
 fresh_at_first : (role : Role) (config : Config) → IsFresh (start_at_first role config)
 fresh_at_first Preset config = tt
@@ -193,8 +191,8 @@ starts_at_first o = go o.role refl
   where
     go : (r : Role) → o.role ≡ r → IsStartOf o (start_at_first r o.config)
     go Preset e = (e, refl)
-    go Initiator e = record { few = omega arith; role = sym e; small = tt }
-    go Responder e = record { few = omega arith; role = sym e; small = tt }
+    go Initiator e = record { role = sym e }
+    go Responder e = record { role = sym e }
 
 -- a stream to which nothing has happened
 no_emits : (o : Opening) → Emits (connected o).stream (tale_of o [])
@@ -237,14 +235,13 @@ no_emits o = record {
   whole = refl;
 }
 
-no_track : (o : Opening) → OpensPlain o → Track (connected o).stream (tale_of o [])
+no_track : (o : Opening) → OpensFit o → Track (connected o).stream (tale_of o [])
 unfolding received placings story
 no_track o asks = record {
   intro = [];
   begins = record {
     start = refl;
-    plain = plain_first o.role o.config asks.plain;
-    reached = reached_at_first o.role o.config asks.plain asks.small;
+    reached = reached_at_first o.role o.config asks.small asks.fits;
     fresh = fresh_at_first o.role o.config;
     octets = first_octets o.role o.config;
   };
@@ -291,7 +288,7 @@ no_track o asks = record {
   tells = record { answered_are = refl; asked_are = refl };
 }
 
-no_own : (o : Opening) → OpensPlain o → Own o (connected o) (tale_of o [])
+no_own : (o : Opening) → OpensFit o → Own o (connected o) (tale_of o [])
 unfolding sent received ended story finished_kinds handed_kinds spans_placed
 no_own o asks = record {
   wire = refl;
@@ -299,7 +296,6 @@ no_own o asks = record {
   due = refl;
   numbered = record { first = refl; delivered = refl };
   starts = starts_at_first o;
-  small = asks.small;
   emits = no_emits o;
   track = no_track o asks;
   doing = record { answered = omega arith; among = omega arith };
@@ -310,9 +306,9 @@ no_own o asks = record {
 }
 
 nothing_left : (o : Opening) → IsLeft (connected o).stream (connected o).stream
-nothing_left o = record { has = equal_has refl; only = nothing_given (scene (connected o).stream) held_nothing }
+nothing_left o = Still (equal_has refl) (nothing_given (scene (connected o).stream) held_nothing)
 
-no_holds : (o : Opening) → OpensPlain o → Holds o (connected o) (tale_of o [])
+no_holds : (o : Opening) → OpensFit o → Holds o (connected o) (tale_of o [])
 no_holds o asks = record { stream = (connected o).stream; is_left = nothing_left o; own = no_own o asks }
 
 -- nothing came of it
@@ -321,7 +317,7 @@ unfolding story
 nothing_of o octets = of_nothing octets
 
 -- a stream to which nothing has happened is opened
-reopened : (o l m : Opening) (c : Connected) (shared : Bool) (queue : Receiving) (done : List (StreamAct Octets)) (d : Connected) (u : Tale) → OpensPlain o → done ≡ []
+reopened : (o l m : Opening) (c : Connected) (shared : Bool) (queue : Receiving) (done : List (StreamAct Octets)) (d : Connected) (u : Tale) → OpensFit o → done ≡ []
     → Pair l c (told_by shared l done queue) m d u → Pair o (connected o) (tale_of o []) m d u
 reopened o l m c shared queue done d u asks none p = record {
   own = no_holds o asks;
@@ -370,7 +366,7 @@ unfolding sent
 nothing_sent = refl
 
 -- a stream is opened
-opened_pair : (s : EndState) (done : List (Act Octets)) (act : Act Octets) (m n : ℕ) (o l : Opening) (d : Connected) (u : Tale) → EndSeen s done → EndRule s.endpoint act → Opens s m → OpensPlain o → openings_by n act ≡ cond (eqb m n) (o ∷ []) []
+opened_pair : (s : EndState) (done : List (Act Octets)) (act : Act Octets) (m n : ℕ) (o l : Opening) (d : Connected) (u : Tale) → EndSeen s done → EndRule s.endpoint act → Opens s m → OpensFit o → openings_by n act ≡ cond (eqb m n) (o ∷ []) []
     → streams_after s.endpoint act ≡ slice_set s.endpoint.streams m (Some (connected o).stream) → stream_acts_by n act ≡ [] → Pair (opening_of n done) (connected_at s n) (tale n done) l d u
     → Pair (opening_of n (done ++ act ∷ [])) (connected_at (end_after s act) n) (tale n (done ++ act ∷ [])) l d u
 opened_pair s done act m n o l d u k rule new asks one left silent p = go (eqb m n) refl
@@ -406,7 +402,7 @@ acted_here s peer done act n l u k pools rule p =
     let room : n < length s.wires = omega (arith, there, k.numbers, k.wires) in
     let wire : WireRule u.sent act = subst (λ z. WireRule z act) p.own_peer.own.wire rule.1.1 in
     let numbered : IsNumbered (tale_of o those).story.first act =
-    subst (λ z. IsNumbered z act) (ap (λ (z : StreamState). z.first) p.own.is_left.has.same ∙ sym p.own.own.numbered.first) (numbered_at s.endpoint n act rule.0.1) in
+    subst (λ z. IsNumbered z act) (ap (λ (z : StreamState). z.first) (left_apart p.own.is_left) ∙ sym p.own.own.numbered.first) (numbered_at s.endpoint n act rule.0.1) in
     let next : Pair o (record { stream = left_at s.endpoint n act; wire = wire_at s n ++ sent_by act }) (told_by o.shared o (those ++ act ∷ []) queue) l (connected_at peer n) u = record {
       own = next_held s done n act k pools rule.0.0 rule.0.1 p.own;
       own_peer = p.own_peer;
@@ -430,9 +426,9 @@ acted s peer done (Unpool pd answer) n l u k pools rule p = same_stream s (Unpoo
 acted s peer done (Open m pd role options private (Some refusal)) n l u k pools rule p = same_stream s (Open m pd role options private (Some refusal)) n done l (connected_at peer n) u rule.0 refl refl refl p
 acted s peer done (OpenShared m pd role options private (Some refusal)) n l u k pools rule p = same_stream s (OpenShared m pd role options private (Some refusal)) n done l (connected_at peer n) u rule.0 refl refl refl p
 acted s peer done (Open m pd role options private None) n l u k pools rule p =
-    opened_pair s done (Open m pd role options private None) m n (opening_by false pd role options private) l (connected_at peer n) u k rule.0 (opens s m pd role (config_for options private) rule.0) (record { small = omega (arith, length-take 512 private); plain = refl }) refl refl refl p
+    opened_pair s done (Open m pd role options private None) m n (opening_by false pd role options private) l (connected_at peer n) u k rule.0 (opens s m pd role (config_for options private) rule.0) (record { small = omega (arith, length-take 512 private); fits = last_reason (number_refusal s.endpoint m pd) (exceeds_request role (config_for options private)) open_refusals.PrivateTooLong rule.0 }) refl refl refl p
 acted s peer done (OpenShared m pd role options private None) n l u k pools rule p =
-    opened_pair s done (OpenShared m pd role options private None) m n (opening_by true pd role options private) l (connected_at peer n) u k rule.0 (opens_shared s m pd role (config_for options private) rule.0) (record { small = omega (arith, length-take 512 private); plain = refl }) refl refl refl p
+    opened_pair s done (OpenShared m pd role options private None) m n (opening_by true pd role options private) l (connected_at peer n) u k rule.0 (opens_shared s m pd role (config_for options private) rule.0) (record { small = omega (arith, length-take 512 private); fits = last_shared (option_map open_shared_refusal_of (number_refusal s.endpoint m pd)) (unshared (pool_of s.endpoint pd)) (exceeds_request role (config_for options private)) rule.0 }) refl refl refl p
 acted s peer done (Stream m act) n l u k pools rule p = go (eqb m n) refl
   where
     go : (b : Bool) → eqb m n ≡ b → Pair (opening_of n (done ++ Stream m act ∷ [])) (connected_at (end_after s (Stream m act)) n) (tale n (done ++ Stream m act ∷ [])) l (connected_at peer n) u
@@ -576,8 +572,8 @@ state_after-push (x ∷ xs) e w = state_after-push xs e (after_entry w x)
 
 no_pair : Pair no_opening unconnected (tale_of no_opening []) no_opening unconnected (tale_of no_opening [])
 no_pair = record {
-  own = no_holds no_opening (record { small = omega arith; plain = refl });
-  own_peer = no_holds no_opening (record { small = omega arith; plain = refl });
+  own = no_holds no_opening (record { small = omega arith; fits = refl });
+  own_peer = no_holds no_opening (record { small = omega arith; fits = refl });
   out = λ raw. nothing_of no_opening (tale_of no_opening []).sent;
   back = λ raw. nothing_of no_opening (tale_of no_opening []).sent;
 }

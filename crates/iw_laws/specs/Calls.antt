@@ -1,5 +1,5 @@
 -- How each call is answered, and what becomes of octets that come.
-use Rattle.std.specs.Prelude.{◌≡◌, ℕ, ◌+◌, ◌-◌, ◌%◌, ◌^◌, ◌≤◌, nat_le, nat_lt, not, ◌&&◌, ◌||◌, Bool, true, false, List, ◌∷◌, ◌++◌, length, take, drop, if◌then◌else◌, Option, Some, None, Result, Ok, Err, IfOk}
+use Rattle.std.specs.Prelude.{◌≡◌, ℕ, ◌+◌, ◌-◌, ◌%◌, ◌^◌, ◌≤◌, ◌==◌, nat_le, nat_lt, not, ◌&&◌, ◌||◌, true, List, ◌∷◌, ◌++◌, length, take, drop, if◌then◌else◌, Option, Some, None, Result, Ok, Err, IfOk}
 use Rattle.std.specs.Option.{option_map, option_map_or, option_or}
 use Rattle.std.specs.Result.{result_err}
 use Rattle.iw_octets.specs.declared.stag.Stag.{Stag}
@@ -10,9 +10,8 @@ use Rattle.iw_ranges.specs.declared.Delivery.TheVariants.{Dropped}
 use Rattle.iw_ranges.specs.Arrived.{advanced, delivery}
 use Rattle.iw_queues.specs.declared.request.Request.{Request}
 use Rattle.iw_queues.specs.Request.{size_of}
-use Rattle.iw_startup.specs.declared.config.Agreed.{Agreed}
 use Rattle.iw_stream.specs.declared.answer.AnswerRefusal.{AnswerRefusal}
-use Rattle.iw_stream.specs.declared.answer.AnswerRefusal.TheVariants.{NotAsked, PrivateTooLong}
+use Rattle.iw_stream.specs.declared.answer.AnswerRefusal.TheVariants.{NotAsked}
 use Rattle.iw_stream.specs.declared.answer.PostRefusal.{PostRefusal}
 use Rattle.iw_stream.specs.declared.answer.PostRefusal.TheVariants as posting
 use Rattle.iw_stream.specs.declared.answer.RecvRefusal.{RecvRefusal}
@@ -21,18 +20,20 @@ use Rattle.iw_stream.specs.declared.answer.FirstRefusal.{FirstRefusal}
 use Rattle.iw_stream.specs.declared.answer.FirstRefusal.TheVariants.{Late}
 use Rattle.iw_stream.specs.declared.answer.OpenRefusal.{OpenRefusal}
 use Rattle.iw_stream.specs.declared.answer.OpenRefusal.TheVariants.{NumberTaken, BadNumber, NoDomain}
-use Rattle.iw_stream.specs.Starting.{is_open, is_asked, agreement_in}
-use Rattle.iw_stream.specs.Stream.{size_refusal}
+use Rattle.iw_startup.specs.declared.config.Config.{Config}
+use Rattle.iw_stream.specs.declared.answer.Role.{Role}
+use Rattle.iw_stream.specs.Starting.{is_open, most_reads_in, agreement_in, answer_refusal}
+use Rattle.iw_stream.specs.Stream.{size_refusal, is_read}
 use Rattle.iw_untagged.specs.Receiving.{is_full, is_shared}
 use Rattle.iw_endpoint.specs.declared.refusal.OpenSharedRefusal.{OpenSharedRefusal}
-use Rattle.iw_endpoint.specs.Endpoint.{stream_numbers, share_fault, pool_fault, take_fault, taken, open_shared_refusal_of, unshared}
+use Rattle.iw_endpoint.specs.Endpoint.{stream_numbers, share_fault, pool_fault, take_fault, taken, request_refusal, open_shared_refusal_of, unshared}
 use Rattle.iw_endpoint.specs.Isolation.{answer_or}
 use Rattle.iw_events.specs.declared.act.Act.{Act}
 use Rattle.iw_events.specs.declared.act.Act.TheVariants.{Domain, Register, Deregister, Invalidate, Store, Open, Share, Pool, Unpool, OpenShared, Stream}
 use Rattle.iw_events.specs.declared.act.StreamAct.{StreamAct}
 use Rattle.iw_events.specs.declared.act.StreamAct.TheVariants.{Recv, Post, Emit, First, Deliver, Raw, Mulpdu, Accept, Reject, Work, Break}
 use Rattle.iw_events.specs.declared.act.Entry.{Entry}
-use Rattle.iw_laws.specs.Words.{Octets, Coming, other, acts, deed, stream_acts, openings, was_opened, posted, handed_kinds, ended, sent, table_after}
+use Rattle.iw_laws.specs.Words.{Octets, Coming, other, acts, deed, private_data, config_for, stream_acts, openings, was_opened, posted, handed_kinds, ended, sent, table_after}
 use Rattle.iw_laws.specs.Turns.{Story, story_of, pool_by, in_order_point, landed}
 use Rattle.iw_laws.specs.Words.{OnSome, OnStream, AtEach}
 
@@ -50,16 +51,22 @@ pub record IsNew (table : Table) (pd : ℕ) (stag : Stag) : Type 0 where
   pub domain : stag.domain ≡ pd
   pub fresh : region_at table stag ≡ None
 
-abbrev pub open_refusal_by : List (Act Octets) → ℕ → ℕ → Option OpenRefusal
-open_refusal_by before n pd =
+abbrev pub number_refusal_by : List (Act Octets) → ℕ → ℕ → Option OpenRefusal
+number_refusal_by before n pd =
     if was_opened (openings n before) then Some NumberTaken
     else if nat_le stream_numbers n then Some BadNumber
     else if not (is_added (table_after before) pd) then Some NoDomain
     else None
 
--- that the domain has no pool comes after all else
-abbrev pub open_shared_refusal_by : List (Act Octets) → ℕ → ℕ → Option OpenSharedRefusal
-open_shared_refusal_by before n pd = option_or (option_map open_shared_refusal_of (open_refusal_by before n pd)) (unshared (pool_by pd before))
+-- that an enhanced Request has no room for the private data comes after all else
+abbrev pub open_refusal_by : List (Act Octets) → ℕ → ℕ → Role → Config → Option OpenRefusal
+open_refusal_by before n pd role config = option_or (number_refusal_by before n pd) (request_refusal role config)
+
+-- but for that, that the domain has no pool
+abbrev pub open_shared_refusal_by : List (Act Octets) → ℕ → ℕ → Role → Config → Option OpenSharedRefusal
+open_shared_refusal_by before n pd role config =
+    option_or (option_map open_shared_refusal_of (number_refusal_by before n pd))
+    (option_or (unshared (pool_by pd before)) (option_map open_shared_refusal_of (request_refusal role config)))
 
 -- by what was done at the end before
 abbrev pub EndAnswered : List (Act Octets) → Act Octets → Type 0
@@ -69,11 +76,11 @@ EndAnswered before (Register pd base rights octets answer) =
 EndAnswered before (Deregister stag answer) = answer ≡ deregister_answer (table_after before) stag
 EndAnswered before (Invalidate stag refused) = refused ≡ invalidate_refusal (table_after before) stag
 EndAnswered before (Store stag to octets refused) = refused ≡ store_refusal (table_after before) stag to (length octets)
-EndAnswered before (Open n pd role options private refused) = refused ≡ open_refusal_by before n pd
+EndAnswered before (Open n pd role options private refused) = refused ≡ open_refusal_by before n pd role (config_for options private)
 EndAnswered before (Share pd refused) = refused ≡ share_fault (is_added (table_after before) pd) (pool_by pd before)
 EndAnswered before (Pool pd len refused) = refused ≡ pool_fault (is_added (table_after before) pd) (pool_by pd before)
 EndAnswered before (Unpool pd answer) = answer ≡ answer_or (take_fault (is_added (table_after before) pd) (pool_by pd before)) (taken (pool_by pd before))
-EndAnswered before (OpenShared n pd role options private refused) = refused ≡ open_shared_refusal_by before n pd
+EndAnswered before (OpenShared n pd role options private refused) = refused ≡ open_shared_refusal_by before n pd role (config_for options private)
 EndAnswered before (Stream n act) = Unit {0}
 
 -- each call of an end is answered by its regions, pools and streams, as the entries before it leave them
@@ -92,6 +99,7 @@ recv_refusal_by t before =
 abbrev pub post_refusal_by : Story → List (StreamAct Octets) → Request Octets → Option PostRefusal
 post_refusal_by t before request =
     if ended before || not (is_open t.start) then Some posting.NotOpen
+    else if is_read request && (most_reads_in t.start == 0) then Some posting.NoReads
     else if nat_le 256 (length (posted before) - length (handed_kinds before)) then Some posting.Full
     else if nat_lt 16777216 (size_of request) then Some posting.TooLong
     else None
@@ -100,28 +108,18 @@ post_refusal_by t before request =
 abbrev pub first_refusal_by : Story → Option FirstRefusal
 first_refusal_by t = if t.was_delivered then Some Late else None
 
--- the peer's Request was read, and is not answered
-abbrev pub may_answer_by : Story → List (StreamAct Octets) → Bool
-may_answer_by t before = not (ended before) && is_asked t.start
-
--- what both ends asked for is agreed on; an answer of revision 1 has room for any private data
-abbrev pub Accepted : Story → List (StreamAct Octets) → Result Agreed AnswerRefusal → Type 0
-Accepted t before (Ok agreed) = (may_answer_by t before ≡ true) × (agreed ≡ agreement_in t.start)
-Accepted t before (Err NotAsked) = may_answer_by t before ≡ false
-Accepted t before (Err PrivateTooLong) = ⊥
-
-abbrev pub Rejected : Story → List (StreamAct Octets) → Option AnswerRefusal → Type 0
-Rejected t before None = may_answer_by t before ≡ true
-Rejected t before (Some NotAsked) = may_answer_by t before ≡ false
-Rejected t before (Some PrivateTooLong) = ⊥
+-- the peer's Request was read, and is not answered; and the answer has room for the private data
+abbrev pub answer_refusal_by : Story → List (StreamAct Octets) → Octets → Option AnswerRefusal
+answer_refusal_by t before private = if ended before then Some NotAsked else answer_refusal t.start (private_data private).items
 
 -- by what was done on the stream before
 abbrev pub StreamAnswered : Story → List (StreamAct Octets) → StreamAct Octets → Type 0
 StreamAnswered t before (Recv len refused) = refused ≡ recv_refusal_by t before
 StreamAnswered t before (Post request refused) = refused ≡ post_refusal_by t before request
 StreamAnswered t before (Mulpdu size refused) = refused ≡ size_refusal size
-StreamAnswered t before (Accept private answer) = Accepted t before answer
-StreamAnswered t before (Reject private refused) = Rejected t before refused
+-- what both ends asked for is agreed on
+StreamAnswered t before (Accept private answer) = answer ≡ answer_or (answer_refusal_by t before private) (agreement_in t.start)
+StreamAnswered t before (Reject private refused) = refused ≡ answer_refusal_by t before private
 StreamAnswered t before (Emit shown) = Unit {0}
 StreamAnswered t before (First number refused) = refused ≡ first_refusal_by t
 StreamAnswered t before (Deliver from number octets delivery) = Unit {0}

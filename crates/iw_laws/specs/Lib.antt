@@ -16,3 +16,4 @@ pub mod Stops
 pub mod Bounds
 pub mod EarlyRuns
 pub mod PoolRuns
+pub mod EnhancedRuns

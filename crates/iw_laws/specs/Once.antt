@@ -87,8 +87,8 @@ PlacedSeen t s (seen.Fault fault) = Unit {0}
 PlacedSeen t s (seen.Done kind) = Unit {0}
 PlacedSeen t s (seen.Flushed kind) = Unit {0}
 PlacedSeen t s (seen.FlushedRecv octets) = Unit {0}
-PlacedSeen t s (seen.Asked private) = Unit {0}
-PlacedSeen t s (seen.Opened agreed private) = Unit {0}
+PlacedSeen t s (seen.Asked told private) = Unit {0}
+PlacedSeen t s (seen.Opened agreed told private) = Unit {0}
 PlacedSeen t s (seen.Closed fault) = Unit {0}
 PlacedSeen t s seen.Idle = Unit {0}
 

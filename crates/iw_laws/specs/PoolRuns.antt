@@ -21,7 +21,7 @@ use Rattle.iw_laws.specs.Once.{PlacesOnce}
 use Rattle.iw_laws.specs.Rest.{IdleOnlyAtRest}
 use Rattle.iw_laws.specs.Safe.{InOrder, Covered, Within}
 use Rattle.iw_laws.specs.Turns.{Turns}
-use Rattle.iw_laws.specs.WrongRuns.{Run, a, b, on, opens, raw, works, breaks, sends_one, writes_one, send_frame, buffers_one}
+use Rattle.iw_laws.specs.WrongRuns.{Run, a, b, on, no_options, opens, raw, works, breaks, sends_one, writes_one, send_frame, buffers_one}
 
 -- ---- entries
 
@@ -38,7 +38,7 @@ unpools pd buffer = Unpool pd (Ok buffer)
 
 -- a stream that shares it, with markers or without, and with no CRCs
 abbrev pub asks_shared : ℕ → ℕ → Bool → Option OpenSharedRefusal → Act Octets
-asks_shared n pd markers refused = OpenShared n pd Preset (record { markers = markers; crc = false }) [] refused
+asks_shared n pd markers refused = OpenShared n pd Preset (record no_options { markers = markers }) [] refused
 
 abbrev pub opens_shared : ℕ → ℕ → Act Octets
 opens_shared n pd = asks_shared n pd false None
@@ -225,7 +225,7 @@ opens_unshared = b (Domain 1 None) ∷ b (opens_shared 0 1) ∷ []
 
 -- a stream is opened under the number of one that shares a pool
 abbrev pub opens_again : Act Octets
-opens_again = Open 0 1 Preset (record { markers = false; crc = false }) [] None
+opens_again = Open 0 1 Preset no_options [] None
 
 abbrev pub takes_number : Run
 takes_number = opens_pooled ++ (b opens_again ∷ [])
@@ -325,7 +325,7 @@ hands_out_other =
 abbrev pub sends_both : Run
 sends_both =
     opens a Preset
-    ++ (a (Open 1 1 Preset (record { markers = false; crc = false }) [] None) ∷ a sends_one
+    ++ (a (Open 1 1 Preset no_options [] None) ∷ a sends_one
     ∷ a (Stream 1 (Post (Posted (messages.Send (0x69 ∷ []) false None)) None)) ∷ [])
 
 abbrev pub receives_others : Run

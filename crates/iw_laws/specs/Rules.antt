@@ -12,7 +12,7 @@ use Rattle.iw_stream.specs.declared.answer.Step.{Step}
 use Rattle.iw_stream.specs.declared.answer.Step.TheVariants as steps
 use Rattle.iw_stream.specs.declared.answer.Emission.{Emission}
 use Rattle.iw_stream.specs.declared.answer.Emission.TheVariants as emissions
-use Rattle.iw_stream.specs.Starting.{private_in, agreement_in}
+use Rattle.iw_stream.specs.Starting.{StartState, private_in, told_in, agreement_in}
 use Rattle.iw_stream.specs.Stream.{StreamState, recv_refusal, post_refusal, size_refusal, emission_of, emitted, first_refusal, answer_refusal, delivery_of}
 use Rattle.iw_stream.specs.Work.{work_step, worked, table_worked}
 use Rattle.iw_events.specs.declared.call.End.{End}
@@ -90,23 +90,23 @@ shown_of table (emissions.Fetched from len stag to n) octets = Fetched from octe
 shown_of table (emissions.Fault fault) octets = Denied fault
 shown_of table emissions.Nothing octets = Nothing
 
--- what was seen of a step, where it left this table and the peer's private data is this
-abbrev pub seen_of : Table → Octets → Step Octets → Seen Octets
-seen_of table private (steps.Done kind) = seen.Done kind
-seen_of table private (steps.Flushed kind) = seen.Flushed kind
-seen_of table private (steps.FlushedRecv buffer) = seen.FlushedRecv buffer
-seen_of table private steps.Asked = seen.Asked private
-seen_of table private (steps.Opened agreed) = seen.Opened agreed private
-seen_of table private (steps.Closed fault) = seen.Closed fault
-seen_of table private (steps.Placed right stag to len) = seen.Placed right stag to (octets_at table stag to len)
-seen_of table private (steps.Buffered msn mo len) = seen.Buffered msn mo len
-seen_of table private (steps.Requested size stag to) = seen.Requested size stag to
-seen_of table private (steps.Tried place) = seen.Tried place
-seen_of table private steps.Passed = seen.Passed
-seen_of table private (steps.Received buffer len solicited invalidate) = seen.Received (take len buffer) solicited invalidate
-seen_of table private (steps.Terminated fault) = seen.Terminated fault
-seen_of table private (steps.Fault fault) = seen.Fault fault
-seen_of table private steps.Idle = seen.Idle
+-- what was seen of a step, where it left this table and this start-up
+abbrev pub seen_of : Table → StartState → Step Octets → Seen Octets
+seen_of table s (steps.Done kind) = seen.Done kind
+seen_of table s (steps.Flushed kind) = seen.Flushed kind
+seen_of table s (steps.FlushedRecv buffer) = seen.FlushedRecv buffer
+seen_of table s steps.Asked = seen.Asked (told_in s) (private_in s)
+seen_of table s (steps.Opened agreed) = seen.Opened agreed (told_in s) (private_in s)
+seen_of table s (steps.Closed fault) = seen.Closed fault
+seen_of table s (steps.Placed right stag to len) = seen.Placed right stag to (octets_at table stag to len)
+seen_of table s (steps.Buffered msn mo len) = seen.Buffered msn mo len
+seen_of table s (steps.Requested size stag to) = seen.Requested size stag to
+seen_of table s (steps.Tried place) = seen.Tried place
+seen_of table s steps.Passed = seen.Passed
+seen_of table s (steps.Received buffer len solicited invalidate) = seen.Received (take len buffer) solicited invalidate
+seen_of table s (steps.Terminated fault) = seen.Terminated fault
+seen_of table s (steps.Fault fault) = seen.Fault fault
+seen_of table s steps.Idle = seen.Idle
 
 -- the right answer at a stream, whoever sent the octets that come
 abbrev pub StreamRule : Table → StreamState → StreamAct Octets → Type 0
@@ -120,7 +120,7 @@ StreamRule table s (Mulpdu size refused) = refused ≡ size_refusal size
 StreamRule table s (Accept private answer) = answer ≡ answer_or (answer_refusal s (private_data private).items) (agreement_in s.start)
 StreamRule table s (Reject private refused) = refused ≡ answer_refusal s (private_data private).items
 StreamRule table s (Work step) =
-    step ≡ seen_of (table_worked table s) (private_in (worked table s).start) (work_step table s)
+    step ≡ seen_of (table_worked table s) (worked table s).start (work_step table s)
 StreamRule table s Break = Unit {0}
 
 -- octets that are delivered are those that the other end sent on the stream

@@ -12,7 +12,6 @@ use Rattle.iw_octets.specs.declared.constants.TheConstants.{TAGGED_HEADER}
 use Rattle.iw_octets.specs.declared.payload.ReadRequest.{ReadRequest}
 use Rattle.iw_rdmap.specs.Laws.{terminate_head}
 use Rattle.iw_reads.specs.declared.requests.Asked.{Asked}
-use Rattle.iw_reads.specs.Outstanding.{most_reads}
 use Rattle.iw_queues.specs.Request.{kind_of}
 use Rattle.iw_queues.specs.Segments.{first_numbers}
 use Rattle.iw_queues.specs.Joined.{IsPrefixOf}
@@ -24,7 +23,7 @@ use Rattle.iw_events.specs.declared.act.Shown.TheVariants.{Frame, Fetched, Fault
 use Rattle.iw_events.specs.declared.act.Entry.{Entry}
 use Rattle.iw_stream.specs.Ending.{is_broken, last_word}
 use Rattle.iw_laws.specs.Words.{Octets, acts, deed, stream_acts, posted, handed_kinds, ended, sent, size_set}
-use Rattle.iw_stream.specs.Starting.{is_open, sending, own_frame}
+use Rattle.iw_stream.specs.Starting.{is_open, sending, own_frame, most_reads_in}
 use Rattle.iw_laws.specs.Turns.{Story, story_of, is_silent, is_last}
 use Rattle.iw_laws.specs.Merged.{Item, AreMerged, posts_in, answers_in, octets_of, responded}
 use Rattle.iw_laws.specs.Words.{OnSome, OnStream, AtEach}
@@ -148,13 +147,13 @@ Speaks = AtEach (OnStream SpeaksStream)
 -- ---- nothing
 
 -- why nothing is emitted: the stream has ended, or is not open, or keeps silent; or all that was posted has been sent; or all
--- before a Read, which waits since 16 are outstanding
+-- before a Read, which waits since as many are outstanding as both ends agreed on
 pub data HasNothing (over : Bool) (t : Story) (octets : Octets) (messages : List (Request Octets)) : Type 0 where
   Over : over ≡ true → HasNothing over t octets messages
   Closed : is_open t.start ≡ false → HasNothing over t octets messages
   Silent : is_silent t ≡ true → HasNothing over t octets messages
   AllSent : AreAllFrames t octets messages → HasNothing over t octets messages
-  ReadWaits : (k : ℕ) (request : ReadRequest) → slice_get messages k ≡ Some (Read request) → most_reads ≤ length t.reads
+  ReadWaits : (k : ℕ) (request : ReadRequest) → slice_get messages k ≡ Some (Read request) → most_reads_in t.start ≤ length t.reads
       → AreAllFrames t octets (take k messages) → HasNothing over t octets messages
 
 -- where nothing is emitted, the start-up frame, if there is one, has been sent, if the link has not broken, no Terminate is due, and
@@ -214,7 +213,8 @@ Finished = AtEach (OnStream FinishedStream)
 
 -- ---- Reads
 
--- at every moment at most 16 Reads are outstanding: no Read goes out while 16 are
+-- at every moment at most as many Reads are outstanding as both ends agreed on, which is 16 on a stream that asks by revision 1: no Read goes out
+-- while as many are
 abbrev pub FewReads : List (Entry Octets) → Type 0
 FewReads trace =
-    (past future : List (Entry Octets)) → trace ≡ past ++ future → (x : End) (n : ℕ) → length (story_of n (acts x past)).reads ≤ most_reads
+    (past future : List (Entry Octets)) → trace ≡ past ++ future → (x : End) (n : ℕ) → length (story_of n (acts x past)).reads ≤ most_reads_in (story_of n (acts x past)).start

@@ -30,6 +30,8 @@ use Rattle.iw_locate.specs.Lowest.{overlaps_placed, early_place}
 use Rattle.iw_locate.specs.Records.{added, kept_from}
 use Rattle.iw_untagged.specs.Receiving.{Receiving, nothing_received, sharing, seeing, exchanged, with_buffer, written, finished, flushed, oldest}
 use Rattle.iw_startup.specs.declared.config.Agreed.{Agreed}
+use Rattle.iw_startup.specs.declared.enhanced.EnhancedData.{EnhancedData}
+use Rattle.iw_startup.specs.declared.enhanced.Mismatch.{Mismatch}
 use Rattle.iw_startup.specs.declared.progress.Progress.{Progress}
 use Rattle.iw_startup.specs.declared.progress.Progress.TheVariants as progress
 use Rattle.iw_stream.specs.declared.judging.Landing.{Landing}
@@ -42,8 +44,8 @@ use Rattle.iw_stream.specs.declared.ending.Ending.{Ending}
 use Rattle.iw_stream.specs.declared.ending.Ending.TheVariants.{Runs, Over, Broken}
 use Rattle.iw_stream.specs.Ending.{last_word, with_last_word}
 use Rattle.iw_stream.specs.Judging.{Standing, verdict, early_verdict, turn_of, receiving_turned, reads_left}
-use Rattle.iw_stream.specs.Terminating.{terminate_judged, terminate_turned, terminate_fetched}
-use Rattle.iw_stream.specs.Starting.{StartState, start_at_first, is_open, sending, expecting, first_place_in, first_place_out, is_responder, awaits_frame, progress_in, heard, private_in, agreement_in, answered_with}
+use Rattle.iw_stream.specs.Terminating.{terminate_alone, terminate_judged, terminate_turned, terminate_fetched}
+use Rattle.iw_stream.specs.Starting.{StartState, start_at_first, is_open, sending, expecting, first_place_in, first_place_out, is_responder, awaits_frame, progress_in, heard, private_in, told_in, agreement_in, mismatch_in, negotiation_fault, answered_with}
 use Rattle.iw_stream.specs.Work.{clash_fault}
 use Rattle.iw_events.specs.declared.act.Act.{Act}
 use Rattle.iw_events.specs.declared.act.Act.TheVariants.{Domain, Register, Deregister, Invalidate, Store, Open, Share, Pool, Unpool, OpenShared, Stream}
@@ -199,9 +201,13 @@ abbrev pub terminate_next : Story → Fault → Octets
 terminate_next t fault =
     option_map_or (λ f. if was_placed t then terminate_turned (placed f) fault else terminate_judged t.asked f fault) (next_frame t) []
 
+-- and for any fault: of no frame, where the peer's start-up frame has it
+abbrev pub terminate_for : Story → Fault → Octets
+terminate_for t fault = if awaits_frame t.start then terminate_alone fault else terminate_next t fault
+
 abbrev pub story_seen : Story → Seen Octets → Story
-story_seen t (seen.Asked private) = hears t
-story_seen t (seen.Opened agreed private) = hears t
+story_seen t (seen.Asked told private) = hears t
+story_seen t (seen.Opened agreed told private) = hears t
 story_seen t (seen.Closed fault) = ends (hears t)
 story_seen t (seen.Placed right stag to octets) = places t
 story_seen t (seen.Buffered msn mo len) = record (places t) { receiving = written t.receiving msn mo (judged_payload t) }
@@ -214,7 +220,7 @@ story_seen t seen.Passed = record (moves_on t) {
 }
 story_seen t (seen.Received octets solicited invalidate) = record (moves_on t) { receiving = finished t.receiving }
 story_seen t (seen.Terminated fault) = ends (moves_on t)
-story_seen t (seen.Fault fault) = ends_by t (terminate_next t fault)
+story_seen t (seen.Fault fault) = ends_by (hears t) (terminate_for t fault)
 story_seen t (seen.Flushed kind) = t
 story_seen t (seen.FlushedRecv octets) = record t { receiving = flushed t.receiving }
 story_seen t (seen.Done kind) = t
@@ -483,14 +489,27 @@ pub record HearsFrame (over : Bool) (t : Story) (outcome : Progress) : Type 0 wh
   pub awaited : awaits_frame t.start ≡ true
   pub comes : progress_in t.start (in_order t.came) ≡ outcome
 
--- so an initiator learns what was agreed
+-- so an initiator learns what was agreed: the Reply wants nothing that this end does not have
 pub record HearsReply (over : Bool) (t : Story) (agreed : Agreed) : Type 0 where
   pub hears_it : HearsFrame over t progress.Agreed
+  pub fits : mismatch_in (hears t).start ≡ None
   pub agreed_is : agreed ≡ agreement_in (hears t).start
+
+-- or by which fault the stream ends, since the Reply wants what this end does not have; no frame was placed
+pub record HearsMismatch (over : Bool) (t : Story) (fault : Fault) : Type 0 where
+  pub hears_it : HearsFrame over t progress.Agreed
+  pub mismatch : Mismatch
+  pub is : mismatch_in (hears t).start ≡ Some mismatch
+  pub fault_is : fault ≡ negotiation_fault mismatch
+  pub unplaced : was_placed t ≡ false
 
 -- the private data of the peer's frame, once that is read
 abbrev pub private_heard : Story → Octets
 private_heard t = private_in (hears t).start
+
+-- and its word of IRD and ORD
+abbrev pub told_heard : Story → Option EnhancedData
+told_heard t = told_in (hears t).start
 
 -- ---- the law
 
@@ -508,8 +527,8 @@ TurnsSeen over t s (seen.Done kind) = Unit {0}
 TurnsSeen over t s (seen.Flushed kind) = Unit {0}
 TurnsSeen over t s (seen.FlushedRecv octets) = Unit {0}
 TurnsSeen over t s seen.Idle = Unit {0}
-TurnsSeen over t s (seen.Asked private) = HearsFrame over t progress.Asked × (private ≡ private_heard t)
-TurnsSeen over t s (seen.Opened agreed private) = HearsReply over t agreed × (private ≡ private_heard t)
+TurnsSeen over t s (seen.Asked told private) = HearsFrame over t progress.Asked × (told ≡ told_heard t) × (private ≡ private_heard t)
+TurnsSeen over t s (seen.Opened agreed told private) = HearsReply over t agreed × (told ≡ told_heard t) × (private ≡ private_heard t)
 TurnsSeen over t s (seen.Closed fault) = HearsFrame over t (progress.Faulted fault)
 TurnsSeen over t s (seen.Placed right stag to octets) =
     ReadsFrames over t × (IsJudged t s (seen.Placed right stag to octets) ⊎ IsEarly t s (seen.Placed right stag to octets))
@@ -522,7 +541,7 @@ TurnsSeen over t s seen.Passed = ReadsFrames over t × HasTurn t s seen.Passed
 TurnsSeen over t s (seen.Received octets solicited invalidate) =
     ReadsFrames over t × HasTurn t s (seen.Received octets solicited invalidate)
 TurnsSeen over t s (seen.Fault fault) =
-    ReadsFrames over t × (IsJudged t s (seen.Fault fault) ⊎ HasTurn t s (seen.Fault fault))
+    HearsMismatch over t fault ⊎ (ReadsFrames over t × (IsJudged t s (seen.Fault fault) ⊎ HasTurn t s (seen.Fault fault)))
 
 abbrev pub TurnsStream : List (Act Octets) → ℕ → StreamAct Octets → Type 0
 TurnsStream before n act =

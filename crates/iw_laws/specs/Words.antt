@@ -90,7 +90,7 @@ abbrev pub private_data : Octets → ArrayVec ℕ
 private_data private = record { items = take 512 private }
 
 abbrev pub config_for : Options → Octets → Config
-config_for options private = record { markers = options.markers; crc = options.crc; establishment = establishments.Plain; private = private_data private }
+config_for options private = record { markers = options.markers; crc = options.crc; establishment = options.establishment; private = private_data private }
 
 abbrev pub openings_by : ℕ → Act Octets → List Opening
 openings_by n (Open number pd role options private None) =
@@ -233,8 +233,8 @@ abbrev pub deed_of_step : Seen Octets → Deed
 deed_of_step (seen.Done kind) = record no_deed { finished = Some kind }
 deed_of_step (seen.Flushed kind) = record no_deed { given_up = Some kind }
 deed_of_step (seen.FlushedRecv octets) = record no_deed { returned = Some octets }
-deed_of_step (seen.Asked private) = no_deed
-deed_of_step (seen.Opened agreed private) = no_deed
+deed_of_step (seen.Asked told private) = no_deed
+deed_of_step (seen.Opened agreed told private) = no_deed
 deed_of_step (seen.Closed fault) = record no_deed { ends = true }
 deed_of_step (seen.Placed right stag to octets) =
     record no_deed { placing = Some (record { right = right; stag = stag; to = to; octets = octets }) }

@@ -13,6 +13,8 @@ use Rattle.iw_queues.specs.declared.request.Kind.TheVariants as kinds
 use Rattle.iw_queues.specs.declared.request.Request.TheVariants.{Message as Posted, Read}
 use Rattle.iw_queues.specs.Segments.{request_segment}
 use Rattle.iw_fpdu.specs.Frame.{frame_octets}
+use Rattle.iw_events.specs.declared.call.Options.{Options}
+use Rattle.iw_startup.specs.declared.config.Establishment.TheVariants.{Plain}
 use Rattle.iw_startup.specs.Frame.{request_key, reply_key}
 use Rattle.iw_stream.specs.Starting.{plain}
 use Rattle.iw_stream.specs.declared.answer.RecvRefusal.TheVariants.{Full}
@@ -49,9 +51,13 @@ a act = record { end = A; act = act }
 abbrev pub b : Act Octets → Entry Octets
 b act = record { end = B; act = act }
 
--- domain 1, and stream 0 in it with neither markers nor CRCs
+-- neither markers nor CRCs, by revision 1
+abbrev pub no_options : Options
+no_options = record { markers = false; crc = false; establishment = Plain }
+
+-- domain 1, and stream 0 in it so
 abbrev pub opens : (Act Octets → Entry Octets) → Role → Run
-opens at role = at (Domain 1 None) ∷ at (Open 0 1 role (record { markers = false; crc = false }) [] None) ∷ []
+opens at role = at (Domain 1 None) ∷ at (Open 0 1 role no_options [] None) ∷ []
 
 abbrev pub on : StreamAct Octets → Act Octets
 on act = Stream 0 act
@@ -116,7 +122,7 @@ reads_past_fault =
 abbrev pub reads_unopened : Run
 reads_unopened =
     opens b Responder
-    ++ (b registers ∷ b (raw 0 (request_key ++ (0 ∷ 1 ∷ 0 ∷ 0 ∷ []) ++ write_frame)) ∷ b (works (seen.Asked [])) ∷ b (works places) ∷ [])
+    ++ (b registers ∷ b (raw 0 (request_key ++ (0 ∷ 1 ∷ 0 ∷ 0 ∷ []) ++ write_frame)) ∷ b (works (seen.Asked None [])) ∷ b (works places) ∷ [])
 
 abbrev pub RefusesFramesBehindFault : Type 0
 RefusesFramesBehindFault = ¬ Turns reads_past_fault
@@ -336,7 +342,7 @@ RefusesLateNumber = ¬ Answered numbers_late
 
 -- two domains, each with a stream
 abbrev pub opens_two : Run
-opens_two = opens b Preset ++ (b (Domain 2 None) ∷ b (Open 1 2 Preset (record { markers = false; crc = false }) [] None) ∷ [])
+opens_two = opens b Preset ++ (b (Domain 2 None) ∷ b (Open 1 2 Preset no_options [] None) ∷ [])
 
 -- a region of the second domain, in a slot that is past the one of the first domain's region
 abbrev pub registers_second : Act Octets

@@ -3,11 +3,10 @@ use Rattle.std.proofs.Common.{◌≡◌, ℕ, zero, suc, ◌<◌, ◌++◌, List
 use Rattle.std.specs.Prelude.{is_some, slice_index_or, slice_set, unwrap_or}
 use Rattle.std.proofs.lemmas.List.{get_or-set_same}
 use Rattle.iw_stream.specs.declared.answer.Step.{Step}
-use Rattle.iw_stream.specs.Starting.{private_in}
 use Rattle.iw_stream.specs.Stream.{StreamState}
 use Rattle.iw_stream.specs.Work.{work_step, worked, table_worked}
 use Rattle.iw_memory.specs.Table.{Table}
-use Rattle.iw_endpoint.specs.Endpoint.{EndpointState, Pool, unopened, stream_of, stream_at, has_stream, pool_of, lent_to, left_of, after_work, private_at, after_emit, emission_at, emitted_at}
+use Rattle.iw_endpoint.specs.Endpoint.{EndpointState, Pool, unopened, stream_of, stream_at, has_stream, pool_of, lent_to, left_of, after_work, after_emit, emission_at, emitted_at}
 use Rattle.iw_events.specs.declared.act.Act.TheVariants.{Stream}
 use Rattle.iw_events.specs.declared.act.Seen.{Seen}
 use Rattle.iw_events.specs.declared.act.Shown.{Shown}
@@ -36,13 +35,13 @@ still_there e left n h left_is =
     ap (λ z. has_stream z n) left_is ∙ ap is_some (get_or-set_same e.streams n (Some (left_at e n)) None (there e.streams n h))
 
 -- what is seen in the state that a step left is what the rules say
-pub step_seen : (e left : EndpointState) (n : ℕ) (step : Step Octets) (seen : Seen Octets) → has_stream e n ≡ true → step ≡ work_step e.table (seen_at e n) → left ≡ after_work e n → seen ≡ seen_of left.table (private_at left n) step
-    → seen ≡ seen_of (table_worked e.table (seen_at e n)) (private_in (worked e.table (seen_at e n)).start) (work_step e.table (seen_at e n))
+pub step_seen : (e left : EndpointState) (n : ℕ) (step : Step Octets) (seen : Seen Octets) → has_stream e n ≡ true → step ≡ work_step e.table (seen_at e n) → left ≡ after_work e n → seen ≡ seen_of left.table (stream_at left n).start step
+    → seen ≡ seen_of (table_worked e.table (seen_at e n)) (worked e.table (seen_at e n)).start (work_step e.table (seen_at e n))
 step_seen e left n step seen h step_is left_is seen_is =
     let pool : Option Pool = pool_of e (stream_at e n).domain in
     seen_is
-    ∙ (λ i. seen_of (left_is i).table (private_at (left_is i) n) (step_is i))
-    ∙ ap (λ start. seen_of (table_worked e.table (seen_at e n)) (private_in start) (work_step e.table (seen_at e n)))
+    ∙ (λ i. seen_of (left_is i).table (stream_at (left_is i) n).start (step_is i))
+    ∙ ap (λ start. seen_of (table_worked e.table (seen_at e n)) start (work_step e.table (seen_at e n)))
     (ap (λ (z : StreamState). z.start) (worked_there e n h) ∙ start_left e.table pool (stream_at e n))
 
 -- a place that is there, whatever stands for one that is not

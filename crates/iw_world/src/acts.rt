@@ -3,7 +3,7 @@
 ghost use Rattle.std.specs.Prelude.{◌≡◌, ◌≢◌, ◌+◌, ◌%◌, ◌<◌, ◌≤◌, ◌^◌, true, false, length, take, is_some, IfOk, IfErr, OnOk};
 ghost use Rattle.iw_events.specs.declared.act.Seen.TheVariants.{Received};
 ghost use Rattle.iw_events.specs.Events.{stream_call_of};
-ghost use Rattle.iw_endpoint.specs.Endpoint.{has_stream, stream_at, private_at};
+ghost use Rattle.iw_endpoint.specs.Endpoint.{has_stream, stream_at, private_at, told_at};
 ghost use Rattle.iw_laws.specs.Bounds.{IsShort};
 ghost use Rattle.iw_laws.specs.Rules.{needs_peer, seen_of};
 ghost use Rattle.iw_events.specs.declared.act.Act.{Act};
@@ -17,7 +17,7 @@ use bytes::Bytes;
 use iw_endpoint::Endpoint;
 use iw_events::{Seen, StreamAct, StreamCall, message_in, private_data, shared, standing, whole};
 use iw_octets::{Octets, Stag};
-use iw_stream::{Request, Step};
+use iw_stream::{EnhancedData, Request, Step};
 use std::alloc::{AllocError, Allocator};
 
 impl<A: Allocator + Copy> Host<A> {
@@ -303,17 +303,19 @@ fn seen<A: Allocator + Copy>(
     step: Step<Octets<A>>,
 ) -> Result<Seen<Bytes<A>>, AllocError>
     requires { has_stream endpoint.now number ≡ true }
-    ensures { IfOk result (λ seen. seen ≡ seen_of endpoint.now.table (private_at endpoint.now number) step) }
+    ensures { IfOk result (λ seen. seen ≡ seen_of endpoint.now.table (stream_at endpoint.now number).start step) }
 {
     match step {
         Step::Done(kind) => Ok(Seen::Done(kind)),
         Step::Flushed(kind) => Ok(Seen::Flushed(kind)),
         Step::FlushedRecv(buffer) => Ok(Seen::FlushedRecv(whole(buffer)?)),
         Step::Asked => Ok(Seen::Asked {
+            told: peers_word(endpoint, number),
             private: peers_private(alloc, endpoint, number)?,
         }),
         Step::Opened(agreed) => Ok(Seen::Opened {
             agreed,
+            told: peers_word(endpoint, number),
             private: peers_private(alloc, endpoint, number)?,
         }),
         Step::Closed(fault) => Ok(Seen::Closed(fault)),
@@ -358,6 +360,17 @@ fn received<A: Allocator + Copy>(
         solicited,
         invalidate,
     })
+}
+
+// The word of IRD and ORD in the peer's start-up frame.
+fn peers_word<A: Allocator>(endpoint: &Endpoint<A>, number: u8) -> Option<EnhancedData>
+    requires { has_stream endpoint.now number ≡ true }
+    ensures { result ≡ told_at endpoint.now number }
+{
+    match endpoint.told(number) {
+        Ok(told) => told,
+        Err(_) => unreachable!(),
+    }
 }
 
 // The private data of the peer's start-up frame.

@@ -14,7 +14,7 @@ use bytes::Bytes;
 use iw_endpoint::{Endpoint, STREAM_NUMBERS};
 use iw_events::{Act, Call, Options, private_data};
 use iw_memory::{RegisterRefusal, Rights, Stag};
-use iw_stream::{Config, Establishment, OpenRefusal, Role};
+use iw_stream::{Config, OpenRefusal, Role};
 use std::alloc::{AllocError, Allocator, Global};
 use std::marker::Model;
 
@@ -278,7 +278,7 @@ pub(crate) fn config_for(options: Options, private: &[u8]) -> Config
     Config {
         markers: options.markers,
         crc: options.crc,
-        establishment: Establishment::Plain,
+        establishment: options.establishment,
         private: private_data(private),
     }
 }

@@ -127,7 +127,7 @@ impl<A: Allocator + Copy> World<A> {
         ensures faithful { IfOk result (λ trace. Faithful trace.items) }
         // When a Read is done, each octet of its response was placed, and none too often.
         ensures answering { IfOk result (λ trace. Answering trace.items) }
-        // No Read goes out while 16 are outstanding.
+        // No Read goes out while as many are outstanding as both ends agreed on.
         ensures few_reads { IfOk result (λ trace. FewReads trace.items) }
         // Each call at an end is answered by its regions, pools and streams, as the entries before it leave them.
         ensures memory { IfOk result (λ trace. ShowsMemory trace.items) }
