@@ -20,8 +20,8 @@ abbrev pub sees_fault : Seen (List ℕ) → Bool
 sees_fault (seen.Done kind) = false
 sees_fault (seen.Flushed kind) = false
 sees_fault (seen.FlushedRecv octets) = false
-sees_fault (seen.Asked private) = false
-sees_fault (seen.Opened agreed private) = false
+sees_fault (seen.Asked told private) = false
+sees_fault (seen.Opened agreed told private) = false
 sees_fault (seen.Closed fault) = true
 sees_fault (seen.Placed right stag to octets) = false
 sees_fault (seen.Buffered msn mo len) = false

@@ -17,13 +17,13 @@ use Rattle.iw_schedules.specs.Reading.{◌>>=◌}
 use Rattle.iw_schedules.specs.Kinds.{number_word, times_word, stag_word, octets_word, private_word}
 use Rattle.iw_schedules.specs.SendKind.{kind_word, is_solicited, invalidated_word}
 use Rattle.iw_schedules.specs.Rights.{rights_word}
-use Rattle.iw_schedules.specs.Options.{options_word}
+use Rattle.iw_schedules.specs.Options.{options_for}
 use Rattle.iw_schedules.specs.Words.{role_text, roles, role_word, call_text, call_words, call_word}
 use Rattle.iw_schedules.specs.Calls.{field, octet_number, long_number, short_number, times_at, step_call, one, posted, read_of, domain_at, register_at, deregister_at, invalidate_at, store_at, open_at, share_at, pool_at, unpool_at, open_shared_at, accept_at, reject_at, recv_at, send_at, write_at, read_at, steps_at, deliver_at, raw_at, first_at, mulpdu_at, break_at, beyond, calls_at}
 use Rattle.iw_schedules.specs.Grammar.{Word, IsOctetNumber, IsTimes, IsCall}
 use Rattle.iw_schedules.specs.Grammar.IsKind.{plain, solicited, invalidating, both as solicited_and_invalidating}
 use Rattle.iw_schedules.specs.Grammar.IsCall.{domain, register, deregister, invalidate, store, opening, share, pool, unpool, opening_shared, accept, reject, recv, send, write, read, emit, emit_times, work, work_times, deliver, raw, first, mulpdu, breaking}
-use Rattle.iw_schedules.proofs.KindLaws.{bind_ok, okay, number_is, number_again, times_is, times_again, stag_is, stag_again, octets_is, octets_again, private_is, private_again, rights_is, rights_again, options_are, options_again, one_of_is, kind_is}
+use Rattle.iw_schedules.proofs.KindLaws.{bind_ok, okay, number_is, number_again, times_is, times_again, stag_is, stag_again, octets_is, octets_again, private_is, private_again, rights_is, rights_again, options_of_are, options_of_again, one_of_is, kind_is}
 
 abbrev Calls : Type 0
 Calls = List (Call (List ℕ))
@@ -109,11 +109,11 @@ open_is words calls e =
     reads octet_number words _ (calls, []) (λ ws. IsCall (codes "open" ∷ ws) calls) e (λ a stream past_a is_a then_a.
     reads octet_number past_a _ (calls, []) (λ ws. IsCall (codes "open" ∷ a ∷ ws) calls) then_a (λ b pd past_b is_b then_b.
     reads role_word past_b _ (calls, []) (λ ws. IsCall (codes "open" ∷ a ∷ b ∷ ws) calls) then_b (λ c role past_c is_c then_c.
-    reads options_word past_c _ (calls, []) (λ ws. IsCall (codes "open" ∷ a ∷ b ∷ c ∷ ws) calls) then_c (λ d options past_d is_d then_d.
+    reads (options_for role) past_c _ (calls, []) (λ ws. IsCall (codes "open" ∷ a ∷ b ∷ c ∷ ws) calls) then_c (λ d options past_d is_d then_d.
     reads private_word past_d _ (calls, []) (λ ws. IsCall (codes "open" ∷ a ∷ b ∷ c ∷ d ∷ ws) calls) then_d (λ f private others is_f then_f.
     finishes (λ ws made. IsCall (codes "open" ∷ a ∷ b ∷ c ∷ d ∷ f ∷ ws) made) calls (one (Open stream pd role options private)) others then_f
     (subst (λ w. IsCall (codes "open" ∷ a ∷ b ∷ w ∷ d ∷ f ∷ []) (one (Open stream pd role options private))) (sym (one_of_is role_text roles c role is_c))
-    (opening (number_is 255 a stream is_a) (number_is 255 b pd is_b) (options_are d options is_d) (private_is f private is_f))))))))
+    (opening (number_is 255 a stream is_a) (number_is 255 b pd is_b) (options_of_are role d options is_d) (private_is f private is_f))))))))
 
 pub share_is : (words : List Word) (calls : Calls) → share_at words ≡ Ok (calls, []) → IsCall (codes "share" ∷ words) calls
 unfolding share_at
@@ -140,11 +140,11 @@ open_shared_is words calls e =
     reads octet_number words _ (calls, []) (λ ws. IsCall (codes "openshared" ∷ ws) calls) e (λ a stream past_a is_a then_a.
     reads octet_number past_a _ (calls, []) (λ ws. IsCall (codes "openshared" ∷ a ∷ ws) calls) then_a (λ b pd past_b is_b then_b.
     reads role_word past_b _ (calls, []) (λ ws. IsCall (codes "openshared" ∷ a ∷ b ∷ ws) calls) then_b (λ c role past_c is_c then_c.
-    reads options_word past_c _ (calls, []) (λ ws. IsCall (codes "openshared" ∷ a ∷ b ∷ c ∷ ws) calls) then_c (λ d options past_d is_d then_d.
+    reads (options_for role) past_c _ (calls, []) (λ ws. IsCall (codes "openshared" ∷ a ∷ b ∷ c ∷ ws) calls) then_c (λ d options past_d is_d then_d.
     reads private_word past_d _ (calls, []) (λ ws. IsCall (codes "openshared" ∷ a ∷ b ∷ c ∷ d ∷ ws) calls) then_d (λ f private others is_f then_f.
     finishes (λ ws made. IsCall (codes "openshared" ∷ a ∷ b ∷ c ∷ d ∷ f ∷ ws) made) calls (one (OpenShared stream pd role options private)) others then_f
     (subst (λ w. IsCall (codes "openshared" ∷ a ∷ b ∷ w ∷ d ∷ f ∷ []) (one (OpenShared stream pd role options private))) (sym (one_of_is role_text roles c role is_c))
-    (opening_shared (number_is 255 a stream is_a) (number_is 255 b pd is_b) (options_are d options is_d) (private_is f private is_f))))))))
+    (opening_shared (number_is 255 a stream is_a) (number_is 255 b pd is_b) (options_of_are role d options is_d) (private_is f private is_f))))))))
 
 pub accept_is : (words : List Word) (calls : Calls) → accept_at words ≡ Ok (calls, []) → IsCall (codes "accept" ∷ words) calls
 unfolding accept_at
@@ -322,11 +322,11 @@ calls_again words calls (register {a} {b} {c} {d} {pd} {base} {rights} {octets} 
 calls_again words calls (deregister {a} {stag} p) = rw (stag_again a stag p) refl
 calls_again words calls (invalidate {a} {stag} p) = rw (stag_again a stag p) refl
 calls_again words calls (store {a} {b} {c} {stag} {to} {octets} p q r) = rw (stag_again a stag p, number_again (2 ^ 64 - 1) b to q, octets_again c octets r) refl
-calls_again words calls (opening {a} {b} {d} {e} {stream} {pd} {role} {options} {private} p q r s) = rw (number_again 255 a stream p, number_again 255 b pd q, role_again role, options_again d options r, private_again e private s) refl
+calls_again words calls (opening {a} {b} {d} {e} {stream} {pd} {role} {options} {private} p q r s) = rw (number_again 255 a stream p, number_again 255 b pd q, role_again role, options_of_again role d options r, private_again e private s) refl
 calls_again words calls (share {a} {pd} p) = rw (number_again 255 a pd p) refl
 calls_again words calls (pool {a} {b} {pd} {len} p q) = rw (number_again 255 a pd p, number_again MAX_WORD_OCTETS b len q) refl
 calls_again words calls (unpool {a} {pd} p) = rw (number_again 255 a pd p) refl
-calls_again words calls (opening_shared {a} {b} {d} {e} {stream} {pd} {role} {options} {private} p q r s) = rw (number_again 255 a stream p, number_again 255 b pd q, role_again role, options_again d options r, private_again e private s) refl
+calls_again words calls (opening_shared {a} {b} {d} {e} {stream} {pd} {role} {options} {private} p q r s) = rw (number_again 255 a stream p, number_again 255 b pd q, role_again role, options_of_again role d options r, private_again e private s) refl
 calls_again words calls (accept {a} {b} {stream} {private} p q) = rw (number_again 255 a stream p, private_again b private q) refl
 calls_again words calls (reject {a} {b} {stream} {private} p q) = rw (number_again 255 a stream p, private_again b private q) refl
 calls_again words calls (recv {a} {b} {stream} {len} p q) = rw (number_again 255 a stream p, number_again MAX_WORD_OCTETS b len q) refl

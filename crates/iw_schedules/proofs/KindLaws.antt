@@ -30,7 +30,10 @@ use Rattle.iw_schedules.specs.SendKind.{send_text, send_kinds, kind_word, is_sol
 use Rattle.iw_schedules.specs.Letters.{letter_if, letter_at}
 use Rattle.iw_schedules.specs.Rights.{no_rights, letters_of, lettered, rights_word, IsRights}
 use Rattle.iw_schedules.specs.Rights.IsRights.{none_granted, granted}
-use Rattle.iw_schedules.specs.Options.{no_options, option_letters, optional, options_word, IsOptions}
+use Rattle.iw_startup.specs.declared.config.Establishment.{Establishment}
+use Rattle.iw_startup.specs.declared.config.Establishment.TheVariants.{Plain, Enhanced, PeerToPeer}
+use Rattle.iw_stream.specs.declared.answer.Role.{Role}
+use Rattle.iw_schedules.specs.Options.{no_options, suits, option_letters, established, optional, options_word, options_for, IsOptions, IsOptionsOf}
 use Rattle.iw_schedules.specs.Options.IsOptions.{none_asked, asked}
 use Rattle.iw_schedules.specs.Grammar.{Word, IsNumber, IsTimes, IsHex, IsStag, IsOctets, IsPrivate, IsKind}
 use Rattle.iw_schedules.specs.Grammar.IsOctets.{none, once, repeated}
@@ -310,37 +313,79 @@ unfolding optional
 optional_is word options some e =
     let m = letter_at 109 word in
     let c = letter_at 99 m.1 in
-    let found : Options = record { markers = m.0; crc = c.0 } in
-    let all : option_letters found ++ c.1 ≡ word =
-    append_assoc (letter_if m.0 109) (letter_if c.0 99) c.1
+    let n = letter_at 101 c.1 in
+    let p = letter_at 112 n.1 in
+    let all : (letter_if m.0 109 ++ letter_if c.0 99 ++ letter_if n.0 101 ++ letter_if p.0 112) ++ p.1 ≡ word =
+    append_assoc (letter_if m.0 109 ++ letter_if c.0 99 ++ letter_if n.0 101) (letter_if p.0 112) p.1
+    ∙ ap (λ z. (letter_if m.0 109 ++ letter_if c.0 99 ++ letter_if n.0 101) ++ z) (letter_told 112 n.1)
+    ∙ append_assoc (letter_if m.0 109 ++ letter_if c.0 99) (letter_if n.0 101) n.1
+    ∙ ap (λ z. (letter_if m.0 109 ++ letter_if c.0 99) ++ z) (letter_told 101 c.1)
+    ∙ append_assoc (letter_if m.0 109) (letter_if c.0 99) c.1
     ∙ ap (λ z. letter_if m.0 109 ++ z) (letter_told 99 m.1)
     ∙ letter_told 109 word in
-    go (eqb (length c.1) 0) refl found all e
+    go (eqb (length p.1) 0) refl m.0 c.0 n.0 p.0 all e
   where
-    go : (b : Bool) → eqb (length (letter_at 99 (letter_at 109 word).1).1) 0 ≡ b → (found : Options)
-        → option_letters found ++ (letter_at 99 (letter_at 109 word).1).1 ≡ word
-        → cond (not b) (Err BadOctets) (Ok found) ≡ Ok options → IsOptions word options
-    go false h found all e = absurd cc
-    go true h found all e =
-        let left = nothing_left _ h in
+    rest : Word
+    rest = (letter_at 112 (letter_at 101 (letter_at 99 (letter_at 109 word).1).1).1).1
+
+    spelled : (found : Options) → option_letters found ++ rest ≡ word → eqb (length rest) 0 ≡ true → found ≡ options → IsOptions word options
+    spelled found all empty same =
+        let left = nothing_left rest empty in
         let is : option_letters found ≡ word = sym (append-nil (option_letters found)) ∙ ap (λ z. option_letters found ++ z) (sym left) ∙ all in
-        let same : found ≡ options = cc in
         subst (IsOptions word) same (subst (λ z. IsOptions z found) is (asked (subst (λ z. 0 < length z) (sym is) some)))
 
-pub options_are : (word : Word) (options : Options) → options_word word ≡ Ok options → IsOptions word options
+    go : (b : Bool) → eqb (length rest) 0 ≡ b → (m c n p : Bool) → (letter_if m 109 ++ letter_if c 99 ++ letter_if n 101 ++ letter_if p 112) ++ rest ≡ word
+        → cond (not b) (Err BadOctets) (established n p >>= λ establishment. Ok (record { markers = m; crc = c; establishment = establishment })) ≡ Ok options → IsOptions word options
+    go false h m c n p all e = absurd cc
+    go true h m c false false all e = spelled (record { markers = m; crc = c; establishment = Plain }) all h cc
+    go true h m c true false all e = spelled (record { markers = m; crc = c; establishment = Enhanced }) all h cc
+    go true h m c true true all e = spelled (record { markers = m; crc = c; establishment = PeerToPeer }) all h cc
+    go true h m c false true all e = absurd cc
+
+options_are : (word : Word) (options : Options) → options_word word ≡ Ok options → IsOptions word options
 options_are word options e =
     dash_or IsOptions word no_options options (optional word) (bytes_eq word (codes "-")) (eqb (length word) 0) refl refl none_asked (optional_is word options) e
 
-asked_again : (m c : Bool) → 0 < length (option_letters (record { markers = m; crc = c })) → options_word (option_letters (record { markers = m; crc = c })) ≡ Ok (record { markers = m; crc = c })
+asked_again : (m c : Bool) (e : Establishment) → 0 < length (option_letters (record { markers = m; crc = c; establishment = e }))
+    → options_word (option_letters (record { markers = m; crc = c; establishment = e })) ≡ Ok (record { markers = m; crc = c; establishment = e })
 unfolding optional
-asked_again false false h = absurd (omega (arith, h))
-asked_again true false h = refl
-asked_again false true h = refl
-asked_again true true h = refl
+asked_again false false Plain h = absurd (omega (arith, h))
+asked_again true false Plain h = refl
+asked_again false true Plain h = refl
+asked_again true true Plain h = refl
+asked_again false false Enhanced h = refl
+asked_again true false Enhanced h = refl
+asked_again false true Enhanced h = refl
+asked_again true true Enhanced h = refl
+asked_again false false PeerToPeer h = refl
+asked_again true false PeerToPeer h = refl
+asked_again false true PeerToPeer h = refl
+asked_again true true PeerToPeer h = refl
 
-pub options_again : (word : Word) (options : Options) → IsOptions word options → options_word word ≡ Ok options
+options_again : (word : Word) (options : Options) → IsOptions word options → options_word word ≡ Ok options
 options_again word all none_asked = refl
-options_again word all (asked {options} some) = asked_again options.markers options.crc some
+options_again word all (asked {options} some) = asked_again options.markers options.crc options.establishment some
+
+-- those of a role
+pub options_of_are : (role : Role) (word : Word) (options : Options) → options_for role word ≡ Ok options → IsOptionsOf role word options
+unfolding options_for
+options_of_are role word options e = go (options_word word) refl e
+  where
+    suited : (found : Options) (b : Bool) → suits role found.establishment ≡ b → cond {A = Result Options FaultName} b (Ok found) (Err BadOctets) ≡ Ok options → (found ≡ options) × (suits role options.establishment ≡ true)
+    suited found true is h = let same : found ≡ options = cc in (same, ap (λ (z : Options). suits role z.establishment) (sym same) ∙ is)
+    suited found false is h = absurd cc
+
+    go : (r : Result Options FaultName) → options_word word ≡ r → (r >>= λ found. cond (suits role found.establishment) (Ok found) (Err BadOctets)) ≡ Ok options → IsOptionsOf role word options
+    go (Err fault) is h = absurd cc
+    go (Ok found) is h =
+        let s = suited found (suits role found.establishment) refl h in
+        (options_are word options (is ∙ ap Ok s.0), s.1)
+
+pub options_of_again : (role : Role) (word : Word) (options : Options) → IsOptionsOf role word options → options_for role word ≡ Ok options
+unfolding options_for
+options_of_again role word options h =
+    ap (λ r. r >>= λ found. cond (suits role found.establishment) (Ok found) (Err BadOctets)) (options_again word options h.0)
+    ∙ ap (λ b. cond b (Ok options) (Err BadOctets)) h.1
 
 -- ---- fixed words
 

@@ -3,6 +3,7 @@ pub mod Digits
 pub mod Copies
 pub mod Lines
 pub mod LineText
+pub mod TraceText
 pub mod KindLaws
 pub mod CallLaws
 pub mod ScheduleLaws

@@ -1,5 +1,5 @@
 -- The words in which calls are answered.
-use Rattle.std.specs.Prelude.{ℕ, Bool, List, [], ◌∷◌, ◌++◌, Option, Some, None, Result, Ok, Err, codes}
+use Rattle.std.specs.Prelude.{ℕ, Bool, true, false, List, [], ◌∷◌, ◌++◌, Option, Some, None, Result, Ok, Err, codes}
 use Rattle.std.specs.Fmt.{decimal}
 use Rattle.hex.specs.Hex.{encode_lower}
 use Rattle.iw_octets.specs.declared.stag.Stag.{Stag}
@@ -18,6 +18,7 @@ use Rattle.iw_ranges.specs.declared.Delivery.TheVariants as deliveries
 use Rattle.iw_queues.specs.declared.request.Kind.{Kind}
 use Rattle.iw_queues.specs.declared.request.Kind.TheVariants as kinds
 use Rattle.iw_startup.specs.declared.config.Agreed.{Agreed}
+use Rattle.iw_startup.specs.declared.enhanced.EnhancedData.{EnhancedData}
 use Rattle.iw_startup.specs.declared.progress.StartupFault.{StartupFault}
 use Rattle.iw_startup.specs.declared.progress.StartupFault.TheVariants as startups
 use Rattle.iw_stream.specs.declared.answer.AnswerRefusal.{AnswerRefusal}
@@ -187,9 +188,20 @@ letters_text (letter ∷ letters) = letter ∷ letters
 abbrev pub agreed_text : Agreed → List ℕ
 agreed_text agreed = letters_text (agreed_letters agreed)
 
-abbrev pub accepted_words : Result Agreed AnswerRefusal → Words
-accepted_words (Ok agreed) = codes "ok" ∷ agreed_text agreed ∷ []
-accepted_words (Err refusal) = refused (answer_refusal refusal)
+-- what the peer's start-up frame tells of IRD and ORD, if it has the word
+abbrev pub ird_text : Option EnhancedData → List ℕ
+ird_text None = codes "-"
+ird_text (Some told) = decimal told.ird
+
+abbrev pub ord_text : Option EnhancedData → List ℕ
+ord_text None = codes "-"
+ord_text (Some told) = decimal told.ord
+
+-- on a stream that is opened for revision 2 of MPA (`true`) the agreed ORD is told
+abbrev pub accepted_words : Bool → Result Agreed AnswerRefusal → Words
+accepted_words false (Ok agreed) = codes "ok" ∷ agreed_text agreed ∷ []
+accepted_words true (Ok agreed) = codes "ok" ∷ agreed_text agreed ∷ decimal agreed.ord ∷ []
+accepted_words enhanced (Err refusal) = refused (answer_refusal refusal)
 
 -- a word, then the layer, type and code of a fault
 abbrev pub with_fault : List ℕ → Fault → Words
@@ -238,25 +250,28 @@ received_words octets solicited invalidate = codes "received" ∷ octets_text oc
 abbrev pub tried_words : ℕ → Words
 tried_words place = codes "tried" ∷ decimal place ∷ []
 
-abbrev pub asked_words : List ℕ → Words
-asked_words private = codes "asked" ∷ octets_text private ∷ []
+-- and the peer's IRD and ORD
+abbrev pub asked_words : Bool → Option EnhancedData → List ℕ → Words
+asked_words false told private = codes "asked" ∷ octets_text private ∷ []
+asked_words true told private = codes "asked" ∷ ird_text told ∷ ord_text told ∷ octets_text private ∷ []
 
-abbrev pub opened_words : Agreed → List ℕ → Words
-opened_words agreed private = codes "opened" ∷ agreed_text agreed ∷ octets_text private ∷ []
+abbrev pub opened_words : Bool → Agreed → Option EnhancedData → List ℕ → Words
+opened_words false agreed told private = codes "opened" ∷ agreed_text agreed ∷ octets_text private ∷ []
+opened_words true agreed told private = codes "opened" ∷ agreed_text agreed ∷ decimal agreed.ord ∷ ird_text told ∷ ord_text told ∷ octets_text private ∷ []
 
-abbrev pub seen_words : Seen (List ℕ) → Words
-seen_words (seen.Done kind) = done_words kind
-seen_words (seen.Flushed kind) = flushed_words kind
-seen_words (seen.FlushedRecv octets) = flushed_recv_words octets
-seen_words (seen.Asked private) = asked_words private
-seen_words (seen.Opened agreed private) = opened_words agreed private
-seen_words (seen.Closed fault) = numbered (codes "closed") (startup_fault fault)
-seen_words (seen.Placed right stag to octets) = placed_words right stag to octets
-seen_words (seen.Buffered msn mo len) = buffered_words msn mo len
-seen_words (seen.Requested size stag to) = requested_words size stag to
-seen_words (seen.Tried place) = tried_words place
-seen_words seen.Passed = codes "passed" ∷ []
-seen_words (seen.Received octets solicited invalidate) = received_words octets solicited invalidate
-seen_words (seen.Terminated fault) = terminated_words fault
-seen_words (seen.Fault fault) = fault_words fault
-seen_words seen.Idle = codes "idle" ∷ []
+abbrev pub seen_words : Bool → Seen (List ℕ) → Words
+seen_words enhanced (seen.Done kind) = done_words kind
+seen_words enhanced (seen.Flushed kind) = flushed_words kind
+seen_words enhanced (seen.FlushedRecv octets) = flushed_recv_words octets
+seen_words enhanced (seen.Asked told private) = asked_words enhanced told private
+seen_words enhanced (seen.Opened agreed told private) = opened_words enhanced agreed told private
+seen_words enhanced (seen.Closed fault) = numbered (codes "closed") (startup_fault fault)
+seen_words enhanced (seen.Placed right stag to octets) = placed_words right stag to octets
+seen_words enhanced (seen.Buffered msn mo len) = buffered_words msn mo len
+seen_words enhanced (seen.Requested size stag to) = requested_words size stag to
+seen_words enhanced (seen.Tried place) = tried_words place
+seen_words enhanced seen.Passed = codes "passed" ∷ []
+seen_words enhanced (seen.Received octets solicited invalidate) = received_words octets solicited invalidate
+seen_words enhanced (seen.Terminated fault) = terminated_words fault
+seen_words enhanced (seen.Fault fault) = fault_words fault
+seen_words enhanced seen.Idle = codes "idle" ∷ []

@@ -22,7 +22,7 @@ use Rattle.iw_schedules.specs.Reading.{◌>>=◌}
 use Rattle.iw_schedules.specs.Kinds.{number_word, times_word, stag_word, octets_word, private_word}
 use Rattle.iw_schedules.specs.SendKind.{kind_word, is_solicited, invalidated_word}
 use Rattle.iw_schedules.specs.Rights.{rights_word}
-use Rattle.iw_schedules.specs.Options.{options_word}
+use Rattle.iw_schedules.specs.Options.{options_for}
 use Rattle.iw_schedules.specs.Words.{role_word, call_word}
 
 -- a value, and the words after it
@@ -99,7 +99,7 @@ open_at words = do
   stream ← field octet_number words
   pd ← field octet_number stream.1
   role ← field role_word pd.1
-  options ← field options_word role.1
+  options ← field (options_for role.0) role.1
   private ← field private_word options.1
   Ok (one (Open stream.0 pd.0 role.0 options.0 private.0), private.1)
 
@@ -124,7 +124,7 @@ open_shared_at words = do
   stream ← field octet_number words
   pd ← field octet_number stream.1
   role ← field role_word pd.1
-  options ← field options_word role.1
+  options ← field (options_for role.0) role.1
   private ← field private_word options.1
   Ok (one (OpenShared stream.0 pd.0 role.0 options.0 private.0), private.1)
 

@@ -23,7 +23,7 @@ use Rattle.iw_schedules.specs.declared.schedule.TheConstants.{MAX_EVENTS}
 use Rattle.iw_schedules.specs.Pieces.{lines, words}
 use Rattle.iw_schedules.specs.Kinds.{is_decimal}
 use Rattle.iw_schedules.specs.Rights.{IsRights}
-use Rattle.iw_schedules.specs.Options.{IsOptions}
+use Rattle.iw_schedules.specs.Options.{IsOptionsOf}
 use Rattle.iw_schedules.specs.Words.{end_text, role_text}
 use Rattle.iw_schedules.specs.Calls.{one, posted, read_of}
 use Rattle.iw_schedules.specs.Schedule.{Events, is_skipped, event_at, with_line}
@@ -93,12 +93,12 @@ pub data IsCall : List Word → List (Call (List ℕ)) → Type 0 where
   invalidate : {a : Word} {stag : Stag} → IsStag a stag → IsCall (codes "invalidate" ∷ a ∷ []) (one (Invalidate stag))
   store : {a b c : Word} {stag : Stag} {to : ℕ} {octets : List ℕ} → IsStag a stag → IsLongNumber b to → IsOctets c octets
       → IsCall (codes "store" ∷ a ∷ b ∷ c ∷ []) (one (Store stag to octets))
-  opening : {a b d e : Word} {stream pd : ℕ} {role : Role} {options : Options} {private : List ℕ} → IsOctetNumber a stream → IsOctetNumber b pd → IsOptions d options → IsPrivate e private
+  opening : {a b d e : Word} {stream pd : ℕ} {role : Role} {options : Options} {private : List ℕ} → IsOctetNumber a stream → IsOctetNumber b pd → IsOptionsOf role d options → IsPrivate e private
       → IsCall (codes "open" ∷ a ∷ b ∷ role_text role ∷ d ∷ e ∷ []) (one (Open stream pd role options private))
   share : {a : Word} {pd : ℕ} → IsOctetNumber a pd → IsCall (codes "share" ∷ a ∷ []) (one (Share pd))
   pool : {a b : Word} {pd len : ℕ} → IsOctetNumber a pd → IsNumber MAX_WORD_OCTETS b len → IsCall (codes "pool" ∷ a ∷ b ∷ []) (one (Pool pd len))
   unpool : {a : Word} {pd : ℕ} → IsOctetNumber a pd → IsCall (codes "unpool" ∷ a ∷ []) (one (Unpool pd))
-  opening_shared : {a b d e : Word} {stream pd : ℕ} {role : Role} {options : Options} {private : List ℕ} → IsOctetNumber a stream → IsOctetNumber b pd → IsOptions d options → IsPrivate e private
+  opening_shared : {a b d e : Word} {stream pd : ℕ} {role : Role} {options : Options} {private : List ℕ} → IsOctetNumber a stream → IsOctetNumber b pd → IsOptionsOf role d options → IsPrivate e private
       → IsCall (codes "openshared" ∷ a ∷ b ∷ role_text role ∷ d ∷ e ∷ []) (one (OpenShared stream pd role options private))
   accept : {a b : Word} {stream : ℕ} {private : List ℕ} → IsOctetNumber a stream → IsPrivate b private → IsCall (codes "accept" ∷ a ∷ b ∷ []) (one (Stream stream (Accept private)))
   reject : {a b : Word} {stream : ℕ} {private : List ℕ} → IsOctetNumber a stream → IsPrivate b private → IsCall (codes "reject" ∷ a ∷ b ∷ []) (one (Stream stream (Reject private)))

@@ -5,7 +5,7 @@ ghost use Rattle.iw_schedules.specs.Reading.{Gives};
 ghost use Rattle.iw_schedules.specs.Kinds.{number_word, stag_word, octets_word, private_word};
 ghost use Rattle.iw_schedules.specs.SendKind.{kind_word, invalidated_word};
 ghost use Rattle.iw_schedules.specs.Rights.{rights_word};
-ghost use Rattle.iw_schedules.specs.Options.{options_word};
+ghost use Rattle.iw_schedules.specs.Options.{options_for};
 ghost use Rattle.iw_schedules.specs.Words.{role_word, call_word};
 ghost use Rattle.iw_schedules.specs.Calls.{calls_of, calls_at, step_call, steps_at};
 ghost use Rattle.iw_schedules.specs.Calls.{next_word, field, beyond, octet_number, long_number, short_number, times_at};
@@ -15,7 +15,7 @@ ghost use Rattle.iw_schedules.specs.Calls.{open_at, accept_at, reject_at, mulpdu
 ghost use Rattle.iw_schedules.specs.Calls.{recv_at, send_at, write_at, read_at};
 
 use crate::fault::{FaultName, ReadError};
-use crate::options::read_options;
+use crate::options::read_options_for;
 use crate::pieces::Pieces;
 use crate::rights::read_rights;
 use crate::send_kind::SendKind;
@@ -125,10 +125,11 @@ fn role_in(words: &mut Pieces<'_>) -> Result<Role, ReadError>
     Ok(words::role(next(words)?)?)
 }
 
-fn options_in(words: &mut Pieces<'_>) -> Result<Options, ReadError>
-    ensures { Gives (λ options. (options, words.new)) result (field options_word words.old) }
+// The options of a stream with this role.
+fn options_in(role: Role, words: &mut Pieces<'_>) -> Result<Options, ReadError>
+    ensures { Gives (λ options. (options, words.new)) result (field (options_for role) words.old) }
 {
-    Ok(read_options(next(words)?)?)
+    Ok(read_options_for(role, next(words)?)?)
 }
 
 fn kind_in(words: &mut Pieces<'_>) -> Result<SendKind, ReadError>
@@ -217,7 +218,7 @@ fn open<A: Allocator + Copy>(alloc: A, words: &mut Pieces<'_>) -> Result<Calls<B
     let stream = octet_number_in(words)?;
     let pd = octet_number_in(words)?;
     let role = role_in(words)?;
-    let options = options_in(words)?;
+    let options = options_in(role, words)?;
     let private = private_in(alloc, words)?;
     Ok(Calls::One(Call::Open {
         stream,
@@ -263,7 +264,7 @@ fn open_shared<A: Allocator + Copy>(
     let stream = octet_number_in(words)?;
     let pd = octet_number_in(words)?;
     let role = role_in(words)?;
-    let options = options_in(words)?;
+    let options = options_in(role, words)?;
     let private = private_in(alloc, words)?;
     Ok(Calls::One(Call::OpenShared {
         stream,

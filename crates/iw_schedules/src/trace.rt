@@ -1,4 +1,4 @@
-ghost use Rattle.std.specs.Prelude.{◌≡◌, ◌∷◌, ◌++◌, IfOk, OnOk, string_bytes};
+ghost use Rattle.std.specs.Prelude.{◌≡◌, [], ◌∷◌, ◌++◌, Ok, IfOk, OnOk, string_bytes};
 ghost use Rattle.std.specs.Option.{option_map};
 ghost use Rattle.std.specs.Fmt.{decimal};
 ghost use Rattle.iw_schedules.specs.Shown.{shown_refusal};
@@ -13,6 +13,9 @@ ghost use Rattle.iw_schedules.specs.Answers.{seen_words, shown_words, fetched_wo
 ghost use Rattle.iw_schedules.specs.Answers.{done_words, flushed_words, flushed_recv_words};
 ghost use Rattle.iw_schedules.specs.Trace.{registered, deregistered, unpooled, post_word, call_on, call_of_stag};
 ghost use Rattle.iw_schedules.specs.Trace.{stream_word, stream_answer, stream_words, act_words, entry_text, trace_text};
+ghost use Rattle.iw_schedules.specs.Trace.{same_end, opens_enhanced, was_opened_enhanced, tells_depths, shows_depths};
+ghost use Rattle.iw_schedules.specs.Options.{is_enhanced};
+ghost use Rattle.iw_schedules.specs.Answers.{ird_text, ord_text};
 ghost use Rattle.iw_schedules.specs.Appended.{with_words};
 
 use crate::refusals::Refusal;
@@ -21,7 +24,9 @@ use crate::words::{CallWord, end_name};
 use crate::{appending, refusals};
 use bytes::Bytes;
 use iw_endpoint::{OpenSharedRefusal, PoolRefusal, ShareRefusal, TakeRefusal};
-use iw_events::{Act, Entry, Request, Seen, Shown, StreamAct};
+use iw_events::{
+    Act, End, EnhancedData, Entry, Establishment, Options, Request, Seen, Shown, StreamAct,
+};
 use iw_memory::{NoRegion, RegisterRefusal, Right};
 use iw_octets::{Fault, Message, Stag};
 use iw_startup::Agreed;
@@ -239,53 +244,111 @@ fn add_tried<A: Allocator>(text: &mut String<A>, place: u64) -> Result<(), Alloc
     appending::number(text, place)
 }
 
-fn add_asked<A: Allocator + Copy>(text: &mut String<A>, private: &[u8]) -> Result<(), AllocError>
-    ensures { OnOk result (string_bytes text.new ≡ with_words (string_bytes text.old) (asked_words private.now)) }
+// The peer's IRD and ORD; `-` for each if it told none.
+fn add_told<A: Allocator>(
+    text: &mut String<A>,
+    told: Option<EnhancedData>,
+) -> Result<(), AllocError>
+    ensures { OnOk result (string_bytes text.new
+        ≡ with_words (string_bytes text.old) (ird_text told ∷ ord_text told ∷ [])) }
+{
+    match told {
+        None => {
+            appending::word(text, "-")?;
+            appending::word(text, "-")
+        }
+        Some(told) => {
+            appending::number(text, u64::from(told.ird))?;
+            appending::number(text, u64::from(told.ord))
+        }
+    }
+}
+
+fn add_asked<A: Allocator + Copy>(
+    text: &mut String<A>,
+    enhanced: bool,
+    told: Option<EnhancedData>,
+    private: &[u8],
+) -> Result<(), AllocError>
+    ensures { OnOk result (string_bytes text.new
+        ≡ with_words (string_bytes text.old) (asked_words enhanced told private.now)) }
 {
     appending::word(text, "asked")?;
+    if enhanced {
+        add_told(text, told)?;
+        return appending::octets(text, private);
+    }
     appending::octets(text, private)
 }
 
 fn add_opened<A: Allocator + Copy>(
     text: &mut String<A>,
+    enhanced: bool,
     agreed: Agreed,
+    told: Option<EnhancedData>,
     private: &[u8],
 ) -> Result<(), AllocError>
     ensures { OnOk result (string_bytes text.new
-        ≡ with_words (string_bytes text.old) (opened_words agreed private.now)) }
+        ≡ with_words (string_bytes text.old) (opened_words enhanced agreed told private.now)) }
 {
     appending::word(text, "opened")?;
     appending::word(text, agreed_name(agreed))?;
+    if enhanced {
+        appending::number(text, agreed.ord as u64)?;
+        add_told(text, told)?;
+        return appending::octets(text, private);
+    }
     appending::octets(text, private)
 }
 
 fn add_accepted<A: Allocator>(
     text: &mut String<A>,
+    enhanced: bool,
     answer: Result<Agreed, AnswerRefusal>,
 ) -> Result<(), AllocError>
-    ensures { OnOk result (string_bytes text.new ≡ with_words (string_bytes text.old) (accepted_words answer)) }
+    ensures { OnOk result (string_bytes text.new
+        ≡ with_words (string_bytes text.old) (accepted_words enhanced answer)) }
 {
     match answer {
-        Ok(agreed) => {
-            appending::word(text, "ok")?;
-            appending::word(text, agreed_name(agreed))
-        }
+        Ok(agreed) => add_agreed(text, enhanced, agreed),
         Err(refusal) => appending::refusal(text, refusals::of_answer(refusal)),
     }
 }
 
+fn add_agreed<A: Allocator>(
+    text: &mut String<A>,
+    enhanced: bool,
+    agreed: Agreed,
+) -> Result<(), AllocError>
+    ensures { OnOk result (string_bytes text.new
+        ≡ with_words (string_bytes text.old) (accepted_words enhanced (Ok agreed))) }
+{
+    appending::word(text, "ok")?;
+    appending::word(text, agreed_name(agreed))?;
+    if enhanced {
+        return appending::number(text, agreed.ord as u64);
+    }
+    Ok(())
+}
+
 fn add_seen<A: Allocator + Copy>(
     text: &mut String<A>,
+    enhanced: bool,
     seen: &Seen<Bytes<A>>,
 ) -> Result<(), AllocError>
-    ensures { OnOk result (string_bytes text.new ≡ with_words (string_bytes text.old) (seen_words seen.now)) }
+    ensures { OnOk result (string_bytes text.new
+        ≡ with_words (string_bytes text.old) (seen_words enhanced seen.now)) }
 {
     match seen {
         Seen::Done(kind) => add_done(text, *kind),
         Seen::Flushed(kind) => add_flushed(text, *kind),
         Seen::FlushedRecv(octets) => add_flushed_recv(text, octets.as_slice()),
-        Seen::Asked { private } => add_asked(text, private.as_slice()),
-        Seen::Opened { agreed, private } => add_opened(text, *agreed, private.as_slice()),
+        Seen::Asked { told, private } => add_asked(text, enhanced, *told, private.as_slice()),
+        Seen::Opened {
+            agreed,
+            told,
+            private,
+        } => add_opened(text, enhanced, *agreed, *told, private.as_slice()),
         Seen::Closed(fault) => appending::numbered(text, "closed", refusals::of_startup(*fault)),
         Seen::Placed {
             right,
@@ -351,11 +414,14 @@ fn stream_name<A: Allocator>(act: &StreamAct<Bytes<A>>) -> CallWord
     }
 }
 
+// `enhanced`: the stream is opened for revision 2 of MPA, and IRD and ORD are told.
 fn add_stream_answer<A: Allocator + Copy>(
     text: &mut String<A>,
+    enhanced: bool,
     act: &StreamAct<Bytes<A>>,
 ) -> Result<(), AllocError>
-    ensures { OnOk result (string_bytes text.new ≡ with_words (string_bytes text.old) (stream_answer act.now)) }
+    ensures { OnOk result (string_bytes text.new
+        ≡ with_words (string_bytes text.old) (stream_answer enhanced act.now)) }
 {
     match act {
         StreamAct::Recv { refused, .. } => {
@@ -373,24 +439,26 @@ fn add_stream_answer<A: Allocator + Copy>(
         StreamAct::Mulpdu { refused, .. } => {
             appending::outcome(text, refused.map(refusals::of_size))
         }
-        StreamAct::Accept { answer, .. } => add_accepted(text, *answer),
+        StreamAct::Accept { answer, .. } => add_accepted(text, enhanced, *answer),
         StreamAct::Reject { refused, .. } => {
             appending::outcome(text, refused.map(refusals::of_answer))
         }
-        StreamAct::Work(seen) => add_seen(text, seen),
+        StreamAct::Work(seen) => add_seen(text, enhanced, seen),
         StreamAct::Break => appending::word(text, "ok"),
     }
 }
 
 fn add_stream_act<A: Allocator + Copy>(
     text: &mut String<A>,
+    enhanced: bool,
     stream: u8,
     act: &StreamAct<Bytes<A>>,
 ) -> Result<(), AllocError>
-    ensures { OnOk result (string_bytes text.new ≡ with_words (string_bytes text.old) (stream_words stream act.now)) }
+    ensures { OnOk result (string_bytes text.new
+        ≡ with_words (string_bytes text.old) (stream_words enhanced stream act.now)) }
 {
     add_call(text, stream_name(act), stream)?;
-    add_stream_answer(text, act)
+    add_stream_answer(text, enhanced, act)
 }
 
 // A call that names a stream or a domain, and `ok` or its refusal.
@@ -506,8 +574,13 @@ fn add_unpooled<A: Allocator + Copy>(
     }
 }
 
-fn add_act<A: Allocator + Copy>(text: &mut String<A>, act: &Act<Bytes<A>>) -> Result<(), AllocError>
-    ensures { OnOk result (string_bytes text.new ≡ with_words (string_bytes text.old) (act_words act.now)) }
+fn add_act<A: Allocator + Copy>(
+    text: &mut String<A>,
+    enhanced: bool,
+    act: &Act<Bytes<A>>,
+) -> Result<(), AllocError>
+    ensures { OnOk result (string_bytes text.new
+        ≡ with_words (string_bytes text.old) (act_words enhanced act.now)) }
 {
     match act {
         Act::Domain { pd, refused } => {
@@ -540,19 +613,110 @@ fn add_act<A: Allocator + Copy>(text: &mut String<A>, act: &Act<Bytes<A>>) -> Re
             refused,
             ..
         } => add_open_shared(text, *stream, *refused),
-        Act::Stream { stream, act } => add_stream_act(text, *stream, act),
+        Act::Stream { stream, act } => add_stream_act(text, enhanced, *stream, act),
     }
 }
 
-// Appends the line of an entry.
+fn same_end(one: End, other: End) -> bool
+    ensures { result ≡ same_end one other }
+{
+    match (one, other) {
+        (End::A, End::A) | (End::B, End::B) => true,
+        (End::A, End::B) | (End::B, End::A) => false,
+    }
+}
+
+fn is_enhanced(options: &Options) -> bool
+    ensures { result ≡ is_enhanced options.now.establishment }
+{
+    match options.establishment {
+        Establishment::Plain => false,
+        Establishment::Enhanced | Establishment::PeerToPeer => true,
+    }
+}
+
+// Whether an act opens the stream of this number for revision 2 of MPA.
+fn opens_enhanced<A: Allocator>(number: u8, act: &Act<Bytes<A>>) -> bool
+    ensures { result ≡ opens_enhanced number act.now }
+{
+    match act {
+        Act::Open {
+            stream,
+            options,
+            refused: None,
+            ..
+        } => *stream == number && is_enhanced(options),
+        Act::OpenShared {
+            stream,
+            options,
+            refused: None,
+            ..
+        } => *stream == number && is_enhanced(options),
+        Act::Open { .. }
+        | Act::OpenShared { .. }
+        | Act::Domain { .. }
+        | Act::Register { .. }
+        | Act::Deregister { .. }
+        | Act::Invalidate { .. }
+        | Act::Store { .. }
+        | Act::Share { .. }
+        | Act::Pool { .. }
+        | Act::Unpool { .. }
+        | Act::Stream { .. } => false,
+    }
+}
+
+// Whether one of these entries opened it so at this end.
+#[tactic(auto, unfolding(crate::specs::Trace::was_opened_enhanced))]
+fn was_opened_enhanced<A: Allocator>(end: End, number: u8, before: &[Entry<Bytes<A>>]) -> bool
+    ensures { result ≡ was_opened_enhanced end number before.now }
+{
+    before.iter().any(|entry| same_end(entry.end, end) && opens_enhanced(number, &entry.act))
+}
+
+// Whether revision 2 of MPA makes a difference to what is shown of an act.
+fn tells_depths<A: Allocator>(act: &StreamAct<Bytes<A>>) -> bool
+    ensures { result ≡ tells_depths act.now }
+{
+    match act {
+        StreamAct::Accept { answer, .. } => answer.is_ok(),
+        StreamAct::Work(Seen::Asked { .. } | Seen::Opened { .. }) => true,
+        _ => false,
+    }
+}
+
+// Whether IRD and ORD are shown of an act, given the entries before it.
+fn shows_depths<A: Allocator>(before: &[Entry<Bytes<A>>], end: End, act: &Act<Bytes<A>>) -> bool
+    ensures { result ≡ shows_depths before.now end act.now }
+{
+    match act {
+        Act::Stream { stream, act } => {
+            tells_depths(act) && was_opened_enhanced(end, *stream, before)
+        }
+        Act::Domain { .. }
+        | Act::Register { .. }
+        | Act::Deregister { .. }
+        | Act::Invalidate { .. }
+        | Act::Store { .. }
+        | Act::Open { .. }
+        | Act::Share { .. }
+        | Act::Pool { .. }
+        | Act::Unpool { .. }
+        | Act::OpenShared { .. } => false,
+    }
+}
+
+// Appends the line of an entry, given those before it.
 fn add_entry<A: Allocator + Copy>(
     text: &mut String<A>,
+    before: &[Entry<Bytes<A>>],
     entry: &Entry<Bytes<A>>,
 ) -> Result<(), AllocError>
-    ensures { OnOk result (string_bytes text.new ≡ string_bytes text.old ++ entry_text entry.now) }
+    ensures { OnOk result (string_bytes text.new ≡ string_bytes text.old ++ entry_text before.now entry.now) }
 {
+    let enhanced = shows_depths(before, entry.end, &entry.act);
     text.push_str(end_name(entry.end))?;
-    add_act(text, &entry.act)?;
+    add_act(text, enhanced, &entry.act)?;
     text.push_str("\n")?;
     Ok(())
 }
@@ -561,7 +725,6 @@ fn add_entry<A: Allocator + Copy>(
 ///
 /// Octets and STags print as hexadecimal digits in lower case, no octets as `-`, and all other numbers in decimal. An
 /// `Err` means out of memory.
-#[tactic(auto, unfolding(crate::specs::Trace::trace_text))]
 pub fn print_trace<A: Allocator + Copy>(
     alloc: A,
     trace: &[Entry<Bytes<A>>],
@@ -569,8 +732,8 @@ pub fn print_trace<A: Allocator + Copy>(
     ensures { IfOk result (λ text. string_bytes text ≡ trace_text trace.now) }
 {
     let mut text = String::new(alloc);
-    for entry in trace {
-        add_entry(&mut text, entry)?;
+    for (i, entry) in trace.iter().enumerate() {
+        add_entry(&mut text, &trace[..i], entry)?;
     }
     Ok(text)
 }

@@ -1,5 +1,5 @@
 use Rattle.std.proofs.Common.{◌≡◌, ◌++◌, ◌∷◌, [], ap, ◌∙◌, string_bytes}
-use Rattle.iw_schedules.specs.Trace.{act_words, entry_text}
+use Rattle.iw_schedules.specs.Trace.{act_words, entry_text, shows_depths}
 use Rattle.iw_schedules.specs.Words.{end_text}
 use Rattle.iw_schedules.specs.Appended.{with_words}
 use Rattle.iw_schedules.proofs.LineText.{line-is}
@@ -10,6 +10,8 @@ unfolding entry_text
 returns g c =
     let old = string_bytes c.args.text.now in
     let entry = c.args.entry.now in
+    let before = c.args.before.now in
     let end : string_bytes c.push_str.new.self ≡ old ++ end_text entry.end = c.in_ok-push_str.ensures.bytes ∙ ap (λ name. old ++ name) c.end_name.ensures in
-    let words : string_bytes c.add_act.new.text ≡ with_words (old ++ end_text entry.end) (act_words entry.act) = c.in_ok-add_act.ensures ∙ ap (λ text. with_words text (act_words entry.act)) end in
-    c.in_ok-push_str-2.ensures.bytes ∙ (ap (λ text. text ++ 10 ∷ []) words ∙ line-is old (end_text entry.end) (act_words entry.act))
+    let words : string_bytes c.add_act.new.text ≡ with_words (old ++ end_text entry.end) (act_words (shows_depths before entry.end entry.act) entry.act) =
+    c.in_ok-add_act.ensures ∙ (λ i. with_words (end i) (act_words (c.shows_depths-enhanced.ensures i) entry.act)) in
+    c.in_ok-push_str-2.ensures.bytes ∙ (ap (λ text. text ++ 10 ∷ []) words ∙ line-is old (end_text entry.end) (act_words (shows_depths before entry.end entry.act) entry.act))
