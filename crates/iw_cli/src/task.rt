@@ -24,6 +24,7 @@ fn options_of(matches: &ArgMatches<'_>) -> Options {
     Options {
         markers: matches.get_flag("markers"),
         crc: matches.get_flag("crc"),
+        enhanced: matches.get_flag("enhanced"),
     }
 }
 

@@ -16,7 +16,11 @@ Example: iwarp replay < examples/first.schedule";
 
 const LISTEN_HELP: &str = "\
 All connections share one region of 65536 octets, zero at the start: a later peer may get back what an earlier one
-wrote. Connections are served one after the other: a peer that stays silent blocks the command for ever.
+wrote. Connections are served one after the other: a peer that stays silent blocks the command for ever. A start-up
+frame at fault closes its connection at once.
+
+The answer is sent at the end of the peer's output. With --enhanced it is sent once the peer's Send was received, and
+peers may use MPA revision 1 or 2.
 
 Exit status:
   0  A Send was received on each connection, and none failed
@@ -27,6 +31,9 @@ Exit status:
 Example: iwarp listen --port 4420 --count 2";
 
 const CONNECT_HELP: &str = "\
+The output ends once the text was sent. With --enhanced it ends only after the answer, and the peer has to use MPA
+revision 2. A Reply that is at fault or rejects closes the connection at once.
+
 Exit status:
   0  An answer was received on each connection, and none failed
   1  A connection failed or could not be made (standard output says how); or standard output failed (standard error
@@ -36,6 +43,8 @@ Exit status:
 Example: iwarp connect --port 4420 --count 2 --text hello --markers --crc";
 
 const PAIR_HELP: &str = "\
+Both processes use --markers, --crc and --enhanced if they are given.
+
 Exit status:
   0  An answer was received on each connection, none failed, and the other process ended with 0
   1  A connection failed or could not be made (standard output says how); or the other process ended with another
@@ -72,7 +81,12 @@ fn with_options<'a>(alloc: Global, command: Command<'a>) -> Result<Command<'a>, 
         command
             .arg(count_option(alloc))?
             .arg(flag(alloc, "markers", "Asks the other end to send markers"))?
-            .arg(flag(alloc, "crc", "Asks for CRCs in both directions"))?,
+            .arg(flag(alloc, "crc", "Asks for CRCs in both directions"))?
+            .arg(flag(
+                alloc,
+                "enhanced",
+                "Uses revision 2 of MPA (RFC 6581), as Linux's own iWARP does",
+            ))?,
     )
 }
 

@@ -1,9 +1,11 @@
 -- What a command prints, and its status. The octets of an output before and after are an option: None if they are not
 -- known.
-use Rattle.std.specs.Prelude.{◌≡◌, ℕ, List, [], ◌∷◌, ◌++◌, ◌+◌, ◌≤◌, ◌⊎◌, Option, length, take}
+use Rattle.std.specs.Prelude.{◌≡◌, ℕ, List, [], ◌∷◌, ◌++◌, ◌+◌, ◌≤◌, ◌⊎◌, Option, Bool, true, false, length, take}
 use Rattle.std.specs.Io.KnownBytes.{Appends}
 use Rattle.iw_output.specs.declared.status.Status.{Status}
 use Rattle.iw_output.specs.Status.{with}
+use Rattle.iw_startup.specs.declared.config.Establishment.{Establishment}
+use Rattle.iw_startup.specs.declared.config.Establishment.TheVariants as establishments
 use Rattle.iw_endpoint.specs.Endpoint.{EndpointState}
 use Rattle.iw_links.specs.declared.exchange.Terms.{Terms}
 use Rattle.iw_links.specs.declared.report.Report.{Report}
@@ -27,9 +29,19 @@ pub record IsMade (p : Plan) (e e' : EndpointState) (report : Report) : Type 0 w
 abbrev pub IsTold : Plan → EndpointState → EndpointState → Report → Type 0
 IsTold p e e' report = IsMade p e e' report ⊎ ((report ≡ unmade) × (e' ≡ e))
 
+-- the revision of MPA, by whether 2 is asked for
+abbrev pub establishment_of : Bool → Establishment
+establishment_of false = establishments.Plain
+establishment_of true = establishments.Enhanced
+
 -- the options with which the connection of this stream is opened
 abbrev pub terms_at : Options → ℕ → Terms
-terms_at options stream = record { number = stream; markers = options.markers; crc = options.crc }
+terms_at options stream = record {
+  number = stream;
+  markers = options.markers;
+  crc = options.crc;
+  establishment = establishment_of options.enhanced;
+}
 
 -- connections one after the other; the first has this stream number
 abbrev pub AreTold : Options → Part → ℕ → EndpointState → List Report → EndpointState → Type 0

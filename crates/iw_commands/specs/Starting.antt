@@ -12,3 +12,4 @@ abbrev pub listener_words : Request → List (List ℕ)
 listener_words request =
     (codes "listen" ∷ codes "--port" ∷ codes "0" ∷ codes "--count" ∷ decimal request.count ∷ [])
     ++ flag request.options.markers (codes "--markers") ++ flag request.options.crc (codes "--crc")
+    ++ flag request.options.enhanced (codes "--enhanced")

@@ -38,6 +38,7 @@ pub(crate) fn listener(
     command.arg(count.as_str())?;
     add_flag(&mut command, request.options.markers, "--markers")?;
     add_flag(&mut command, request.options.crc, "--crc")?;
+    add_flag(&mut command, request.options.enhanced, "--enhanced")?;
     command.stdin(Stdio::null());
     command.stdout(Stdio::piped());
     command.stderr(Stdio::null());

@@ -1,6 +1,6 @@
 -- Calls at an endpoint one after another, and what they come to.
 use Rattle.std.proofs.Common.{◌≡◌, ℕ, ◌+◌, ◌%◌, ◌^◌, List, [], ◌∷◌, ◌++◌, length, take, drop, refl, sym, inl, inr, arith, append_assoc, append-nil, take-append-drop}
-use Rattle.std.specs.Prelude.{Option, None, Some, Ok, true, is_some}
+use Rattle.std.specs.Prelude.{Option, None, Some, Ok, Bool, true, false, ◌||◌, ◌≤◌, is_some}
 use Rattle.std.specs.Io.KnownBytes.{Appends, Consumes, Keeps}
 use Rattle.std.proofs.KnownBytes.{Appends-kept, Appends-nil, Appends-trans, Consumes-nil, Consumes-trans}
 use Rattle.arrayvec.specs.ArrayVec.{ArrayVec}
@@ -12,9 +12,13 @@ use Rattle.iw_stream.specs.declared.answer.Emission.TheVariants as emissions
 use Rattle.iw_stream.specs.declared.answer.Step.{Step}
 use Rattle.iw_stream.specs.declared.answer.Step.TheVariants as steps
 use Rattle.iw_endpoint.specs.Endpoint.{EndpointState, registered, opened, with_buffer, accepted, after_deliver, step_at, after_work, with_request, emission_at, emitted_at, after_emit}
-use Rattle.iw_links.specs.Exchange.{Part, Serves, Asks, Plan, private_of, receive_buffer, Phase, Lending, Listening, Working, Accepting, Speaking, after_lending, after_step, after_emission}
-use Rattle.iw_links.specs.Exchange.{Event, Lent, Accepted, Delivered, Worked, Posted, Emitted, Standing, Told, told_by, told_of, MayHear, IsDue, Goes, Runs, came_in, went_out, inputs, outputs, Did, Emits, Exchanged, IsUndelivered, Failed, role_of, started, IsAnswer, IsSaid, IsSettled, Finished}
-use Rattle.iw_links.specs.Standing.{count_said}
+use Rattle.iw_links.specs.Exchange.{Part, Serves, Asks, Plan, private_of, receive_buffer, Phase, Lending, Listening, Working, Accepting, Speaking, Closing, after_lending, after_step, after_emission}
+use Rattle.iw_links.specs.Exchange.{Event, Lent, Accepted, Delivered, Worked, Posted, Emitted, Standing, Told, told_by, told_of, MayAwait, MayHear, answers_at_once, IsDue, Goes, Runs, came_in, went_out, inputs, outputs, Did, Emits, Exchanged, IsUndelivered, Failed, Closes, role_of, started, IsAnswer, IsSaid, IsSettled, Finished}
+use Rattle.iw_links.specs.Standing.{count_answered, count_said, Halts, ReadsOn, Stopped}
+use Rattle.iw_links.specs.declared.exchange.Until.{Until}
+use Rattle.iw_links.specs.declared.exchange.Until.TheVariants as untils
+use Rattle.iw_links.specs.declared.link.Stop.{Stop}
+use Rattle.iw_links.specs.declared.link.Stop.TheVariants as stops
 use Rattle.iw_links.specs.declared.report.Ended.{Ended}
 
 inputs_join : (es fs : List Event) → inputs (es ++ fs) ≡ inputs es ++ inputs fs
@@ -77,7 +81,7 @@ pub works : (p : Plan) (e e' : EndpointState) (c c' : ℕ) (t t' : Told) (k : �
 works p e e' c c' t t' k phase step is after same tells asks =
     quietly p _ _ (Worked step) refl refl (refl, sym is, rw (after, same, tells, asks) refl)
 
-pub delivers : (p : Plan) (e e' : EndpointState) (c c' : ℕ) (t : Told) (k : ℕ) (octets : List ℕ) → MayHear p.part k →
+pub delivers : (p : Plan) (e e' : EndpointState) (c c' : ℕ) (t : Told) (k : ℕ) (octets : List ℕ) → MayHear p t k →
     e' ≡ after_deliver e p.number c octets → c' ≡ (c + length octets) % 2 ^ 32 →
     Did p (at e c t Listening k) (at e' c' t Working k) octets []
 delivers p e e' c c' t k octets may after count = record {
@@ -240,6 +244,26 @@ fails_short p s at' phase k i o o' out count e writes = record {
   undelivered = inl refl;
 }
 
+-- ---- up to where it stops
+
+pub halts_later : (stop : Stop) (p : Plan) (s m : Standing) (at' : Phase → ℕ → Standing) (k : ℕ) →
+    Did p s m [] [] → Halts stop p m at' k → Halts stop p s at' k
+halts_later stops.Broken p s m at' k first h = (h.0, both p s m (at' h.0 k) first h.1)
+halts_later stops.Closed p s m at' k first h = both p s m (at' Closing k) first h
+
+pub stops_quietly : (stop : Stop) (p : Plan) (s : Standing) (at' : Phase → ℕ → Standing) (k : ℕ) (i o : Option (List ℕ)) →
+    Halts stop p s at' k → Stopped stop p s i o at' i o
+stops_quietly stops.Broken p s at' k i o h = fails_quietly p s at' h.0 k i o h.1
+stops_quietly stops.Closed p s at' k i o h = record { posted = k; exchanged = in_quiet p s (at' Closing k) i o h }
+
+pub stops_later : (stop : Stop) (p : Plan) (s m : Standing) (at' : Phase → ℕ → Standing) (i j i' o q o' : Option (List ℕ)) →
+    Exchanged p s i o m j q → Stopped stop p m j q at' i' o' → Stopped stop p s i o at' i' o'
+stops_later stops.Broken p s m at' i j i' o q o' first f = fails_later p s m at' i j i' o q o' first f
+stops_later stops.Closed p s m at' i j i' o q o' first c = record {
+  posted = c.posted;
+  exchanged = exchanges p s m (at' Closing c.posted) i j i' o q o' first c.exchanged;
+}
+
 -- the same is registered
 pub registers_same : (e m m' : EndpointState) (xs ys : List ℕ) (rights : Rights) → e ≡ registered m 1 0 xs rights → m ≡ m' → xs ≡ ys →
     e ≡ registered m' 1 0 ys rights
@@ -282,6 +306,10 @@ pub stays_ended : (p : Plan) (s s' : Standing) (events : List Event) → Runs p 
 stays_ended p s s' [] runs h = rw runs h
 stays_ended p s s' (event ∷ events) runs h =
     stays_ended p runs.0 s' events runs.2 (ends_by p s runs.0 event runs.1 h)
+
+pub stays_ended_through : (p : Plan) (s s' : Standing) (i i' o o' : Option (List ℕ)) → Exchanged p s i o s' i' o' →
+    is_some s.told.ended ≡ true → is_some s'.told.ended ≡ true
+stays_ended_through p s s' i i' o o' e h = stays_ended p s s' e.did.events e.did.runs h
 
 -- ---- and what was received stays so
 
@@ -327,16 +355,37 @@ stays_settled p s s' i i' o o' e (inr ended) = inr (stays_ended p s s' e.did.eve
 
 -- ---- by what an end does
 
-pub hears_first : (part : Part) → MayHear part 0
-hears_first (Serves region) = refl
-hears_first (Asks text) = omega arith
+pub few_said : (ended : Option Ended) → count_said ended ≤ 2
+few_said None = omega arith
+few_said (Some end) = omega arith
 
-hears : (text : List ℕ) (ended : Option Ended) → MayHear (Asks text) (count_said ended)
-hears text None = omega arith
-hears text (Some end) = omega arith
+-- an asking end reads whenever it likes
+pub asks_on : (until : Until) (p : Plan) (text : List ℕ) (told : Told) (k : ℕ) → p.part ≡ Asks text → k ≤ 2 → ReadsOn until p told k
+asks_on until p text told k asks few = λ told' is_open over later. rw asks few
 
-pub hears_on : (part : Part) (text : List ℕ) (ended : Option Ended) → part ≡ Asks text → MayHear part (count_said ended)
-hears_on part text ended is = rw is (hears text ended)
+-- a serving end that answers at the end of the peer's output reads before
+pub serves_on : (until : Until) (p : Plan) (region : Stag) (told : Told) → p.part ≡ Serves region →
+    answers_at_once p.config.establishment ≡ false → ReadsOn until p told 0
+serves_on until p region told serves late = λ told' is_open over later. rw (serves, late) refl
+
+none_received : (r : Option (List ℕ)) (e : Bool) → (is_some r || e) ≡ false → r ≡ None
+none_received None e over = refl
+none_received (Some octets) e over = absurd (let no : ⊥ = cc in no)
+
+-- one that answers at once reads until the Send was received
+pub serves_until : (p : Plan) (region : Stag) (told : Told) (k : ℕ) → p.part ≡ Serves region →
+    answers_at_once p.config.establishment ≡ true → ReadsOn untils.Send p told k
+serves_until p region told k serves soon = λ told' is_open over later.
+    rw (serves, soon) (inl (none_received told'.received (is_some told'.ended) over))
+
+-- and on after its answer
+pub serves_after : (p : Plan) (region : Stag) (told : Told) (k : ℕ) → p.part ≡ Serves region →
+    answers_at_once p.config.establishment ≡ true → IsSaid p.part told k → ReadsOn untils.End p told k
+serves_after p region told k serves soon said = λ told' is_open over later.
+    rw (serves, soon) (go told' later (rw serves at said)) where
+      go : (told' : Told) → (is_some told.ended ≡ true → is_some told'.ended ≡ true) → IsSaid (Serves region) told k → MayAwait true told' k
+      go told' later (inl answered) = inr (inr answered)
+      go told' later (inr ended) = inr (inl (later ended))
 
 pub answers : (part : Part) (region : Stag) (n : ℕ) (s : Standing) (request : Request (List ℕ)) → part ≡ Serves region →
     IsAnswer region s request → IsDue part n s request
@@ -348,6 +397,28 @@ says p text s s' i i' o o' asks e = go s.told.ended refl where
   go : (ended : Option Ended) → s.told.ended ≡ ended → IsSaid p.part s'.told (count_said ended)
   go None is = inl (rw asks refl)
   go (Some end) is = inr (stays_ended p s s' e.did.events e.did.runs (rw is refl))
+
+pub says_back : (p : Plan) (region : Stag) (s s' : Standing) (i i' o o' : Option (List ℕ)) → p.part ≡ Serves region →
+    Exchanged p s i o s' i' o' → IsSaid p.part s'.told (count_answered s.told.ended)
+says_back p region s s' i i' o o' serves e = go s.told.ended refl where
+  go : (ended : Option Ended) → s.told.ended ≡ ended → IsSaid p.part s'.told (count_answered ended)
+  go None is = inl (rw serves refl)
+  go (Some end) is = inr (stays_ended p s s' e.did.events e.did.runs (rw is refl))
+
+pub stays_said : (p : Plan) (k : ℕ) (s s' : Standing) (i i' o o' : Option (List ℕ)) → Exchanged p s i o s' i' o' →
+    IsSaid p.part s.told k → IsSaid p.part s'.told k
+stays_said p k s s' i i' o o' e (inl all) = inl all
+stays_said p k s s' i i' o o' e (inr ended) = inr (stays_ended p s s' e.did.events e.did.runs ended)
+
+-- what was done before
+pub finishes_later : (p : Plan) (s m : Standing) (at' : Phase → ℕ → Standing) (i j i' o q o' : Option (List ℕ)) (told : Told) →
+    Exchanged p s i o m j q → Finished p m j q at' i' o' told → Finished p s i o at' i' o' told
+finishes_later p s m at' i j i' o q o' told first f = record {
+  posted = f.posted;
+  exchanged = exchanges p s m (at' Listening f.posted) i j i' o q o' first f.exchanged;
+  said = f.said;
+  settled = f.settled;
+}
 
 -- ---- from the opening on
 
@@ -362,3 +433,9 @@ pub begins_to_fail : (p : Plan) (e e' : EndpointState) (c : ℕ) (r : Option (Li
     Failed p (at e' c (record { received = r; ended = d }) Lending 0) i o at' i' o' →
     Failed p (started p e) i o at' i' o'
 begins_to_fail p e e' c r d i o i' o' at' opens none nothing no_end f = rw (opens, none, nothing, no_end) at f
+
+pub begins_to_close : (p : Plan) (e e' : EndpointState) (c : ℕ) (r : Option (List ℕ)) (d : Option Ended) (i o i' o' : Option (List ℕ))
+    (at' : Phase → ℕ → Standing) → e' ≡ opened e p.number 1 (role_of p.part) p.config → c ≡ 0 → r ≡ None → d ≡ None →
+    Closes p (at e' c (record { received = r; ended = d }) Lending 0) i o at' i' o' →
+    Closes p (started p e) i o at' i' o'
+begins_to_close p e e' c r d i o i' o' at' opens none nothing no_end f = rw (opens, none, nothing, no_end) at f

@@ -11,8 +11,9 @@ use Rattle.iw_octets.specs.Stag.{spelled, stag_at}
 use Rattle.iw_queues.specs.declared.request.Request.{Request}
 use Rattle.iw_queues.specs.declared.request.Request.TheVariants as requests
 use Rattle.iw_ranges.specs.Arrived.{BringsOctets}
-use Rattle.iw_startup.specs.declared.config.Establishment.TheVariants as establishments
 use Rattle.iw_startup.specs.declared.config.Config.{Config}
+use Rattle.iw_startup.specs.declared.config.Establishment.{Establishment}
+use Rattle.iw_startup.specs.declared.config.Establishment.TheVariants as establishments
 use Rattle.iw_stream.specs.declared.answer.Emission.{Emission}
 use Rattle.iw_stream.specs.declared.answer.Emission.TheVariants as emissions
 use Rattle.iw_stream.specs.declared.answer.Role.{Role}
@@ -111,7 +112,12 @@ role_of (Asks text) = roles.Initiator
 
 -- what a start-up frame asks for by these terms; it has no private data
 abbrev pub config_of : Terms → Config
-config_of terms = record { markers = terms.markers; crc = terms.crc; establishment = establishments.Plain; private = record { items = [] } }
+config_of terms = record {
+  markers = terms.markers;
+  crc = terms.crc;
+  establishment = terms.establishment;
+  private = record { items = [] };
+}
 
 abbrev pub plan_for : Terms → Part → Plan
 plan_for terms part = record { number = terms.number; config = config_of terms; part = part }
@@ -143,6 +149,7 @@ pub data Phase : Type 0 where
   Working : Phase  -- there may be work to do
   Accepting : Phase  -- the peer's Request is to be accepted
   Speaking : Phase  -- there may be something to emit
+  Closing : Phase  -- the peer's start-up frame was at fault: nothing more is done, and the connection closes
 
 -- the MPA Request of an asking end is written before the first read
 abbrev pub after_lending : Part → Phase
@@ -155,7 +162,7 @@ after_step (steps.Flushed kind) = Working
 after_step (steps.FlushedRecv buffer) = Working
 after_step steps.Asked = Accepting
 after_step (steps.Opened agreed) = Working
-after_step (steps.Closed fault) = Working
+after_step (steps.Closed fault) = Closing
 after_step (steps.Placed right stag to len) = Working
 after_step (steps.Buffered msn mo len) = Working
 after_step (steps.Requested size stag to) = Working
@@ -202,10 +209,24 @@ started p e = record {
   posted = 0;
 }
 
--- a serving end reads nothing after it has answered
-abbrev pub MayHear : Part → ℕ → Type 0
-MayHear (Serves region) posted = posted ≡ 0
-MayHear (Asks text) posted = posted ≤ 2
+-- Whether a serving end answers once the Send was received, or at the end of the peer's output. Peers that open with an
+-- enhanced frame may not be able to end their output alone.
+abbrev pub answers_at_once : Establishment → Bool
+answers_at_once establishments.Plain = false
+answers_at_once establishments.Enhanced = true
+answers_at_once establishments.PeerToPeer = true
+
+-- a serving end reads nothing after it has answered; one that answers at once reads nothing while an answer is due
+abbrev pub MayAwait : Bool → Told → ℕ → Type 0
+MayAwait false told posted = posted ≡ 0
+MayAwait true told posted = (told.received ≡ None) ⊎ (is_some told.ended ≡ true) ⊎ (posted ≡ 1)
+
+abbrev pub Awaits : Part → Bool → Told → ℕ → Type 0
+Awaits (Serves region) at_once told posted = MayAwait at_once told posted
+Awaits (Asks text) at_once told posted = posted ≤ 2
+
+abbrev pub MayHear : Plan → Told → ℕ → Type 0
+MayHear p told posted = Awaits p.part (answers_at_once p.config.establishment) told posted
 
 -- The answer to the Send that was received: as many octets as that had, the first of the region as it then stands.
 pub record IsAnswer (region : Stag) (s : Standing) (request : Request (List ℕ)) : Type 0 where
@@ -245,7 +266,7 @@ Goes p s (Accepted private) s' =
     (s.phase ≡ Accepting) × (private.items ≡ private_of p.part) ×
     (s' ≡ record s { endpoint = accepted s.endpoint p.number private; phase = Working })
 Goes p s (Delivered octets) s' =
-    (s.phase ≡ Listening) × MayHear p.part s.posted ×
+    (s.phase ≡ Listening) × MayHear p s.told s.posted ×
     (s' ≡ record s {
       endpoint = after_deliver s.endpoint p.number s.next octets;
       next = (s.next + length octets) % 2 ^ 32;
@@ -341,6 +362,12 @@ pub record Failed (p : Plan) (s : Standing) (i o : Option (List ℕ)) (at : Phas
   pub writes : Appends o o' written
   pub undelivered : (lost ≡ []) ⊎ IsUndelivered p (at phase posted) lost
 
+-- The same up to a fault of the peer's start-up frame (RFC 5044 8), which closes the connection: all that was due before
+-- is written, and nothing more is read or written.
+pub record Closes (p : Plan) (s : Standing) (i o : Option (List ℕ)) (at : Phase → ℕ → Standing) (i' o' : Option (List ℕ)) : Type 0 where
+  pub posted : ℕ
+  pub exchanged : Exchanged p s i o (at Closing posted) i' o'
+
 -- ---- a whole connection
 
 -- after a stream's link broke; nothing changes if there is no such stream
@@ -383,7 +410,16 @@ pub record BrokeOff (p : Plan) (e : EndpointState) (i o : Option (List ℕ)) (e'
   pub endpoint : e' ≡ after_break last p.number
   pub is : report ≡ report_of told true
 
--- a connection: it was completed, or its link broke, and the report says which
+-- the peer's start-up frame was at fault: what is left of the input is not read, and the link did not break
+pub record ClosedOff (p : Plan) (e : EndpointState) (i o : Option (List ℕ)) (e' : EndpointState) (i' o' : Option (List ℕ))
+    (report : Report) : Type 0 where
+  pub next : ℕ
+  pub told : Told
+  pub closes : Closes p (started p e) i o (λ phase posted. record { endpoint = e'; next = next; told = told; phase = phase; posted = posted }) i' o'
+  pub is : report ≡ report_of told false
+
+-- a connection: it was completed, or the peer's start-up frame closed it, or its link broke, and the report says which
 abbrev pub Served : Plan → EndpointState → Option (List ℕ) → Option (List ℕ) →
     EndpointState → Option (List ℕ) → Option (List ℕ) → Report → Type 0
-Served p e i o e' i' o' report = Completed p e i o e' i' o' report ⊎ BrokeOff p e i o e' i' o' report
+Served p e i o e' i' o' report =
+    Completed p e i o e' i' o' report ⊎ ClosedOff p e i o e' i' o' report ⊎ BrokeOff p e i o e' i' o' report

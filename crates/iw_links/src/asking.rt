@@ -1,14 +1,14 @@
-ghost use Rattle.std.specs.Prelude.{◌≡◌, ◌<◌, ◌≤◌, [], length, List, ℕ, Option, None, IfOk, OnOk, OnErr};
+ghost use Rattle.std.specs.Prelude.{◌≡◌, ◌<◌, ◌≤◌, [], length, List, ℕ, Option, None, IfOk, IfErr, OnOk, OnErr};
 ghost use Rattle.std.specs.Io.KnownBytes.{IsAtEnd};
 ghost use Rattle.iw_octets.specs.Stag.{stag_at};
 ghost use Rattle.iw_endpoint.specs.Endpoint.{private_at};
-ghost use Rattle.iw_links.specs.Exchange.{Did, Exchanged, Failed, Finished, Served, Asks, plan_for};
+ghost use Rattle.iw_links.specs.Exchange.{Did, Exchanged, Failed, Finished, Served, Told, Asks, plan_for};
 ghost use Rattle.iw_links.specs.Exchange.{Lending, Listening, Speaking};
-ghost use Rattle.iw_links.specs.Standing.{standing, told_in, plan_of, count_said};
+ghost use Rattle.iw_links.specs.Standing.{standing, told_in, plan_of, count_said, ReadsOn, Stopped};
 
 use crate::counted::Counted;
 use crate::exchange::{Terms, Until, break_off, hear, send, settle, speak};
-use crate::link::{Broken, DOMAIN, Link, lend, post};
+use crate::link::{Broken, DOMAIN, Link, Stop, lend, post};
 use crate::output::Output;
 use crate::plan::{Part, Plan};
 use crate::report::Report;
@@ -141,31 +141,77 @@ fn request_where_open<W: Write>(
     }
 }
 
-// Makes the request, unless the stream has ended, and ends the output.
-fn say<W: Output>(
-    alloc: Global,
+// Reads until the answer was received or the stream has ended, if the peer answers at once.
+fn await_answer<R: Read, W: Write>(
     plan: &Plan<'_>,
     endpoint: &mut Endpoint,
     link: &mut Link,
-    text: &[u8],
     out: &mut Vec<u8>,
+    input: &mut Counted<R>,
     output: &mut W,
-) -> Result<(), Broken>
-    requires plan { plan.now.part ≡ Part.Asks text }
-    ensures ok { OnOk result ((i : Option (List ℕ)) →
-        Exchanged (plan_of plan.now) (standing endpoint.old link.old Listening 0) i (W.contents output.old)
-        (standing endpoint.new link.new Listening (count_said link.old.ended)) i (W.contents output.new)) }
-    ensures err { OnErr result ((i : Option (List ℕ)) →
-        Failed (plan_of plan.now) (standing endpoint.old link.old Listening 0) i (W.contents output.old)
-        (standing endpoint.new link.new) i (W.contents output.new)) }
+    buffer: &mut [u8],
+) -> Result<(), Stop>
+    requires reads { input.old.reads ≤ 1000000 }
+    requires room { 0 < length buffer.old }
+    ensures ok { OnOk result ((k : ℕ) → ReadsOn Until.Send (plan_of plan.now) (told_in link.old) k →
+        Exchanged (plan_of plan.now) (standing endpoint.old link.old Listening k)
+        (R.remaining input.old.reader) (W.contents output.old)
+        (standing endpoint.new link.new Listening k) (R.remaining input.new.reader) (W.contents output.new)) }
+    ensures err { IfErr result (λ stop. (k : ℕ) → ReadsOn Until.Send (plan_of plan.now) (told_in link.old) k →
+        Stopped stop (plan_of plan.now) (standing endpoint.old link.old Listening k)
+        (R.remaining input.old.reader) (W.contents output.old)
+        (standing endpoint.new link.new) (R.remaining input.new.reader) (W.contents output.new)) }
+    ensures bounded { input.new.reads ≤ 1000000 }
+    ensures room { length buffer.new ≡ length buffer.old }
 {
-    match request_where_open(alloc, plan, endpoint, link, text, out, output) {
+    if !plan.terms.answers_at_once() {
+        return Ok(());
+    }
+    match hear(
+        Until::Send,
+        plan,
+        endpoint,
+        link,
+        out,
+        input,
+        output,
+        buffer,
+    ) {
+        Ok(_) => Ok(()),
+        Err(stop) => Err(stop),
+    }
+}
+
+// Ends the output: after the answer was received, if the peer answers at once.
+fn end_output<R: Read, W: Output>(
+    plan: &Plan<'_>,
+    endpoint: &mut Endpoint,
+    link: &mut Link,
+    out: &mut Vec<u8>,
+    input: &mut Counted<R>,
+    output: &mut W,
+    buffer: &mut [u8],
+) -> Result<(), Stop>
+    requires reads { input.old.reads ≤ 1000000 }
+    requires room { 0 < length buffer.old }
+    ensures ok { OnOk result ((k : ℕ) → ReadsOn Until.Send (plan_of plan.now) (told_in link.old) k →
+        Exchanged (plan_of plan.now) (standing endpoint.old link.old Listening k)
+        (R.remaining input.old.reader) (W.contents output.old)
+        (standing endpoint.new link.new Listening k) (R.remaining input.new.reader) (W.contents output.new)) }
+    ensures err { IfErr result (λ stop. (k : ℕ) → ReadsOn Until.Send (plan_of plan.now) (told_in link.old) k →
+        Stopped stop (plan_of plan.now) (standing endpoint.old link.old Listening k)
+        (R.remaining input.old.reader) (W.contents output.old)
+        (standing endpoint.new link.new) (R.remaining input.new.reader) (W.contents output.new)) }
+    ensures bounded { input.new.reads ≤ 1000000 }
+    ensures room { length buffer.new ≡ length buffer.old }
+{
+    match await_answer(plan, endpoint, link, out, input, output, buffer) {
         Ok(()) => {}
-        Err(fault) => return Err(fault),
+        Err(stop) => return Err(stop),
     }
     match output.end() {
         Ok(()) => Ok(()),
-        Err(_) => Err(Broken),
+        Err(_) => Err(Stop::Broken),
     }
 }
 
@@ -178,13 +224,15 @@ fn start_up<R: Read, W: Write>(
     input: &mut Counted<R>,
     output: &mut W,
     buffer: &mut [u8],
-) -> Result<(), Broken>
+) -> Result<(), Stop>
     requires reads { input.old.reads ≤ 1000000 }
     requires room { 0 < length buffer.old }
-    ensures ok { OnOk result (Exchanged (plan_of plan.now) (standing endpoint.old link.old Speaking 0)
+    ensures ok { OnOk result (((told : Told) → ReadsOn Until.Reply (plan_of plan.now) told 0) →
+        Exchanged (plan_of plan.now) (standing endpoint.old link.old Speaking 0)
         (R.remaining input.old.reader) (W.contents output.old)
         (standing endpoint.new link.new Listening 0) (R.remaining input.new.reader) (W.contents output.new)) }
-    ensures err { OnErr result (Failed (plan_of plan.now) (standing endpoint.old link.old Speaking 0)
+    ensures err { IfErr result (λ stop. ((told : Told) → ReadsOn Until.Reply (plan_of plan.now) told 0) →
+        Stopped stop (plan_of plan.now) (standing endpoint.old link.old Speaking 0)
         (R.remaining input.old.reader) (W.contents output.old)
         (standing endpoint.new link.new) (R.remaining input.new.reader) (W.contents output.new)) }
     ensures bounded { input.new.reads ≤ 1000000 }
@@ -192,7 +240,7 @@ fn start_up<R: Read, W: Write>(
 {
     match speak(plan, endpoint, link, out, output) {
         Ok(()) => {}
-        Err(fault) => return Err(fault),
+        Err(_) => return Err(Stop::Broken),
     }
     match hear(
         Until::Reply,
@@ -205,7 +253,7 @@ fn start_up<R: Read, W: Write>(
         buffer,
     ) {
         Ok(_) => Ok(()),
-        Err(fault) => Err(fault),
+        Err(stop) => Err(stop),
     }
 }
 
@@ -219,14 +267,14 @@ fn speak_to<R: Read, W: Output>(
     input: &mut Counted<R>,
     output: &mut W,
     buffer: &mut [u8],
-) -> Result<(), Broken>
+) -> Result<(), Stop>
     requires plan { plan.now.part ≡ Part.Asks text }
     requires reads { input.old.reads ≤ 1000000 }
     requires room { 0 < length buffer.old }
     ensures ok { OnOk result (Finished (plan_of plan.now) (standing endpoint.old link.old Lending 0)
         (R.remaining input.old.reader) (W.contents output.old)
         (standing endpoint.new link.new) (R.remaining input.new.reader) (W.contents output.new) (told_in link.new)) }
-    ensures err { OnErr result (Failed (plan_of plan.now) (standing endpoint.old link.old Lending 0)
+    ensures err { IfErr result (λ stop. Stopped stop (plan_of plan.now) (standing endpoint.old link.old Lending 0)
         (R.remaining input.old.reader) (W.contents output.old)
         (standing endpoint.new link.new) (R.remaining input.new.reader) (W.contents output.new)) }
     ensures end { OnOk result (IsAtEnd (R.remaining input.new.reader)) }
@@ -235,16 +283,20 @@ fn speak_to<R: Read, W: Output>(
 {
     match lend(alloc, plan, endpoint, link) {
         Ok(()) => {}
-        Err(fault) => return Err(fault),
+        Err(_) => return Err(Stop::Broken),
     }
     let mut out = Vec::new(alloc);
     match start_up(plan, endpoint, link, &mut out, input, output, buffer) {
         Ok(()) => {}
-        Err(fault) => return Err(fault),
+        Err(stop) => return Err(stop),
     }
-    match say(alloc, plan, endpoint, link, text, &mut out, output) {
+    match request_where_open(alloc, plan, endpoint, link, text, &mut out, output) {
         Ok(()) => {}
-        Err(fault) => return Err(fault),
+        Err(_) => return Err(Stop::Broken),
+    }
+    match end_output(plan, endpoint, link, &mut out, input, output, buffer) {
+        Ok(()) => {}
+        Err(stop) => return Err(stop),
     }
     match hear(
         Until::End,
@@ -257,20 +309,23 @@ fn speak_to<R: Read, W: Output>(
         buffer,
     ) {
         Ok(_) => {}
-        Err(fault) => return Err(fault),
+        Err(stop) => return Err(stop),
     }
     match settle(link) {
         Ok(()) => Ok(()),
-        Err(fault) => Err(fault),
+        Err(_) => Err(Stop::Broken),
     }
 }
 
 /// Makes a request on a connection: writes the text into the region that the peer's Reply names, at tagged offset 0,
-/// and sends it too; then ends the output, and reads to the end of the peer's output. A text has at most 4,096 octets.
+/// and sends it too; then ends the output, and reads to the end of the peer's output. With an enhanced start-up it ends
+/// the output only after the answer was received, the stream ended or the peer's output ended, since real peers cannot
+/// go on after it. A text has at most 4,096 octets.
 ///
 /// The MPA Request is written before the first read. Each read is one delivery; after it, `ask` works until there is
 /// nothing to do and writes all that is due. The link breaks if the reader or writer fails, the input ends early, the
-/// Reply names no region, or memory runs out. Then nothing more is read or written.
+/// Reply names no region, or memory runs out. Then nothing more is read or written. Nor is it if the Reply is at fault or
+/// rejects: the caller closes the connection (RFC 5044 8).
 ///
 /// An `Err` means that the stream cannot be opened; nothing was read, written or changed.
 pub fn ask<R: Read, W: Output>(
@@ -306,6 +361,7 @@ pub fn ask<R: Read, W: Output>(
         alloc, &plan, endpoint, &mut link, text, input, output, buffer,
     ) {
         Ok(()) => Ok(link.into_report(false)),
-        Err(_) => Ok(break_off(&plan, endpoint, link)),
+        Err(Stop::Closed) => Ok(link.into_report(false)),
+        Err(Stop::Broken) => Ok(break_off(&plan, endpoint, link)),
     }
 }

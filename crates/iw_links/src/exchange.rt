@@ -1,11 +1,11 @@
-ghost use Rattle.std.specs.Prelude.{◌≡◌, ◌<◌, ◌≤◌, length, List, ℕ, Option, None, Ok, IfOk, OnOk, OnErr, true, false};
+ghost use Rattle.std.specs.Prelude.{◌≡◌, ◌<◌, ◌≤◌, length, List, ℕ, Option, None, Ok, IfOk, IfErr, OnOk, OnErr, true, false};
 ghost use Rattle.std.specs.Io.KnownBytes.{Consumes, IsAtEnd};
-ghost use Rattle.iw_links.specs.Exchange.{Exchanged, Failed, IsSettled, MayHear, after_break, config_of, report_of, send_of};
+ghost use Rattle.iw_links.specs.Exchange.{Exchanged, Failed, IsSettled, MayHear, after_break, answers_at_once, config_of, report_of, send_of};
 ghost use Rattle.iw_links.specs.Exchange.{Listening, Speaking};
-ghost use Rattle.iw_links.specs.Standing.{standing, told_in, plan_of};
+ghost use Rattle.iw_links.specs.Standing.{standing, told_in, plan_of, is_over, ReadsOn, Stopped};
 
-use crate::counted::{Counted, MOST_READS};
-use crate::link::{Broken, Link, deliver, emit_all, work_all};
+use crate::counted::Counted;
+use crate::link::{Broken, Link, Stop, deliver, emit_all, work_all};
 use crate::plan::Plan;
 use crate::report::Report;
 use bytes::Bytes;
@@ -22,16 +22,28 @@ pub struct Terms {
     pub markers: bool,
     /// The peer is asked for CRCs in both directions.
     pub crc: bool,
+    /// The revision of MPA, and what it is used for.
+    pub establishment: Establishment,
 }
 
 impl Terms {
+    /// Whether a serving end answers once the Send was received. Otherwise it answers at the end of the peer's output.
+    pub(crate) fn answers_at_once(self) -> bool
+        ensures { result ≡ answers_at_once self.establishment }
+    {
+        match self.establishment {
+            Establishment::Plain => false,
+            Establishment::Enhanced | Establishment::PeerToPeer => true,
+        }
+    }
+
     pub(crate) fn config(self) -> Config
         ensures { result ≡ config_of self }
     {
         Config {
             markers: self.markers,
             crc: self.crc,
-            establishment: Establishment::Plain,
+            establishment: self.establishment,
             private: PrivateData::new(),
         }
     }
@@ -74,7 +86,7 @@ pub(crate) fn speak<W: Write>(
     }
 }
 
-// Delivers what was read, works, and writes what is due.
+// Delivers what was read, works, and writes what is due, unless the peer's start-up frame closes the connection.
 fn take_turn<W: Write>(
     plan: &Plan<'_>,
     endpoint: &mut Endpoint,
@@ -82,27 +94,27 @@ fn take_turn<W: Write>(
     octets: &[u8],
     out: &mut Vec<u8>,
     output: &mut W,
-) -> Result<(), Broken>
-    ensures ok { OnOk result ((k : ℕ) → MayHear (plan_of plan.now).part k →
+) -> Result<(), Stop>
+    ensures ok { OnOk result ((k : ℕ) → MayHear (plan_of plan.now) (told_in link.old) k →
         (i i' : Option (List ℕ)) → Consumes i i' octets.now →
         Exchanged (plan_of plan.now) (standing endpoint.old link.old Listening k) i (W.contents output.old)
         (standing endpoint.new link.new Listening k) i' (W.contents output.new)) }
-    ensures err { OnErr result ((k : ℕ) → MayHear (plan_of plan.now).part k →
+    ensures err { IfErr result (λ stop. (k : ℕ) → MayHear (plan_of plan.now) (told_in link.old) k →
         (i i' : Option (List ℕ)) → Consumes i i' octets.now →
-        Failed (plan_of plan.now) (standing endpoint.old link.old Listening k) i (W.contents output.old)
+        Stopped stop (plan_of plan.now) (standing endpoint.old link.old Listening k) i (W.contents output.old)
         (standing endpoint.new link.new) i' (W.contents output.new)) }
 {
     match deliver(plan, endpoint, link, octets) {
         Ok(()) => {}
-        Err(fault) => return Err(fault),
+        Err(_) => return Err(Stop::Broken),
     }
     match work_all(plan, endpoint, link) {
         Ok(()) => {}
-        Err(fault) => return Err(fault),
+        Err(stop) => return Err(stop),
     }
     match speak(plan, endpoint, link, out, output) {
         Ok(()) => Ok(()),
-        Err(fault) => Err(fault),
+        Err(_) => Err(Stop::Broken),
     }
 }
 
@@ -111,19 +123,27 @@ fn take_turn<W: Write>(
 pub(crate) enum Until {
     /// Until its Reply came or the stream has ended.
     Reply,
+    /// Until a Send was received or the stream has ended.
+    Send,
     /// To the end of its output.
     End,
 }
 
 impl Until {
     fn is_over(self, link: &Link) -> bool
-        ensures { self ≡ Until.End → result ≡ false }
+        ensures is { result ≡ is_over self link.now.is_open (told_in link.now) }
+        ensures end { self ≡ Until.End → result ≡ false }
     {
-        self == Until::Reply && (link.is_open || link.ended.is_some())
+        match self {
+            Until::Reply => link.is_open || link.ended.is_some(),
+            Until::Send => link.received.is_some() || link.ended.is_some(),
+            Until::End => false,
+        }
     }
 }
 
-/// Reads; after each read, which is one delivery, works and writes what is due. Returns whether the input has ended.
+/// Reads, until that is over; after each read, which is one delivery, works and writes what is due. Returns whether the
+/// input has ended. If the peer's start-up frame closes the connection, nothing more is read or written.
 pub(crate) fn hear<R: Read, W: Write>(
     until: Until,
     plan: &Plan<'_>,
@@ -133,15 +153,15 @@ pub(crate) fn hear<R: Read, W: Write>(
     input: &mut Counted<R>,
     output: &mut W,
     buffer: &mut [u8],
-) -> Result<bool, Broken>
+) -> Result<bool, Stop>
     requires reads { input.old.reads ≤ 1000000 }
     requires room { 0 < length buffer.old }
-    ensures ok { OnOk result ((k : ℕ) → MayHear (plan_of plan.now).part k →
+    ensures ok { OnOk result ((k : ℕ) → ReadsOn until (plan_of plan.now) (told_in link.old) k →
         Exchanged (plan_of plan.now) (standing endpoint.old link.old Listening k)
         (R.remaining input.old.reader) (W.contents output.old)
         (standing endpoint.new link.new Listening k) (R.remaining input.new.reader) (W.contents output.new)) }
-    ensures err { OnErr result ((k : ℕ) → MayHear (plan_of plan.now).part k →
-        Failed (plan_of plan.now) (standing endpoint.old link.old Listening k)
+    ensures err { IfErr result (λ stop. (k : ℕ) → ReadsOn until (plan_of plan.now) (told_in link.old) k →
+        Stopped stop (plan_of plan.now) (standing endpoint.old link.old Listening k)
         (R.remaining input.old.reader) (W.contents output.old)
         (standing endpoint.new link.new) (R.remaining input.new.reader) (W.contents output.new)) }
     ensures end { result ≡ Ok true → IsAtEnd (R.remaining input.new.reader) }
@@ -149,23 +169,23 @@ pub(crate) fn hear<R: Read, W: Write>(
     ensures bounded { input.new.reads ≤ 1000000 }
     ensures room { length buffer.new ≡ length buffer.old }
 {
-    'reads: for _ in 0..MOST_READS {
+    'reads: for _ in 0..u64::MAX {
+        if until.is_over(link) {
+            return Ok(false);
+        }
         match input.next(buffer) {
             Ok(0) => return Ok(true),
             Ok(n) => {
                 let octets = &buffer[..n];
                 match take_turn(plan, endpoint, link, octets, out, output) {
                     Ok(()) => {}
-                    Err(fault) => return Err(fault),
+                    Err(stop) => return Err(stop),
                 }
             }
-            Err(_) => return Err(Broken),
-        }
-        if until.is_over(link) {
-            return Ok(false);
+            Err(_) => return Err(Stop::Broken),
         }
     }
-    Err(Broken)
+    Err(Stop::Broken)
 }
 
 /// `Ok` if a Send was received or the peer ended the stream; otherwise the peer has broken off.

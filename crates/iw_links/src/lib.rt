@@ -4,6 +4,7 @@
 //! connecting end ([`ask`]) writes a text there, sends it too, and ends its output. The listening end then sends back
 //! the front of its region. Both use an [`iw_endpoint::Endpoint`]: each read of the input is one delivery, at the next
 //! stream place, and what the endpoint emits is written in order.
+//! Their start-up frames are of revision 1 of MPA, or enhanced ones of revision 2 (RFC 6581), as the [`Terms`] say.
 #![tactic(auto)]
 
 mod asking;

@@ -6,7 +6,7 @@ ghost use Rattle.iw_endpoint.specs.Endpoint.{fresh, added, registered};
 ghost use Rattle.iw_links.specs.Exchange.{Did, Emits, report_of, told_by, with_domain, writable, zero_octets};
 ghost use Rattle.iw_links.specs.Exchange.{Phase, Lending, Listening, Working, Accepting, Speaking, after_lending, after_step};
 ghost use Rattle.iw_links.specs.Exchange.{IsDue, IsUndelivered, MayHear};
-ghost use Rattle.iw_links.specs.Standing.{standing, told_in, plan_of, phase_of};
+ghost use Rattle.iw_links.specs.Standing.{standing, told_in, plan_of, phase_of, Halts};
 
 use crate::plan::Plan;
 use crate::report::{Ended, Report};
@@ -31,6 +31,15 @@ const REGION: usize = 65_536;
 /// The link broke: a reader or writer failed, the peer did not do its part, or memory ran out.
 #[derive(Clone, Copy, Debug, PartialEq, Eq)]
 pub(crate) struct Broken;
+
+/// Why a connection stops before it is completed.
+#[derive(Clone, Copy, Debug, PartialEq, Eq)]
+pub(crate) enum Stop {
+    /// The link broke.
+    Broken,
+    /// The peer's start-up frame was at fault, and closes the connection (RFC 5044 8).
+    Closed,
+}
 
 /// An endpoint for outgoing connections, with a domain and no region. An `Err` means out of memory.
 pub fn caller(alloc: Global) -> Result<Endpoint, AllocError>
@@ -195,7 +204,7 @@ pub(crate) fn deliver(
     link: &mut Link,
     octets: &[u8],
 ) -> Result<(), Broken>
-    ensures ok { OnOk result ((k : ℕ) → MayHear (plan_of plan.now).part k → Did (plan_of plan.now)
+    ensures ok { OnOk result ((k : ℕ) → MayHear (plan_of plan.now) (told_in link.old) k → Did (plan_of plan.now)
         (standing endpoint.old link.old Listening k) (standing endpoint.new link.new Working k) octets.now []) }
     ensures err { OnErr result (endpoint.new ≡ endpoint.old) }
     ensures link { OnErr result (link.new ≡ link.old) }
@@ -252,6 +261,8 @@ enum Next {
     Work,
     // There is nothing to do.
     Rest,
+    // The peer's start-up frame closes the connection.
+    Close,
 }
 
 impl Next {
@@ -261,48 +272,51 @@ impl Next {
         match step {
             Step::Asked => Next::Accept,
             Step::Idle => Next::Rest,
+            Step::Closed(_) => Next::Close,
             _ => Next::Work,
         }
     }
 }
 
 // Does one step of work, and accepts the peer's Request if it is pending then. Returns whether there is nothing to do.
-fn work_on(plan: &Plan<'_>, endpoint: &mut Endpoint, link: &mut Link) -> Result<bool, Broken>
+fn work_on(plan: &Plan<'_>, endpoint: &mut Endpoint, link: &mut Link) -> Result<bool, Stop>
     ensures ok { IfOk result (λ rests. (k : ℕ) → Did (plan_of plan.now) (standing endpoint.old link.old Working k)
         (standing endpoint.new link.new (if rests then Speaking else Working) k) [] []) }
-    ensures err { OnErr result ((k : ℕ) → (phase : Phase) × Did (plan_of plan.now)
-        (standing endpoint.old link.old Working k) (standing endpoint.new link.new phase k) [] []) }
+    ensures err { IfErr result (λ stop. (k : ℕ) → Halts stop (plan_of plan.now)
+        (standing endpoint.old link.old Working k) (standing endpoint.new link.new) k) }
 {
     match step(plan, endpoint, link) {
         Ok(Next::Rest) => Ok(true),
         Ok(Next::Work) => Ok(false),
+        Ok(Next::Close) => Err(Stop::Closed),
         Ok(Next::Accept) => match accept(plan, endpoint, link) {
             Ok(()) => Ok(false),
-            Err(fault) => Err(fault),
+            Err(_) => Err(Stop::Broken),
         },
-        Err(fault) => Err(fault),
+        Err(_) => Err(Stop::Broken),
     }
 }
 
-/// Works until there is nothing to do. Accepts the peer's Request if it comes.
+/// Works until there is nothing to do, or the peer's start-up frame closes the connection. Accepts the peer's Request
+/// if it comes.
 pub(crate) fn work_all(
     plan: &Plan<'_>,
     endpoint: &mut Endpoint,
     link: &mut Link,
-) -> Result<(), Broken>
+) -> Result<(), Stop>
     ensures ok { OnOk result ((k : ℕ) → Did (plan_of plan.now)
         (standing endpoint.old link.old Working k) (standing endpoint.new link.new Speaking k) [] []) }
-    ensures err { OnErr result ((k : ℕ) → (phase : Phase) × Did (plan_of plan.now)
-        (standing endpoint.old link.old Working k) (standing endpoint.new link.new phase k) [] []) }
+    ensures err { IfErr result (λ stop. (k : ℕ) → Halts stop (plan_of plan.now)
+        (standing endpoint.old link.old Working k) (standing endpoint.new link.new) k) }
 {
     'steps: for _ in 0..u64::MAX {
         match work_on(plan, endpoint, link) {
             Ok(true) => return Ok(()),
             Ok(false) => {}
-            Err(fault) => return Err(fault),
+            Err(stop) => return Err(stop),
         }
     }
-    Err(Broken)
+    Err(Stop::Broken)
 }
 
 // Emits what is due next. Returns whether something was due, or the stream ended. An `Err` changes nothing.

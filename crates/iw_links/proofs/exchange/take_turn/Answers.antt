@@ -1,5 +1,5 @@
 use Rattle.iw_links.specs.Standing.{standing}
-use Rattle.iw_links.proofs.Exchanges.{after_read, exchanges, fails_later, fails_quietly, fails_undelivered, in_quiet}
+use Rattle.iw_links.proofs.Exchanges.{after_read, exchanges, fails_later, fails_undelivered, in_quiet, stops_later, stops_quietly}
 use Rattle.iw_links.proofs.exchange.take_turn.Goals as goal
 
 pub returns-in-Err-clause-err : goal.returns-in-Err-clause-err
@@ -10,9 +10,9 @@ returns-in-Err-clause-err g c = λ k may i i' reads.
 pub returns-in-Err-work_all-clause-err : goal.returns-in-Err-work_all-clause-err
 returns-in-Err-work_all-clause-err g c = λ k may i i' reads.
     let o = g.W.Write.contents c.args.output.now in
-    let stopped = c.in-Err-work_all.ensures.err k in
-    fails_later _ _ _ _ i i' i' o o o (after_read _ _ _ i i' o _ (c.in-Ok.ensures.ok k may) reads)
-    (fails_quietly _ _ (standing c.work_all.new.endpoint c.work_all.new.link) stopped.0 k i' o stopped.1)
+    stops_later _ _ _ _ (standing c.work_all.new.endpoint c.work_all.new.link) i i' i' o o o
+    (after_read _ _ _ i i' o _ (c.in-Ok.ensures.ok k may) reads)
+    (stops_quietly _ _ _ (standing c.work_all.new.endpoint c.work_all.new.link) k i' o (c.in-Err-work_all.ensures.err k))
 
 pub returns-in-Ok-speak-clause-ok : goal.returns-in-Ok-speak-clause-ok
 returns-in-Ok-speak-clause-ok g c = λ k may i i' reads.

@@ -13,6 +13,9 @@ returns-in-Err-accept-clause-err c = λ k.
 pub returns-in-Err-clause-err : goal.returns-in-Err-clause-err
 returns-in-Err-clause-err c = λ k. (Working, rw (c.in-Err.ensures.err, c.in-Err.ensures.link) (stays _ _))
 
+pub returns-in-Ok-Close-clause-err : goal.returns-in-Ok-Close-clause-err
+returns-in-Ok-Close-clause-err c = λ k. rw c.in-Ok-Close.field-0-is at c.in-Ok-Close.ensures.ok k
+
 pub returns-in-Ok-Rest-clause-ok : goal.returns-in-Ok-Rest-clause-ok
 returns-in-Ok-Rest-clause-ok c = λ k. rw c.in-Ok-Rest.field-0-is at c.in-Ok-Rest.ensures.ok k
 
