@@ -27,17 +27,17 @@
  * - No pointer is null, even if its count is 0. `octets` and `private_data` point to `n` octets that can be read, and
  *   that nothing writes during the call; `out` points to `room` octets that can be written. What the pointers of one
  *   call point to does not overlap.
- * - One call at a time on a handle, and all of them on one thread. Several handles may be open, on the same thread or
- *   on others.
+ * - One call at a time on a handle and on a buffer, from any thread: a call begins once the one before it has returned.
+ *   Calls on several handles may go on at once.
  * - No call from a signal handler, nor from the forked child of a process that has threads.
  * - The program's malloc, realloc and free are of one allocator, and align to 16.
  *
- * Each function except iwarp_free, iwarp_buffer_free and iwarp_version returns IWARP_OK, or the first reason why it did
- * nothing. If it does not return IWARP_OK, the handle, the buffer and all that the call may write are as they were, with two
- * exceptions: a length is written with IWARP_NO_ROOM (by iwarp_emit with IWARP_NO_MEMORY too), and the steps that
- * iwarp_work_on did before a refused one stay done. IWARP_NO_MEMORY means that malloc failed; the call may be made again. A
- * call that copies octets, or allocates a receive buffer, does so first, so it may return IWARP_NO_MEMORY in place of a
- * reason that the region, the stream or the pool has. A call that takes a buffer returns it only if no other reason holds.
+ * Each function that returns an int32_t returns IWARP_OK, or the first reason why it did nothing. If it does not return
+ * IWARP_OK, the handle, the buffer and all that the call may write are as they were, with two exceptions: a length is
+ * written with IWARP_NO_ROOM (by iwarp_emit with IWARP_NO_MEMORY too), and the steps that iwarp_work_on did before a
+ * refused one stay done. IWARP_NO_MEMORY means that malloc failed; the call may be made again. A call that copies
+ * octets, or allocates a receive buffer, does so first, so it may return IWARP_NO_MEMORY in place of a reason that the
+ * region, the stream or the pool has. A call that takes a buffer returns it only if no other reason holds.
  *
  * A peer's mistake is never a return code: iwarp_work reports IWARP_FAULT, or iwarp_emit IWARP_DENIED, and that stream
  * has ended.
@@ -65,7 +65,7 @@ extern "C" {
 #endif
 
 /* The version of this header: 10,000 for each major number, 100 for each minor one, 1 for each revision. */
-#define IWARP_VERSION 900
+#define IWARP_VERSION 901
 
 /* An endpoint, or none. */
 struct iwarp {
@@ -121,6 +121,16 @@ enum {
     IWARP_NO_READS = 35 /* the peer takes no Reads: its IRD is 0 */
 };
 
+/* Tells the address of a text that says what a code means. The text is never freed. */
+void iwarp_text_at(int32_t code, const char **text);
+
+/* Returns a text that says what a code means. */
+static inline const char *iwarp_text(int32_t code) {
+    const char *text;
+    iwarp_text_at(code, &text);
+    return text;
+}
+
 /* ---- handles and domains */
 
 /* Tells the version of the library: IWARP_VERSION, as it was when the library was built. */
@@ -138,7 +148,7 @@ int32_t iwarp_add_domain(struct iwarp *handle, uint32_t pd);
 /* ---- buffers */
 
 /* Makes a buffer of `n` zero octets. They can become a region and come back, with nothing copied: they stay at their address
- * until they are freed, or iwarp_emit_onto puts a frame behind them. */
+ * until they are freed, or iwarp_emit_onto is called with the buffer. */
 int32_t iwarp_buffer_new(size_t n, struct iwarp_buffer *buffer);
 
 /* Frees the buffer's octets: then it is IWARP_NO_BUFFER. A second call does nothing. */
@@ -228,10 +238,11 @@ enum {
     IWARP_USES_CRC = 4
 };
 
-/* Opens a stream in a domain under a number from 0 to 63, which stays taken for good. `options` is a sum of
- * IWARP_MARKERS, IWARP_CRC and IWARP_ENHANCED. The private data goes into an initiator's MPA Request; other roles do not
- * use it. With IWARP_ENHANCED an initiator's Request has revision 2, and a responder takes a Request of revision 1 or 2 and
- * answers in kind; without it both ends have revision 1 alone. Peers such as Linux's ask by revision 2. */
+/* Opens a stream in a domain under a number from 0 to 63, which no later stream of this handle can have. `options` is a
+ * sum of IWARP_MARKERS, IWARP_CRC and IWARP_ENHANCED. The private data goes into an initiator's MPA Request; other
+ * roles do not use it. With IWARP_ENHANCED an initiator's Request has revision 2, and a responder takes a Request of
+ * revision 1 or 2 and answers in kind; without it both ends have revision 1 alone. Peers such as Linux's ask by
+ * revision 2. */
 int32_t iwarp_open(struct iwarp *handle, uint32_t stream, uint32_t pd, uint32_t role, uint32_t options,
                    const uint8_t *private_data, size_t n);
 
@@ -277,15 +288,18 @@ enum {
 };
 
 /* Posts a Send of a copy of the octets. `flags` is a sum of IWARP_SOLICITED and IWARP_INVALIDATES; `stag` is used only
- * with the latter. */
-int32_t iwarp_post_send(struct iwarp *handle, uint32_t stream, const uint8_t *octets, size_t n, uint32_t flags, uint32_t stag);
+ * with the latter. `token`, of each call that posts a message, is any number of the program's: the event that tells that
+ * this message is done or flushed has it. */
+int32_t iwarp_post_send(struct iwarp *handle, uint32_t stream, const uint8_t *octets, size_t n, uint32_t flags, uint32_t stag,
+                        uint64_t token);
 
 /* Posts a Write of a copy of the octets, to a region of the peer at tagged offset `to`. */
-int32_t iwarp_post_write(struct iwarp *handle, uint32_t stream, uint32_t stag, uint64_t to, const uint8_t *octets, size_t n);
+int32_t iwarp_post_write(struct iwarp *handle, uint32_t stream, uint32_t stag, uint64_t to, const uint8_t *octets, size_t n,
+                         uint64_t token);
 
 /* Posts a Read of `size` octets, from a region of the peer into one of this end. */
 int32_t iwarp_post_read(struct iwarp *handle, uint32_t stream, uint32_t sink, uint64_t sink_to, uint32_t size,
-                        uint32_t source, uint64_t source_to);
+                        uint32_t source, uint64_t source_to, uint64_t token);
 
 /* Posts a receive buffer of `n` octets, at most 16,777,216. A Send that finds no buffer ends the stream. */
 int32_t iwarp_post_recv(struct iwarp *handle, uint32_t stream, size_t n);
@@ -303,10 +317,6 @@ int32_t iwarp_share(struct iwarp *handle, uint32_t pd);
  * 1,024. A Send takes the oldest buffer when any of its segments is placed first. A Send that finds the pool empty, or the
  * oldest buffer too short, ends its own stream only. */
 int32_t iwarp_post_shared(struct iwarp *handle, uint32_t pd, size_t n);
-
-/* Takes the oldest buffer out of the domain's pool. `*found` is 1 and `*n` its length, and iwarp_fetch copies it; or
- * both are 0, if the pool is empty. */
-int32_t iwarp_take_shared(struct iwarp *handle, uint32_t pd, uint32_t *found, size_t *n);
 
 /* Posts the buffer's octets themselves to the domain's pool, as iwarp_post_recv_buffer does to a stream. */
 int32_t iwarp_post_shared_buffer(struct iwarp *handle, uint32_t pd, struct iwarp_buffer *buffer);
@@ -333,14 +343,16 @@ int32_t iwarp_first_number(struct iwarp *handle, uint32_t stream, uint32_t numbe
  * TCP's do: 0 follows 4294967295. A number stands for the nearest place to the in-order point that has it, less than
  * 2^31 octets past that point or at most 2^31 before it. Octets before the in-order point are ignored. `*kept` is 1, or
  * 0 if all of the octets are dropped: because one lies 262,144 or more past the in-order point, because there would be
- * more than 1,024 islands (runs of octets with a gap before them), or because the stream has ended. */
+ * more than 1,024 islands (runs of octets with a gap before them), or because the stream has ended. If the
+ * octets come from a socket, deliver at most 131,072 at a time, and call iwarp_work_on until it reports IWARP_IDLE in
+ * between: then those of an open stream are dropped only if it has ended. */
 int32_t iwarp_deliver(struct iwarp *handle, uint32_t stream, uint32_t number, const uint8_t *octets, size_t n, uint32_t *kept);
 
 /* What a step of work did. */
 enum {
     IWARP_IDLE = 0, /* nothing: there is nothing to do until more octets come or more is emitted */
-    IWARP_DONE = 1, /* the oldest posted message is done: `message` */
-    IWARP_FLUSHED = 2, /* the stream has ended: the oldest posted message is given up: `message` */
+    IWARP_DONE = 1, /* the oldest posted message is done: `message`, `token` */
+    IWARP_FLUSHED = 2, /* the stream has ended: the oldest posted message is given up: `message`, `token` */
     IWARP_FLUSHED_RECV = 3, /* the stream has ended: its oldest receive buffer, of `len` octets, can be fetched */
     IWARP_ASKED = 4, /* the peer's MPA Request came: accept or reject it */
     IWARP_OPENED = 5, /* the peer accepted: `flags`, IWARP_SENDS_MARKERS and so on; `len` Reads may be outstanding */
@@ -361,7 +373,8 @@ enum { IWARP_MESSAGE_WRITE = 1, IWARP_MESSAGE_SEND = 2, IWARP_MESSAGE_READ = 3 }
 /* What is wrong with a start-up frame. */
 enum { IWARP_BAD_KEY = 1, IWARP_BAD_REVISION = 2, IWARP_BAD_LENGTH = 3, IWARP_REJECTED = 4 };
 
-/* Fields that the comment on its kind does not name are 0. */
+/* Fields that the comment on its kind does not name are 0. Those that are reserved are 0 too; a later version may put
+ * something into them. */
 struct iwarp_event {
     uint32_t kind; /* IWARP_IDLE and so on */
     uint32_t message;
@@ -375,11 +388,13 @@ struct iwarp_event {
     uint32_t code;
     uint64_t to;
     uint64_t len;
+    uint64_t token; /* that of the call by which the message was posted */
+    uint64_t reserved[4];
 };
 
 /* Does one step at a stream. Call it until it reports IWARP_IDLE: after octets were delivered, after some were emitted,
- * and after iwarp_break. Get a message or buffer that it reports with iwarp_fetch, before the next one is reported on
- * this handle. */
+ * and after iwarp_break. Get a message or buffer that it reports with iwarp_fetch or iwarp_fetch_buffer, before the next one is
+ * reported on this stream: then that one takes its place. */
 int32_t iwarp_work(struct iwarp *handle, uint32_t stream, struct iwarp_event *event);
 
 /* Calls iwarp_work as long as it returns IWARP_OK and reports IWARP_PLACED, IWARP_BUFFERED, IWARP_REQUESTED,
@@ -388,15 +403,15 @@ int32_t iwarp_work(struct iwarp *handle, uint32_t stream, struct iwarp_event *ev
  * before it stay done. */
 int32_t iwarp_work_on(struct iwarp *handle, uint32_t stream, struct iwarp_event *event);
 
-/* Copies the message or buffer that was reported last to the front of `out`, and forgets it. `*n` is how many octets it
- * has, with IWARP_NO_ROOM too; 0 if there is none. */
-int32_t iwarp_fetch(struct iwarp *handle, uint8_t *out, size_t room, size_t *n);
+/* Copies the message or buffer that was reported last on this stream to the front of `out`, and forgets it. `*n` is how many
+ * octets it has, with IWARP_NO_ROOM too; 0 if there is none. */
+int32_t iwarp_fetch(struct iwarp *handle, uint32_t stream, uint8_t *out, size_t room, size_t *n);
 
 /* Moves into the buffer what iwarp_fetch would copy, and forgets it: the whole receive buffer, as it was posted, of which the
  * first `*n` octets are the message, or all if it was flushed. The octets that the buffer had are freed. If nothing was told,
  * it has none then, and `*n` is 0. A program that posts it again (iwarp_post_recv_buffer) has one buffer for each Send that
  * it awaits, and none is made or cleared for each message. */
-int32_t iwarp_fetch_buffer(struct iwarp *handle, struct iwarp_buffer *buffer, size_t *n);
+int32_t iwarp_fetch_buffer(struct iwarp *handle, uint32_t stream, struct iwarp_buffer *buffer, size_t *n);
 
 /* What a call of iwarp_emit did. */
 enum {
@@ -406,7 +421,7 @@ enum {
     IWARP_DENIED = 3 /* no frame: the peer may not read that, and the stream has ended by a fault, `layer`, `error`, `code` */
 };
 
-/* Fields that the comment on its kind does not name are 0. */
+/* Fields that the comment on its kind does not name are 0, and so are those that are reserved. */
 struct iwarp_emission {
     uint32_t kind; /* IWARP_NOTHING and so on */
     uint32_t stag;
@@ -416,6 +431,7 @@ struct iwarp_emission {
     uint64_t from;
     uint64_t to;
     uint64_t n;
+    uint64_t reserved[4];
 };
 
 /* Emits the next frame of a stream to the front of `out`. Write it to the stream's connection, whole and in order. Call
@@ -424,8 +440,100 @@ struct iwarp_emission {
 int32_t iwarp_emit(struct iwarp *handle, uint32_t stream, uint8_t *out, size_t room, size_t *n, struct iwarp_emission *emission);
 
 /* Emits the next frame of a stream behind the octets of a buffer, so that several frames can be written by one call. Once
- * they are written, iwarp_buffer_truncate with 0 leaves the memory for the next. */
+ * they are written, iwarp_buffer_truncate with 0 leaves the memory for the next. The buffer's octets may stand at another
+ * address then, also if the call returns IWARP_NO_MEMORY. */
 int32_t iwarp_emit_onto(struct iwarp *handle, uint32_t stream, struct iwarp_buffer *buffer, struct iwarp_emission *emission);
+
+/* How far a stream is, in octets. */
+struct iwarp_progress {
+    uint64_t sent; /* emitted, the start-up frame among them */
+    uint64_t in_order; /* of the peer's, before the in-order point */
+    uint64_t due; /* what the next call of iwarp_emit gives; 0 if that reports IWARP_NOTHING or IWARP_DENIED */
+    uint64_t reserved[4];
+};
+
+/* Tells how far a stream is. Call iwarp_emit after iwarp_work all the same: `due` is 0 too if it is to report IWARP_DENIED. */
+int32_t iwarp_progress(struct iwarp *handle, uint32_t stream, struct iwarp_progress *progress);
+
+/* ---- faults: why a stream ended, as the numbers of a Terminate */
+
+/* The layer of a fault (RFC 5040 4.8). */
+enum {
+    IWARP_LAYER_RDMAP = 0,
+    IWARP_LAYER_DDP = 1,
+    IWARP_LAYER_MPA = 2
+};
+
+/* The error types of RDMAP (RFC 5040 4.8). */
+enum {
+    IWARP_RDMAP_CATASTROPHIC = 0,
+    IWARP_RDMAP_PROTECTION = 1,
+    IWARP_RDMAP_OPERATION = 2
+};
+
+/* The error codes of remote protection and remote operation errors (RFC 5040 4.8). */
+enum {
+    IWARP_RDMAP_INVALID_STAG = 0,
+    IWARP_RDMAP_BOUNDS = 1,
+    IWARP_RDMAP_RIGHTS = 2,
+    IWARP_RDMAP_NOT_ASSOCIATED = 3,
+    IWARP_RDMAP_TO_WRAP = 4,
+    IWARP_RDMAP_VERSION = 5,
+    IWARP_RDMAP_UNEXPECTED = 6,
+    IWARP_RDMAP_STREAM_CATASTROPHIC = 7,
+    IWARP_RDMAP_GLOBAL_CATASTROPHIC = 8,
+    IWARP_RDMAP_CANNOT_INVALIDATE = 9,
+    IWARP_RDMAP_UNSPECIFIED = 255
+};
+
+/* The error types of DDP (RFC 5041 8.2). */
+enum {
+    IWARP_DDP_CATASTROPHIC = 0,
+    IWARP_DDP_TAGGED = 1,
+    IWARP_DDP_UNTAGGED = 2
+};
+
+/* The error codes of tagged buffer errors (RFC 5041 8.2). */
+enum {
+    IWARP_TAGGED_INVALID_STAG = 0,
+    IWARP_TAGGED_BOUNDS = 1,
+    IWARP_TAGGED_NOT_ASSOCIATED = 2,
+    IWARP_TAGGED_TO_WRAP = 3,
+    IWARP_TAGGED_VERSION = 4
+};
+
+/* The error codes of untagged buffer errors (RFC 5041 8.2). */
+enum {
+    IWARP_UNTAGGED_INVALID_QN = 1,
+    IWARP_UNTAGGED_NO_BUFFER = 2,
+    IWARP_UNTAGGED_MSN_RANGE = 3,
+    IWARP_UNTAGGED_INVALID_MO = 4,
+    IWARP_UNTAGGED_TOO_LONG = 5,
+    IWARP_UNTAGGED_VERSION = 6
+};
+
+/* The error type of MPA, and its error codes (RFC 5044 8, RFC 6581 8). */
+enum {
+    IWARP_MPA_ERROR = 0,
+    IWARP_MPA_CONNECTION_LOST = 1,
+    IWARP_MPA_CRC_MISMATCH = 2,
+    IWARP_MPA_MARKER_MISMATCH = 3,
+    IWARP_MPA_INVALID_FRAME = 4,
+    IWARP_MPA_CATASTROPHIC = 5,
+    IWARP_MPA_INSUFFICIENT_IRD = 6,
+    IWARP_MPA_NO_MATCHING_RTR = 7
+};
+
+/* Tells the address of a text that says, with the names of the RFCs, what a fault means. The three numbers are those of
+ * an event or an emission. The text is never freed. */
+void iwarp_fault_text_at(uint32_t layer, uint32_t error, uint32_t code, const char **text);
+
+/* Returns a text that says what a fault means. */
+static inline const char *iwarp_fault_text(uint32_t layer, uint32_t error, uint32_t code) {
+    const char *text;
+    iwarp_fault_text_at(layer, error, code, &text);
+    return text;
+}
 
 #ifdef __cplusplus
 }

@@ -85,7 +85,7 @@ static size_t emitted(void) {
     size_t n, all = 0;
     opened(&end, &stag);
     for (int i = 0; i < REGION; i++) written[i] = (uint8_t)(i * 31 >> 3);
-    iwarp_post_write(&end, 0, stag, 0, written, REGION);
+    iwarp_post_write(&end, 0, stag, 0, written, REGION, 0);
     while (iwarp_emit(&end, 0, frame, sizeof frame, &n, &emission) == IWARP_OK && emission.kind == IWARP_FRAME) {
         memcpy(frames + all, frame, n);
         all += n;

@@ -6,9 +6,9 @@ enum { DOMAIN = 1, STREAM = 0, LENGTH = 100 };
 
 static struct iwarp end = IWARP_CLOSED;
 static struct iwarp_buffer buffer = IWARP_NO_BUFFER, none = IWARP_NO_BUFFER;
-static uint8_t *first; /* where the buffer's octets stand: they stay there, whoever has them */
+static uint8_t *first; /* the address of the buffer's octets: it stays the same, whoever has them */
 
-/* Ends the program where an answer is not as it should be. */
+/* Ends the program if an answer is not as it should be. */
 #define CHECK(answer)                          \
     do {                                       \
         if (!(answer)) {                       \
@@ -57,7 +57,7 @@ static void refuses(void) {
     CHECK(iwarp_register_buffer(&end, DOMAIN + 256, 0, &buffer, IWARP_WRITE, &stag) == IWARP_NO_DOMAIN);
     CHECK(iwarp_register_buffer(&end, DOMAIN, 0, &buffer, 16, &stag) == IWARP_BAD_BITS);
     CHECK(iwarp_register(&end, DOMAIN, 0, &octet, 1, 16, &stag) == IWARP_BAD_BITS);
-    CHECK(iwarp_post_send(&end, STREAM, &octet, 1, 4, 0) == IWARP_BAD_BITS);
+    CHECK(iwarp_post_send(&end, STREAM, &octet, 1, 4, 0, 0) == IWARP_BAD_BITS);
     CHECK(iwarp_post_recv(&end, STREAM, 16777217) == IWARP_BUFFER_TOO_LONG);
     CHECK(has(LENGTH));
 }
@@ -88,7 +88,7 @@ static void receives(void) {
     CHECK(iwarp_post_recv_buffer(&end, STREAM, &buffer) == IWARP_OK && has(0));
     CHECK(iwarp_break(&end, STREAM) == IWARP_OK);
     CHECK(iwarp_work_on(&end, STREAM, &event) == IWARP_OK && event.kind == IWARP_FLUSHED_RECV);
-    CHECK(iwarp_fetch_buffer(&end, &buffer, &n) == IWARP_OK && n == LENGTH && has(LENGTH));
+    CHECK(iwarp_fetch_buffer(&end, STREAM, &buffer, &n) == IWARP_OK && n == LENGTH && has(LENGTH));
     CHECK(iwarp_post_recv_buffer(&end, STREAM, &buffer) == IWARP_ENDED && has(LENGTH));
     CHECK(iwarp_post_shared_buffer(&end, DOMAIN, &buffer) == IWARP_NOT_SHARED && has(LENGTH));
     CHECK(iwarp_share(&end, DOMAIN) == IWARP_OK);

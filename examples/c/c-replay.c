@@ -3,7 +3,7 @@
  * or octets that do not exist. */
 #include "host.h"
 
-enum { STREAMS = 64, WORDS = 9, FRAME = 66000 };
+enum { STREAMS = 64, WORDS = 9, FRAME = 66000, MOST_READS = 16 };
 
 /* A growing buffer of octets. */
 struct octets {
@@ -12,12 +12,13 @@ struct octets {
 };
 
 /* An end: what it emitted at each of its streams, the sequence number of the peer's first octet, and which of them were
- * opened. */
+ * opened, and for revision 2 of MPA. */
 struct end {
     struct iwarp handle;
     struct octets emitted[STREAMS];
     uint32_t first[STREAMS];
     int opened[STREAMS];
+    int enhanced[STREAMS];
 };
 
 static struct end ends[2];
@@ -142,6 +143,7 @@ static const struct refusal refusals[] = {
     {IWARP_NUMBER_TAKEN, "open", "1 NumberTaken"},
     {IWARP_BAD_NUMBER, "open", "2 BadNumber"},
     {IWARP_NO_DOMAIN, "open", "3 NoDomain"},
+    {IWARP_PRIVATE_TOO_LONG, "open", "6 PrivateTooLong"},
     {IWARP_NO_DOMAIN, "share pool unpool", "1 NoDomain"},
     {IWARP_ALREADY_SHARED, "share", "2 AlreadyShared"},
     {IWARP_NOT_SHARED, "pool unpool", "2 NotShared"},
@@ -151,12 +153,14 @@ static const struct refusal refusals[] = {
     {IWARP_NO_DOMAIN, "openshared", "3 NoDomain"},
     {IWARP_NOT_SHARED, "openshared", "4 NotShared"},
     {IWARP_NOT_ASKED, "accept reject", "1 NotAsked"},
+    {IWARP_PRIVATE_TOO_LONG, "accept reject", "2 PrivateTooLong"},
     {IWARP_BUFFERS_FULL, "recv", "1 Full"},
     {IWARP_ENDED, "recv", "3 Ended"},
     {IWARP_SHARED, "recv", "4 Shared"},
     {IWARP_MESSAGES_FULL, "send write read", "1 Full"},
     {IWARP_MESSAGE_TOO_LONG, "send write read", "2 TooLong"},
     {IWARP_NOT_OPEN, "send write read", "3 NotOpen"},
+    {IWARP_NO_READS, "read", "5 NoReads"},
     {IWARP_LATE, "first", "1 Late"},
     {IWARP_BAD_SIZE, "mulpdu", "1 BadSize"},
 };
@@ -204,9 +208,32 @@ static void print_private(struct end *end, uint32_t stream) {
     print_octets(data, n);
 }
 
-static void print_fetched(struct end *end, uint64_t n) {
+static struct iwarp_told told_at(struct end *end, uint32_t stream) {
+    struct iwarp_told told;
+    if (iwarp_told(&end->handle, stream, &told) != IWARP_OK) fail();
+    return told;
+}
+
+/* The peer's IRD and ORD, at a stream that was opened for revision 2 of MPA. */
+static void print_told(struct end *end, uint32_t stream) {
+    if (!end->enhanced[stream]) return;
+    struct iwarp_told told = told_at(end, stream);
+    if (told.has_word)
+        printf("%u %u ", told.ird, told.ord);
+    else
+        printf("- - ");
+}
+
+/* The ORD that was agreed on, at such a stream. */
+static void print_ord(struct end *end, uint32_t stream) {
+    if (!end->enhanced[stream]) return;
+    struct iwarp_told told = told_at(end, stream);
+    printf(" %u", told.has_word && told.ird < MOST_READS ? told.ird : MOST_READS);
+}
+
+static void print_fetched(struct end *end, uint32_t stream, uint64_t n) {
     make_room(&scratch, (size_t)n + 1);
-    if (iwarp_fetch(&end->handle, scratch.at, scratch.room, &scratch.n) != IWARP_OK) fail();
+    if (iwarp_fetch(&end->handle, stream, scratch.at, scratch.room, &scratch.n) != IWARP_OK) fail();
     print_octets(scratch.at, scratch.n);
 }
 
@@ -220,9 +247,9 @@ static void print_fault(const char *name, uint32_t layer, uint32_t error, uint32
     printf("%s %d %d %d\n", name, (int)layer, (int)error, (int)code);
 }
 
-static void print_received(struct end *end, const struct iwarp_event *event) {
+static void print_received(struct end *end, uint32_t stream, const struct iwarp_event *event) {
     printf("received ");
-    print_fetched(end, event->len);
+    print_fetched(end, stream, event->len);
     printf(" %s ", kinds[event->flags]);
     if (event->flags & IWARP_INVALIDATES)
         printf("%08x\n", event->stag);
@@ -237,18 +264,21 @@ static void print_step(struct end *end, uint32_t stream, const struct iwarp_even
     case IWARP_FLUSHED: printf("flushed %s\n", messages[event->message]); break;
     case IWARP_FLUSHED_RECV:
         printf("flushed recv ");
-        print_fetched(end, event->len);
+        print_fetched(end, stream, event->len);
         printf("\n");
         break;
     case IWARP_ASKED:
         printf("asked ");
+        print_told(end, stream);
         print_private(end, stream);
         printf("\n");
         break;
     case IWARP_OPENED:
         printf("opened ");
         print_letters(event->flags, "sec");
+        print_ord(end, stream);
         printf(" ");
+        print_told(end, stream);
         print_private(end, stream);
         printf("\n");
         break;
@@ -263,7 +293,7 @@ static void print_step(struct end *end, uint32_t stream, const struct iwarp_even
         printf("requested %llu %08x %llu\n", (unsigned long long)event->len, event->stag, (unsigned long long)event->to);
         break;
     case IWARP_PASSED: printf("passed\n"); break;
-    case IWARP_RECEIVED: print_received(end, event); break;
+    case IWARP_RECEIVED: print_received(end, stream, event); break;
     case IWARP_TERMINATED: print_fault("terminated", event->layer, event->error, event->code); break;
     case IWARP_FAULT: print_fault("fault", event->layer, event->error, event->code); break;
     case IWARP_TRIED: printf("tried %llu\n", (unsigned long long)event->to); break;
@@ -339,16 +369,22 @@ static void do_deregister(struct end *end) {
 }
 
 static void do_unpool(struct end *end) {
+    struct iwarp_buffer buffer = IWARP_NO_BUFFER;
     uint32_t found;
+    uint8_t *at;
     size_t n;
-    if (!ended(iwarp_take_shared(&end->handle, (uint32_t)number(words[2]), &found, &n))) return;
-    if (found) {
-        printf("ok ");
-        print_fetched(end, n);
-    } else {
-        printf("empty");
+    if (iwarp_buffer_new(0, &buffer) != IWARP_OK) fail();
+    if (ended(iwarp_take_shared_buffer(&end->handle, (uint32_t)number(words[2]), &buffer, &found))) {
+        if (iwarp_buffer_at(&buffer, &at, &n) != IWARP_OK) fail();
+        if (found) {
+            printf("ok ");
+            print_octets(at, n);
+        } else {
+            printf("empty");
+        }
+        printf("\n");
     }
-    printf("\n");
+    iwarp_buffer_free(&buffer);
 }
 
 /* Does a call that needs no stream. Returns whether this was one. */
@@ -388,11 +424,14 @@ static void do_open(struct end *end, uint32_t stream) {
     struct octets *private_data = octets(words[6]);
     size_t n = role == IWARP_INITIATOR ? private_data->n : 0;
     uint32_t pd = (uint32_t)number(words[3]);
-    uint32_t options = letters(words[5], "mc");
+    uint32_t options = letters(words[5], "mce");
     int32_t code = strcmp(words[1], "open") == 0
                        ? iwarp_open(&end->handle, stream, pd, role, options, private_data->at, n)
                        : iwarp_open_shared(&end->handle, stream, pd, role, options, private_data->at, n);
-    if (code == IWARP_OK) end->opened[stream] = 1;
+    if (code == IWARP_OK) {
+        end->opened[stream] = 1;
+        end->enhanced[stream] = (options & IWARP_ENHANCED) != 0;
+    }
     ok(code);
 }
 
@@ -402,6 +441,7 @@ static void do_accept(struct end *end, uint32_t stream) {
     if (!ended(iwarp_accept(&end->handle, stream, private_data->at, private_data->n, &agreed))) return;
     printf("ok ");
     print_letters(agreed, "sec");
+    print_ord(end, stream);
     printf("\n");
 }
 
@@ -411,13 +451,13 @@ static void do_post(struct end *end, uint32_t stream) {
         uint32_t flags = (uint32_t)one_of(words[3], kinds);
         uint32_t region = flags & IWARP_INVALIDATES ? stag(words[4]) : 0;
         struct octets *from = octets(words[5]);
-        ok(iwarp_post_send(&end->handle, stream, from->at, from->n, flags, region));
+        ok(iwarp_post_send(&end->handle, stream, from->at, from->n, flags, region, 0));
     } else if (strcmp(word, "write") == 0) {
         struct octets *from = octets(words[5]);
-        ok(iwarp_post_write(&end->handle, stream, stag(words[3]), number(words[4]), from->at, from->n));
+        ok(iwarp_post_write(&end->handle, stream, stag(words[3]), number(words[4]), from->at, from->n, 0));
     } else {
         ok(iwarp_post_read(&end->handle, stream, stag(words[3]), number(words[4]), (uint32_t)number(words[5]), stag(words[6]),
-                           number(words[7])));
+                           number(words[7]), 0));
     }
 }
 

@@ -2,19 +2,24 @@
  * Linux. */
 #ifndef HOST_H
 #define HOST_H
+#define _GNU_SOURCE
 
 #include "../../include/iwarp.h"
 
 #if __has_include(<stddef.h>) && __has_include(<sys/socket.h>)
 #include <arpa/inet.h>
+#include <errno.h>
 #include <netinet/in.h>
 #include <poll.h>
 #include <stdio.h>
 #include <stdlib.h>
 #include <string.h>
+#include <sys/epoll.h>
 #include <sys/socket.h>
+#include <time.h>
 #include <unistd.h>
 #else
+#define UINT32_MAX 0xffffffffu
 typedef long ssize_t;
 typedef unsigned int socklen_t;
 typedef unsigned long nfds_t;
@@ -41,7 +46,38 @@ struct pollfd {
     short revents;
 };
 
-enum { AF_INET = 2, SOCK_STREAM = 1, SHUT_WR = 1, SOL_SOCKET = 1, SO_REUSEADDR = 2, POLLIN = 1, MSG_NOSIGNAL = 0x4000 };
+typedef union epoll_data {
+    void *ptr;
+    uint64_t u64;
+} epoll_data_t;
+
+struct epoll_event {
+    uint32_t events;
+    epoll_data_t data;
+} __attribute__((packed));
+
+struct timespec {
+    long tv_sec;
+    long tv_nsec;
+};
+
+typedef long int64_t;
+typedef struct stdio_file FILE;
+extern FILE *stderr;
+
+enum { AF_INET = 2, SOCK_STREAM = 1, SHUT_WR = 1, SOL_SOCKET = 1, SO_REUSEADDR = 2, POLLIN = 1 };
+enum { SOCK_NONBLOCK = 0x800, MSG_DONTWAIT = 0x40, MSG_NOSIGNAL = 0x4000 };
+enum { EPOLLIN = 1, EPOLLOUT = 4, EPOLL_CTL_ADD = 1, EPOLL_CTL_DEL = 2, EPOLL_CTL_MOD = 3 };
+enum { EINTR = 4, EAGAIN = 11, ENFILE = 23, EMFILE = 24, CLOCK_MONOTONIC = 1 };
+#define errno (*__errno_location())
+
+int *__errno_location(void);
+int epoll_create1(int flags);
+int epoll_ctl(int poller, int how, int fd, struct epoll_event *event);
+int epoll_wait(int poller, struct epoll_event *events, int n, int timeout);
+int clock_gettime(int clock, struct timespec *now);
+int fprintf(FILE *file, const char *format, ...);
+ssize_t recv(int fd, void *octets, size_t n, int flags);
 
 int socket(int domain, int type, int protocol);
 int bind(int fd, const struct sockaddr *address, socklen_t n);
@@ -75,6 +111,13 @@ unsigned short htons(unsigned short number);
 unsigned short ntohs(unsigned short number);
 uint32_t htonl(uint32_t number);
 #endif
+
+/* The seconds of a clock that only goes forward. */
+static inline int64_t seconds(void) {
+    struct timespec now = {0, 0};
+    clock_gettime(CLOCK_MONOTONIC, &now);
+    return now.tv_sec;
+}
 
 /* The address of a port of this machine. */
 static inline struct sockaddr_in local_port(unsigned short port) {

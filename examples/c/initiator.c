@@ -44,8 +44,8 @@ static void post(const char *text) {
     if (n != sizeof name) exit(1);
     uint32_t stag = (uint32_t)name[0] << 24 | (uint32_t)name[1] << 16 | (uint32_t)name[2] << 8 | name[3];
     const uint8_t *from = (const uint8_t *)text;
-    must(iwarp_post_write(&end, STREAM, stag, 0, from, strlen(text)), "post_write");
-    must(iwarp_post_send(&end, STREAM, from, strlen(text), 0, 0), "post_send");
+    must(iwarp_post_write(&end, STREAM, stag, 0, from, strlen(text), 0), "post_write");
+    must(iwarp_post_send(&end, STREAM, from, strlen(text), 0, 0, 0), "post_send");
 }
 
 static void work(const char *text) {
@@ -62,7 +62,7 @@ static void work(const char *text) {
             if (!answer_first) shutdown(connection, SHUT_WR);
             break;
         case IWARP_RECEIVED:
-            must(iwarp_fetch(&end, message, sizeof message, &n), "fetch");
+            must(iwarp_fetch(&end, STREAM, message, sizeof message, &n), "fetch");
             printf("received ");
             for (size_t i = 0; i < n; i++) printf("%02x", message[i]);
             printf(n == 0 ? "-\n" : "\n");

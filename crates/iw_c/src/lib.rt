@@ -12,6 +12,7 @@ mod posting;
 mod receiving;
 mod regions;
 mod streams;
+mod texts;
 
 ghost use Rattle.std.specs.Prelude.{◌≡◌, ◌≢◌, ◌⊎◌, pos, None, IfSome};
 ghost use Rattle.std.specs.Option.{option_map};
@@ -27,9 +28,10 @@ pub use buffers::{
 };
 use iw_handle::{Handle, code, domain_number};
 pub use octets::{
-    iwarp_deliver, iwarp_emit, iwarp_fetch, iwarp_first_number, iwarp_work, iwarp_work_on,
+    iwarp_deliver, iwarp_emit, iwarp_fetch, iwarp_first_number, iwarp_progress, iwarp_work,
+    iwarp_work_on,
 };
-pub use pools::{iwarp_open_shared, iwarp_post_shared, iwarp_share, iwarp_take_shared};
+pub use pools::{iwarp_open_shared, iwarp_post_shared, iwarp_share};
 pub use posting::{iwarp_post_read, iwarp_post_recv, iwarp_post_send, iwarp_post_write};
 pub use receiving::{
     iwarp_fetch_buffer, iwarp_post_recv_buffer, iwarp_post_shared_buffer, iwarp_take_shared_buffer,
@@ -43,9 +45,10 @@ pub use streams::{
     iwarp_accept, iwarp_break, iwarp_open, iwarp_private, iwarp_reject, iwarp_set_mulpdu,
     iwarp_told,
 };
+pub use texts::{iwarp_fault_text_at, iwarp_text_at};
 
 /// The version of this library: 10,000 for each major number, 100 for each minor one, 1 for each revision.
-pub const VERSION: u32 = 900;
+pub const VERSION: u32 = 901;
 
 /// Returns [`VERSION`].
 #[unsafe(no_mangle)]

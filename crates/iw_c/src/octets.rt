@@ -1,18 +1,19 @@
 // Delivery, work and emission.
 ghost use Rattle.std.specs.Prelude.{◌≡◌, ◌≢◌, ◌⊎◌, pos, None, Some, length, IfSome, IfNone, IsSomeAnd};
-ghost use Rattle.iw_endpoint.specs.Endpoint.{with_first, delivery_at, after_deliver, step_at, emission_at, after_emit};
-ghost use Rattle.iw_handle.specs.Events.{kept_number, event_at, emitted_of, IsFrame};
+ghost use Rattle.std.specs.Option.{option_map};
+ghost use Rattle.iw_endpoint.specs.Endpoint.{with_first, delivery_at, after_deliver, emission_at, after_emit};
+ghost use Rattle.iw_handle.specs.Events.{kept_number, emitted_of, IsFrame};
 ghost use Rattle.iw_handle.specs.Refusals.{code_of, refusal_code};
 ghost use Rattle.iw_handle.specs.State.{refusal_in, changed, told_in, shown_in, stream_refusal};
 ghost use Rattle.iw_handle.specs.State.{copy_refusal, filled, length_told};
-ghost use Rattle.iw_handle.specs.Streams.{refusal_to_work, refusal_to_emit, due_shown};
+ghost use Rattle.iw_handle.specs.Streams.{refusal_to_work, refusal_to_emit, refusal_to_go_on, due_shown, progress_at};
 ghost use Rattle.iw_handle.specs.Steps.{TellsOn};
 ghost use Rattle.iw_handle.specs.declared.working.TheConstants.{QUIET_STEPS};
-ghost use Rattle.iw_handle.specs.Streams.{first_refusal, BringsAt, TriesAt, worked, handed_in, fetched};
+ghost use Rattle.iw_handle.specs.Streams.{first_refusal, BringsAt, TriesAt, worked, event_in, handed_in, fetched};
 ghost use Rattle.iw_handle.specs.declared.refusal.Refusal.TheVariants.{Closed};
 ghost use Rattle.iw_handle.specs.Words.{stream_number};
 
-use iw_handle::{Emitted, Event, Handle, code, kept_number, stream_number};
+use iw_handle::{Emitted, Event, Handle, Progress, code, kept_number, stream_number};
 use std::alloc::Global;
 
 /// Sets the sequence number of the peer's first octet.
@@ -79,8 +80,8 @@ pub extern "C" fn iwarp_work(
     ensures memory { IfNone (refusal_in handle.old.state (λ e. refusal_to_work e (stream_number number)))
         ((result ≡ pos 0) ⊎ (result ≡ pos 3)) }
     ensures want { result ≡ pos 3 → IfSome handle.old.state (λ held. TriesAt held.endpoint (stream_number number)) }
-    ensures event { result ≡ pos 0 → Some event.new ≡ told_in handle.old.state
-        (λ e. event_at (step_at e (stream_number number))) }
+    ensures event { result ≡ pos 0 → Some event.new ≡ option_map
+        (λ held. event_in held (stream_number number)) handle.old.state }
     ensures kept { result ≢ pos 0 → event.new ≡ event.old }
     ensures ok { result ≡ pos 0 → handle.new.state ≡ worked handle.old.state (stream_number number) }
     ensures err { result ≢ pos 0 → handle.new.state ≡ handle.old.state }
@@ -104,22 +105,24 @@ pub extern "C" fn iwarp_work_on(
     code(handle.work_on(alloc, stream_number(number), event).err())
 }
 
-/// Copies what was handed back last to the front of a buffer, and forgets it.
+/// Copies what a stream handed back last to the front of a buffer, and forgets it.
 #[unsafe(no_mangle)]
 pub extern "C" fn iwarp_fetch(
     alloc: Global,
     handle: &mut Handle,
+    number: u32,
     out: &mut [u8],
     len: &mut usize,
 ) -> i32
-    ensures code { result ≡ pos (code_of (copy_refusal (handed_in handle.old.state) Closed (length out.old))) }
-    ensures len { len.new ≡ length_told (handed_in handle.old.state) len.old }
-    ensures octets { result ≡ pos 0 → out.new ≡ filled (handed_in handle.old.state) out.old }
+    ensures code { result ≡ pos (code_of
+        (copy_refusal (handed_in handle.old.state (stream_number number)) Closed (length out.old))) }
+    ensures len { len.new ≡ length_told (handed_in handle.old.state (stream_number number)) len.old }
+    ensures octets { result ≡ pos 0 → out.new ≡ filled (handed_in handle.old.state (stream_number number)) out.old }
     ensures kept { result ≢ pos 0 → out.new ≡ out.old }
-    ensures ok { result ≡ pos 0 → handle.new.state ≡ fetched handle.old.state }
+    ensures ok { result ≡ pos 0 → handle.new.state ≡ fetched handle.old.state (stream_number number) }
     ensures err { result ≢ pos 0 → handle.new.state ≡ handle.old.state }
 {
-    code(handle.fetch(alloc, out, len).err())
+    code(handle.fetch(alloc, stream_number(number), out, len).err())
 }
 
 /// Emits what is due at a stream to the front of a buffer, and writes what it was to `emission`, in numbers.
@@ -154,6 +157,27 @@ pub extern "C" fn iwarp_emit(
     let done = handle.emit(alloc, stream_number(number), out, len);
     if let Ok(told) = done {
         *emitted = told;
+    }
+    code(done.err())
+}
+
+/// Tells how far a stream is, in octets.
+#[unsafe(no_mangle)]
+pub extern "C" fn iwarp_progress(
+    alloc: Global,
+    handle: &mut Handle,
+    number: u32,
+    progress: &mut Progress,
+) -> i32
+    ensures code { result ≡ pos (code_of (refusal_in handle.old.state (λ e. refusal_to_go_on e (stream_number number)))) }
+    ensures progress { result ≡ pos 0 → Some progress.new ≡ told_in handle.old.state
+        (λ e. progress_at e (stream_number number)) }
+    ensures untold { result ≢ pos 0 → progress.new ≡ progress.old }
+    ensures same { handle.new.state ≡ handle.old.state }
+{
+    let done = handle.progress(alloc, stream_number(number));
+    if let Ok(told) = done {
+        *progress = told;
     }
     code(done.err())
 }

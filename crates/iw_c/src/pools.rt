@@ -1,14 +1,13 @@
 // Pools of receive buffers that streams of a domain share.
-ghost use Rattle.std.specs.Prelude.{◌≡◌, ◌≢◌, ◌⊎◌, pos, Some, length, unwrap_or, IfSome, IfNone};
+ghost use Rattle.std.specs.Prelude.{◌≡◌, ◌≢◌, ◌⊎◌, pos, IfSome, IfNone};
 ghost use Rattle.iw_endpoint.specs.Endpoint.{shared, pooled, opened_shared};
-ghost use Rattle.iw_handle.specs.Pools.{refusal_to_share, refusal_to_pool, refusal_to_take, refusal_to_open_shared};
-ghost use Rattle.iw_handle.specs.Pools.{taken_len, taken_number, taken};
-ghost use Rattle.iw_handle.specs.Refusals.{code_of, refusal_code};
-ghost use Rattle.iw_handle.specs.State.{refusal_in, changed, told_in, length_refusal};
+ghost use Rattle.iw_handle.specs.Pools.{refusal_to_share, refusal_to_pool, refusal_to_open_shared};
+ghost use Rattle.iw_handle.specs.Refusals.{refusal_code};
+ghost use Rattle.iw_handle.specs.State.{refusal_in, changed, length_refusal};
 ghost use Rattle.iw_handle.specs.Streams.{zeroes};
 ghost use Rattle.iw_handle.specs.Words.{stream_number, domain_number, role_in, config_of};
 
-use iw_handle::{Handle, code, domain_number, stream_number, taken_number};
+use iw_handle::{Handle, code, domain_number, stream_number};
 use std::alloc::Global;
 
 /// Gives the domain an empty pool of receive buffers.
@@ -38,33 +37,6 @@ pub extern "C" fn iwarp_post_shared(alloc: Global, handle: &mut Handle, pd: u32,
     ensures err { result ≢ pos 0 → handle.new.state ≡ handle.old.state }
 {
     code(handle.post_shared(alloc, domain_number(pd), n).err())
-}
-
-/// Takes the oldest buffer out of the domain's pool, to be fetched. `found` becomes 1 and `n` its length; or both
-/// become 0, if the pool is empty.
-#[unsafe(no_mangle)]
-pub extern "C" fn iwarp_take_shared(
-    alloc: Global,
-    handle: &mut Handle,
-    pd: u32,
-    found: &mut u32,
-    n: &mut usize,
-) -> i32
-    ensures code { result ≡ pos (code_of (refusal_in handle.old.state (λ e. refusal_to_take e (domain_number pd)))) }
-    ensures found { result ≡ pos 0 → Some found.new ≡ told_in handle.old.state
-        (λ e. taken_number (taken_len e (domain_number pd))) }
-    ensures len { result ≡ pos 0 → Some n.new ≡ told_in handle.old.state
-        (λ e. unwrap_or (taken_len e (domain_number pd)) 0) }
-    ensures kept { result ≢ pos 0 → (found.new ≡ found.old) × (n.new ≡ n.old) }
-    ensures ok { result ≡ pos 0 → handle.new.state ≡ taken handle.old.state (domain_number pd) }
-    ensures err { result ≢ pos 0 → handle.new.state ≡ handle.old.state }
-{
-    let done = handle.take_shared(alloc, domain_number(pd));
-    if let Ok(len) = done {
-        *found = taken_number(len);
-        *n = len.unwrap_or(0);
-    }
-    code(done.err())
 }
 
 /// Opens a stream in a domain under a number. It takes its receive buffers from the domain's pool.

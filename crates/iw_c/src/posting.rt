@@ -1,17 +1,17 @@
 // Posting to a stream.
 ghost use Rattle.std.specs.Prelude.{◌≡◌, ◌≢◌, ◌⊎◌, pos, IfSome, IfNone};
 ghost use Rattle.iw_octets.specs.Stag.{stag_of};
-ghost use Rattle.iw_endpoint.specs.Endpoint.{with_request, with_buffer};
+ghost use Rattle.iw_endpoint.specs.Endpoint.{with_buffer};
 ghost use Rattle.iw_handle.specs.Refusals.{refusal_code};
 ghost use Rattle.iw_handle.specs.State.{refusal_in, changed, length_refusal};
 ghost use Rattle.iw_handle.specs.Streams.{refusal_to_post, refusal_to_send, refusal_to_lend};
-ghost use Rattle.iw_handle.specs.Streams.{sent, write_of, read_of, zeroes};
+ghost use Rattle.iw_handle.specs.Streams.{sent, write_of, read_of, posted, zeroes};
 ghost use Rattle.iw_handle.specs.Words.{stream_number, bits_refusal, read_request};
 
 use iw_handle::{Handle, code, read_request, stag_of, stream_number};
 use std::alloc::Global;
 
-/// Posts a Send of a copy of the octets.
+/// Posts a Send of a copy of the octets. The token is told when the Send is done or flushed.
 #[unsafe(no_mangle)]
 pub extern "C" fn iwarp_post_send(
     alloc: Global,
@@ -20,6 +20,7 @@ pub extern "C" fn iwarp_post_send(
     octets: &[u8],
     flags: u32,
     stag: u32,
+    token: u64,
 ) -> i32
     // The code of the first refusal that applies, or of `NoMemory`.
     ensures refused { IfSome (refusal_in handle.old.state
@@ -30,18 +31,18 @@ pub extern "C" fn iwarp_post_send(
         ((result ≡ pos 0) ⊎ (result ≡ pos 3)) }
     ensures bits { IfSome (refusal_in handle.old.state (λ e. bits_refusal 4 flags))
         (λ r. result ≡ pos (refusal_code r)) }
-    ensures ok { result ≡ pos 0 → handle.new.state ≡ changed handle.old.state
-        (λ e. with_request e (stream_number number) (sent octets.now flags stag)) }
+    ensures ok { result ≡ pos 0 →
+        handle.new.state ≡ posted handle.old.state (stream_number number) (sent octets.now flags stag) token }
     ensures err { result ≢ pos 0 → handle.new.state ≡ handle.old.state }
 {
     code(
         handle
-            .post_send(alloc, stream_number(number), octets, flags, stag)
+            .post_send(alloc, stream_number(number), octets, flags, stag, token)
             .err(),
     )
 }
 
-/// Posts a Write of a copy of the octets.
+/// Posts a Write of a copy of the octets, with its token.
 #[unsafe(no_mangle)]
 pub extern "C" fn iwarp_post_write(
     alloc: Global,
@@ -50,6 +51,7 @@ pub extern "C" fn iwarp_post_write(
     stag: u32,
     to: u64,
     octets: &[u8],
+    token: u64,
 ) -> i32
     // The code of the first refusal that applies, or of `NoMemory`.
     ensures refused { IfSome
@@ -60,18 +62,25 @@ pub extern "C" fn iwarp_post_write(
         (refusal_in handle.old.state
         (λ e. refusal_to_post e (stream_number number) (write_of (stag_of stag) to octets.now)))
         ((result ≡ pos 0) ⊎ (result ≡ pos 3)) }
-    ensures ok { result ≡ pos 0 → handle.new.state ≡ changed handle.old.state
-        (λ e. with_request e (stream_number number) (write_of (stag_of stag) to octets.now)) }
+    ensures ok { result ≡ pos 0 →
+        handle.new.state ≡ posted handle.old.state (stream_number number) (write_of (stag_of stag) to octets.now) token }
     ensures err { result ≢ pos 0 → handle.new.state ≡ handle.old.state }
 {
     code(
         handle
-            .post_write(alloc, stream_number(number), stag_of(stag), to, octets)
+            .post_write(
+                alloc,
+                stream_number(number),
+                stag_of(stag),
+                to,
+                octets,
+                token,
+            )
             .err(),
     )
 }
 
-/// Posts a Read.
+/// Posts a Read, with its token.
 #[unsafe(no_mangle)]
 pub extern "C" fn iwarp_post_read(
     alloc: Global,
@@ -82,6 +91,7 @@ pub extern "C" fn iwarp_post_read(
     size: u32,
     source: u32,
     source_to: u64,
+    token: u64,
 ) -> i32
     ensures refused { IfSome (refusal_in handle.old.state
         (λ e. refusal_to_post e (stream_number number) (read_of (read_request sink sink_to size source source_to))))
@@ -89,14 +99,14 @@ pub extern "C" fn iwarp_post_read(
     ensures memory { IfNone (refusal_in handle.old.state
         (λ e. refusal_to_post e (stream_number number) (read_of (read_request sink sink_to size source source_to))))
         ((result ≡ pos 0) ⊎ (result ≡ pos 3)) }
-    ensures ok { result ≡ pos 0 → handle.new.state ≡ changed handle.old.state
-        (λ e. with_request e (stream_number number) (read_of (read_request sink sink_to size source source_to))) }
+    ensures ok { result ≡ pos 0 → handle.new.state ≡ posted handle.old.state (stream_number number)
+        (read_of (read_request sink sink_to size source source_to)) token }
     ensures err { result ≢ pos 0 → handle.new.state ≡ handle.old.state }
 {
     let request = read_request(sink, sink_to, size, source, source_to);
     code(
         handle
-            .post_read(alloc, stream_number(number), request)
+            .post_read(alloc, stream_number(number), request, token)
             .err(),
     )
 }

@@ -8,29 +8,37 @@ ghost use Rattle.iw_handle.specs.Refusals.{code_of, refusal_code};
 ghost use Rattle.iw_handle.specs.State.{refusal_with, changed, told_in};
 ghost use Rattle.iw_handle.specs.Streams.{refusal_to_lend, fetched};
 ghost use Rattle.iw_handle.specs.Words.{stream_number, domain_number};
+ghost use Rattle.iw_lines.specs.Lines.{line_at};
 
 use iw_buffer::Buffer;
 use iw_handle::{Handle, code, domain_number, stream_number};
 use std::alloc::Global;
 
-/// Moves into a buffer what was handed back last, which is then no longer kept, and tells how many of its first octets are
-/// a message's.
+/// Moves into a buffer what a stream handed back last, which is then no longer kept, and tells how many of its first octets
+/// are a message's.
 #[unsafe(no_mangle)]
 pub extern "C" fn iwarp_fetch_buffer(
     alloc: Global,
     handle: &mut Handle,
+    number: u32,
     buffer: &mut Buffer,
     n: &mut usize,
 ) -> i32
     ensures code { result ≡ pos (code_of (refusal_with handle.old.state buffer.old.state (λ e octets. None))) }
-    ensures octets { result ≡ pos 0 → buffer.new.state ≡ option_map (λ held. held.handed.buffer) handle.old.state }
-    ensures len { result ≡ pos 0 → Some n.new ≡ option_map (λ held. held.handed.len) handle.old.state }
+    ensures octets { result ≡ pos 0 → buffer.new.state ≡ option_map
+        (λ held. (line_at held.lines (stream_number number)).handed.buffer) handle.old.state }
+    ensures len { result ≡ pos 0 → Some n.new ≡ option_map
+        (λ held. (line_at held.lines (stream_number number)).handed.len) handle.old.state }
     ensures untold { result ≢ pos 0 → n.new ≡ n.old }
-    ensures ok { result ≡ pos 0 → handle.new.state ≡ fetched handle.old.state }
+    ensures ok { result ≡ pos 0 → handle.new.state ≡ fetched handle.old.state (stream_number number) }
     ensures err { result ≢ pos 0 → handle.new.state ≡ handle.old.state }
     ensures back { result ≢ pos 0 → buffer.new.state ≡ buffer.old.state }
 {
-    code(handle.fetch_buffer(alloc, buffer, n).err())
+    code(
+        handle
+            .fetch_buffer(alloc, stream_number(number), buffer, n)
+            .err(),
+    )
 }
 
 /// Posts a buffer's octets themselves as a receive buffer.

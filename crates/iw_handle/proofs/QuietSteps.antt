@@ -10,31 +10,33 @@ use Rattle.iw_stream.specs.declared.answer.Step.TheVariants.{Buffered, Requested
 use Rattle.iw_stream.specs.declared.answer.Step.TheVariants.{Fault, Idle}
 use Rattle.iw_endpoint.specs.Endpoint.{EndpointState, step_at, after_work}
 use Rattle.iw_handle.specs.declared.event.Event.{Event}
-use Rattle.iw_handle.specs.declared.handed.Handed.{Handed}
 use Rattle.iw_handle.specs.declared.held.Held.{Held}
+use Rattle.iw_lines.specs.declared.line.Line.{Line}
+use Rattle.iw_lines.specs.Line.{oldest_token}
+use Rattle.iw_lines.specs.Lines.{line_at}
 use Rattle.iw_handle.specs.declared.refusal.Refusal.{Refusal}
 use Rattle.iw_handle.specs.declared.refusal.Refusal.TheVariants.{NoMemory}
 use Rattle.iw_handle.specs.Events.{event_of, event_at}
-use Rattle.iw_handle.specs.Streams.{refusal_to_work, TriesAt, handed_by, handed_after, held_worked}
+use Rattle.iw_handle.specs.Streams.{refusal_to_work, TriesAt, lines_by, lines_after, held_worked}
 use Rattle.iw_handle.specs.Steps.{is_quiet, is_quiet_answer, is_quiet_at, GoesQuietly, after_steps, Works, WorksOn}
 
--- it hands nothing back
-handed_by-quiet : (step : Step (List ℕ)) (handed : Handed) → is_quiet step ≡ true → handed_by step handed ≡ handed
-handed_by-quiet (Placed right stag to len) handed quiet = refl
-handed_by-quiet (Buffered msn mo len) handed quiet = refl
-handed_by-quiet (Requested size stag to) handed quiet = refl
-handed_by-quiet (Tried place) handed quiet = refl
-handed_by-quiet Passed handed quiet = refl
-handed_by-quiet (Done message) handed quiet = refl
-handed_by-quiet (Flushed message) handed quiet = refl
-handed_by-quiet (FlushedRecv buffer) handed quiet = absurd (false≢true quiet)
-handed_by-quiet Asked handed quiet = refl
-handed_by-quiet (Opened agreed) handed quiet = refl
-handed_by-quiet (Closed fault) handed quiet = refl
-handed_by-quiet (Received buffer len solicited invalidate) handed quiet = absurd (false≢true quiet)
-handed_by-quiet (Terminated fault) handed quiet = refl
-handed_by-quiet (Fault fault) handed quiet = refl
-handed_by-quiet Idle handed quiet = refl
+-- it hands nothing back, and no message is done
+lines_by-quiet : (step : Step (List ℕ)) (number : ℕ) (lines : List Line) → is_quiet step ≡ true → lines_by step number lines ≡ lines
+lines_by-quiet (Placed right stag to len) number lines quiet = refl
+lines_by-quiet (Buffered msn mo len) number lines quiet = refl
+lines_by-quiet (Requested size stag to) number lines quiet = refl
+lines_by-quiet (Tried place) number lines quiet = refl
+lines_by-quiet Passed number lines quiet = refl
+lines_by-quiet (Done message) number lines quiet = absurd (false≢true quiet)
+lines_by-quiet (Flushed message) number lines quiet = absurd (false≢true quiet)
+lines_by-quiet (FlushedRecv buffer) number lines quiet = absurd (false≢true quiet)
+lines_by-quiet Asked number lines quiet = refl
+lines_by-quiet (Opened agreed) number lines quiet = refl
+lines_by-quiet (Closed fault) number lines quiet = refl
+lines_by-quiet (Received buffer len solicited invalidate) number lines quiet = absurd (false≢true quiet)
+lines_by-quiet (Terminated fault) number lines quiet = refl
+lines_by-quiet (Fault fault) number lines quiet = refl
+lines_by-quiet Idle number lines quiet = refl
 
 -- what a step of the endpoint answered
 abbrev Answered : Type 0
@@ -63,15 +65,15 @@ module _ (now : Held) (number : ℕ) (step : Step (List ℕ))
   none : refusal_to_work now.endpoint number ≡ None
   none = none_refused (refusal_to_work now.endpoint number) step refused
 
-  handed_after-step : handed_after (step_at now.endpoint number) now.handed ≡ handed_by step now.handed
-  handed_after-step = ap (λ answer. handed_after answer now.handed) (sym is)
+  lines_after-step : lines_after (step_at now.endpoint number) number now.lines ≡ lines_by step number now.lines
+  lines_after-step = ap (λ answer. lines_after answer number now.lines) (sym is)
 
   goes : is_quiet step ≡ true → GoesQuietly now number
   goes quiet = record { may = none; quiet = ap is_quiet_answer (sym is) ∙ quiet }
 
-  worked : (handed : Handed) → handed ≡ handed_by step now.handed →
-      let after : Held = record { endpoint = e; handed = handed } in after ≡ held_worked now number
-  worked handed kept = let same = kept ∙ sym handed_after-step in λ i. record { endpoint = left i; handed = same i }
+  worked : (lines : List Line) → lines ≡ lines_by step number now.lines →
+      let after : Held = record { endpoint = e; lines = lines } in after ≡ held_worked now number
+  worked lines kept = let same = kept ∙ sym lines_after-step in λ i. record { endpoint = left i; lines = same i }
 
   -- one more quiet step
   module _ (held : Held) (before : ℕ) (came : now ≡ after_steps before held number) (quiet : is_quiet step ≡ true) where
@@ -81,20 +83,20 @@ module _ (now : Held) (number : ℕ) (step : Step (List ℕ))
         let P : ℕ → Type 0 = λ k. GoesQuietly (after_steps k held number) number in
         below_more P before all (subst (λ (h : Held). GoesQuietly h number) came (goes quiet))
 
-    pub one_more : let after : Held = record { endpoint = e; handed = now.handed } in after ≡ after_steps (before + 1) held number
+    pub one_more : let after : Held = record { endpoint = e; lines = now.lines } in after ≡ after_steps (before + 1) held number
     one_more =
-        worked now.handed (sym (handed_by-quiet step now.handed quiet)) ∙ ap (λ h. held_worked h number) came
+        worked now.lines (sym (lines_by-quiet step number now.lines quiet)) ∙ ap (λ h. held_worked h number) came
         ∙ sym (after_steps-more before held number)
 
   -- the step is told, and what it hands back is kept
-  pub works-told : (event : Event) (handed : Handed) → event ≡ event_of step → handed ≡ handed_by step now.handed →
-      Works now number None event (record { endpoint = e; handed = handed })
-  works-told event handed told kept = record {
+  pub works-told : (event : Event) (lines : List Line) → event ≡ event_of (oldest_token (line_at now.lines number)) step →
+      lines ≡ lines_by step number now.lines → Works now number None event (record { endpoint = e; lines = lines })
+  works-told event lines told kept = record {
     refused = subst (λ o. IfSome o (λ r. let refusal : Option Refusal = None in refusal ≡ Some r)) (sym none) tt;
     memory = subst (λ o. IfNone o (Unit {0})) (sym none) tt;
     want = λ bad. cc;
-    told = λ _. told ∙ ap event_at is;
-    ok = λ _. worked handed kept;
+    told = λ _. told ∙ ap (λ answer. event_at (oldest_token (line_at now.lines number)) answer) is;
+    ok = λ _. worked lines kept;
     err = tt;
   }
 
@@ -106,14 +108,14 @@ pub works-refused : (now : Held) (number : ℕ) (refusal : Refusal) (event : Eve
     IfSome (refusal_to_work now.endpoint number) (λ r. let answer : Answered = Err refusal in answer ≡ Err r) →
     IfNone (refusal_to_work now.endpoint number) (refusal ≡ NoMemory) →
     ((let answer : Answered = Err refusal in answer ≡ Err NoMemory) → TriesAt now.endpoint number) → e ≡ now.endpoint →
-    Works now number (Some refusal) event (record { endpoint = e; handed = now.handed })
+    Works now number (Some refusal) event (record { endpoint = e; lines = now.lines })
 works-refused now number refusal event e refused memory want same = record {
   refused = same_refusal (refusal_to_work now.endpoint number) refusal refused;
   memory = memory;
   want = λ is. want cc;
   told = λ bad. cc;
   ok = λ bad. cc;
-  err = λ i. record { endpoint = same i; handed = now.handed };
+  err = λ i. record { endpoint = same i; lines = now.lines };
 }
 
 pub works_on : (most : ℕ) (held : Held) (number before : ℕ) (now : Held) (refusal : Option Refusal) (event : Event) (after : Held) →

@@ -23,39 +23,41 @@ use Rattle.iw_stream.specs.declared.answer.Step.TheVariants.{Done, Flushed, Flus
 use Rattle.iw_stream.specs.declared.answer.Step.TheVariants.{Buffered, Requested, Tried, Passed, Received, Terminated}
 use Rattle.iw_stream.specs.declared.answer.Step.TheVariants.{Fault, Idle}
 use Rattle.iw_endpoint.specs.declared.refusal.NoSuchStream.{NoSuchStream}
+use Rattle.iw_codes.specs.declared.numbers.TheConstants as numbers
 use Rattle.iw_handle.specs.declared.event.Event.{Event}
 use Rattle.iw_handle.specs.declared.event.Emitted.{Emitted}
 use Rattle.iw_handle.specs.declared.event.RegionFacts.{RegionFacts}
 use Rattle.iw_handle.specs.declared.event.Told.{Told}
 
 abbrev pub kind_number : Kind → ℕ
-kind_number kinds.Write = 1
-kind_number kinds.Send = 2
-kind_number kinds.Read = 3
+kind_number kinds.Write = numbers.MESSAGE_WRITE
+kind_number kinds.Send = numbers.MESSAGE_SEND
+kind_number kinds.Read = numbers.MESSAGE_READ
 
 -- as in a sum of rights
 abbrev pub right_number : Right → ℕ
-right_number rights.Write = 1
-right_number rights.Read = 2
-right_number rights.Sink = 4
+right_number rights.Write = numbers.WRITE
+right_number rights.Read = numbers.READ
+right_number rights.Sink = numbers.SINK
 
 abbrev pub startup_number : StartupFault → ℕ
-startup_number BadKey = 1
-startup_number BadRev = 2
-startup_number BadLength = 3
-startup_number Rejected = 4
+startup_number BadKey = numbers.BAD_KEY
+startup_number BadRev = numbers.BAD_REVISION
+startup_number BadLength = numbers.BAD_LENGTH
+startup_number Rejected = numbers.REJECTED
 
 -- a power of two if this holds, else 0
 abbrev pub flag : Bool → ℕ → ℕ
 flag on value = if on then value else 0
 
--- a sum of 1 (this end sends markers), 2 (the peer sends markers) and 4 (CRCs are used)
+-- this end sends markers, the peer sends markers, CRCs are used
 abbrev pub agreed_flags : Agreed → ℕ
-agreed_flags agreed = flag agreed.send_markers 1 + flag agreed.expect_markers 2 + flag agreed.crc 4
+agreed_flags agreed =
+    flag agreed.send_markers numbers.SENDS_MARKERS + flag agreed.expect_markers numbers.EXPECTS_MARKERS + flag agreed.crc numbers.USES_CRC
 
--- a sum of 1 (the Send is solicited) and 2 (it invalidated a region)
+-- the Send is solicited, it invalidated a region
 abbrev pub received_flags : Bool → Option Stag → ℕ
-received_flags solicited invalidate = flag solicited 1 + flag (is_some invalidate) 2
+received_flags solicited invalidate = flag solicited numbers.SOLICITED + flag (is_some invalidate) numbers.INVALIDATES
 
 abbrev pub stag_number : Option Stag → ℕ
 stag_number invalidate = option_map_or number_of invalidate 0
@@ -68,7 +70,7 @@ kept_number deliveries.Dropped = 0
 -- nothing was done
 abbrev pub no_event : Event
 no_event = record {
-  kind = 0;
+  kind = numbers.IDLE;
   message = 0;
   right = 0;
   flags = 0;
@@ -80,11 +82,16 @@ no_event = record {
   code = 0;
   to = 0;
   len = 0;
+  token = 0;
+  reserved_0 = 0;
+  reserved_1 = 0;
+  reserved_2 = 0;
+  reserved_3 = 0;
 }
 
--- the event of a message that was posted
-abbrev pub message_event : ℕ → Kind → Event
-message_event kind message = record no_event { kind = kind; message = kind_number message }
+-- the event of a message that was posted with this token
+abbrev pub message_event : ℕ → Kind → ℕ → Event
+message_event kind message token = record no_event { kind = kind; message = kind_number message; token = token }
 
 abbrev pub fault_event : ℕ → faults.Fault → Event
 fault_event kind fault = record no_event { kind = kind; layer = fault.layer; error = fault.kind; code = fault.code }
@@ -92,45 +99,59 @@ fault_event kind fault = record no_event { kind = kind; layer = fault.layer; err
 -- a Send of `len` octets is complete
 abbrev pub received_event : ℕ → Bool → Option Stag → Event
 received_event len solicited invalidate = record no_event {
-  kind = 11;
+  kind = numbers.RECEIVED;
   flags = received_flags solicited invalidate;
   stag = stag_number invalidate;
   len = len;
 }
 
-abbrev pub event_of : Step (List ℕ) → Event
-event_of Idle = no_event
-event_of (Done message) = message_event 1 message
-event_of (Flushed message) = message_event 2 message
-event_of (FlushedRecv buffer) = record no_event { kind = 3; len = length buffer }
-event_of Asked = record no_event { kind = 4 }
-event_of (Opened agreed) = record no_event { kind = 5; flags = agreed_flags agreed; len = agreed.ord }
-event_of (Closed fault) = record no_event { kind = 6; code = startup_number fault }
-event_of (Placed right stag to len) =
-    record no_event { kind = 7; right = right_number right; stag = number_of stag; to = to; len = len }
-event_of (Buffered msn mo len) = record no_event { kind = 8; msn = msn; mo = mo; len = len }
-event_of (Requested size stag to) = record no_event { kind = 9; stag = number_of stag; to = to; len = size }
-event_of Passed = record no_event { kind = 10 }
-event_of (Received buffer len solicited invalidate) = received_event len solicited invalidate
-event_of (Terminated fault) = fault_event 12 fault
-event_of (Fault fault) = fault_event 13 fault
-event_of (Tried place) = record no_event { kind = 14; to = place }
+-- the message that was posted first has the token `oldest`
+abbrev pub event_of : ℕ → Step (List ℕ) → Event
+event_of oldest Idle = no_event
+event_of oldest (Done message) = message_event numbers.DONE message oldest
+event_of oldest (Flushed message) = message_event numbers.FLUSHED message oldest
+event_of oldest (FlushedRecv buffer) = record no_event { kind = numbers.FLUSHED_RECV; len = length buffer }
+event_of oldest Asked = record no_event { kind = numbers.ASKED }
+event_of oldest (Opened agreed) = record no_event { kind = numbers.OPENED; flags = agreed_flags agreed; len = agreed.ord }
+event_of oldest (Closed fault) = record no_event { kind = numbers.CLOSED_BY_PEER; code = startup_number fault }
+event_of oldest (Placed right stag to len) =
+    record no_event { kind = numbers.PLACED; right = right_number right; stag = number_of stag; to = to; len = len }
+event_of oldest (Buffered msn mo len) = record no_event { kind = numbers.BUFFERED; msn = msn; mo = mo; len = len }
+event_of oldest (Requested size stag to) = record no_event { kind = numbers.REQUESTED; stag = number_of stag; to = to; len = size }
+event_of oldest Passed = record no_event { kind = numbers.PASSED }
+event_of oldest (Received buffer len solicited invalidate) = received_event len solicited invalidate
+event_of oldest (Terminated fault) = fault_event numbers.TERMINATED fault
+event_of oldest (Fault fault) = fault_event numbers.FAULT fault
+event_of oldest (Tried place) = record no_event { kind = numbers.TRIED; to = place }
 
-abbrev pub event_at : Result (Step (List ℕ)) NoSuchStream → Event
-event_at (Ok step) = event_of step
-event_at (Err missing) = no_event
+abbrev pub event_at : ℕ → Result (Step (List ℕ)) NoSuchStream → Event
+event_at oldest (Ok step) = event_of oldest step
+event_at oldest (Err missing) = no_event
 
 -- nothing was due
 abbrev pub none_emitted : Emitted
-none_emitted = record { kind = 0; stag = 0; from = 0; to = 0; n = 0; layer = 0; error = 0; code = 0 }
+none_emitted = record {
+  kind = numbers.NOTHING;
+  stag = 0;
+  layer = 0;
+  error = 0;
+  code = 0;
+  from = 0;
+  to = 0;
+  n = 0;
+  reserved_0 = 0;
+  reserved_1 = 0;
+  reserved_2 = 0;
+  reserved_3 = 0;
+}
 
 abbrev pub emitted_of : emission.Emission → Emitted
 emitted_of emissions.Nothing = none_emitted
-emitted_of (emissions.Frame from len) = record none_emitted { kind = 1; from = from }
+emitted_of (emissions.Frame from len) = record none_emitted { kind = numbers.FRAME; from = from }
 emitted_of (emissions.Fetched from len stag to n) =
-    record none_emitted { kind = 2; from = from; stag = number_of stag; to = to; n = n }
+    record none_emitted { kind = numbers.FETCHED; from = from; stag = number_of stag; to = to; n = n }
 emitted_of (emissions.Fault fault) =
-    record none_emitted { kind = 3; layer = fault.layer; error = fault.kind; code = fault.code }
+    record none_emitted { kind = numbers.DENIED; layer = fault.layer; error = fault.kind; code = fault.code }
 
 -- octets are due
 abbrev pub IsFrame : emission.Emission → Type 0
@@ -141,7 +162,8 @@ IsFrame (emissions.Fault fault) = ⊥
 
 -- the facts of a region
 abbrev pub rights_number : Rights → ℕ
-rights_number rights = flag rights.write 1 + flag rights.read 2 + flag rights.sink 4 + flag rights.invalidate 8
+rights_number rights =
+    flag rights.write numbers.WRITE + flag rights.read numbers.READ + flag rights.sink numbers.SINK + flag rights.invalidate numbers.INVALIDATE
 
 abbrev pub facts_of : Facts → RegionFacts
 facts_of facts =

@@ -1,6 +1,5 @@
 pub mod Ownership
 pub mod Refusals
-pub mod Handed
 pub mod State
 pub mod Words
 pub mod Regions

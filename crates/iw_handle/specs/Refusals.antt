@@ -30,6 +30,7 @@ use Rattle.iw_endpoint.specs.declared.refusal.TakeRefusal.{TakeRefusal}
 use Rattle.iw_endpoint.specs.declared.refusal.TakeRefusal.TheVariants as taking
 use Rattle.iw_endpoint.specs.declared.refusal.OpenSharedRefusal.{OpenSharedRefusal}
 use Rattle.iw_endpoint.specs.declared.refusal.OpenSharedRefusal.TheVariants as shared_opening
+use Rattle.iw_codes.specs.declared.numbers.TheConstants as numbers
 use Rattle.iw_handle.specs.declared.refusal.Refusal.{Refusal}
 use Rattle.iw_handle.specs.declared.refusal.Refusal.TheVariants.{Closed, AlreadyOpen, NoMemory, NoRoom, NoSuchStream}
 use Rattle.iw_handle.specs.declared.refusal.Refusal.TheVariants.{NoRegion, Outside, BadDomain, DomainTaken, NoDomain}
@@ -126,45 +127,45 @@ buffer_reason buffer.NoMemory = NoMemory
 -- ---- codes
 
 abbrev pub refusal_code : Refusal → ℕ
-refusal_code Closed = 1
-refusal_code AlreadyOpen = 2
-refusal_code NoMemory = 3
-refusal_code NoRoom = 4
-refusal_code NoSuchStream = 5
-refusal_code NoRegion = 6
-refusal_code Outside = 7
-refusal_code BadDomain = 8
-refusal_code DomainTaken = 9
-refusal_code NoDomain = 10
-refusal_code DomainFull = 11
-refusal_code RegionTooLong = 12
-refusal_code BaseWrap = 13
-refusal_code NumberTaken = 14
-refusal_code BadNumber = 15
-refusal_code BadRole = 16
-refusal_code PrivateTooLong = 17
-refusal_code NotAsked = 18
-refusal_code NotOpen = 19
-refusal_code MessagesFull = 20
-refusal_code MessageTooLong = 21
-refusal_code BuffersFull = 22
-refusal_code Ended = 23
-refusal_code BadSize = 24
-refusal_code TooFar = 25
-refusal_code Late = 26
-refusal_code AlreadyShared = 27
-refusal_code NotShared = 28
-refusal_code PoolFull = 29
-refusal_code Shared = 30
-refusal_code NoBuffer = 31
-refusal_code AlreadyMade = 32
-refusal_code BufferTooLong = 33
-refusal_code BadBits = 34
-refusal_code NoReads = 35
+refusal_code Closed = numbers.IS_CLOSED
+refusal_code AlreadyOpen = numbers.ALREADY_OPEN
+refusal_code NoMemory = numbers.NO_MEMORY
+refusal_code NoRoom = numbers.NO_ROOM
+refusal_code NoSuchStream = numbers.NO_SUCH_STREAM
+refusal_code NoRegion = numbers.NO_REGION
+refusal_code Outside = numbers.OUTSIDE
+refusal_code BadDomain = numbers.BAD_DOMAIN
+refusal_code DomainTaken = numbers.DOMAIN_TAKEN
+refusal_code NoDomain = numbers.NO_DOMAIN
+refusal_code DomainFull = numbers.DOMAIN_FULL
+refusal_code RegionTooLong = numbers.REGION_TOO_LONG
+refusal_code BaseWrap = numbers.BASE_WRAP
+refusal_code NumberTaken = numbers.NUMBER_TAKEN
+refusal_code BadNumber = numbers.BAD_NUMBER
+refusal_code BadRole = numbers.BAD_ROLE
+refusal_code PrivateTooLong = numbers.PRIVATE_TOO_LONG
+refusal_code NotAsked = numbers.NOT_ASKED
+refusal_code NotOpen = numbers.NOT_OPEN
+refusal_code MessagesFull = numbers.MESSAGES_FULL
+refusal_code MessageTooLong = numbers.MESSAGE_TOO_LONG
+refusal_code BuffersFull = numbers.BUFFERS_FULL
+refusal_code Ended = numbers.ENDED
+refusal_code BadSize = numbers.BAD_SIZE
+refusal_code TooFar = numbers.TOO_FAR
+refusal_code Late = numbers.LATE
+refusal_code AlreadyShared = numbers.ALREADY_SHARED
+refusal_code NotShared = numbers.NOT_SHARED
+refusal_code PoolFull = numbers.POOL_FULL
+refusal_code Shared = numbers.SHARED
+refusal_code NoBuffer = numbers.BUFFER_MISSING
+refusal_code AlreadyMade = numbers.BUFFER_EXISTS
+refusal_code BufferTooLong = numbers.BUFFER_TOO_LONG
+refusal_code BadBits = numbers.BAD_BITS
+refusal_code NoReads = numbers.NO_READS
 
 -- 0 if the call was not refused
 abbrev pub code_of : Option Refusal → ℕ
-code_of None = 0
+code_of None = numbers.OK
 code_of (Some r) = refusal_code r
 
 -- no two refusals have the same code

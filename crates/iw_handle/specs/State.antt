@@ -4,7 +4,7 @@ use Rattle.std.specs.Option.{option_map, option_map_or}
 use Rattle.iw_buffer.specs.Octets as buffers
 use Rattle.iw_endpoint.specs.Endpoint.{EndpointState, has_stream}
 use Rattle.iw_handle.specs.declared.held.Held.{Held}
-use Rattle.iw_handle.specs.Handed.{nothing_handed}
+use Rattle.iw_lines.specs.Lines.{no_lines}
 use Rattle.iw_handle.specs.declared.refusal.Refusal.{Refusal}
 use Rattle.iw_handle.specs.declared.refusal.Refusal.TheVariants.{Closed, NoRoom, NoSuchStream, NoBuffer, BufferTooLong}
 
@@ -12,9 +12,9 @@ use Rattle.iw_handle.specs.declared.refusal.Refusal.TheVariants.{Closed, NoRoom,
 abbrev pub State : Type 0
 State = Option Held
 
--- an endpoint, and nothing handed back
+-- an endpoint, and nothing waits at its streams
 abbrev pub open_with : EndpointState → State
-open_with e = Some (record { endpoint = e; handed = nothing_handed })
+open_with e = Some (record { endpoint = e; lines = no_lines })
 
 -- why a call is refused: `Closed` comes before any other refusal
 abbrev pub refusal_in : State → (EndpointState → Option Refusal) → Option Refusal

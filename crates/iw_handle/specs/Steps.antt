@@ -11,9 +11,8 @@ use Rattle.iw_handle.specs.declared.event.Event.{Event}
 use Rattle.iw_handle.specs.declared.held.Held.{Held}
 use Rattle.iw_handle.specs.declared.refusal.Refusal.{Refusal}
 use Rattle.iw_handle.specs.declared.refusal.Refusal.TheVariants.{NoMemory}
-use Rattle.iw_handle.specs.Events.{event_at}
 use Rattle.iw_handle.specs.Refusals.{code_of}
-use Rattle.iw_handle.specs.Streams.{refusal_to_work, TriesAt, held_worked}
+use Rattle.iw_handle.specs.Streams.{refusal_to_work, TriesAt, held_worked, event_in}
 
 -- a quiet step: the program need not act on it
 abbrev pub is_quiet : Step (List ℕ) → Bool
@@ -56,7 +55,7 @@ pub record Works (held : Held) (number : ℕ) (refusal : Option Refusal) (event 
   pub refused : IfSome (refusal_to_work held.endpoint number) (λ r. refusal ≡ Some r)
   pub memory : IfNone (refusal_to_work held.endpoint number) (IfSome refusal (λ r. r ≡ NoMemory))
   pub want : refusal ≡ Some NoMemory → TriesAt held.endpoint number
-  pub told : refusal ≡ None → event ≡ event_at (step_at held.endpoint number)
+  pub told : refusal ≡ None → event ≡ event_in held number
   pub ok : refusal ≡ None → after ≡ held_worked held number
   pub err : IfSome refusal (λ _. after ≡ held)
 

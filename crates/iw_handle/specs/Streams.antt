@@ -14,15 +14,21 @@ use Rattle.iw_stream.specs.declared.answer.Step.{Step}
 use Rattle.iw_stream.specs.declared.answer.Step.TheVariants.{Done, Flushed, FlushedRecv, Asked, Opened, Closed, Placed}
 use Rattle.iw_stream.specs.declared.answer.Step.TheVariants.{Buffered, Requested, Tried, Passed, Received, Terminated}
 use Rattle.iw_stream.specs.declared.answer.Step.TheVariants.{Fault, Idle}
+use Rattle.iw_lines.specs.declared.line.Line.{Line}
+use Rattle.iw_lines.specs.Handed.{nothing_handed, whole, told_of}
+use Rattle.iw_lines.specs.Line.{with_handed, with_token, oldest_token, without_oldest}
+use Rattle.iw_lines.specs.Lines.{line_at, with_line}
 use Rattle.iw_endpoint.specs.declared.refusal.NoSuchStream.{NoSuchStream}
 use Rattle.iw_endpoint.specs.Endpoint as endpoint
 use Rattle.iw_endpoint.specs.Endpoint.{EndpointState, has_stream, stream_at, private_at, sent_at, point_at}
 use Rattle.iw_endpoint.specs.Endpoint.{step_at, after_work, emitted_at, pool_of, lent_to}
-use Rattle.iw_handle.specs.declared.handed.Handed.{Handed}
+use Rattle.iw_codes.specs.declared.numbers.TheConstants as numbers
+use Rattle.iw_handle.specs.declared.event.Event.{Event}
+use Rattle.iw_handle.specs.declared.event.Progress.{Progress}
 use Rattle.iw_handle.specs.declared.held.Held.{Held}
 use Rattle.iw_handle.specs.declared.refusal.Refusal.{Refusal}
 use Rattle.iw_handle.specs.declared.refusal.Refusal.TheVariants as refusals
-use Rattle.iw_handle.specs.Handed.{nothing_handed, whole, told_of}
+use Rattle.iw_handle.specs.Events.{event_at}
 use Rattle.iw_handle.specs.Refusals.{open_reason, answer_reason, post_reason, recv_reason, first_reason, size_reason}
 use Rattle.iw_handle.specs.State.{State, first_of, stream_refusal, room_refusal, length_refusal}
 use Rattle.iw_handle.specs.Words.{role_refusal, role_in, config_of, private_refusal, config_refusal, bits_refusal, has_bit, invalidated_by}
@@ -82,49 +88,67 @@ due_shown e number = if_none (refusal_to_go_on e number) (emitted_at e number)
 abbrev pub private_shown : EndpointState → ℕ → Option (List ℕ)
 private_shown e number = if has_stream e number then Some (private_at e number) else None
 
--- what can be fetched after a step: the message, or the buffer of an ended stream, that it hands back; else what could
--- be before
-abbrev pub handed_by : Step (List ℕ) → Handed → Handed
-handed_by (Received buffer len solicited invalidate) before = record { buffer = buffer; len = len }
-handed_by (FlushedRecv buffer) before = whole buffer
-handed_by (Done kind) before = before
-handed_by (Flushed kind) before = before
-handed_by Asked before = before
-handed_by (Opened agreed) before = before
-handed_by (Closed fault) before = before
-handed_by (Placed right stag to len) before = before
-handed_by (Buffered msn mo len) before = before
-handed_by (Requested size stag to) before = before
-handed_by (Tried place) before = before
-handed_by Passed before = before
-handed_by (Terminated fault) before = before
-handed_by (Fault fault) before = before
-handed_by Idle before = before
+-- what waits at a stream after a step: the message, or the buffer of an ended stream, that it hands back; and the tokens without
+-- that of the message which is done or given up
+abbrev pub lines_by : Step (List ℕ) → ℕ → List Line → List Line
+lines_by (Received buffer len solicited invalidate) number lines =
+    with_line lines number (with_handed (line_at lines number) (record { buffer = buffer; len = len }))
+lines_by (FlushedRecv buffer) number lines = with_line lines number (with_handed (line_at lines number) (whole buffer))
+lines_by (Done kind) number lines = with_line lines number (without_oldest (line_at lines number))
+lines_by (Flushed kind) number lines = with_line lines number (without_oldest (line_at lines number))
+lines_by Asked number lines = lines
+lines_by (Opened agreed) number lines = lines
+lines_by (Closed fault) number lines = lines
+lines_by (Placed right stag to len) number lines = lines
+lines_by (Buffered msn mo len) number lines = lines
+lines_by (Requested size stag to) number lines = lines
+lines_by (Tried place) number lines = lines
+lines_by Passed number lines = lines
+lines_by (Terminated fault) number lines = lines
+lines_by (Fault fault) number lines = lines
+lines_by Idle number lines = lines
 
-abbrev pub handed_after : Result (Step (List ℕ)) NoSuchStream → Handed → Handed
-handed_after (Ok step) before = handed_by step before
-handed_after (Err missing) before = before
+abbrev pub lines_after : Result (Step (List ℕ)) NoSuchStream → ℕ → List Line → List Line
+lines_after (Ok step) number lines = lines_by step number lines
+lines_after (Err missing) number lines = lines
 
 -- what a step of work leaves
 abbrev pub held_worked : Held → ℕ → Held
 held_worked held number = record {
   endpoint = after_work held.endpoint number;
-  handed = handed_after (step_at held.endpoint number) held.handed;
+  lines = lines_after (step_at held.endpoint number) number held.lines;
 }
 
 abbrev pub worked : State → ℕ → State
 worked state number = option_map (λ held. held_worked held number) state
 
--- the octets that were handed back and not yet fetched
-abbrev pub handed_in : State → Option (List ℕ)
-handed_in state = option_map (λ held. told_of held.handed) state
+-- what a step of work tells
+abbrev pub event_in : Held → ℕ → Event
+event_in held number = event_at (oldest_token (line_at held.lines number)) (step_at held.endpoint number)
 
--- it was fetched
-abbrev pub without_handed : Held → Held
-without_handed held = record held { handed = nothing_handed }
+-- the octets that a stream handed back and that were not fetched yet
+abbrev pub handed_in : State → ℕ → Option (List ℕ)
+handed_in state number = option_map (λ held. told_of (line_at held.lines number).handed) state
 
-abbrev pub fetched : State → State
-fetched state = option_map without_handed state
+-- they were fetched
+abbrev pub without_handed : Held → ℕ → Held
+without_handed held number =
+    record held { lines = with_line held.lines number (with_handed (line_at held.lines number) nothing_handed) }
+
+abbrev pub fetched : State → ℕ → State
+fetched state number = option_map (λ held. without_handed held number) state
+
+-- how far a stream is
+abbrev pub progress_at : EndpointState → ℕ → Progress
+progress_at e number = record {
+  sent = sent_at e number;
+  in_order = point_at e number;
+  due = length (emitted_at e number);
+  reserved_0 = 0;
+  reserved_1 = 0;
+  reserved_2 = 0;
+  reserved_3 = 0;
+}
 
 -- ---- what is posted
 
@@ -133,7 +157,7 @@ send_of octets solicited invalidate = requests.Message (messages.Send octets sol
 
 -- the Send that these numbers describe
 abbrev pub sent : List ℕ → ℕ → ℕ → Request (List ℕ)
-sent octets flags stag = send_of octets (has_bit flags 1) (invalidated_by flags stag)
+sent octets flags stag = send_of octets (has_bit flags numbers.SOLICITED) (invalidated_by flags stag)
 
 abbrev pub refusal_to_send : EndpointState → ℕ → List ℕ → ℕ → ℕ → Option Refusal
 refusal_to_send e number octets flags stag =
@@ -144,6 +168,16 @@ write_of stag to octets = requests.Message (messages.Write stag to octets)
 
 abbrev pub read_of : ReadRequest → Request (List ℕ)
 read_of request = requests.Read request
+
+-- a message was posted, which the program knows by this token
+abbrev pub held_posted : Held → ℕ → Request (List ℕ) → ℕ → Held
+held_posted held number request token = record {
+  endpoint = endpoint.with_request held.endpoint number request;
+  lines = with_line held.lines number (with_token (line_at held.lines number) token);
+}
+
+abbrev pub posted : State → ℕ → Request (List ℕ) → ℕ → State
+posted state number request token = option_map (λ held. held_posted held number request token) state
 
 abbrev pub zeroes : ℕ → List ℕ
 zeroes n = replicate n 0

@@ -10,6 +10,7 @@ use Rattle.iw_startup.specs.declared.config.Establishment.TheVariants as establi
 use Rattle.iw_startup.specs.declared.config.Config.{Config}
 use Rattle.iw_stream.specs.declared.answer.Role.{Role}
 use Rattle.iw_stream.specs.declared.answer.Role.TheVariants.{Preset, Initiator, Responder}
+use Rattle.iw_codes.specs.declared.numbers.TheConstants as numbers
 use Rattle.iw_handle.specs.declared.refusal.Refusal.{Refusal}
 use Rattle.iw_handle.specs.declared.refusal.Refusal.TheVariants.{BadRole, PrivateTooLong, BadBits}
 use Rattle.iw_handle.specs.State.{first_of}
@@ -32,11 +33,16 @@ bits_refusal bound n = if nat_lt n bound then None else Some BadBits
 
 -- a sum of 1 (write), 2 (read), 4 (sink) and 8 (invalidate)
 abbrev pub rights_of : ℕ → Rights
-rights_of n = record { write = has_bit n 1; read = has_bit n 2; sink = has_bit n 4; invalidate = has_bit n 8 }
+rights_of n =
+    record { write = has_bit n numbers.WRITE; read = has_bit n numbers.READ; sink = has_bit n numbers.SINK; invalidate = has_bit n numbers.INVALIDATE }
 
 -- 0 is open at once, 1 begins with the Request, 2 waits for it
 abbrev pub role_of : ℕ → Option Role
-role_of n = if n == 0 then Some Preset else if n == 1 then Some Initiator else if n == 2 then Some Responder else None
+role_of n =
+    if n == numbers.PRESET then Some Preset
+    else if n == numbers.INITIATOR then Some Initiator
+    else if n == numbers.RESPONDER then Some Responder
+    else None
 
 abbrev pub role_in : ℕ → Role
 role_in n = unwrap_or (role_of n) Preset
@@ -47,12 +53,12 @@ private_of octets = record { items = octets }
 
 -- 4 is revision 2 of MPA
 abbrev pub establishment_of : ℕ → Establishment
-establishment_of options = if has_bit options 4 then establishments.Enhanced else establishments.Plain
+establishment_of options = if has_bit options numbers.ENHANCED then establishments.Enhanced else establishments.Plain
 
 -- a sum of 1 (markers are expected) and 2 (CRCs), with private data
 abbrev pub config_of : ℕ → List ℕ → Config
 config_of options private =
-    record { markers = has_bit options 1; crc = has_bit options 2; establishment = establishment_of options; private = private_of private }
+    record { markers = has_bit options numbers.MARKERS; crc = has_bit options numbers.CRC; establishment = establishment_of options; private = private_of private }
 
 abbrev pub role_refusal : ℕ → Option Refusal
 role_refusal n = if nat_lt 2 n then Some BadRole else None
@@ -66,7 +72,7 @@ config_refusal options n = first_of (bits_refusal 8 options) (private_refusal n)
 
 -- the STag that a Send invalidates, if its flags, a sum of 1 (solicited) and 2 (invalidates), say so
 abbrev pub invalidated_by : ℕ → ℕ → Option Stag
-invalidated_by flags stag = if has_bit flags 2 then Some (stag_of stag) else None
+invalidated_by flags stag = if has_bit flags numbers.INVALIDATES then Some (stag_of stag) else None
 
 -- the Read with these numbers
 abbrev pub read_request : ℕ → ℕ → ℕ → ℕ → ℕ → ReadRequest

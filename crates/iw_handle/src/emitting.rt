@@ -1,11 +1,12 @@
 // Emission.
 ghost use Rattle.std.specs.Prelude.{◌≡◌, None, Some, length, IfSome, IfNone, IfOk, IfErr, OnOk, OnErr};
+ghost use Rattle.std.specs.Result.{result_err};
 ghost use Rattle.iw_endpoint.specs.Endpoint.{emission_at, emitted_at, after_emit};
 ghost use Rattle.iw_handle.specs.Events.{emitted_of, IsFrame};
 ghost use Rattle.iw_handle.specs.State.{refusal_in, changed, told_in, shown_in, filled, length_told};
-ghost use Rattle.iw_handle.specs.Streams.{refusal_to_emit, due_shown};
+ghost use Rattle.iw_handle.specs.Streams.{refusal_to_emit, refusal_to_go_on, due_shown, progress_at};
 
-use crate::event::{Emitted, emitted_of};
+use crate::event::{Emitted, Progress, emitted_of};
 use crate::handle::Handle;
 use crate::refusal::Refusal;
 use iw_endpoint::{CallRefusal, Endpoint, MAX_PLACE};
@@ -56,7 +57,50 @@ fn emit(
     }
 }
 
+// How far a stream is.
+fn progress(endpoint: &Endpoint, number: u8) -> Result<Progress, Refusal>
+    ensures refused { result_err result ≡ refusal_to_go_on endpoint.now number }
+    ensures progress { IfOk result (λ progress. progress ≡ progress_at endpoint.now number) }
+{
+    let Ok(sent) = endpoint.sent(number) else {
+        return Err(Refusal::NoSuchStream);
+    };
+    if sent > MAX_PLACE {
+        return Err(Refusal::TooFar);
+    }
+    let Ok(in_order) = endpoint.in_order_point(number) else {
+        return Err(Refusal::NoSuchStream);
+    };
+    let Ok(due) = endpoint.due_len(number) else {
+        return Err(Refusal::NoSuchStream);
+    };
+    Ok(Progress {
+        sent,
+        in_order,
+        due: due as u64,
+        reserved_0: 0,
+        reserved_1: 0,
+        reserved_2: 0,
+        reserved_3: 0,
+    })
+}
+
 impl Handle {
+    /// How far a stream is: how many octets it has emitted, its in-order point, and how many octets the next call of
+    /// [`Handle::emit`] gives, 0 also if that would tell a fault.
+    pub fn progress(&mut self, alloc: Global, number: u8) -> Result<Progress, Refusal>
+        ensures refused { result_err result ≡ refusal_in self.old.state (λ e. refusal_to_go_on e number) }
+        ensures progress { IfOk result (λ progress. Some progress ≡ told_in self.old.state (λ e. progress_at e number)) }
+        ensures same { self.new.state ≡ self.old.state }
+    {
+        let Some(held) = self.take(alloc) else {
+            return Err(Refusal::Closed);
+        };
+        let done = progress(&held.endpoint, number);
+        self.put(held);
+        done
+    }
+
     /// Emits what is due at a stream to the front of a buffer ([`Endpoint::emit`]) and returns what it was, in numbers.
     /// `len` becomes its length in octets, even if it does not fit (`NoRoom`) or memory runs out. An `Err` changes
     /// nothing else. `TooFar` comes if more than 2^62 octets were emitted; `NoMemory` only if no other refusal applies

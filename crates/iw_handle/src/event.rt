@@ -6,14 +6,15 @@ ghost use Rattle.iw_handle.specs.Events.{message_event, fault_event, received_ev
 ghost use Rattle.iw_handle.specs.Events.{emitted_of, facts_of, peer_told};
 ghost use Rattle.iw_handle.specs.Steps.{is_quiet};
 
+use iw_codes::numbers;
 use iw_endpoint::{
     Agreed, Delivery, Emission, EnhancedData, Facts, Fault, Kind, Octets, Right, Rights, Stag,
     StartupFault, Step,
 };
 
-/// What a step of work did. Fields that have no meaning for its `kind` are 0.
+/// What a step of work did. Fields that have no meaning for its `kind` are 0, and so are those that are reserved.
 #[repr(C)]
-#[derive(Clone, Copy, Debug, PartialEq, Eq)]
+#[derive(Clone, Copy)]
 pub struct Event {
     pub kind: u32,
     /// What was posted: 1 (Write), 2 (Send) or 3 (Read).
@@ -29,11 +30,17 @@ pub struct Event {
     pub code: u32,
     pub to: u64,
     pub len: u64,
+    /// The token of the message that is done or flushed.
+    pub token: u64,
+    pub reserved_0: u64,
+    pub reserved_1: u64,
+    pub reserved_2: u64,
+    pub reserved_3: u64,
 }
 
-/// What a call of `emit` did. Fields that have no meaning for its `kind` are 0.
+/// What a call of `emit` did. Fields that have no meaning for its `kind` are 0, and so are those that are reserved.
 #[repr(C)]
-#[derive(Clone, Copy, Debug, PartialEq, Eq)]
+#[derive(Clone, Copy)]
 pub struct Emitted {
     pub kind: u32,
     pub stag: u32,
@@ -43,11 +50,15 @@ pub struct Emitted {
     pub from: u64,
     pub to: u64,
     pub n: u64,
+    pub reserved_0: u64,
+    pub reserved_1: u64,
+    pub reserved_2: u64,
+    pub reserved_3: u64,
 }
 
 /// The facts of a region.
 #[repr(C)]
-#[derive(Clone, Copy, Debug, PartialEq, Eq)]
+#[derive(Clone, Copy)]
 pub struct RegionFacts {
     pub base: u64,
     pub len: u64,
@@ -74,9 +85,25 @@ pub struct Told {
     pub rtr_read: u32,
 }
 
+/// How far a stream is, in octets.
+#[repr(C)]
+#[derive(Clone, Copy)]
+pub struct Progress {
+    /// How many octets it has emitted.
+    pub sent: u64,
+    /// Its in-order point.
+    pub in_order: u64,
+    /// How many octets the next call of `emit` gives.
+    pub due: u64,
+    pub reserved_0: u64,
+    pub reserved_1: u64,
+    pub reserved_2: u64,
+    pub reserved_3: u64,
+}
+
 /// There was nothing to do.
-pub const IDLE: Event = Event {
-    kind: 0,
+pub const NO_EVENT: Event = Event {
+    kind: numbers::IDLE,
     message: 0,
     right: 0,
     flags: 0,
@@ -88,10 +115,15 @@ pub const IDLE: Event = Event {
     code: 0,
     to: 0,
     len: 0,
+    token: 0,
+    reserved_0: 0,
+    reserved_1: 0,
+    reserved_2: 0,
+    reserved_3: 0,
 };
 
 const NOTHING: Emitted = Emitted {
-    kind: 0,
+    kind: numbers::NOTHING,
     stag: 0,
     layer: 0,
     error: 0,
@@ -99,15 +131,19 @@ const NOTHING: Emitted = Emitted {
     from: 0,
     to: 0,
     n: 0,
+    reserved_0: 0,
+    reserved_1: 0,
+    reserved_2: 0,
+    reserved_3: 0,
 };
 
 fn kind_number(kind: Kind) -> u32
     ensures { result ≡ kind_number kind }
 {
     match kind {
-        Kind::Write => 1,
-        Kind::Send => 2,
-        Kind::Read => 3,
+        Kind::Write => numbers::MESSAGE_WRITE,
+        Kind::Send => numbers::MESSAGE_SEND,
+        Kind::Read => numbers::MESSAGE_READ,
     }
 }
 
@@ -115,9 +151,9 @@ fn right_number(right: Right) -> u32
     ensures { result ≡ right_number right }
 {
     match right {
-        Right::Write => 1,
-        Right::Read => 2,
-        Right::Sink => 4,
+        Right::Write => numbers::WRITE,
+        Right::Read => numbers::READ,
+        Right::Sink => numbers::SINK,
     }
 }
 
@@ -125,10 +161,10 @@ fn startup_number(fault: StartupFault) -> u32
     ensures { result ≡ startup_number fault }
 {
     match fault {
-        StartupFault::BadKey => 1,
-        StartupFault::BadRev => 2,
-        StartupFault::BadLength => 3,
-        StartupFault::Rejected => 4,
+        StartupFault::BadKey => numbers::BAD_KEY,
+        StartupFault::BadRev => numbers::BAD_REVISION,
+        StartupFault::BadLength => numbers::BAD_LENGTH,
+        StartupFault::Rejected => numbers::REJECTED,
     }
 }
 
@@ -143,13 +179,15 @@ fn flag(on: bool, value: u32) -> u32
 pub fn agreed_flags(agreed: Agreed) -> u32
     ensures { result ≡ agreed_flags agreed }
 {
-    flag(agreed.send_markers, 1) + flag(agreed.expect_markers, 2) + flag(agreed.crc, 4)
+    flag(agreed.send_markers, numbers::SENDS_MARKERS)
+        + flag(agreed.expect_markers, numbers::EXPECTS_MARKERS)
+        + flag(agreed.crc, numbers::USES_CRC)
 }
 
 fn received_flags(solicited: bool, invalidate: Option<Stag>) -> u32
     ensures { result ≡ received_flags solicited invalidate }
 {
-    flag(solicited, 1) + flag(invalidate.is_some(), 2)
+    flag(solicited, numbers::SOLICITED) + flag(invalidate.is_some(), numbers::INVALIDATES)
 }
 
 fn stag_number(stag: Option<Stag>) -> u32
@@ -170,82 +208,83 @@ fn fault_event(kind: u32, fault: Fault) -> Event
         layer: fault.layer.into(),
         error: fault.kind.into(),
         code: fault.code.into(),
-        ..IDLE
+        ..NO_EVENT
     }
 }
 
-// The event of a message that was posted.
+// The event of a message that was posted with this token.
 #[inline(always)]
-fn message_event(kind: u32, message: Kind) -> Event
-    ensures { result ≡ message_event kind message }
+fn message_event(kind: u32, message: Kind, token: u64) -> Event
+    ensures { result ≡ message_event kind message token }
 {
     Event {
         kind,
         message: kind_number(message),
-        ..IDLE
+        token,
+        ..NO_EVENT
     }
 }
 
 #[inline(always)]
 fn opened_event(agreed: Agreed) -> Event
-    ensures { result ≡ event_of (Step.Opened agreed) }
+    ensures { result ≡ event_of 0 (Step.Opened agreed) }
 {
     Event {
-        kind: 5,
+        kind: numbers::OPENED,
         flags: agreed_flags(agreed),
         len: agreed.ord as u64,
-        ..IDLE
+        ..NO_EVENT
     }
 }
 
 #[inline(always)]
 fn closed_event(fault: StartupFault) -> Event
-    ensures { result ≡ event_of (Step.Closed fault) }
+    ensures { result ≡ event_of 0 (Step.Closed fault) }
 {
     Event {
-        kind: 6,
+        kind: numbers::CLOSED_BY_PEER,
         code: startup_number(fault),
-        ..IDLE
+        ..NO_EVENT
     }
 }
 
 #[inline(always)]
 fn placed_event(right: Right, stag: Stag, to: u64, len: usize) -> Event
-    ensures { result ≡ event_of (Step.Placed right stag to len) }
+    ensures { result ≡ event_of 0 (Step.Placed right stag to len) }
 {
     Event {
-        kind: 7,
+        kind: numbers::PLACED,
         right: right_number(right),
         stag: stag.into(),
         to,
         len: len as u64,
-        ..IDLE
+        ..NO_EVENT
     }
 }
 
 #[inline(always)]
 fn buffered_event(msn: u32, mo: u32, len: usize) -> Event
-    ensures { result ≡ event_of (Step.Buffered msn mo len) }
+    ensures { result ≡ event_of 0 (Step.Buffered msn mo len) }
 {
     Event {
-        kind: 8,
+        kind: numbers::BUFFERED,
         msn,
         mo,
         len: len as u64,
-        ..IDLE
+        ..NO_EVENT
     }
 }
 
 #[inline(always)]
 fn requested_event(size: u32, stag: Stag, to: u64) -> Event
-    ensures { result ≡ event_of (Step.Requested size stag to) }
+    ensures { result ≡ event_of 0 (Step.Requested size stag to) }
 {
     Event {
-        kind: 9,
+        kind: numbers::REQUESTED,
         stag: stag.into(),
         to,
         len: size.into(),
-        ..IDLE
+        ..NO_EVENT
     }
 }
 
@@ -254,29 +293,32 @@ fn received_event(len: usize, solicited: bool, invalidate: &Option<Stag>) -> Eve
     ensures { result ≡ received_event len solicited invalidate.now }
 {
     Event {
-        kind: 11,
+        kind: numbers::RECEIVED,
         flags: received_flags(solicited, *invalidate),
         stag: stag_number(*invalidate),
         len: len as u64,
-        ..IDLE
+        ..NO_EVENT
     }
 }
 
-/// A step in numbers.
+/// A step in numbers, where the message that was posted first has this token.
 #[inline(always)]
-pub fn event_of(step: &Step<Octets>) -> Event
-    ensures { result ≡ event_of step.now }
+pub fn event_of(oldest: u64, step: &Step<Octets>) -> Event
+    ensures { result ≡ event_of oldest step.now }
 {
     match step {
-        Step::Idle => IDLE,
-        Step::Done(message) => message_event(1, *message),
-        Step::Flushed(message) => message_event(2, *message),
+        Step::Idle => NO_EVENT,
+        Step::Done(message) => message_event(numbers::DONE, *message, oldest),
+        Step::Flushed(message) => message_event(numbers::FLUSHED, *message, oldest),
         Step::FlushedRecv(buffer) => Event {
-            kind: 3,
+            kind: numbers::FLUSHED_RECV,
             len: buffer.len() as u64,
-            ..IDLE
+            ..NO_EVENT
         },
-        Step::Asked => Event { kind: 4, ..IDLE },
+        Step::Asked => Event {
+            kind: numbers::ASKED,
+            ..NO_EVENT
+        },
         Step::Opened(agreed) => opened_event(*agreed),
         Step::Closed(fault) => closed_event(*fault),
         Step::Placed {
@@ -287,19 +329,22 @@ pub fn event_of(step: &Step<Octets>) -> Event
         } => placed_event(*right, *stag, *to, *len),
         Step::Buffered { msn, mo, len } => buffered_event(*msn, *mo, *len),
         Step::Requested { size, stag, to } => requested_event(*size, *stag, *to),
-        Step::Passed => Event { kind: 10, ..IDLE },
+        Step::Passed => Event {
+            kind: numbers::PASSED,
+            ..NO_EVENT
+        },
         Step::Received {
             len,
             solicited,
             invalidate,
             ..
         } => received_event(*len, *solicited, invalidate),
-        Step::Terminated(fault) => fault_event(12, *fault),
-        Step::Fault(fault) => fault_event(13, *fault),
+        Step::Terminated(fault) => fault_event(numbers::TERMINATED, *fault),
+        Step::Fault(fault) => fault_event(numbers::FAULT, *fault),
         Step::Tried(place) => Event {
-            kind: 14,
+            kind: numbers::TRIED,
             to: *place,
-            ..IDLE
+            ..NO_EVENT
         },
     }
 }
@@ -335,7 +380,7 @@ pub fn emitted_of(emission: Emission) -> Emitted
     match emission {
         Emission::Nothing => NOTHING,
         Emission::Frame { from, .. } => Emitted {
-            kind: 1,
+            kind: numbers::FRAME,
             from,
             ..NOTHING
         },
@@ -346,7 +391,7 @@ pub fn emitted_of(emission: Emission) -> Emitted
             n,
             ..
         } => Emitted {
-            kind: 2,
+            kind: numbers::FETCHED,
             stag: stag.into(),
             from,
             to,
@@ -354,7 +399,7 @@ pub fn emitted_of(emission: Emission) -> Emitted
             ..NOTHING
         },
         Emission::Fault(fault) => Emitted {
-            kind: 3,
+            kind: numbers::DENIED,
             layer: fault.layer.into(),
             error: fault.kind.into(),
             code: fault.code.into(),
@@ -372,7 +417,10 @@ fn rights_number(rights: Rights) -> u32
         sink,
         invalidate,
     } = rights;
-    flag(write, 1) + flag(read, 2) + flag(sink, 4) + flag(invalidate, 8)
+    flag(write, numbers::WRITE)
+        + flag(read, numbers::READ)
+        + flag(sink, numbers::SINK)
+        + flag(invalidate, numbers::INVALIDATE)
 }
 
 /// The facts of a region, in numbers.

@@ -1,9 +1,9 @@
-use crate::handed::Handed;
 use iw_endpoint::Endpoint;
+use iw_lines::Lines;
 
-/// What an open handle has: an endpoint, and the buffer that was handed back last and not yet fetched.
+/// What an open handle has: an endpoint, and what waits for the program at each of its streams.
 #[derive(Drop)]
 pub struct Held {
     pub endpoint: Endpoint,
-    pub handed: Handed,
+    pub lines: Lines,
 }

@@ -6,7 +6,6 @@ mod buffers;
 mod copying;
 mod emitting;
 mod event;
-mod handed;
 mod handle;
 mod held;
 mod laws;
@@ -22,14 +21,12 @@ mod words;
 mod working;
 
 pub use event::{
-    Emitted, Event, IDLE, RegionFacts, Told, agreed_flags, emitted_of, event_of, facts_of,
-    kept_number, peer_told,
+    Emitted, Event, NO_EVENT, Progress, RegionFacts, Told, agreed_flags, emitted_of, event_of,
+    facts_of, kept_number, peer_told,
 };
-pub use handed::Handed;
 pub use handle::Handle;
 pub use held::Held;
 pub use laws::codes_are_distinct;
-pub use pools::taken_number;
 pub use refusal::{Refusal, buffer_reason, code};
 pub use words::{domain_number, read_request, stag_of, stream_number};
 pub use working::QUIET_STEPS;

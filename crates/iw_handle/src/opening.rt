@@ -6,11 +6,11 @@ ghost use Rattle.iw_endpoint.specs.Endpoint.{fresh, domain_refusal, added};
 ghost use Rattle.iw_handle.specs.Refusals.{domain_reason};
 ghost use Rattle.iw_handle.specs.State.{open_with, refusal_in, changed};
 
-use crate::handed::Handed;
 use crate::handle::Handle;
 use crate::held::Held;
 use crate::refusal::{Refusal, domain_reason};
 use iw_endpoint::Endpoint;
+use iw_lines::Lines;
 use std::alloc::{AllocError, Global};
 
 // What a new handle has.
@@ -18,8 +18,8 @@ fn fresh(alloc: Global) -> Result<Box<Held>, AllocError>
     ensures { IfOk result (λ held. Some held.value ≡ open_with fresh) }
 {
     let endpoint = Endpoint::new(alloc)?;
-    let handed = Handed::nothing(alloc);
-    let held = Box::new(alloc, Held { endpoint, handed })?;
+    let lines = Lines::new(alloc)?;
+    let held = Box::new(alloc, Held { endpoint, lines })?;
     Ok(held)
 }
 

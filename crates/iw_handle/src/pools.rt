@@ -1,32 +1,18 @@
 // Pools of receive buffers that streams of a domain share.
 ghost use Rattle.std.specs.Prelude.{◌≡◌, ◌⊎◌, None, Some, length, IfSome, IfNone, IfOk, IfErr, IsErr, OnOk, OnErr};
-ghost use Rattle.std.specs.Result.{result_err};
 ghost use Rattle.iw_endpoint.specs.Endpoint.{shared, pooled, opened_shared};
-ghost use Rattle.iw_handle.specs.Pools.{refusal_to_share, refusal_to_pool, refusal_to_take, refusal_to_open_shared};
-ghost use Rattle.iw_handle.specs.Pools.{taken_len, taken_number, held_taken, taken};
-ghost use Rattle.iw_handle.specs.State.{refusal_in, changed, told_in, length_refusal};
+ghost use Rattle.iw_handle.specs.Pools.{refusal_to_share, refusal_to_pool, refusal_to_open_shared};
+ghost use Rattle.iw_handle.specs.State.{refusal_in, changed, length_refusal};
 ghost use Rattle.iw_handle.specs.Streams.{zeroes};
 ghost use Rattle.iw_handle.specs.Words.{role_in, config_of};
 
 use crate::copying::check_length;
-use crate::handed::Handed;
 use crate::handle::Handle;
-use crate::held::Held;
 use crate::posting::zeroes;
-use crate::refusal::{Refusal, open_shared_reason, pool_reason, share_reason, take_reason};
+use crate::refusal::{Refusal, open_shared_reason, pool_reason, share_reason};
 use crate::words::{config_of, role_of};
-use iw_endpoint::{Endpoint, Octets};
+use iw_endpoint::Endpoint;
 use std::alloc::Global;
-
-/// 1 if a buffer was taken out of a pool, 0 if the pool was empty.
-pub fn taken_number(len: Option<usize>) -> u32
-    ensures { result ≡ taken_number len }
-{
-    match len {
-        Some(_) => 1,
-        None => 0,
-    }
-}
 
 fn share(endpoint: &mut Endpoint, pd: u8) -> Result<(), Refusal>
     // The first refusal that applies; if none does, only `NoMemory`.
@@ -56,24 +42,6 @@ fn post_shared(endpoint: &mut Endpoint, alloc: Global, pd: u8, n: usize) -> Resu
     match endpoint.post_shared(pd, buffer) {
         Ok(()) => Ok(()),
         Err((refusal, _)) => Err(pool_reason(refusal)),
-    }
-}
-
-// Takes the oldest buffer out, keeps it to be fetched, and returns its length.
-fn take_shared(held: &mut Held, pd: u8) -> Result<Option<usize>, Refusal>
-    ensures refused { result_err result ≡ refusal_to_take held.old.endpoint pd }
-    ensures len { IfOk result (λ len. len ≡ taken_len held.old.endpoint pd) }
-    ensures ok { OnOk result (held.new ≡ held_taken held.old pd) }
-    ensures err { OnErr result (held.new ≡ held.old) }
-{
-    match held.endpoint.take_shared(pd) {
-        Ok(Some(buffer)) => {
-            let len = buffer.len();
-            held.handed = Handed::whole(Octets::from_vec(buffer));
-            Ok(Some(len))
-        }
-        Ok(None) => Ok(None),
-        Err(refusal) => Err(take_reason(refusal)),
     }
 }
 
@@ -135,22 +103,6 @@ impl Handle {
             return Err(Refusal::Closed);
         };
         let done = post_shared(&mut held.endpoint, alloc, pd, n);
-        self.put(held);
-        done
-    }
-
-    /// Takes the oldest buffer out of the domain's pool and returns its length; `None` if the pool is empty. Get the
-    /// buffer with [`Handle::fetch`]. An `Err` changes nothing.
-    pub fn take_shared(&mut self, alloc: Global, pd: u8) -> Result<Option<usize>, Refusal>
-        ensures refused { result_err result ≡ refusal_in self.old.state (λ e. refusal_to_take e pd) }
-        ensures len { IfOk result (λ len. Some len ≡ told_in self.old.state (λ e. taken_len e pd)) }
-        ensures ok { OnOk result (self.new.state ≡ taken self.old.state pd) }
-        ensures err { OnErr result (self.new.state ≡ self.old.state) }
-    {
-        let Some(mut held) = self.take(alloc) else {
-            return Err(Refusal::Closed);
-        };
-        let done = take_shared(&mut held, pd);
         self.put(held);
         done
     }

@@ -1,17 +1,19 @@
 // Posting to a stream.
 ghost use Rattle.std.specs.Prelude.{◌≡◌, ◌⊎◌, None, Some, length, IfSome, IfNone, IfOk, IfErr, IsErr, OnOk, OnErr};
-ghost use Rattle.iw_endpoint.specs.Endpoint.{with_request, with_buffer};
+ghost use Rattle.iw_endpoint.specs.Endpoint.{with_buffer};
 ghost use Rattle.iw_handle.specs.Refusals.{post_reason};
 ghost use Rattle.iw_handle.specs.State.{refusal_in, changed, length_refusal};
 ghost use Rattle.iw_handle.specs.Streams.{refusal_to_post, refusal_to_lend, write_of, read_of, zeroes};
-ghost use Rattle.iw_handle.specs.Streams.{refusal_to_send, send_of, sent};
+ghost use Rattle.iw_handle.specs.Streams.{refusal_to_send, send_of, sent, held_posted, posted};
 ghost use Rattle.iw_handle.specs.Words.{bits_refusal};
 
 use crate::copying::check_length;
 use crate::handle::Handle;
+use crate::held::Held;
 use crate::refusal::{Refusal, post_reason, recv_reason};
 use crate::words::{check_bits, has_bit, invalidated_by};
 use bytes::Bytes;
+use iw_codes::numbers;
 use iw_endpoint::{CallRefusal, Endpoint, Message, PostRefusal, ReadRequest, Request, Stag};
 use std::alloc::{AllocError, Global};
 
@@ -23,15 +25,20 @@ fn reason_of(refused: (CallRefusal<PostRefusal>, Request<Bytes>)) -> Refusal
     post_reason(refusal)
 }
 
-fn post(endpoint: &mut Endpoint, number: u8, request: Request<Bytes>) -> Result<(), Refusal>
+// Posts a request, which the program knows by this token.
+fn post(held: &mut Held, number: u8, request: Request<Bytes>, token: u64) -> Result<(), Refusal>
     // The first refusal that applies; if none does, only `NoMemory`.
-    ensures refused { IfSome (refusal_to_post endpoint.old number request) (λ r. result ≡ Err r) }
-    ensures memory { IfNone (refusal_to_post endpoint.old number request) (IfErr result (λ e. e ≡ Refusal.NoMemory)) }
-    ensures ok { OnOk result (endpoint.new ≡ with_request endpoint.old number request) }
-    ensures err { OnErr result (endpoint.new ≡ endpoint.old) }
+    ensures refused { IfSome (refusal_to_post held.old.endpoint number request) (λ r. result ≡ Err r) }
+    ensures memory { IfNone (refusal_to_post held.old.endpoint number request)
+        (IfErr result (λ e. e ≡ Refusal.NoMemory)) }
+    ensures ok { OnOk result (held.new ≡ held_posted held.old number request token) }
+    ensures err { OnErr result (held.new ≡ held.old) }
 {
-    match endpoint.post(number, request) {
-        Ok(()) => Ok(()),
+    match held.endpoint.post(number, request) {
+        Ok(()) => {
+            held.lines.push(number, token);
+            Ok(())
+        }
         Err(refused) => Err(reason_of(refused)),
     }
 }
@@ -64,8 +71,8 @@ fn lend(endpoint: &mut Endpoint, alloc: Global, number: u8, n: usize) -> Result<
 
 impl Handle {
     /// Posts a Send of a copy of the octets ([`Endpoint::post`]). `flags` is a sum of 1 (it is solicited) and 2 (it
-    /// invalidates the peer's region `stag`); `BadBits` means that it has another bit. An `Err` changes nothing. `NoMemory`
-    /// may come in place of a refusal of the stream's, since the copy is made first.
+    /// invalidates the peer's region `stag`); `BadBits` means that it has another bit. `token` is told when the
+    /// Send is done or flushed. An `Err` changes nothing. `NoMemory` may come in place of a refusal of the stream's, since the copy is made first.
     pub fn post_send(
         &mut self,
         alloc: Global,
@@ -73,21 +80,21 @@ impl Handle {
         octets: &[u8],
         flags: u32,
         stag: u32,
+        token: u64,
     ) -> Result<(), Refusal>
         ensures refused { IfSome
             (refusal_in self.old.state (λ e. refusal_to_send e number octets.now flags stag))
             (λ _. IsErr result) }
         ensures why { IfErr result (λ e. (e ≡ Refusal.NoMemory) ⊎ (refusal_in self.old.state
             (λ e. refusal_to_send e number octets.now flags stag) ≡ Some e)) }
-        ensures ok { OnOk result (self.new.state ≡ changed self.old.state
-            (λ e. with_request e number (sent octets.now flags stag))) }
+        ensures ok { OnOk result (self.new.state ≡ posted self.old.state number (sent octets.now flags stag) token) }
         ensures err { OnErr result (self.new.state ≡ self.old.state) }
         ensures bits { IfSome (refusal_in self.old.state (λ e. bits_refusal 4 flags)) (λ r. result ≡ Err r) }
     {
         let Some(mut held) = self.take(alloc) else {
             return Err(Refusal::Closed);
         };
-        let done = post_send(&mut held.endpoint, alloc, number, octets, flags, stag);
+        let done = post_send(&mut held, alloc, number, octets, flags, stag, token);
         self.put(held);
         done
     }
@@ -101,20 +108,20 @@ impl Handle {
         stag: Stag,
         to: u64,
         octets: &[u8],
+        token: u64,
     ) -> Result<(), Refusal>
         ensures refused { IfSome
             (refusal_in self.old.state (λ e. refusal_to_post e number (write_of stag to octets.now)))
             (λ _. IsErr result) }
         ensures why { IfErr result (λ e. (e ≡ Refusal.NoMemory) ⊎
             (refusal_in self.old.state (λ e. refusal_to_post e number (write_of stag to octets.now)) ≡ Some e)) }
-        ensures ok { OnOk result
-            (self.new.state ≡ changed self.old.state (λ e. with_request e number (write_of stag to octets.now))) }
+        ensures ok { OnOk result (self.new.state ≡ posted self.old.state number (write_of stag to octets.now) token) }
         ensures err { OnErr result (self.new.state ≡ self.old.state) }
     {
         let Some(mut held) = self.take(alloc) else {
             return Err(Refusal::Closed);
         };
-        let done = post_write(&mut held.endpoint, alloc, number, stag, to, octets);
+        let done = post_write(&mut held, alloc, number, stag, to, octets, token);
         self.put(held);
         done
     }
@@ -126,19 +133,19 @@ impl Handle {
         alloc: Global,
         number: u8,
         request: ReadRequest,
+        token: u64,
     ) -> Result<(), Refusal>
         ensures refused { IfSome (refusal_in self.old.state (λ e. refusal_to_post e number (read_of request)))
             (λ r. result ≡ Err r) }
         ensures memory { IfNone (refusal_in self.old.state (λ e. refusal_to_post e number (read_of request)))
             (IfErr result (λ e. e ≡ Refusal.NoMemory)) }
-        ensures ok { OnOk result
-            (self.new.state ≡ changed self.old.state (λ e. with_request e number (read_of request))) }
+        ensures ok { OnOk result (self.new.state ≡ posted self.old.state number (read_of request) token) }
         ensures err { OnErr result (self.new.state ≡ self.old.state) }
     {
         let Some(mut held) = self.take(alloc) else {
             return Err(Refusal::Closed);
         };
-        let done = post(&mut held.endpoint, number, Request::Read(request));
+        let done = post(&mut held, number, Request::Read(request), token);
         self.put(held);
         done
     }
@@ -164,19 +171,20 @@ impl Handle {
 
 // Posts a Send of a copy of the octets.
 fn send_copy(
-    endpoint: &mut Endpoint,
+    held: &mut Held,
     alloc: Global,
     number: u8,
     octets: &[u8],
     solicited: bool,
     invalidate: Option<Stag>,
+    token: u64,
 ) -> Result<(), Refusal>
-    ensures refused { IfSome (refusal_to_post endpoint.old number (send_of octets.now solicited invalidate))
+    ensures refused { IfSome (refusal_to_post held.old.endpoint number (send_of octets.now solicited invalidate))
         (λ _. IsErr result) }
     ensures why { IfErr result (λ e. (e ≡ Refusal.NoMemory) ⊎
-        (refusal_to_post endpoint.old number (send_of octets.now solicited invalidate) ≡ Some e)) }
-    ensures ok { OnOk result (endpoint.new ≡ with_request endpoint.old number (send_of octets.now solicited invalidate)) }
-    ensures err { OnErr result (endpoint.new ≡ endpoint.old) }
+        (refusal_to_post held.old.endpoint number (send_of octets.now solicited invalidate) ≡ Some e)) }
+    ensures ok { OnOk result (held.new ≡ held_posted held.old number (send_of octets.now solicited invalidate) token) }
+    ensures err { OnErr result (held.new ≡ held.old) }
 {
     let Ok(octets) = Bytes::copy_from_slice(alloc, octets) else {
         return Err(Refusal::NoMemory);
@@ -186,58 +194,61 @@ fn send_copy(
         solicited,
         invalidate,
     };
-    post(endpoint, number, Request::Message(message))
+    post(held, number, Request::Message(message), token)
 }
 
 fn post_send(
-    endpoint: &mut Endpoint,
+    held: &mut Held,
     alloc: Global,
     number: u8,
     octets: &[u8],
     flags: u32,
     stag: u32,
+    token: u64,
 ) -> Result<(), Refusal>
-    ensures refused { IfSome (refusal_to_send endpoint.old number octets.now flags stag)
+    ensures refused { IfSome (refusal_to_send held.old.endpoint number octets.now flags stag)
         (λ _. IsErr result) }
     ensures why { IfErr result (λ e. (e ≡ Refusal.NoMemory) ⊎
-        (refusal_to_send endpoint.old number octets.now flags stag ≡ Some e)) }
-    ensures ok { OnOk result
-        (endpoint.new ≡ with_request endpoint.old number (sent octets.now flags stag)) }
-    ensures err { OnErr result (endpoint.new ≡ endpoint.old) }
+        (refusal_to_send held.old.endpoint number octets.now flags stag ≡ Some e)) }
+    ensures ok { OnOk result (held.new ≡ held_posted held.old number (sent octets.now flags stag) token) }
+    ensures err { OnErr result (held.new ≡ held.old) }
     ensures bits { IfSome (bits_refusal 4 flags) (λ r. result ≡ Err r) }
 {
     check_bits(4, flags)?;
     let invalidate = invalidated_by(flags, stag);
     send_copy(
-        endpoint,
+        held,
         alloc,
         number,
         octets,
-        has_bit(flags, 1),
+        has_bit(flags, numbers::SOLICITED),
         invalidate,
+        token,
     )
 }
 
 fn post_write(
-    endpoint: &mut Endpoint,
+    held: &mut Held,
     alloc: Global,
     number: u8,
     stag: Stag,
     to: u64,
     octets: &[u8],
+    token: u64,
 ) -> Result<(), Refusal>
-    ensures refused { IfSome (refusal_to_post endpoint.old number (write_of stag to octets.now)) (λ _. IsErr result) }
+    ensures refused { IfSome (refusal_to_post held.old.endpoint number (write_of stag to octets.now)) (λ _. IsErr result) }
     ensures why { IfErr result
-        (λ e. (e ≡ Refusal.NoMemory) ⊎ (refusal_to_post endpoint.old number (write_of stag to octets.now) ≡ Some e)) }
-    ensures ok { OnOk result (endpoint.new ≡ with_request endpoint.old number (write_of stag to octets.now)) }
-    ensures err { OnErr result (endpoint.new ≡ endpoint.old) }
+        (λ e. (e ≡ Refusal.NoMemory) ⊎ (refusal_to_post held.old.endpoint number (write_of stag to octets.now) ≡ Some e)) }
+    ensures ok { OnOk result (held.new ≡ held_posted held.old number (write_of stag to octets.now) token) }
+    ensures err { OnErr result (held.new ≡ held.old) }
 {
     let Ok(octets) = Bytes::copy_from_slice(alloc, octets) else {
         return Err(Refusal::NoMemory);
     };
     post(
-        endpoint,
+        held,
         number,
         Request::Message(Message::Write { stag, to, octets }),
+        token,
     )
 }

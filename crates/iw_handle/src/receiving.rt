@@ -6,10 +6,10 @@ ghost use Rattle.std.specs.Result.{result_err};
 ghost use Rattle.iw_endpoint.specs.Endpoint.{with_buffer, pooled, taken_at, after_take};
 ghost use Rattle.iw_handle.specs.Pools.{refusal_to_pool, refusal_to_take};
 ghost use Rattle.iw_handle.specs.State.{refusal_with, changed, told_in};
+ghost use Rattle.iw_lines.specs.Lines.{line_at};
 ghost use Rattle.iw_handle.specs.Streams.{refusal_to_lend, without_handed, fetched};
 
 use crate::copying::check_length;
-use crate::handed::Handed;
 use crate::handle::Handle;
 use crate::held::Held;
 use crate::refusal::{Refusal, pool_reason, recv_reason, take_reason};
@@ -17,13 +17,13 @@ use iw_buffer::Buffer;
 use iw_endpoint::Endpoint;
 use std::alloc::Global;
 
-// Moves what was handed back, whole, and tells how many of its first octets are told.
-fn fetch_these(held: &mut Held, alloc: Global, octets: &mut Vec<u8>) -> usize
-    ensures octets { octets.new.items ≡ held.old.handed.buffer }
-    ensures len { result ≡ held.old.handed.len }
-    ensures after { held.new ≡ without_handed held.old }
+// Moves what a stream handed back, whole, and tells how many of its first octets are told.
+fn fetch_these(held: &mut Held, alloc: Global, number: u8, octets: &mut Vec<u8>) -> usize
+    ensures octets { octets.new.items ≡ (line_at held.old.lines number).handed.buffer }
+    ensures len { result ≡ (line_at held.old.lines number).handed.len }
+    ensures after { held.new ≡ without_handed held.old number }
 {
-    let handed = std::mem::replace(&mut held.handed, Handed::nothing(alloc));
+    let handed = held.lines.fetch(alloc, number);
     *octets = handed.buffer.into_vec();
     handed.len
 }
@@ -102,20 +102,22 @@ fn take_these(endpoint: &mut Endpoint, pd: u8, octets: &mut Vec<u8>) -> Result<b
 }
 
 impl Handle {
-    /// Moves the receive buffer that was handed back last into a buffer, whole, and forgets it. `len` becomes the number of its
+    /// Moves the receive buffer that a stream handed back last into a buffer, whole, and forgets it. `len` becomes the number of its
     /// first octets that are the message, or all if it was flushed. The octets that the buffer had are freed. If nothing was
     /// handed back, it has no octets then. An `Err` changes nothing.
     pub fn fetch_buffer(
         &mut self,
         alloc: Global,
+        number: u8,
         buffer: &mut Buffer,
         len: &mut usize,
     ) -> Result<(), Refusal>
         ensures refused { result_err result ≡ refusal_with self.old.state buffer.old.state (λ e octets. None) }
-        ensures octets { OnOk result (buffer.new.state ≡ option_map (λ held. held.handed.buffer) self.old.state) }
-        ensures len { OnOk result (Some len.new ≡ option_map (λ held. held.handed.len) self.old.state) }
+        ensures octets { OnOk result
+            (buffer.new.state ≡ option_map (λ held. (line_at held.lines number).handed.buffer) self.old.state) }
+        ensures len { OnOk result (Some len.new ≡ option_map (λ held. (line_at held.lines number).handed.len) self.old.state) }
         ensures untold { OnErr result (len.new ≡ len.old) }
-        ensures ok { OnOk result (self.new.state ≡ fetched self.old.state) }
+        ensures ok { OnOk result (self.new.state ≡ fetched self.old.state number) }
         ensures err { OnErr result (self.new.state ≡ self.old.state) }
         ensures back { OnErr result (buffer.new.state ≡ buffer.old.state) }
     {
@@ -126,7 +128,7 @@ impl Handle {
             self.put(held);
             return Err(Refusal::NoBuffer);
         };
-        *len = fetch_these(&mut held, alloc, &mut lent.octets);
+        *len = fetch_these(&mut held, alloc, number, &mut lent.octets);
         self.put(held);
         buffer.put(lent);
         Ok(())

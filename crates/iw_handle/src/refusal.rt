@@ -1,10 +1,11 @@
 // Why calls are refused.
-ghost use Rattle.std.specs.Prelude.{◌≡◌, ◌↔◌, None, pos};
-ghost use Rattle.iw_handle.specs.Refusals.{domain_reason, register_reason, store_reason, code_of};
+ghost use Rattle.std.specs.Prelude.{◌≡◌, ◌<◌, ◌^◌, ◌↔◌, None, pos};
+ghost use Rattle.iw_handle.specs.Refusals.{domain_reason, register_reason, store_reason, code_of, refusal_code};
 ghost use Rattle.iw_handle.specs.Refusals.{open_reason, answer_reason, post_reason, recv_reason, first_reason, size_reason};
 ghost use Rattle.iw_handle.specs.Refusals.{share_reason, pool_reason, take_reason, open_shared_reason, buffer_reason};
 
 use iw_buffer::BufferRefusal;
+use iw_codes::numbers;
 use iw_endpoint::{
     AnswerRefusal, CallRefusal, DomainRefusal, FirstRefusal, OpenRefusal, OpenSharedRefusal,
     PoolRefusal, PostRefusal, RecvRefusal, RegisterRefusal, ShareRefusal, SizeRefusal,
@@ -272,47 +273,57 @@ pub fn buffer_reason(refusal: BufferRefusal) -> Refusal
     }
 }
 
+// The number of a refusal.
+fn number(refusal: Refusal) -> u32
+    ensures number { result ≡ refusal_code refusal }
+    ensures few { result < 2 ^ 31 }
+{
+    match refusal {
+        Refusal::Closed => numbers::IS_CLOSED,
+        Refusal::AlreadyOpen => numbers::ALREADY_OPEN,
+        Refusal::NoMemory => numbers::NO_MEMORY,
+        Refusal::NoRoom => numbers::NO_ROOM,
+        Refusal::NoSuchStream => numbers::NO_SUCH_STREAM,
+        Refusal::NoRegion => numbers::NO_REGION,
+        Refusal::Outside => numbers::OUTSIDE,
+        Refusal::BadDomain => numbers::BAD_DOMAIN,
+        Refusal::DomainTaken => numbers::DOMAIN_TAKEN,
+        Refusal::NoDomain => numbers::NO_DOMAIN,
+        Refusal::DomainFull => numbers::DOMAIN_FULL,
+        Refusal::RegionTooLong => numbers::REGION_TOO_LONG,
+        Refusal::BaseWrap => numbers::BASE_WRAP,
+        Refusal::NumberTaken => numbers::NUMBER_TAKEN,
+        Refusal::BadNumber => numbers::BAD_NUMBER,
+        Refusal::BadRole => numbers::BAD_ROLE,
+        Refusal::PrivateTooLong => numbers::PRIVATE_TOO_LONG,
+        Refusal::NotAsked => numbers::NOT_ASKED,
+        Refusal::NotOpen => numbers::NOT_OPEN,
+        Refusal::MessagesFull => numbers::MESSAGES_FULL,
+        Refusal::MessageTooLong => numbers::MESSAGE_TOO_LONG,
+        Refusal::BuffersFull => numbers::BUFFERS_FULL,
+        Refusal::Ended => numbers::ENDED,
+        Refusal::BadSize => numbers::BAD_SIZE,
+        Refusal::TooFar => numbers::TOO_FAR,
+        Refusal::Late => numbers::LATE,
+        Refusal::AlreadyShared => numbers::ALREADY_SHARED,
+        Refusal::NotShared => numbers::NOT_SHARED,
+        Refusal::PoolFull => numbers::POOL_FULL,
+        Refusal::Shared => numbers::SHARED,
+        Refusal::NoBuffer => numbers::BUFFER_MISSING,
+        Refusal::AlreadyMade => numbers::BUFFER_EXISTS,
+        Refusal::BufferTooLong => numbers::BUFFER_TOO_LONG,
+        Refusal::BadBits => numbers::BAD_BITS,
+        Refusal::NoReads => numbers::NO_READS,
+    }
+}
+
 /// The number that C gets: 0 if the call was not refused, else the number of the refusal.
 pub fn code(refusal: Option<Refusal>) -> i32
     ensures code { result ≡ pos (code_of refusal) }
     ensures done { (result ≡ pos 0) ↔ (refusal ≡ None) }
 {
     match refusal {
-        None => 0,
-        Some(Refusal::Closed) => 1,
-        Some(Refusal::AlreadyOpen) => 2,
-        Some(Refusal::NoMemory) => 3,
-        Some(Refusal::NoRoom) => 4,
-        Some(Refusal::NoSuchStream) => 5,
-        Some(Refusal::NoRegion) => 6,
-        Some(Refusal::Outside) => 7,
-        Some(Refusal::BadDomain) => 8,
-        Some(Refusal::DomainTaken) => 9,
-        Some(Refusal::NoDomain) => 10,
-        Some(Refusal::DomainFull) => 11,
-        Some(Refusal::RegionTooLong) => 12,
-        Some(Refusal::BaseWrap) => 13,
-        Some(Refusal::NumberTaken) => 14,
-        Some(Refusal::BadNumber) => 15,
-        Some(Refusal::BadRole) => 16,
-        Some(Refusal::PrivateTooLong) => 17,
-        Some(Refusal::NotAsked) => 18,
-        Some(Refusal::NotOpen) => 19,
-        Some(Refusal::MessagesFull) => 20,
-        Some(Refusal::MessageTooLong) => 21,
-        Some(Refusal::BuffersFull) => 22,
-        Some(Refusal::Ended) => 23,
-        Some(Refusal::BadSize) => 24,
-        Some(Refusal::TooFar) => 25,
-        Some(Refusal::Late) => 26,
-        Some(Refusal::AlreadyShared) => 27,
-        Some(Refusal::NotShared) => 28,
-        Some(Refusal::PoolFull) => 29,
-        Some(Refusal::Shared) => 30,
-        Some(Refusal::NoBuffer) => 31,
-        Some(Refusal::AlreadyMade) => 32,
-        Some(Refusal::BufferTooLong) => 33,
-        Some(Refusal::BadBits) => 34,
-        Some(Refusal::NoReads) => 35,
+        None => numbers::OK as i32,
+        Some(refusal) => number(refusal) as i32,
     }
 }

@@ -8,6 +8,7 @@ ghost use Rattle.iw_handle.specs.Words.{bits_refusal, private_of, private_refusa
 ghost use Rattle.iw_handle.specs.Words.{invalidated_by, read_request};
 
 use crate::refusal::Refusal;
+use iw_codes::numbers;
 use iw_endpoint::{Config, Establishment, PrivateData, ReadRequest, Rights, Role, Stag};
 
 /// The STag with this number.
@@ -59,10 +60,10 @@ pub(crate) fn rights_of(n: u32) -> Rights
     ensures { result ≡ rights_of n }
 {
     Rights {
-        write: has_bit(n, 1),
-        read: has_bit(n, 2),
-        sink: has_bit(n, 4),
-        invalidate: has_bit(n, 8),
+        write: has_bit(n, numbers::WRITE),
+        read: has_bit(n, numbers::READ),
+        sink: has_bit(n, numbers::SINK),
+        invalidate: has_bit(n, numbers::INVALIDATE),
     }
 }
 
@@ -72,9 +73,9 @@ pub(crate) fn role_of(n: u32) -> Result<Role, Refusal>
     ensures role { IfOk result (λ role. role ≡ role_in n) }
 {
     match n {
-        0 => Ok(Role::Preset),
-        1 => Ok(Role::Initiator),
-        2 => Ok(Role::Responder),
+        numbers::PRESET => Ok(Role::Preset),
+        numbers::INITIATOR => Ok(Role::Initiator),
+        numbers::RESPONDER => Ok(Role::Responder),
         _ => Err(Refusal::BadRole),
     }
 }
@@ -95,7 +96,7 @@ pub(crate) fn private_of(octets: &[u8]) -> Result<PrivateData, Refusal>
 fn establishment_of(options: u32) -> Establishment
     ensures { result ≡ establishment_of options }
 {
-    if has_bit(options, 4) {
+    if has_bit(options, numbers::ENHANCED) {
         Establishment::Enhanced
     } else {
         Establishment::Plain
@@ -110,8 +111,8 @@ pub(crate) fn config_of(options: u32, private: &[u8]) -> Result<Config, Refusal>
 {
     check_bits(8, options)?;
     Ok(Config {
-        markers: has_bit(options, 1),
-        crc: has_bit(options, 2),
+        markers: has_bit(options, numbers::MARKERS),
+        crc: has_bit(options, numbers::CRC),
         establishment: establishment_of(options),
         private: private_of(private)?,
     })
@@ -121,7 +122,7 @@ pub(crate) fn config_of(options: u32, private: &[u8]) -> Result<Config, Refusal>
 pub(crate) fn invalidated_by(flags: u32, stag: u32) -> Option<Stag>
     ensures { result ≡ invalidated_by flags stag }
 {
-    if has_bit(flags, 2) {
+    if has_bit(flags, numbers::INVALIDATES) {
         Some(stag_of(stag))
     } else {
         None

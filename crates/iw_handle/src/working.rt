@@ -1,22 +1,23 @@
 // Delivery, work and what work hands back.
 ghost use Rattle.std.specs.Prelude.{◌≡◌, None, Some, length, IfSome, IfNone, IfOk, IfErr, OnOk, OnErr, IsSomeAnd};
+ghost use Rattle.std.specs.Option.{option_map};
 ghost use Rattle.std.specs.Result.{result_err};
 ghost use Rattle.iw_endpoint.specs.Endpoint.{with_first, delivery_at, after_deliver, step_at, after_work};
-ghost use Rattle.iw_handle.specs.Events.{event_at};
-ghost use Rattle.iw_handle.specs.Handed.{told_of};
+ghost use Rattle.iw_lines.specs.Handed.{told_of};
+ghost use Rattle.iw_lines.specs.Lines.{line_at};
 ghost use Rattle.iw_handle.specs.State.{refusal_in, changed, told_in, stream_refusal};
 ghost use Rattle.iw_handle.specs.State.{copy_refusal, filled, length_told};
 ghost use Rattle.iw_handle.specs.Streams.{first_refusal, refusal_to_work, BringsAt, TriesAt, handed_in, fetched};
-ghost use Rattle.iw_handle.specs.Streams.{handed_by, held_worked, worked};
+ghost use Rattle.iw_handle.specs.Streams.{lines_by, held_worked, worked, event_in};
 ghost use Rattle.iw_handle.specs.Steps.{WorksOn};
 
 use crate::copying::copy_out;
 use crate::event::{Event, event_of, is_quiet};
-use crate::handed::Handed;
 use crate::handle::Handle;
 use crate::held::Held;
 use crate::refusal::{Refusal, first_reason};
 use iw_endpoint::{CallRefusal, Delivery, Endpoint, MAX_PLACE, Octets, Step};
+use iw_lines::{Handed, Lines};
 use std::alloc::Global;
 
 /// The most steps that [`Handle::work_on`] does before the one that it reports.
@@ -43,17 +44,16 @@ fn deliver(
     }
 }
 
-// Keeps what a step hands back.
+// Keeps what a step hands back, and drops the token of a message that is done or given up.
 #[inline(always)]
-fn keep(step: Step<Octets>, handed: &mut Handed)
-    ensures { handed.new ≡ handed_by step handed.old }
+fn keep(step: Step<Octets>, number: u8, lines: &mut Lines)
+    ensures { lines.new ≡ lines_by step number lines.old }
 {
     match step {
-        Step::Received { buffer, len, .. } => *handed = Handed { buffer, len },
-        Step::FlushedRecv(buffer) => *handed = Handed::whole(buffer),
-        Step::Done(_)
-        | Step::Flushed(_)
-        | Step::Asked
+        Step::Received { buffer, len, .. } => lines.keep(number, Handed { buffer, len }),
+        Step::FlushedRecv(buffer) => lines.keep(number, Handed::whole(buffer)),
+        Step::Done(_) | Step::Flushed(_) => lines.pop(number),
+        Step::Asked
         | Step::Opened(_)
         | Step::Closed(_)
         | Step::Placed { .. }
@@ -101,8 +101,8 @@ fn steps(held: &mut Held, number: u8, most: u32, event: &mut Event) -> Result<()
         match step(&mut held.endpoint, number) {
             Ok(step) if before < most && is_quiet(&step) => before += 1,
             Ok(step) => {
-                *event = event_of(&step);
-                keep(step, &mut held.handed);
+                *event = event_of(held.lines.oldest(number), &step);
+                keep(step, number, &mut held.lines);
                 return Ok(());
             }
             Err(refusal) => return Err(refusal),
@@ -117,7 +117,7 @@ fn work(held: &mut Held, number: u8, event: &mut Event) -> Result<(), Refusal>
     ensures refused { IfSome (refusal_to_work held.old.endpoint number) (λ r. result ≡ Err r) }
     ensures memory { IfNone (refusal_to_work held.old.endpoint number) (IfErr result (λ e. e ≡ Refusal.NoMemory)) }
     ensures want { result ≡ Err Refusal.NoMemory → TriesAt held.old.endpoint number }
-    ensures event { OnOk result (event.new ≡ event_at (step_at held.old.endpoint number)) }
+    ensures event { OnOk result (event.new ≡ event_in held.old number) }
     ensures kept { OnErr result (event.new ≡ event.old) }
     ensures ok { OnOk result (held.new ≡ held_worked held.old number) }
     ensures err { OnErr result (held.new ≡ held.old) }
@@ -125,17 +125,23 @@ fn work(held: &mut Held, number: u8, event: &mut Event) -> Result<(), Refusal>
     steps(held, number, 0, event)
 }
 
-// Copies out what was handed back, and frees it.
-fn fetch(held: &mut Held, alloc: Global, out: &mut [u8], len: &mut usize) -> Result<(), Refusal>
-    ensures refused { result_err result ≡ copy_refusal (Some (told_of held.old.handed)) Refusal.Closed (length out.old) }
-    ensures len { len.new ≡ length (told_of held.old.handed) }
-    ensures octets { OnOk result (out.new ≡ filled (Some (told_of held.old.handed)) out.old) }
+// Copies out what a stream handed back, and frees it.
+fn fetch(
+    held: &mut Held,
+    alloc: Global,
+    number: u8,
+    out: &mut [u8],
+    len: &mut usize,
+) -> Result<(), Refusal>
+    ensures refused { result_err result ≡ copy_refusal (Some (told_of (line_at held.old.lines number).handed)) Refusal.Closed (length out.old) }
+    ensures len { len.new ≡ length (told_of (line_at held.old.lines number).handed) }
+    ensures octets { OnOk result (out.new ≡ filled (Some (told_of (line_at held.old.lines number).handed)) out.old) }
     ensures kept { OnErr result (out.new ≡ out.old) }
-    ensures ok { OnOk result (Some held.new ≡ fetched (Some held.old)) }
+    ensures ok { OnOk result (Some held.new ≡ fetched (Some held.old) number) }
     ensures err { OnErr result (held.new ≡ held.old) }
 {
-    copy_out(held.handed.told(), out, len)?;
-    held.handed = Handed::nothing(alloc);
+    copy_out(held.lines.told(number), out, len)?;
+    let _ = held.lines.fetch(alloc, number);
     Ok(())
 }
 
@@ -186,8 +192,9 @@ impl Handle {
         done
     }
 
-    /// Does one step at a stream ([`Endpoint::work`]) and writes it to `event`, in numbers. Get a message that was
-    /// received, or a buffer that is handed back, with [`Handle::fetch`] before the next one is handed back. An `Err`
+    /// Does one step at a stream ([`Endpoint::work`]) and writes it to `event`, in numbers, with the token of a message that is
+    /// done or flushed. Get a message that was received, or a buffer that is handed back, with [`Handle::fetch`] before this
+    /// stream hands back the next one. An `Err`
     /// changes nothing. `TooFar` comes if the in-order point is past 2^62; `NoMemory` only if no other refusal applies
     /// and a frame is judged before its turn.
     pub fn work(&mut self, alloc: Global, number: u8, event: &mut Event) -> Result<(), Refusal>
@@ -195,7 +202,7 @@ impl Handle {
         ensures memory { IfNone (refusal_in self.old.state (λ e. refusal_to_work e number))
             (IfErr result (λ e. e ≡ Refusal.NoMemory)) }
         ensures want { result ≡ Err Refusal.NoMemory → IfSome self.old.state (λ held. TriesAt held.endpoint number) }
-        ensures event { OnOk result (Some event.new ≡ told_in self.old.state (λ e. event_at (step_at e number))) }
+        ensures event { OnOk result (Some event.new ≡ option_map (λ held. event_in held number) self.old.state) }
         ensures kept { OnErr result (event.new ≡ event.old) }
         ensures ok { OnOk result (self.new.state ≡ worked self.old.state number) }
         ensures err { OnErr result (self.new.state ≡ self.old.state) }
@@ -226,20 +233,26 @@ impl Handle {
         done
     }
 
-    /// Copies what was handed back last to the front of a buffer, and forgets it. `len` becomes its length in octets,
-    /// even if it does not fit (`NoRoom`). An `Err` changes nothing else.
-    pub fn fetch(&mut self, alloc: Global, out: &mut [u8], len: &mut usize) -> Result<(), Refusal>
-        ensures refused { result_err result ≡ copy_refusal (handed_in self.old.state) Refusal.Closed (length out.old) }
-        ensures len { len.new ≡ length_told (handed_in self.old.state) len.old }
-        ensures octets { OnOk result (out.new ≡ filled (handed_in self.old.state) out.old) }
+    /// Copies what a stream handed back last to the front of a buffer, and forgets it. `len` becomes its length in octets,
+    /// even if it does not fit (`NoRoom`); 0 if nothing waits there. An `Err` changes nothing else.
+    pub fn fetch(
+        &mut self,
+        alloc: Global,
+        number: u8,
+        out: &mut [u8],
+        len: &mut usize,
+    ) -> Result<(), Refusal>
+        ensures refused { result_err result ≡ copy_refusal (handed_in self.old.state number) Refusal.Closed (length out.old) }
+        ensures len { len.new ≡ length_told (handed_in self.old.state number) len.old }
+        ensures octets { OnOk result (out.new ≡ filled (handed_in self.old.state number) out.old) }
         ensures kept { OnErr result (out.new ≡ out.old) }
-        ensures ok { OnOk result (self.new.state ≡ fetched self.old.state) }
+        ensures ok { OnOk result (self.new.state ≡ fetched self.old.state number) }
         ensures err { OnErr result (self.new.state ≡ self.old.state) }
     {
         let Some(mut held) = self.take(alloc) else {
             return Err(Refusal::Closed);
         };
-        let done = fetch(&mut held, alloc, out, len);
+        let done = fetch(&mut held, alloc, number, out, len);
         self.put(held);
         done
     }

@@ -1,6 +1,6 @@
 //! Octets that change hands with no copy: regions, frames and receive buffers.
 use iw_buffer::{Buffer, BufferRefusal};
-use iw_handle::{Handle, IDLE, Refusal};
+use iw_handle::{Handle, NO_EVENT, Refusal};
 use std::alloc::Global;
 use std::test::Fail;
 
@@ -71,8 +71,8 @@ fn emitted(rt: HostRuntime) -> Result<(), Fail> {
     let mut handle = ready(alloc)?;
     let mut frames = Buffer::none(alloc);
     frames.make(alloc, 0)?;
-    handle.post_send(alloc, STREAM, b"hi", 0, 0)?;
-    handle.post_send(alloc, STREAM, b"there", 0, 0)?;
+    handle.post_send(alloc, STREAM, b"hi", 0, 0, 0)?;
+    handle.post_send(alloc, STREAM, b"there", 0, 0, 0)?;
     assert_eq!(rt; handle.emit_onto(alloc, STREAM, &mut frames)?.kind, 1);
     assert_eq!(rt; len_of(alloc, &mut frames)?, 28);
     assert_eq!(rt; handle.emit_onto(alloc, STREAM, &mut frames)?.from, 28);
@@ -87,14 +87,14 @@ fn handed_back(rt: HostRuntime) -> Result<(), Fail> {
     let alloc = rt.alloc();
     let mut handle = ready(alloc)?;
     let mut buffer = Buffer::none(alloc);
-    let mut event = IDLE;
+    let mut event = NO_EVENT;
     let mut len = 0;
     buffer.make(alloc, 32)?;
     handle.post_recv_buffer(alloc, STREAM, &mut buffer)?;
     assert_eq!(rt; len_of(alloc, &mut buffer)?, 0);
     handle.break_link(alloc, STREAM)?;
     handle.work(alloc, STREAM, &mut event)?;
-    handle.fetch_buffer(alloc, &mut buffer, &mut len)?;
+    handle.fetch_buffer(alloc, STREAM, &mut buffer, &mut len)?;
     assert_eq!(rt; len, 32);
     handle.post_shared_buffer(alloc, 1, &mut buffer)?;
     assert_eq!(rt; handle.take_shared_buffer(alloc, 1, &mut buffer), Ok(true));

@@ -1,5 +1,6 @@
 //! Two handles joined in memory: start-up, a Write, a Send, a Read, a pool, and an end.
-use iw_handle::{Handle, IDLE, Refusal, read_request, stag_of};
+use iw_buffer::Buffer;
+use iw_handle::{Handle, NO_EVENT, Refusal, read_request, stag_of};
 use std::alloc::Global;
 use std::test::Fail;
 
@@ -59,7 +60,7 @@ impl End {
     // Works until there is nothing to do, and returns the kind of each step.
     fn work(&mut self, alloc: Global) -> Result<Vec<u32>, Fail> {
         let mut kinds = Vec::new(alloc);
-        let mut event = IDLE;
+        let mut event = NO_EVENT;
         for _ in 0..100 {
             self.handle.work(alloc, STREAM, &mut event)?;
             kinds.push(event.kind)?;
@@ -73,7 +74,7 @@ impl End {
     // Calls work_on until there is nothing to do, and returns the kind of each step that it reports.
     fn work_on(&mut self, alloc: Global) -> Result<Vec<u32>, Fail> {
         let mut kinds = Vec::new(alloc);
-        let mut event = IDLE;
+        let mut event = NO_EVENT;
         for _ in 0..100 {
             self.handle.work_on(alloc, STREAM, &mut event)?;
             kinds.push(event.kind)?;
@@ -143,8 +144,9 @@ fn written_and_sent(rt: HostRuntime) -> Result<(), Fail> {
     let (mut a, mut b) = connected(alloc)?;
     a.work(alloc)?;
     let stag = stag_of(0x01000000);
-    a.handle.post_write(alloc, STREAM, stag, 4098, b"octets")?;
-    a.handle.post_send(alloc, STREAM, b"hi", 3, 0x01000000)?;
+    a.handle
+        .post_write(alloc, STREAM, stag, 4098, b"octets", 7)?;
+    a.handle.post_send(alloc, STREAM, b"hi", 3, 0x01000000, 0)?;
     assert_eq!(rt; carry(alloc, &mut a, &mut b)?, 2);
     // Both are done.
     assert_eq!(rt; a.work(alloc)?.as_slice(), [1, 1, 0].as_slice());
@@ -152,12 +154,12 @@ fn written_and_sent(rt: HostRuntime) -> Result<(), Fail> {
     assert_eq!(rt; b.work(alloc)?.as_slice(), [7, 10, 8, 11, 0].as_slice());
     let mut out = [b'_'; 8];
     let mut len = 0usize;
-    b.handle.fetch(alloc, &mut out, &mut len)?;
+    b.handle.fetch(alloc, STREAM, &mut out, &mut len)?;
     assert_eq!(rt; out, *b"hi______");
     b.handle.load(alloc, stag, 4097, &mut out)?;
     assert_eq!(rt; out, *b".octets.");
     // It is fetched, and the region is invalid.
-    b.handle.fetch(alloc, &mut out, &mut len)?;
+    b.handle.fetch(alloc, STREAM, &mut out, &mut len)?;
     assert_eq!(rt; len, 0);
     assert!(rt; !b.handle.facts(alloc, stag)?.valid);
     Ok(())
@@ -169,15 +171,16 @@ fn worked_on(rt: HostRuntime) -> Result<(), Fail> {
     let (mut a, mut b) = connected(alloc)?;
     assert_eq!(rt; a.work_on(alloc)?.as_slice(), [5, 0].as_slice());
     let stag = stag_of(0x01000000);
-    a.handle.post_write(alloc, STREAM, stag, 4098, b"octets")?;
-    a.handle.post_send(alloc, STREAM, b"hi", 0, 0)?;
+    a.handle
+        .post_write(alloc, STREAM, stag, 4098, b"octets", 7)?;
+    a.handle.post_send(alloc, STREAM, b"hi", 0, 0, 0)?;
     carry(alloc, &mut a, &mut b)?;
     assert_eq!(rt; a.work_on(alloc)?.as_slice(), [1, 1, 0].as_slice());
     // Placed and passed are not reported: the Send is received.
     assert_eq!(rt; b.work_on(alloc)?.as_slice(), [11, 0].as_slice());
     let mut out = [b'_'; 8];
     let mut len = 0usize;
-    b.handle.fetch(alloc, &mut out, &mut len)?;
+    b.handle.fetch(alloc, STREAM, &mut out, &mut len)?;
     assert_eq!(rt; out, *b"hi______");
     b.handle.load(alloc, stag, 4097, &mut out)?;
     assert_eq!(rt; out, *b".octets.");
@@ -192,7 +195,7 @@ fn read_back(rt: HostRuntime) -> Result<(), Fail> {
     let sink = a.handle.register(alloc, 1, 0, &[0u8; 4], 4)?;
     b.handle.store(alloc, stag_of(0x01000000), 4100, b"read")?;
     let request = read_request(0x01000000, 0, 4, 0x01000000, 4100);
-    a.handle.post_read(alloc, STREAM, request)?;
+    a.handle.post_read(alloc, STREAM, request, 9)?;
     assert_eq!(rt; carry(alloc, &mut a, &mut b)?, 1);
     // Requested.
     assert_eq!(rt; b.work(alloc)?.as_slice(), [9, 0].as_slice());
@@ -214,21 +217,22 @@ fn from_a_pool(rt: HostRuntime) -> Result<(), Fail> {
     let mut b = End::sharing(alloc)?;
     b.handle.post_shared(alloc, 1, 2)?;
     b.handle.post_shared(alloc, 1, 3)?;
-    a.handle.post_send(alloc, STREAM, b"hi", 0, 0)?;
+    a.handle.post_send(alloc, STREAM, b"hi", 0, 0, 0)?;
     carry(alloc, &mut a, &mut b)?;
     // Buffered, received.
     assert_eq!(rt; b.work(alloc)?.as_slice(), [8, 11, 0].as_slice());
     let mut out = [b'_'; 4];
     let mut len = 0usize;
-    b.handle.fetch(alloc, &mut out, &mut len)?;
+    b.handle.fetch(alloc, STREAM, &mut out, &mut len)?;
     assert_eq!(rt; out, *b"hi__");
-    // The buffer that is left in the pool can be taken out and fetched.
-    assert_eq!(rt; b.handle.take_shared(alloc, 1), Ok(Some(3)));
-    b.handle.fetch(alloc, &mut out, &mut len)?;
-    assert_eq!(rt; out, *b"\0\0\0_");
-    assert_eq!(rt; b.handle.take_shared(alloc, 1), Ok(None));
-    // No buffer is left: the Send is at fault.
-    a.handle.post_send(alloc, STREAM, b"hi", 0, 0)?;
+    // The buffer that is left in the pool is taken out: the Send is at fault.
+    let mut buffer = Buffer::none(alloc);
+    buffer.make(alloc, 0)?;
+    assert_eq!(rt;
+        b.handle.take_shared_buffer(alloc, 1, &mut buffer),
+        Ok(true)
+    );
+    a.handle.post_send(alloc, STREAM, b"hi", 0, 0, 0)?;
     carry(alloc, &mut a, &mut b)?;
     assert_eq!(rt; b.work(alloc)?.as_slice(), [13, 0].as_slice());
     Ok(())
@@ -239,7 +243,7 @@ fn broken(rt: HostRuntime) -> Result<(), Fail> {
     let alloc = rt.alloc();
     let (mut a, mut b) = connected(alloc)?;
     a.work(alloc)?;
-    a.handle.post_send(alloc, STREAM, b"lost", 0, 0)?;
+    a.handle.post_send(alloc, STREAM, b"lost", 0, 0, 0)?;
     a.handle.break_link(alloc, STREAM)?;
     assert_eq!(rt; carry(alloc, &mut a, &mut b)?, 0);
     // The Send is given up; at the other end the receive buffer comes back.
@@ -248,5 +252,50 @@ fn broken(rt: HostRuntime) -> Result<(), Fail> {
     assert_eq!(rt; b.work(alloc)?.as_slice(), [3, 0].as_slice());
     a.handle.close(alloc);
     b.handle.close(alloc);
+    Ok(())
+}
+
+// Does a step at an end, and returns the token that is told.
+fn told_next(alloc: Global, end: &mut End, number: u8) -> Result<u64, Fail> {
+    let mut event = NO_EVENT;
+    end.handle.work(alloc, number, &mut event)?;
+    Ok(event.token)
+}
+
+#[test]
+fn tokens(rt: HostRuntime) -> Result<(), Fail> {
+    let alloc = rt.alloc();
+    let mut a = End::open(alloc, PRESET, b"")?;
+    a.handle.post_send(alloc, STREAM, b"lost", 0, 0, 70)?;
+    a.handle.post_send(alloc, STREAM, b"too", 0, 0, 80)?;
+    a.handle.break_link(alloc, STREAM)?;
+    assert_eq!(rt; told_next(alloc, &mut a, STREAM)?, 70);
+    assert_eq!(rt; told_next(alloc, &mut a, STREAM)?, 80);
+    assert_eq!(rt; told_next(alloc, &mut a, STREAM)?, 0);
+    Ok(())
+}
+
+// Gives a stream a receive buffer, and has it hand that back.
+fn hands_back(alloc: Global, end: &mut End, number: u8, n: usize) -> Result<(), Fail> {
+    end.handle.post_recv(alloc, number, n)?;
+    end.handle.break_link(alloc, number)?;
+    told_next(alloc, end, number)?;
+    Ok(())
+}
+
+// What two streams hand back is fetched where it was handed back.
+#[test]
+fn fetched_by_stream(rt: HostRuntime) -> Result<(), Fail> {
+    let alloc = rt.alloc();
+    let mut a = End::open(alloc, PRESET, b"")?;
+    a.handle.open_stream(alloc, 1, 1, PRESET, OPTIONS, b"")?;
+    hands_back(alloc, &mut a, STREAM, 3)?;
+    hands_back(alloc, &mut a, 1, 5)?;
+    let mut out = [0u8; 8];
+    let mut len = 0usize;
+    a.handle.fetch(alloc, STREAM, &mut out, &mut len)?;
+    assert_eq!(rt; len, 3);
+    a.handle.fetch(alloc, 1, &mut out, &mut len)?;
+    assert_eq!(rt; len, 5);
     Ok(())
 }

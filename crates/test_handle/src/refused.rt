@@ -1,5 +1,5 @@
 //! Refused calls, with their codes; and that a refused call changes nothing.
-use iw_handle::{Handle, IDLE, Refusal, code, domain_number, stag_of, stream_number};
+use iw_handle::{Handle, NO_EVENT, Refusal, code, domain_number, stag_of, stream_number};
 use std::alloc::Global;
 use std::test::Fail;
 
@@ -12,7 +12,7 @@ fn ready(alloc: Global) -> Result<Handle, Fail> {
     handle.add_domain(alloc, 1)?;
     handle.register(alloc, 1, 100, b"abcd", 1)?;
     handle.open_stream(alloc, STREAM, 1, 0, 0, b"")?;
-    handle.post_send(alloc, STREAM, b"hi", 0, 0)?;
+    handle.post_send(alloc, STREAM, b"hi", 0, 0, 0)?;
     Ok(handle)
 }
 
@@ -62,7 +62,7 @@ fn streams(rt: HostRuntime) -> Result<(), Fail> {
         handle.set_mulpdu(alloc, STREAM, 127),
         Err(Refusal::BadSize)
     );
-    let mut event = IDLE;
+    let mut event = NO_EVENT;
     assert_eq!(rt;
         handle.work(alloc, 1, &mut event),
         Err(Refusal::NoSuchStream)
@@ -81,7 +81,6 @@ fn pools(rt: HostRuntime) -> Result<(), Fail> {
     let alloc = rt.alloc();
     let mut handle = ready(alloc)?;
     assert_eq!(rt; handle.post_shared(alloc, 1, 8), Err(Refusal::NotShared));
-    assert_eq!(rt; handle.take_shared(alloc, 1), Err(Refusal::NotShared));
     assert_eq!(rt;
         handle.open_shared(alloc, 1, 1, 0, 0, b""),
         Err(Refusal::NotShared)
@@ -95,20 +94,16 @@ fn pools(rt: HostRuntime) -> Result<(), Fail> {
     Ok(())
 }
 
-// A pool holds 1,024 buffers, and gives back the oldest first.
+// A pool holds 1,024 buffers.
 #[test]
 fn pool_full(rt: HostRuntime) -> Result<(), Fail> {
     let alloc = rt.alloc();
     let mut handle = ready(alloc)?;
     handle.share(alloc, 1)?;
-    assert_eq!(rt; handle.take_shared(alloc, 1), Ok(None));
     for n in 0..1024usize {
         handle.post_shared(alloc, 1, n)?;
     }
     assert_eq!(rt; handle.post_shared(alloc, 1, 0), Err(Refusal::PoolFull));
-    assert_eq!(rt; handle.take_shared(alloc, 1), Ok(Some(0)));
-    assert_eq!(rt; handle.take_shared(alloc, 1), Ok(Some(1)));
-    assert_eq!(rt; handle.post_shared(alloc, 1, 0), Ok(()));
     Ok(())
 }
 
@@ -151,8 +146,8 @@ fn room(rt: HostRuntime) -> Result<(), Fail> {
     let mut out = [0u8; 28];
     let mut len = 0usize;
     assert_eq!(rt;
-        handle.emit(alloc, STREAM, &mut out[..27], &mut len),
-        Err(Refusal::NoRoom)
+        handle.emit(alloc, STREAM, &mut out[..27], &mut len).err(),
+        Some(Refusal::NoRoom)
     );
     assert_eq!(rt; len, 28);
     let emitted = handle.emit(alloc, STREAM, &mut out, &mut len)?;
@@ -181,7 +176,7 @@ fn numbers(rt: HostRuntime) -> Result<(), Fail> {
         Err(Refusal::BadBits)
     );
     assert_eq!(rt;
-        handle.post_send(alloc, STREAM, b"", 4, 0),
+        handle.post_send(alloc, STREAM, b"", 4, 0, 0),
         Err(Refusal::BadBits)
     );
     assert_eq!(rt;

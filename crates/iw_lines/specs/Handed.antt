@@ -1,6 +1,6 @@
 -- What a step of work, or a call on a pool, hands back: a receive buffer.
 use Rattle.std.specs.Prelude.{ℕ, List, [], length, take}
-use Rattle.iw_handle.specs.declared.handed.Handed.{Handed}
+use Rattle.iw_lines.specs.declared.handed.Handed.{Handed}
 
 -- nothing, or what was fetched
 abbrev pub nothing_handed : Handed

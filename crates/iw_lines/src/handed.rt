@@ -1,7 +1,7 @@
 ghost use Rattle.std.specs.Prelude.{◌≡◌};
-ghost use Rattle.iw_handle.specs.Handed.{nothing_handed, told_of, whole};
+ghost use Rattle.iw_lines.specs.Handed.{nothing_handed, told_of, whole};
 
-use iw_endpoint::Octets;
+use iw_octets::Octets;
 use std::alloc::Global;
 
 /// A receive buffer that was handed back, whole.
@@ -14,7 +14,7 @@ pub struct Handed {
 
 impl Handed {
     /// Nothing, or what was fetched.
-    pub(crate) fn nothing(alloc: Global) -> Handed
+    pub fn nothing(alloc: Global) -> Handed
         ensures { result ≡ nothing_handed }
     {
         Handed {
@@ -24,7 +24,7 @@ impl Handed {
     }
 
     /// A buffer, all of which is told.
-    pub(crate) fn whole(buffer: Octets) -> Handed
+    pub fn whole(buffer: Octets) -> Handed
         ensures { result ≡ whole buffer }
     {
         let len = buffer.len();
@@ -32,7 +32,7 @@ impl Handed {
     }
 
     /// The octets that are told.
-    pub(crate) fn told(&self) -> &[u8]
+    pub fn told(&self) -> &[u8]
         ensures { result.now ≡ told_of self.now }
     {
         let octets = self.buffer.as_slice();

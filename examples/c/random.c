@@ -1,0 +1,488 @@
+/* Random calls, and two ends under a model, for some seconds:
+ *
+ *     random SECONDS [SEED]
+ *
+ * Each round has a seed. In one kind of round all calls are made, with any arguments that their types and the header allow, on two
+ * handles and three buffers: an answer must be a code of the header, a call that is refused must leave what it may write as it
+ * was, and there is memory missing only if the program refused some. In the other kind two ends exchange Sends, Writes and Reads
+ * over a link that cuts, repeats and exchanges octets, and each message, region and token must be as a model has it. Memory is
+ * refused at random in both. Prints `ok` and the number of rounds, or the seed of the first that is wrong, with status 1. It is
+ * linked with -Wl,--wrap=malloc,--wrap=realloc. */
+#include "host.h"
+
+/* ---- chance, and memory that is refused */
+
+static uint64_t state, round_seed;
+static unsigned refuse; /* of 1,000 requests for memory, how many are refused */
+static unsigned long refused; /* how many were */
+
+static uint32_t chance(void) {
+    state ^= state << 13;
+    state ^= state >> 7;
+    state ^= state << 17;
+    return (uint32_t)(state >> 16);
+}
+
+static uint32_t below(uint32_t n) { return chance() % n; }
+
+static int refuses(void) {
+    if (refuse == 0 || below(1000) >= refuse) return 0;
+    refused++;
+    return 1;
+}
+
+void *__real_malloc(size_t n);
+void *__real_realloc(void *at, size_t n);
+
+void *__wrap_malloc(size_t n) { return refuses() ? 0 : __real_malloc(n); }
+
+void *__wrap_realloc(void *at, size_t n) { return refuses() ? 0 : __real_realloc(at, n); }
+
+static void wrong(int line, const char *what) {
+    printf("seed %llu, line %d: %s\n", (unsigned long long)round_seed, line, what);
+    exit(1);
+}
+
+#define CHECK(answer)                                  \
+    do {                                               \
+        if (!(answer)) wrong(__LINE__, #answer);       \
+    } while (0)
+
+/* ---- any calls */
+
+enum { HANDLES = 2, BUFFERS = 3, LONGEST = 3000 };
+
+/* What a call may write, as it is before. */
+enum { MARK = 0x5a5a5a5a };
+
+static struct iwarp handles[HANDLES];
+static struct iwarp_buffer buffers[BUFFERS];
+static uint8_t given[LONGEST], out[LONGEST], before[LONGEST];
+static uint32_t stags[16];
+static unsigned long refused_before;
+
+static uint32_t any_stream(void) { return below(20) ? below(4) : chance(); }
+
+static uint32_t any_domain(void) { return below(20) ? 1 + below(2) : chance(); }
+
+static uint32_t any_stag(void) { return below(10) ? stags[below(16)] : chance(); }
+
+static uint32_t any_bits(uint32_t all) { return below(20) ? chance() & all : chance(); }
+
+static uint64_t any_place(void) { return below(4) ? below(LONGEST) : ((uint64_t)chance() << 32) + chance(); }
+
+static size_t any_length(void) { return below(3) ? below(80) : below(LONGEST); }
+
+/* Whether an answer is one that the header has, and memory is missing only if some was refused. */
+static int answered(int32_t code) {
+    CHECK(code >= 0 && strcmp(iwarp_text(code), iwarp_text(-1)) != 0);
+    CHECK(code != IWARP_NO_MEMORY || refused > refused_before);
+    return code == IWARP_OK;
+}
+
+static void keeps_out(int done) { CHECK(done || memcmp(out, before, sizeof out) == 0); }
+
+static size_t has(struct iwarp_buffer *buffer, uint8_t **at) {
+    size_t n = MARK;
+    *at = 0;
+    return iwarp_buffer_at(buffer, at, &n) == IWARP_OK ? n : MARK;
+}
+
+/* Memory. */
+static void call_memory(struct iwarp *handle, struct iwarp_buffer *buffer) {
+    uint32_t stag = MARK, pd = any_domain(), named = any_stag();
+    size_t n = MARK, len = any_length();
+    struct iwarp_facts facts;
+    uint8_t *at, *later;
+    size_t had = has(buffer, &at);
+    switch (below(14)) {
+    case 0:
+        answered(iwarp_add_domain(handle, pd));
+        return;
+    case 1:
+        if (answered(iwarp_register(handle, pd, any_place(), given, len, any_bits(15), &stag)))
+            stags[below(16)] = stag;
+        else
+            CHECK(stag == MARK);
+        return;
+    case 2:
+        if (answered(iwarp_register_buffer(handle, pd, any_place(), buffer, any_bits(15), &stag))) {
+            stags[below(16)] = stag;
+            CHECK(has(buffer, &later) == 0);
+        } else {
+            CHECK(stag == MARK && has(buffer, &later) == had && later == at);
+        }
+        return;
+    case 3:
+        keeps_out(answered(iwarp_deregister(handle, named, out, len, &n)));
+        return;
+    case 4:
+        if (!answered(iwarp_deregister_buffer(handle, named, buffer))) CHECK(has(buffer, &later) == had && later == at);
+        return;
+    case 5:
+        answered(iwarp_drop_region(handle, named));
+        return;
+    case 6:
+        if (answered(iwarp_region_at(handle, named, &at, &n))) {
+            for (size_t i = 0; i < n; i += 97) at[i] ^= 1;
+        } else {
+            CHECK(n == MARK);
+        }
+        return;
+    case 7:
+        if (below(8) == 0) answered(iwarp_invalidate(handle, named));
+        return;
+    case 8:
+        answered(iwarp_store(handle, named, any_place(), given, len));
+        return;
+    case 9:
+        keeps_out(answered(iwarp_load(handle, named, any_place(), out, len)));
+        return;
+    case 10:
+        if (answered(iwarp_facts(handle, named, &facts))) CHECK(facts.valid < 2 && facts.rights < 16);
+        return;
+    case 11:
+        if (answered(iwarp_buffer_new(len, buffer)))
+            CHECK(had == MARK && has(buffer, &later) == len);
+        else
+            CHECK(has(buffer, &later) == had);
+        return;
+    case 12:
+        if (answered(iwarp_buffer_truncate(buffer, len))) CHECK(has(buffer, &later) == (len < had ? len : had));
+        return;
+    default:
+        if (below(4) == 0) iwarp_buffer_free(buffer);
+    }
+}
+
+/* Streams and pools. */
+static void call_stream(struct iwarp *handle, struct iwarp_buffer *buffer) {
+    uint32_t stream = any_stream(), pd = any_domain(), found = MARK, agreed = MARK;
+    size_t n = MARK, len = any_length();
+    struct iwarp_told told;
+    uint8_t *at, *later;
+    size_t had = has(buffer, &at);
+    switch (below(13)) {
+    case 0:
+        answered(iwarp_open(handle, stream, pd, below(20) ? below(3) : chance(), any_bits(7), given, below(600)));
+        return;
+    case 1:
+        answered(iwarp_open_shared(handle, stream, pd, below(20) ? below(3) : chance(), any_bits(7), given, below(600)));
+        return;
+    case 2:
+        if (!answered(iwarp_accept(handle, stream, given, below(600), &agreed))) CHECK(agreed == MARK);
+        return;
+    case 3:
+        if (below(4) == 0) answered(iwarp_reject(handle, stream, given, below(600)));
+        return;
+    case 4:
+        keeps_out(answered(iwarp_private(handle, stream, out, len, &n)));
+        return;
+    case 5:
+        answered(iwarp_told(handle, stream, &told));
+        return;
+    case 6:
+        if (below(8) == 0) answered(iwarp_break(handle, stream));
+        return;
+    case 7:
+        answered(iwarp_set_mulpdu(handle, stream, below(4) ? 128 + below(3000) : chance()));
+        return;
+    case 8:
+        answered(iwarp_first_number(handle, stream, chance()));
+        return;
+    case 9:
+        answered(iwarp_share(handle, pd));
+        return;
+    case 10:
+        answered(iwarp_post_shared(handle, pd, len));
+        return;
+    case 11:
+        if (answered(iwarp_post_shared_buffer(handle, pd, buffer)))
+            CHECK(has(buffer, &later) == 0);
+        else
+            CHECK(has(buffer, &later) == had && later == at);
+        return;
+    default:
+        if (answered(iwarp_take_shared_buffer(handle, pd, buffer, &found)))
+            CHECK(found < 2);
+        else
+            CHECK(found == MARK && has(buffer, &later) == had && later == at);
+    }
+}
+
+/* Postings, and octets that come and go: those of the one handle to the other, or any. */
+static void call_octets(struct iwarp *handle, struct iwarp *other, struct iwarp_buffer *buffer) {
+    static uint8_t frame[66000];
+    static uint32_t next[HANDLES][4];
+    uint32_t stream = any_stream(), kept = MARK;
+    size_t n = MARK, len = any_length();
+    struct iwarp_event event = {.kind = MARK};
+    struct iwarp_emission emission = {.kind = MARK};
+    uint8_t *at, *later;
+    size_t had = has(buffer, &at);
+    struct iwarp_progress progress = {.sent = MARK};
+    switch (below(13)) {
+    case 11:
+        if (!answered(iwarp_progress(handle, stream, &progress))) CHECK(progress.sent == MARK);
+        return;
+    case 0:
+        answered(iwarp_post_send(handle, stream, given, len, any_bits(3), any_stag(), chance()));
+        return;
+    case 1:
+        answered(iwarp_post_write(handle, stream, any_stag(), any_place(), given, len, chance()));
+        return;
+    case 2:
+        answered(iwarp_post_read(handle, stream, any_stag(), any_place(), below(4) ? below(LONGEST) : chance(), any_stag(), any_place(),
+                                 chance()));
+        return;
+    case 3:
+        answered(iwarp_post_recv(handle, stream, below(40) ? len : (size_t)chance() << 8));
+        return;
+    case 4:
+        if (answered(iwarp_post_recv_buffer(handle, stream, buffer)))
+            CHECK(has(buffer, &later) == 0);
+        else
+            CHECK(has(buffer, &later) == had && later == at);
+        return;
+    case 5:
+        if (answered(iwarp_emit(handle, stream, frame, sizeof frame, &n, &emission)) && stream < 4) {
+            uint32_t *number = &next[other == &handles[1]][stream];
+            if (answered(iwarp_deliver(other, stream, *number, frame, n, &kept)) && kept == 1) *number += (uint32_t)n;
+        }
+        return;
+    case 6:
+        if (!answered(iwarp_emit(handle, stream, out, len < 40 ? len : sizeof out, &n, &emission))) CHECK(emission.kind == MARK);
+        return;
+    case 7:
+        if (!answered(iwarp_emit_onto(handle, stream, buffer, &emission)))
+            CHECK(emission.kind == MARK && has(buffer, &later) == had); /* perhaps at another address */
+        return;
+    case 8:
+        if (!answered(iwarp_deliver(handle, stream, below(3) ? below(400) : chance(), given, len, &kept))) CHECK(kept == MARK);
+        return;
+    case 9:
+        keeps_out(answered(iwarp_fetch(handle, stream, out, len, &n)));
+        return;
+    case 10:
+        if (!answered(iwarp_fetch_buffer(handle, stream, buffer, &n))) CHECK(n == MARK && has(buffer, &later) == had && later == at);
+        return;
+    default:
+        if (answered(below(2) ? iwarp_work(handle, stream, &event) : iwarp_work_on(handle, stream, &event)))
+            CHECK(event.kind <= IWARP_TRIED && event.reserved[0] == 0);
+        else
+            CHECK(event.kind == MARK);
+    }
+}
+
+static void any_calls(void) {
+    for (int i = 0; i < HANDLES; i++) {
+        refused_before = refused;
+        if (!answered(iwarp_new(&handles[i]))) handles[i].at = 0;
+    }
+    for (int i = 0; i < 3000; i++) {
+        int which = (int)below(HANDLES);
+        struct iwarp *handle = &handles[which], *other = &handles[1 - which];
+        struct iwarp_buffer *buffer = &buffers[below(BUFFERS)];
+        refused_before = refused;
+        for (int k = 0; k < 8; k++) given[below(LONGEST)] = (uint8_t)chance();
+        memcpy(before, out, sizeof out);
+        switch (below(5)) {
+        case 0: call_memory(handle, buffer); break;
+        case 1: call_stream(handle, buffer); break;
+        default: call_octets(handle, other, buffer); break;
+        }
+        if (below(2000) == 0) {
+            iwarp_free(handle);
+            refused_before = refused;
+            answered(iwarp_new(handle));
+        }
+    }
+    for (int i = 0; i < HANDLES; i++) iwarp_free(&handles[i]);
+    for (int i = 0; i < BUFFERS; i++) iwarp_buffer_free(&buffers[i]);
+}
+
+/* ---- two ends and a model */
+
+enum { STREAM = 0, DOMAIN = 1, REGION = 200000, MESSAGE = 2000, POSTED = 200, SENT = 1 << 20 };
+
+/* What one end has posted, and what of it was reported as done. */
+struct sender {
+    struct iwarp end;
+    uint32_t stag; /* the other end's region */
+    uint32_t sink;
+    uint64_t posted, done;
+    uint8_t messages[POSTED][MESSAGE];
+    size_t lengths[POSTED];
+    size_t ahead[POSTED]; /* for each Send how much was written by the Writes that were posted before it */
+    unsigned sends, received; /* how many were posted, and how many came at the other end */
+    uint8_t written[REGION]; /* the other end's region, once all that was posted is placed: Writes do not overlap */
+    size_t end_of_written;
+    uint8_t *sent; /* all that was emitted */
+    size_t emitted, delivered; /* how much that is, and up to where the other end had all of it */
+};
+
+static struct sender ends[2];
+
+/* Makes a call again for as long as memory is refused. */
+#define MUST(call)                                                                  \
+    do {                                                                            \
+        int32_t code;                                                               \
+        do {                                                                        \
+            refused_before = refused;                                               \
+            code = (call);                                                          \
+            answered(code);                                                         \
+        } while (code == IWARP_NO_MEMORY);                                          \
+        CHECK(code == IWARP_OK);                                                    \
+    } while (0)
+
+static void begin(struct sender *sender, struct sender *other, uint32_t options) {
+    MUST(iwarp_new(&sender->end));
+    MUST(iwarp_add_domain(&sender->end, DOMAIN));
+    MUST(iwarp_register(&sender->end, DOMAIN, 0, other->written, REGION, IWARP_WRITE | IWARP_READ, &other->stag));
+    MUST(iwarp_register(&sender->end, DOMAIN, 0, sender->written, REGION, IWARP_SINK, &sender->sink));
+    MUST(iwarp_open(&sender->end, STREAM, DOMAIN, IWARP_PRESET, options, given, 0));
+    MUST(iwarp_set_mulpdu(&sender->end, STREAM, 128 + below(1500)));
+    for (int i = 0; i < POSTED; i++) MUST(iwarp_post_recv(&sender->end, STREAM, MESSAGE));
+}
+
+static void post(struct sender *sender) {
+    size_t n = below(MESSAGE), to = below((uint32_t)(REGION - n));
+    uint8_t *writes = sender->written + sender->end_of_written;
+    if (sender->posted - sender->done >= 100) return;
+    switch (below(3)) {
+    case 0:
+        if (sender->sends == POSTED) return;
+        for (size_t i = 0; i < n; i++) sender->messages[sender->sends][i] = (uint8_t)chance();
+        sender->lengths[sender->sends] = n;
+        sender->ahead[sender->sends] = sender->end_of_written;
+        MUST(iwarp_post_send(&sender->end, STREAM, sender->messages[sender->sends], n, 0, 0, sender->posted));
+        sender->sends++;
+        break;
+    case 1:
+        if (sender->end_of_written + n > REGION) return;
+        for (size_t i = 0; i < n; i++) writes[i] = (uint8_t)chance();
+        MUST(iwarp_post_write(&sender->end, STREAM, sender->stag, sender->end_of_written, writes, n, sender->posted));
+        sender->end_of_written += n;
+        break;
+    default:
+        MUST(iwarp_post_read(&sender->end, STREAM, sender->sink, to, (uint32_t)n, sender->stag, to, sender->posted));
+    }
+    sender->posted++;
+}
+
+static void emit(struct sender *sender) {
+    struct iwarp_emission emission;
+    size_t n;
+    if (sender->emitted + 70000 > SENT) return;
+    MUST(iwarp_emit(&sender->end, STREAM, sender->sent + sender->emitted, SENT - sender->emitted, &n, &emission));
+    CHECK(emission.kind != IWARP_DENIED && (emission.kind != IWARP_NOTHING || n == 0));
+    sender->emitted += n;
+}
+
+/* Whether an end's region shows the first octets that the other end has written. */
+static int shows(struct sender *sender, struct sender *other, size_t n) {
+    static uint8_t region[REGION];
+    MUST(iwarp_load(&sender->end, other->stag, 0, region, n));
+    return memcmp(region, other->written, n) == 0;
+}
+
+static void work(struct sender *sender, struct sender *other) {
+    struct iwarp_event event;
+    size_t n;
+    do {
+        MUST(iwarp_work(&sender->end, STREAM, &event));
+        switch (event.kind) {
+        case IWARP_DONE:
+            CHECK(event.token == sender->done);
+            sender->done++;
+            break;
+        case IWARP_RECEIVED:
+            MUST(iwarp_fetch(&sender->end, STREAM, out, sizeof out, &n));
+            CHECK(other->received < other->sends && n == other->lengths[other->received]);
+            CHECK(memcmp(out, other->messages[other->received], n) == 0);
+            CHECK(shows(sender, other, other->ahead[other->received]));
+            other->received++;
+            break;
+        case IWARP_FAULT: case IWARP_TERMINATED: case IWARP_FLUSHED: case IWARP_FLUSHED_RECV:
+            CHECK(!"an honest stream ends");
+        }
+    } while (event.kind != IWARP_IDLE);
+}
+
+/* Delivers some of what was emitted: the next octets, those further on, or those that came before. */
+static void carry(struct sender *from, struct sender *to) {
+    size_t at = from->delivered, ahead = from->emitted - at, n;
+    uint32_t kept;
+    switch (below(4)) {
+    case 0: at += ahead ? below((uint32_t)ahead) : 0; break;
+    case 1: at -= at ? below((uint32_t)(at < 5000 ? at : 5000)) : 0; break;
+    default: break;
+    }
+    n = from->emitted - at < 3000 ? from->emitted - at : 1 + below(3000);
+    MUST(iwarp_deliver(&to->end, STREAM, (uint32_t)at, from->sent + at, n, &kept));
+    CHECK(kept == 1);
+    if (at <= from->delivered && at + n > from->delivered) from->delivered = at + n;
+}
+
+/* All that was posted is done, and has come. */
+static void settled(struct sender *sender, struct sender *other) {
+    CHECK(sender->done == sender->posted && sender->received == sender->sends);
+    CHECK(shows(other, sender, REGION));
+}
+
+static void two_ends(void) {
+    uint32_t options = below(4);
+    for (int i = 0; i < 2; i++) ends[i] = (struct sender){.end = IWARP_CLOSED, .sent = ends[i].sent};
+    for (int i = 0; i < 2; i++) begin(&ends[i], &ends[1 - i], options);
+    for (int i = 0; i < 2000; i++) {
+        int which = (int)below(2);
+        struct sender *sender = &ends[which], *other = &ends[1 - which];
+        switch (below(4)) {
+        case 0:
+            if (i < 1200) post(sender);
+            break;
+        case 1: emit(sender); break;
+        case 2: carry(sender, other); break;
+        default: work(sender, other); break;
+        }
+        /* the window has room for what is not delivered yet */
+        while (sender->emitted - sender->delivered > 60000) carry(sender, other);
+    }
+    /* a pass may end with a response that has just become due, so two in a row must change nothing */
+    for (int quiet = 0; quiet < 2; quiet++) {
+        for (int i = 0; i < 2; i++) {
+            size_t emitted = ends[i].emitted;
+            uint64_t done = ends[i].done;
+            emit(&ends[i]);
+            while (ends[i].delivered < ends[i].emitted) carry(&ends[i], &ends[1 - i]);
+            work(&ends[1 - i], &ends[i]);
+            work(&ends[i], &ends[1 - i]);
+            if (ends[i].emitted != emitted || ends[i].done != done) quiet = -1;
+        }
+    }
+    for (int i = 0; i < 2; i++)
+        if (ends[i].emitted + 70000 <= SENT && ends[1 - i].emitted + 70000 <= SENT) settled(&ends[i], &ends[1 - i]);
+    for (int i = 0; i < 2; i++) iwarp_free(&ends[i].end);
+}
+
+int main(int n, char **words) {
+    int64_t until = seconds() + (n > 1 ? strtol(words[1], 0, 10) : 20);
+    uint64_t seed = n > 2 ? strtoul(words[2], 0, 10) : 1;
+    unsigned long rounds = 0;
+    for (int i = 0; i < 2; i++)
+        if (!(ends[i].sent = malloc(SENT))) return 1;
+    do {
+        round_seed = seed + rounds;
+        state = round_seed * 0x9e3779b97f4a7c15u + 1;
+        refuse = below(2) ? 0 : 1 + below(100);
+        if (rounds % 2)
+            two_ends();
+        else
+            any_calls();
+        rounds++;
+    } while (seconds() < until && n <= 3);
+    refuse = 0;
+    for (int i = 0; i < 2; i++) free(ends[i].sent);
+    printf("ok %lu\n", rounds);
+    return 0;
+}
