@@ -1,0 +1,274 @@
+/* The life of a command: it comes in a capsule, is checked, waits for memory if it has data, has the host's data read, is run, and
+ * is answered: data for the host by a Write, the response by a Send behind it. */
+#include "target.h"
+
+static void append(struct list *list, struct command *command) {
+    command->next = 0;
+    *list->last = command;
+    list->last = &command->next;
+}
+
+static void take_first(struct list *list) {
+    list->first = list->first->next;
+    if (!list->first) list->last = &list->first;
+}
+
+/* A status that says that the same command fails again. */
+uint16_t invalid(uint16_t status) {
+    return status | STATUS_DO_NOT_RETRY;
+}
+
+uint16_t no_data(struct command *command) {
+    command->direction = NO_DATA;
+    return STATUS_SUCCESS;
+}
+
+/* ---- checks */
+
+static const struct operation *find(const struct operation *operations, uint8_t opcode) {
+    for (; operations->check; operations++)
+        if (operations->opcode == opcode) return operations;
+    return 0;
+}
+
+/* Which commands the queue takes now. Fabrics commands have their type in the place of an opcode. */
+static uint16_t look_up(struct command *command) {
+    const struct queue *queue = command->queue;
+    const struct controller *controller = queue->controller;
+    const uint8_t *sqe = command->sqe;
+    if (sqe[SQE_OPCODE] == OPCODE_FABRICS) {
+        command->operation = find(fabrics_operations, sqe[SQE_FCTYPE]);
+        int connects = command->operation && sqe[SQE_FCTYPE] == FABRICS_CONNECT;
+        if (command->operation && connects == (controller != 0)) return invalid(STATUS_COMMAND_SEQUENCE_ERROR);
+    } else {
+        if (!controller || !(controller->state & CSTS_READY)) return invalid(STATUS_COMMAND_SEQUENCE_ERROR);
+        const struct operation *admin = controller->discovery ? discovery_operations : admin_operations;
+        command->operation = find(queue->id == 0 ? admin : io_operations, sqe[SQE_OPCODE]);
+    }
+    return command->operation ? STATUS_SUCCESS : invalid(STATUS_INVALID_OPCODE);
+}
+
+/* Whether the descriptor is one for the command's data. */
+static uint16_t check_descriptor(const struct command *command) {
+    const uint8_t *sgl = command->sqe + SQE_SGL;
+    if (command->direction == NO_DATA) return STATUS_SUCCESS;
+    if (sgl[SGL_TYPE] == SGL_KEYED || sgl[SGL_TYPE] == SGL_KEYED_INVALIDATE)
+        return field(sgl + SGL_LENGTH, 3) == command->length ? STATUS_SUCCESS : invalid(STATUS_DATA_SGL_LENGTH_INVALID);
+    if (sgl[SGL_TYPE] != SGL_DATA_OFFSET || command->direction != FROM_HOST) return invalid(STATUS_SGL_TYPE_INVALID);
+    if (field(sgl + SGL_LENGTH, 4) != command->length) return invalid(STATUS_DATA_SGL_LENGTH_INVALID);
+    uint64_t offset = field(sgl + SGL_ADDRESS, 8);
+    if (offset > command->inside || command->length > command->inside - offset) return invalid(STATUS_SGL_OFFSET_INVALID);
+    return STATUS_SUCCESS;
+}
+
+static uint16_t check(struct command *command) {
+    uint8_t flags = command->sqe[SQE_FLAGS];
+    if ((flags & FLAGS_PSDT) != PSDT_SGL || flags & FLAGS_FUSE) return invalid(STATUS_INVALID_FIELD);
+    uint16_t status = look_up(command);
+    if (status == STATUS_SUCCESS) status = command->operation->check(command);
+    return status == STATUS_SUCCESS ? check_descriptor(command) : status;
+}
+
+void command_begin(struct command *command, size_t n) {
+    size_t all;
+    if (iwarp_buffer_at(&command->capsule, &command->sqe, &all) != IWARP_OK || n < SQE_OCTETS) {
+        queue_close(command->queue);
+        return;
+    }
+    struct controller *controller = command->queue->controller;
+    if (controller) controller->heard = command->queue->target->now;
+    command->inside = n - SQE_OCTETS;
+    command->direction = NO_DATA;
+    command->length = 0;
+    command->data = 0;
+    command->result = 0;
+    uint16_t status = check(command);
+    if (status == STATUS_SUCCESS)
+        append(&command->queue->starting, command);
+    else
+        command_complete(command, status);
+}
+
+/* ---- data */
+
+static uint8_t data_type(const struct command *command) {
+    return command->sqe[SQE_SGL + SGL_TYPE];
+}
+
+/* Frees the buffers of the commands that are not in hand. */
+static void free_idle(struct queue *queue) {
+    for (struct command *idle = queue->idle; idle; idle = idle->next) {
+        iwarp_buffer_free(&idle->buffer);
+        queue->held -= idle->size;
+        idle->size = 0;
+    }
+}
+
+/* Sees to it that the command has a buffer for its data. Returns 0 if it has to wait for others to end. */
+static int has_buffer(struct command *command) {
+    struct queue *queue = command->queue;
+    size_t size = PAGE_OCTETS, all;
+    while (size < command->length) size *= 2;
+    if (command->size < command->length) {
+        iwarp_buffer_free(&command->buffer);
+        queue->held -= command->size;
+        command->size = 0;
+        if (queue->held + size > MOST_DATA) free_idle(queue);
+        if (queue->held + size > MOST_DATA || iwarp_buffer_new(size, &command->buffer) != IWARP_OK) return 0;
+        command->size = size;
+        queue->held += size;
+    }
+    return iwarp_buffer_at(&command->buffer, &command->data, &all) == IWARP_OK;
+}
+
+/* Has the host's data read into the buffer. Returns 0 if it has to wait for other Reads to end. */
+static int fetch(struct command *command) {
+    struct queue *queue = command->queue;
+    const uint8_t *sgl = command->sqe + SQE_SGL;
+    if (queue->reads >= queue->most_reads || queue->count == MOST_POSTED) return 0;
+    struct endpoint *endpoint = &queue->endpoint;
+    int32_t code = endpoint_register(endpoint, 0, &command->buffer, IWARP_SINK, &command->sink);
+    if (code == IWARP_OK) {
+        uint32_t key = (uint32_t)field(sgl + SGL_KEY, 4);
+        code = endpoint_read(endpoint, command->sink, command->length, key, field(sgl + SGL_ADDRESS, 8));
+    }
+    if (code != IWARP_OK) {
+        queue_close(queue);
+        return 1;
+    }
+    queue->posted[(queue->first + queue->count++) % MOST_POSTED] = (struct posted){IWARP_MESSAGE_READ, 0, command};
+    queue->reads++;
+    return 1;
+}
+
+void command_fetched(struct command *command) {
+    size_t all;
+    if (endpoint_take_back(&command->queue->endpoint, command->sink, &command->buffer) != IWARP_OK ||
+        iwarp_buffer_at(&command->buffer, &command->data, &all) != IWARP_OK)
+        queue_close(command->queue);
+    else
+        command->operation->run(command);
+}
+
+/* Returns 0 if the command has to wait. */
+static int start(struct command *command) {
+    if (command->direction == FROM_HOST && data_type(command) == SGL_DATA_OFFSET) {
+        command->data = command->sqe + SQE_OCTETS + field(command->sqe + SQE_SGL + SGL_ADDRESS, 8);
+    } else if (command->direction == FROM_HOST) {
+        if (command->queue->most_reads == 0) {
+            command_complete(command, invalid(STATUS_DATA_TRANSFER_ERROR));
+            return 1;
+        }
+        return has_buffer(command) && fetch(command);
+    } else if (command->direction == TO_HOST && !command->data && !has_buffer(command)) {
+        return 0;
+    }
+    command->operation->run(command);
+    return 1;
+}
+
+/* ---- the store */
+
+static struct command *command_of(struct job *job) {
+    return (struct command *)job; /* its first field */
+}
+
+struct queue *queue_of_job(struct job *job) {
+    return command_of(job)->queue;
+}
+
+void command_store(struct command *command, enum job_kind kind, uint64_t at, uint64_t n) {
+    struct job *job = &command->job;
+    job->kind = kind;
+    job->at = at;
+    job->n = n;
+    job->octets = command->data;
+    if (store_begin(&command->queue->target->store, job))
+        command_complete(command, job->status);
+    else
+        command->queue->jobs++;
+}
+
+void command_stored(struct job *job) {
+    struct command *command = command_of(job);
+    command->queue->jobs--;
+    command_complete(command, job->status);
+}
+
+/* ---- responses */
+
+void command_complete(struct command *command, uint16_t status) {
+    command->status = status;
+    append(&command->queue->answering, command);
+}
+
+static void make_response(struct command *command, uint8_t *cqe) {
+    struct queue *queue = command->queue;
+    if (queue->depth > 0) queue->head = (uint16_t)((queue->head + 1) % queue->depth);
+    set_field(cqe + CQE_RESULT, 8, command->result);
+    set_field(cqe + CQE_SQHD, 2, queue->no_flow ? SQHD_NOT_USED : queue->head);
+    set_field(cqe + CQE_SQID, 2, queue->id);
+    memcpy(cqe + CQE_CID, command->sqe + SQE_CID, 2);
+    set_field(cqe + CQE_STATUS, 2, (uint64_t)command->status << 1);
+}
+
+/* Gives the command's receive buffer and its place back. */
+static int32_t release(struct command *command) {
+    struct queue *queue = command->queue;
+    command->sqe = 0;
+    command->next = queue->idle;
+    queue->idle = command;
+    return endpoint_receive(&queue->endpoint, &command->capsule);
+}
+
+void command_forget(struct command *command) {
+    if (release(command) != IWARP_OK) queue_close(command->queue);
+}
+
+static void note(struct queue *queue, uint32_t message, uint32_t n) {
+    queue->posted[(queue->first + queue->count++) % MOST_POSTED] = (struct posted){message, n, 0};
+    queue->written += n;
+}
+
+static int32_t write_data(struct command *command) {
+    const uint8_t *sgl = command->sqe + SQE_SGL;
+    uint32_t key = (uint32_t)field(sgl + SGL_KEY, 4);
+    int32_t code = endpoint_write(&command->queue->endpoint, key, field(sgl + SGL_ADDRESS, 8), command->data, command->length);
+    if (code == IWARP_OK) note(command->queue, IWARP_MESSAGE_WRITE, command->length);
+    return code;
+}
+
+/* Returns 0 if the response has to wait: for places among the posted messages, or for Writes to end. */
+static int answer(struct command *command) {
+    struct queue *queue = command->queue;
+    uint8_t cqe[CQE_OCTETS];
+    int writes = command->direction == TO_HOST && command->status == STATUS_SUCCESS;
+    if (queue->count + 1 + (uint32_t)writes > MOST_POSTED) return 0;
+    if (writes && queue->written > 0 && queue->written + command->length > MOST_WRITTEN) return 0;
+    int32_t code = writes ? write_data(command) : IWARP_OK;
+    make_response(command, cqe);
+    uint32_t key = data_type(command) == SGL_KEYED_INVALIDATE ? (uint32_t)field(command->sqe + SQE_SGL + SGL_KEY, 4) : 0;
+    take_first(&queue->answering);
+    if (code == IWARP_OK) code = release(command);
+    if (code == IWARP_OK) code = endpoint_send(&queue->endpoint, cqe, CQE_OCTETS, key);
+    if (code == IWARP_OK)
+        note(queue, IWARP_MESSAGE_SEND, 0);
+    else
+        queue_close(queue);
+    return 1;
+}
+
+void commands_go_on(struct queue *queue) {
+    if (queue->endpoint.ended) return;
+    while (queue->state != CLOSED && queue->starting.first) {
+        struct command *command = queue->starting.first;
+        take_first(&queue->starting);
+        if (start(command)) continue;
+        command->next = queue->starting.first; /* it stays the first */
+        if (!queue->starting.first) queue->starting.last = &command->next;
+        queue->starting.first = command;
+        break;
+    }
+    while (queue->state != CLOSED && queue->answering.first && answer(queue->answering.first)) {
+    }
+}

@@ -1,0 +1,118 @@
+/* The calls of the library. */
+#include "endpoint.h"
+
+/* Messages are told in posting order, so the target knows them without a token. */
+enum { DOMAIN = 1, STREAM = 0, NO_TOKEN = 0, GATHERED = 131072 };
+
+int32_t endpoint_open(struct endpoint *endpoint, uint32_t role, uint32_t options, uint32_t mulpdu, const uint8_t *private_data,
+                      size_t n) {
+    *endpoint = (struct endpoint){IWARP_CLOSED, IWARP_NO_BUFFER, 0, 0, 0};
+    int32_t code = iwarp_new(&endpoint->handle);
+    if (code == IWARP_OK) code = iwarp_buffer_new(0, &endpoint->out);
+    if (code == IWARP_OK) code = iwarp_add_domain(&endpoint->handle, DOMAIN);
+    if (code == IWARP_OK) code = iwarp_open(&endpoint->handle, STREAM, DOMAIN, role, options | IWARP_ENHANCED, private_data, n);
+    if (code == IWARP_OK) code = iwarp_set_mulpdu(&endpoint->handle, STREAM, mulpdu);
+    return code;
+}
+
+void endpoint_close(struct endpoint *endpoint) {
+    iwarp_buffer_free(&endpoint->out);
+    iwarp_free(&endpoint->handle);
+}
+
+int32_t endpoint_deliver(struct endpoint *endpoint, const uint8_t *octets, size_t n) {
+    uint32_t kept; /* 0 only if the stream has ended */
+    int32_t code = iwarp_deliver(&endpoint->handle, STREAM, endpoint->next, octets, n, &kept);
+    if (code == IWARP_OK) endpoint->next += (uint32_t)n;
+    return code;
+}
+
+int32_t endpoint_work(struct endpoint *endpoint, struct iwarp_event *event) {
+    int32_t code = iwarp_work_on(&endpoint->handle, STREAM, event);
+    if (code != IWARP_OK) return code;
+    if (event->kind == IWARP_FAULT || event->kind == IWARP_TERMINATED || event->kind == IWARP_CLOSED_BY_PEER) endpoint->ended = 1;
+    return code;
+}
+
+/* Puts the frames that are due one behind the other, until there are GATHERED octets. */
+static int32_t gather(struct endpoint *endpoint) {
+    struct iwarp_emission emission = {.kind = IWARP_NOTHING};
+    uint8_t *at;
+    size_t n = 0;
+    do {
+        int32_t code = iwarp_emit_onto(&endpoint->handle, STREAM, &endpoint->out, &emission);
+        if (code != IWARP_OK) return code;
+        if (emission.kind == IWARP_DENIED) endpoint->ended = 1;
+        code = iwarp_buffer_at(&endpoint->out, &at, &n);
+        if (code != IWARP_OK) return code;
+    } while (emission.kind != IWARP_NOTHING && n < GATHERED);
+    return IWARP_OK;
+}
+
+int32_t endpoint_due(struct endpoint *endpoint, uint8_t **at, size_t *n) {
+    int32_t code = iwarp_buffer_at(&endpoint->out, at, n);
+    if (code == IWARP_OK && *n == endpoint->written) {
+        code = iwarp_buffer_truncate(&endpoint->out, 0);
+        if (code == IWARP_OK) code = gather(endpoint);
+        if (code == IWARP_OK) code = iwarp_buffer_at(&endpoint->out, at, n);
+        endpoint->written = 0;
+    }
+    *at += endpoint->written;
+    *n -= endpoint->written;
+    return code;
+}
+
+int32_t endpoint_wrote(struct endpoint *endpoint, size_t n) {
+    endpoint->written += n;
+    return IWARP_OK;
+}
+
+int32_t endpoint_private(struct endpoint *endpoint, uint8_t *out, size_t room, size_t *n) {
+    return iwarp_private(&endpoint->handle, STREAM, out, room, n);
+}
+
+int32_t endpoint_reads(struct endpoint *endpoint, uint32_t *reads) {
+    struct iwarp_told told;
+    int32_t code = iwarp_told(&endpoint->handle, STREAM, &told);
+    if (code != IWARP_OK) return code;
+    *reads = told.has_word && told.ird < MOST_READS ? told.ird : MOST_READS;
+    return code;
+}
+
+int32_t endpoint_accept(struct endpoint *endpoint, const uint8_t *private_data, size_t n) {
+    uint32_t agreed;
+    return iwarp_accept(&endpoint->handle, STREAM, private_data, n, &agreed);
+}
+
+int32_t endpoint_reject(struct endpoint *endpoint, const uint8_t *private_data, size_t n) {
+    endpoint->ended = 1;
+    return iwarp_reject(&endpoint->handle, STREAM, private_data, n);
+}
+
+int32_t endpoint_receive(struct endpoint *endpoint, struct iwarp_buffer *buffer) {
+    return iwarp_post_recv_buffer(&endpoint->handle, STREAM, buffer);
+}
+
+int32_t endpoint_fetch(struct endpoint *endpoint, struct iwarp_buffer *buffer, size_t *n) {
+    return iwarp_fetch_buffer(&endpoint->handle, STREAM, buffer, n);
+}
+
+int32_t endpoint_send(struct endpoint *endpoint, const uint8_t *octets, size_t n, uint32_t stag) {
+    return iwarp_post_send(&endpoint->handle, STREAM, octets, n, stag ? IWARP_INVALIDATES : 0, stag, NO_TOKEN);
+}
+
+int32_t endpoint_write(struct endpoint *endpoint, uint32_t stag, uint64_t to, const uint8_t *octets, size_t n) {
+    return iwarp_post_write(&endpoint->handle, STREAM, stag, to, octets, n, NO_TOKEN);
+}
+
+int32_t endpoint_read(struct endpoint *endpoint, uint32_t sink, size_t n, uint32_t source, uint64_t source_to) {
+    return iwarp_post_read(&endpoint->handle, STREAM, sink, 0, (uint32_t)n, source, source_to, NO_TOKEN);
+}
+
+int32_t endpoint_register(struct endpoint *endpoint, uint64_t base, struct iwarp_buffer *buffer, uint32_t rights, uint32_t *stag) {
+    return iwarp_register_buffer(&endpoint->handle, DOMAIN, base, buffer, rights, stag);
+}
+
+int32_t endpoint_take_back(struct endpoint *endpoint, uint32_t stag, struct iwarp_buffer *buffer) {
+    return iwarp_deregister_buffer(&endpoint->handle, stag, buffer);
+}

@@ -1,0 +1,556 @@
+/* A host that tries a target:
+ *
+ *     exercise PORT OPTIONS TEST..
+ *
+ * runs each test against the target at that port of this machine, and prints `TEST: ok`, or the line of this file at which it
+ * failed, with status 1. OPTIONS is IWARP_CRC (2) or 0. */
+#include "host.h"
+
+enum { MULPDU = 16384, TRANSFER = 131072, LONGEST = 1048576, MOST_HOSTS = 255, CONNECTS = 200, SILENT = 300 };
+
+#define NQN "nqn.2026-11.example:iwarp"
+#define CHECK(answer)                                                     \
+    do {                                                                  \
+        if (!(answer)) {                                                  \
+            printf("%s: line %d: %s\n", test_name, __LINE__, #answer);    \
+            exit(1);                                                      \
+        }                                                                 \
+    } while (0)
+
+static const char *test_name;
+static unsigned port;
+static uint32_t options;
+static uint64_t seed = 1;
+
+static struct host new_host(void) {
+    return (struct host){.address = "127.0.0.1", .nqn = NQN, .port = port, .options = options, .mulpdu = MULPDU};
+}
+
+static uint32_t random_number(uint32_t below) {
+    seed = seed * 6364136223846793005u + 1442695040888963407u;
+    return (uint32_t)(seed >> 33) % below;
+}
+
+/* Octets that tell blocks, and what was written there, apart. */
+static void fill(uint8_t *at, size_t n, uint64_t mark) {
+    for (size_t i = 0; i < n; i += 8, mark = mark * 6364136223846793005u + 1442695040888963407u) set_field(at + i, 8, mark);
+}
+
+/* ---- reading and writing */
+
+static uint8_t *map_blocks(struct host_queue *queue, uint16_t slot, uint8_t opcode, uint64_t from, size_t n, uint8_t type) {
+    uint8_t *sqe = host_command(queue, slot, opcode, NSID);
+    host_blocks(sqe, from, (uint32_t)(n / HOST_LBA));
+    return host_map(queue, slot, n, type);
+}
+
+static int write_blocks(struct host_queue *queue, uint64_t from, const uint8_t *octets, size_t n, uint8_t type) {
+    if (type == SGL_DATA_OFFSET) {
+        uint8_t *sqe = host_command(queue, 0, IO_WRITE, NSID);
+        host_blocks(sqe, from, (uint32_t)(n / HOST_LBA));
+        host_put(queue, 0, octets, n);
+    } else {
+        memcpy(map_blocks(queue, 0, IO_WRITE, from, n, type), octets, n);
+    }
+    return host_do(queue, 0);
+}
+
+static int read_blocks(struct host_queue *queue, uint64_t from, uint8_t *octets, size_t n, uint8_t type) {
+    const uint8_t *at = map_blocks(queue, 1, IO_READ, from, n, type);
+    int status = host_do(queue, 1);
+    if (status == 0) memcpy(octets, at, n);
+    return status;
+}
+
+/* Transfers of each kind and many lengths come back as they were written, at both ends of the disk too. */
+static void compares(void) {
+    static uint8_t out[LONGEST], in[LONGEST];
+    static const size_t lengths[] = {512, 4096, 4608, 8192, 65536, TRANSFER, 524288, LONGEST};
+    struct host host = new_host();
+    CHECK(host_begin(&host, 1, HOST_DEPTH));
+    struct host_queue *queue = host.queues[1];
+    for (unsigned i = 0; i < sizeof lengths / sizeof *lengths; i++) {
+        size_t n = lengths[i];
+        uint64_t places[] = {0, 7, host.blocks - n / HOST_LBA};
+        for (int place = 0; place < 3; place++) {
+            fill(out, n, i * 3 + (unsigned)place);
+            uint8_t type = place % 2 ? SGL_KEYED : SGL_KEYED_INVALIDATE;
+            CHECK(write_blocks(queue, places[place], out, n, n <= 4096 && place == 1 ? SGL_DATA_OFFSET : type) == 0);
+            CHECK(read_blocks(queue, places[place], in, n, type) == 0);
+            CHECK(memcmp(in, out, n) == 0);
+        }
+    }
+    host_end(&host);
+}
+
+/* A pattern over the whole disk, and whether it is there: `stands` after `fills`, of another process of the target too. */
+static void whole(int writes) {
+    static uint8_t out[LONGEST], in[LONGEST];
+    struct host host = new_host();
+    CHECK(host_begin(&host, 1, HOST_DEPTH));
+    for (uint64_t from = 0; from < host.blocks; from += LONGEST / HOST_LBA) {
+        uint64_t left = (host.blocks - from) * HOST_LBA;
+        size_t n = left < LONGEST ? (size_t)left : LONGEST;
+        fill(out, n, from);
+        if (writes) CHECK(write_blocks(host.queues[1], from, out, n, SGL_KEYED_INVALIDATE) == 0);
+        if (!writes) CHECK(read_blocks(host.queues[1], from, in, n, SGL_KEYED_INVALIDATE) == 0 && memcmp(in, out, n) == 0);
+    }
+    host_command(host.queues[1], 0, IO_FLUSH, NSID);
+    CHECK(host_do(host.queues[1], 0) == 0);
+    host_end(&host);
+}
+
+static void fills(void) {
+    whole(1);
+}
+
+static void stands(void) {
+    whole(0);
+}
+
+/* ---- several at once */
+
+enum { AT_ONCE = 4, PART = 1 << 20, ROUNDS = 400 };
+
+/* A part of the disk for each slot of each queue, with what should stand there. */
+struct part {
+    uint8_t octets[PART];
+    size_t at, n; /* what is under way */
+    int reads;
+};
+
+static void begin_transfer(struct host_queue *queue, uint16_t slot, struct part *part, uint64_t from) {
+    part->n = (1 + random_number(300)) * HOST_LBA;
+    part->at = random_number((uint32_t)((PART - part->n) / HOST_LBA)) * HOST_LBA;
+    part->reads = random_number(2) == 0;
+    uint8_t *at = map_blocks(queue, slot, part->reads ? IO_READ : IO_WRITE, from + part->at / HOST_LBA, part->n, SGL_KEYED_INVALIDATE);
+    if (!part->reads) {
+        fill(part->octets + part->at, part->n, seed);
+        memcpy(at, part->octets + part->at, part->n);
+    }
+    host_submit(queue, slot);
+}
+
+static void end_transfer(struct host_queue *queue, uint16_t slot, struct part *part) {
+    host_unmap(queue, slot);
+    CHECK(queue->slots[slot].status == 0);
+    if (part->reads) CHECK(memcmp(queue->slots[slot].octets, part->octets + part->at, part->n) == 0);
+}
+
+/* Two queues with four transfers at a time each, of random lengths, in parts of the disk around 16 MiB. */
+static void four_at_once(void) {
+    static struct part parts[2][AT_ONCE];
+    const uint64_t from = ((16u << 20) - 3 * PART - PART / 2) / HOST_LBA;
+    struct host host = new_host();
+    CHECK(host_begin(&host, 2, HOST_DEPTH));
+    for (int i = 0; i < 2 * AT_ONCE; i++)
+        CHECK(write_blocks(host.queues[1], from + (uint64_t)i * (PART / HOST_LBA), parts[0][0].octets, PART, SGL_KEYED) == 0);
+    int left = ROUNDS, in_hand = 0;
+    while (left > 0 || in_hand > 0) {
+        for (int i = 0; i < 2 * AT_ONCE; i++) {
+            struct host_queue *queue = host.queues[1 + i / AT_ONCE];
+            uint16_t slot = (uint16_t)(2 + i % AT_ONCE);
+            struct part *part = &parts[i / AT_ONCE][i % AT_ONCE];
+            if (queue->slots[slot].in_hand) continue;
+            if (part->n) {
+                end_transfer(queue, slot, part);
+                part->n = 0;
+                in_hand--;
+            }
+            if (left == 0) continue;
+            begin_transfer(queue, slot, part, from + (uint64_t)i * (PART / HOST_LBA));
+            left--;
+            in_hand++;
+        }
+        CHECK(host_step(host.queues[1], 1) && host_step(host.queues[2], 1));
+    }
+    host_end(&host);
+}
+
+/* As many commands as the queue has entries, of 128 KiB each: Writes, then Reads. */
+static void full_depth(void) {
+    struct host host = new_host();
+    CHECK(host_begin(&host, 1, HOST_DEPTH));
+    struct host_queue *queue = host.queues[1];
+    for (int reads = 0; reads < 2; reads++) {
+        for (uint16_t slot = 0; slot < HOST_DEPTH; slot++) {
+            uint64_t from = slot * (TRANSFER / HOST_LBA);
+            uint8_t *at = map_blocks(queue, slot, reads ? IO_READ : IO_WRITE, from, TRANSFER, SGL_KEYED_INVALIDATE);
+            if (!reads) fill(at, TRANSFER, slot);
+            if (reads) memset(at, 0, TRANSFER);
+            host_submit(queue, slot);
+        }
+        for (int ms = 0; queue->in_hand > 0 && ms < HOST_WAIT_MS; ms++) CHECK(host_step(queue, 1));
+        for (uint16_t slot = 0; slot < HOST_DEPTH; slot++) {
+            static uint8_t wanted[TRANSFER];
+            host_unmap(queue, slot);
+            fill(wanted, TRANSFER, slot);
+            CHECK(queue->slots[slot].answered && queue->slots[slot].status == 0);
+            CHECK(memcmp(queue->slots[slot].octets, wanted, TRANSFER) == 0);
+        }
+    }
+    host_end(&host);
+}
+
+/* ---- the other commands */
+
+static int is_zero(const uint8_t *octets, size_t n) {
+    for (size_t i = 0; i < n; i++)
+        if (octets[i] != 0) return 0;
+    return 1;
+}
+
+static void clears(void) {
+    static uint8_t out[TRANSFER], in[TRANSFER];
+    struct host host = new_host();
+    CHECK(host_begin(&host, 1, HOST_DEPTH));
+    struct host_queue *queue = host.queues[1];
+    fill(out, TRANSFER, 5);
+    CHECK(write_blocks(queue, 0, out, TRANSFER, SGL_KEYED) == 0);
+    host_blocks(host_command(queue, 0, IO_WRITE_ZEROES, NSID), 1, TRANSFER / HOST_LBA - 2);
+    CHECK(host_do(queue, 0) == 0);
+    CHECK(read_blocks(queue, 0, in, TRANSFER, SGL_KEYED) == 0);
+    CHECK(memcmp(in, out, HOST_LBA) == 0 && is_zero(in + HOST_LBA, TRANSFER - 2 * HOST_LBA));
+    CHECK(memcmp(in + TRANSFER - HOST_LBA, out + TRANSFER - HOST_LBA, HOST_LBA) == 0);
+
+    uint8_t *sqe = host_command(queue, 0, IO_WRITE, NSID);
+    host_blocks(sqe, 0, 1);
+    set_field(sqe + SQE_CDW12, 4, RW_FUA);
+    host_put(queue, 0, out + HOST_LBA, HOST_LBA);
+    CHECK(host_do(queue, 0) == 0);
+    host_command(queue, 0, IO_FLUSH, NSID);
+    CHECK(host_do(queue, 0) == 0);
+    CHECK(read_blocks(queue, 0, in, HOST_LBA, SGL_KEYED) == 0 && memcmp(in, out + HOST_LBA, HOST_LBA) == 0);
+    host_end(&host);
+}
+
+/* Memory that is given back reads as zero. */
+static void deallocates(void) {
+    static uint8_t out[TRANSFER], in[TRANSFER];
+    struct host host = new_host();
+    CHECK(host_begin(&host, 1, HOST_DEPTH));
+    struct host_queue *queue = host.queues[1];
+    fill(out, TRANSFER, 5);
+    CHECK(write_blocks(queue, 0, out, TRANSFER, SGL_KEYED) == 0);
+    uint8_t ranges[2 * RANGE_OCTETS] = {0};
+    set_field(ranges + RANGE_NLB, 4, 8);
+    set_field(ranges + RANGE_OCTETS + RANGE_NLB, 4, 1);
+    set_field(ranges + RANGE_OCTETS + RANGE_SLBA, 8, TRANSFER / HOST_LBA - 1);
+    uint8_t *sqe = host_command(queue, 0, IO_DATASET_MANAGEMENT, NSID);
+    sqe[SQE_CDW10] = 1;
+    sqe[SQE_CDW11] = DSM_DEALLOCATE;
+    host_put(queue, 0, ranges, sizeof ranges);
+    CHECK(host_do(queue, 0) == 0);
+    CHECK(read_blocks(queue, 0, in, TRANSFER, SGL_KEYED) == 0);
+    CHECK(is_zero(in, 8 * HOST_LBA) && is_zero(in + TRANSFER - HOST_LBA, HOST_LBA));
+    CHECK(memcmp(in + 8 * HOST_LBA, out + 8 * HOST_LBA, TRANSFER - 9 * HOST_LBA) == 0);
+
+    static uint8_t page[4096]; /* as Linux sends it: a page for one range */
+    memcpy(page, ranges, RANGE_OCTETS);
+    host_command(queue, 0, IO_DATASET_MANAGEMENT, NSID)[SQE_CDW11] = DSM_DEALLOCATE;
+    host_put(queue, 0, page, sizeof page);
+    CHECK(host_do(queue, 0) == 0);
+    host_end(&host);
+}
+
+/* Each admin command with what it answers. */
+static void administers(void) {
+    struct host host = new_host();
+    CHECK(host_begin(&host, 1, HOST_DEPTH));
+    struct host_queue *queue = host.queues[0];
+    host_command(queue, 0, ADMIN_IDENTIFY, 0)[SQE_CDW10] = CNS_CONTROLLER;
+    const uint8_t *id = host_map(queue, 0, IDENTIFY_OCTETS, SGL_KEYED_INVALIDATE);
+    CHECK(host_do(queue, 0) == 0 && strcmp((const char *)id + ID_SUBNQN, NQN) == 0);
+    CHECK(field(id + ID_CNTLID, 2) == host.controller && id[ID_SQES] == 0x66 && id[ID_CQES] == 0x44);
+    host_command(queue, 0, ADMIN_IDENTIFY, 0)[SQE_CDW10] = CNS_NAMESPACE_LIST;
+    id = host_map(queue, 0, IDENTIFY_OCTETS, SGL_KEYED_INVALIDATE);
+    CHECK(host_do(queue, 0) == 0 && field(id, 8) == NSID);
+    host_command(queue, 0, ADMIN_IDENTIFY, NSID)[SQE_CDW10] = CNS_DESCRIPTORS;
+    id = host_map(queue, 0, IDENTIFY_OCTETS, SGL_KEYED_INVALIDATE);
+    CHECK(host_do(queue, 0) == 0 && id[0] == DESCRIPTOR_NGUID && id[1] == NGUID_OCTETS);
+    uint8_t *sqe = host_command(queue, 0, ADMIN_GET_LOG_PAGE, 0xffffffff);
+    set_field(sqe + SQE_CDW10, 4, LOG_EFFECTS | 1023u << 16);
+    const uint8_t *log = host_map(queue, 0, 4096, SGL_KEYED);
+    CHECK(host_do(queue, 0) == 0 && log[4 * ADMIN_IDENTIFY] == 1 && log[EFFECTS_IO + 4 * IO_WRITE] == 3 && log[4 * 0x80] == 0);
+    sqe = host_command(queue, 0, ADMIN_GET_LOG_PAGE, 0xffffffff);
+    set_field(sqe + SQE_CDW10, 4, LOG_HEALTH | 127u << 16);
+    log = host_map(queue, 0, 512, SGL_KEYED);
+    CHECK(host_do(queue, 0) == 0 && log[HEALTH_SPARE] == 100);
+    sqe = host_command(queue, 0, ADMIN_SET_FEATURES, 0);
+    sqe[SQE_CDW10] = FEATURE_KEEP_ALIVE;
+    set_field(sqe + SQE_CDW11, 4, 12345);
+    CHECK(host_do(queue, 0) == 0);
+    host_command(queue, 0, ADMIN_GET_FEATURES, 0)[SQE_CDW10] = FEATURE_KEEP_ALIVE;
+    CHECK(host_do(queue, 0) == 0 && queue->slots[0].result == 13000);
+    host_command(queue, 0, ADMIN_KEEP_ALIVE, 0);
+    CHECK(host_do(queue, 0) == 0);
+    host_command(queue, 0, ADMIN_ABORT, 0);
+    CHECK(host_do(queue, 0) == 0 && queue->slots[0].result == 1);
+    for (uint16_t i = 0; i < 4; i++) {
+        host_command(queue, (uint16_t)(10 + i), ADMIN_ASYNC_EVENT, 0);
+        host_submit(queue, (uint16_t)(10 + i));
+    }
+    host_command(queue, 0, ADMIN_ASYNC_EVENT, 0);
+    CHECK(host_do(queue, 0) == (STATUS_ASYNC_EVENT_LIMIT | STATUS_DO_NOT_RETRY));
+    host_end(&host);
+}
+
+static void discovers(void) {
+    struct host host = new_host();
+    host.nqn = DISCOVERY_NQN;
+    CHECK(host_open(&host, 0, 32) && host_connect(&host, 0) == 0);
+    struct host_queue *queue = host.queues[0];
+    uint8_t *sqe = host_command(queue, 0, OPCODE_FABRICS, FABRICS_PROPERTY_SET);
+    set_field(sqe + PROPERTY_OFFSET, 4, PROPERTY_CC);
+    set_field(sqe + PROPERTY_VALUE, 8, CC_ENABLE);
+    CHECK(host_do(queue, 0) == 0);
+    sqe = host_command(queue, 0, ADMIN_GET_LOG_PAGE, 0);
+    set_field(sqe + SQE_CDW10, 4, LOG_DISCOVERY | 511u << 16);
+    const uint8_t *log = host_map(queue, 0, 2048, SGL_KEYED_INVALIDATE), *entry = log + DISCOVERY_ENTRY;
+    CHECK(host_do(queue, 0) == 0 && field(log + DISCOVERY_NUMREC, 8) == 1);
+    CHECK(strcmp((const char *)entry + ENTRY_SUBNQN, NQN) == 0 && memcmp(entry + ENTRY_TRADDR, "127.0.0.1 ", 10) == 0);
+    CHECK(strtoull((const char *)entry + ENTRY_TRSVCID, 0, 10) == port);
+    host_command(queue, 0, ADMIN_IDENTIFY, 0)[SQE_CDW10] = CNS_NAMESPACE;
+    host_map(queue, 0, IDENTIFY_OCTETS, SGL_KEYED);
+    CHECK(host_do(queue, 0) == (STATUS_INVALID_FIELD | STATUS_DO_NOT_RETRY));
+    host_end(&host);
+}
+
+/* ---- what is refused */
+
+/* A field that is set to a value in a Read of eight blocks, and the status that this gets. */
+struct wrong {
+    int at, n;
+    uint64_t value;
+    uint16_t status;
+};
+
+static const struct wrong wrongs[] = {
+    {SQE_OPCODE, 1, 0x05, STATUS_INVALID_OPCODE},
+    {SQE_OPCODE, 1, 0x80, STATUS_INVALID_OPCODE},
+    {SQE_FLAGS, 1, 0, STATUS_INVALID_FIELD},
+    {SQE_FLAGS, 1, PSDT_SGL | 1, STATUS_INVALID_FIELD},
+    {SQE_NSID, 4, 0, STATUS_INVALID_NAMESPACE},
+    {SQE_NSID, 4, 2, STATUS_INVALID_NAMESPACE},
+    {SQE_NSID, 4, 0xffffffff, STATUS_INVALID_NAMESPACE},
+    {SQE_CDW10, 8, 1ull << 55, STATUS_LBA_OUT_OF_RANGE},
+    {SQE_CDW10, 8, UINT64_MAX, STATUS_LBA_OUT_OF_RANGE},
+    {SQE_CDW12, 4, RW_PRINFO | 7, STATUS_INVALID_FIELD},
+    {SQE_CDW12, 4, 0xffff, STATUS_INVALID_FIELD},
+    {SQE_CDW12, 4, 8, STATUS_DATA_SGL_LENGTH_INVALID},
+    {SQE_SGL + SGL_LENGTH, 3, 4095, STATUS_DATA_SGL_LENGTH_INVALID},
+    {SQE_SGL + SGL_LENGTH, 3, 4097, STATUS_DATA_SGL_LENGTH_INVALID},
+    {SQE_SGL + SGL_TYPE, 1, 0x00, STATUS_SGL_TYPE_INVALID},
+    {SQE_SGL + SGL_TYPE, 1, SGL_DATA_OFFSET, STATUS_SGL_TYPE_INVALID},
+    {SQE_SGL + SGL_TYPE, 1, 0x5f, STATUS_SGL_TYPE_INVALID},
+};
+
+static void refuses(void) {
+    struct host host = new_host();
+    CHECK(host_begin(&host, 1, HOST_DEPTH));
+    struct host_queue *queue = host.queues[1];
+    for (unsigned i = 0; i < sizeof wrongs / sizeof *wrongs; i++) {
+        const struct wrong *wrong = &wrongs[i];
+        map_blocks(queue, 0, IO_READ, 0, 4096, SGL_KEYED);
+        set_field(queue->slots[0].capsule + wrong->at, wrong->n, wrong->value);
+        int status = host_do(queue, 0);
+        if (status != (wrong->status | STATUS_DO_NOT_RETRY)) printf("wrong field %u: %x\n", i, (unsigned)status);
+        CHECK(status == (wrong->status | STATUS_DO_NOT_RETRY));
+    }
+    uint8_t data[1024] = {0};
+    uint8_t *sqe = host_command(queue, 0, IO_WRITE, NSID);
+    host_blocks(sqe, 0, 2);
+    host_put(queue, 0, data, sizeof data);
+    set_field(sqe + SQE_SGL, 8, 1);
+    CHECK(host_do(queue, 0) == (STATUS_SGL_OFFSET_INVALID | STATUS_DO_NOT_RETRY));
+    sqe = host_command(queue, 0, IO_DATASET_MANAGEMENT, NSID);
+    sqe[SQE_CDW11] = DSM_DEALLOCATE;
+    set_field(data + RANGE_NLB, 4, 1);
+    set_field(data + RANGE_SLBA, 8, host.blocks);
+    host_put(queue, 0, data, RANGE_OCTETS);
+    CHECK(host_do(queue, 0) == (STATUS_LBA_OUT_OF_RANGE | STATUS_DO_NOT_RETRY));
+    host_command(queue, 0, OPCODE_FABRICS, FABRICS_PROPERTY_GET);
+    CHECK(host_do(queue, 0) == (STATUS_INVALID_OPCODE | STATUS_DO_NOT_RETRY));
+    host_command(queue, 0, OPCODE_FABRICS, FABRICS_CONNECT);
+    CHECK(host_do(queue, 0) == (STATUS_COMMAND_SEQUENCE_ERROR | STATUS_DO_NOT_RETRY));
+    host_end(&host);
+}
+
+/* A queue of its own for each wrong Connect; commands before a Connect, and before the controller is enabled. */
+static void refuses_connects(void) {
+    const int busy = STATUS_CONNECT_INVALID | STATUS_DO_NOT_RETRY, early = STATUS_COMMAND_SEQUENCE_ERROR | STATUS_DO_NOT_RETRY;
+    struct host host = new_host(), other = new_host();
+    CHECK(host_begin(&host, 1, HOST_DEPTH));
+    other.controller = host.controller;
+    CHECK(host_open(&other, 1, 32) && host_connect(&other, 1) == busy); /* the number is taken */
+    CHECK(other.queues[1]->slots[0].result == CONNECT_QID);
+    host_close(&other, 1);
+    CHECK(host_open(&other, 7, 32) && host_connect(&other, 7) == busy); /* more than was granted */
+    host_close(&other, 7);
+    other.controller = 0;
+    CHECK(host_open(&other, 2, 32) && host_connect(&other, 2) == busy);
+    CHECK(other.queues[2]->slots[0].result == (INVALID_IN_DATA | CONNECT_CNTLID));
+    map_blocks(other.queues[2], 0, IO_READ, 0, 4096, SGL_KEYED);
+    CHECK(host_do(other.queues[2], 0) == early);
+    host_close(&other, 2);
+    other.nqn = "nqn.2026-11.example:another";
+    CHECK(host_open(&other, 0, 32) && host_connect(&other, 0) == busy);
+    CHECK(other.queues[0]->slots[0].result == (INVALID_IN_DATA | CONNECT_SUBNQN));
+    other.nqn = NQN;
+    CHECK(host_connect(&other, 0) == 0); /* the queue is still there */
+    host_command(other.queues[0], 0, ADMIN_KEEP_ALIVE, 0);
+    CHECK(host_do(other.queues[0], 0) == early);
+    host_end(&other);
+    CHECK(!host_open(&other, 1, 1)); /* a queue of one entry holds no command */
+    host_end(&other);
+    host_end(&host);
+}
+
+/* ---- many connections */
+
+static void connects(void) {
+    static uint8_t in[4096];
+    for (int i = 0; i < CONNECTS; i++) {
+        struct host host = new_host();
+        CHECK(host_begin(&host, 1, HOST_DEPTH));
+        CHECK(read_blocks(host.queues[1], (uint64_t)i, in, sizeof in, SGL_KEYED_INVALIDATE) == 0);
+        host_end(&host);
+    }
+}
+
+/* As many hosts as the target takes, and one more, which has to wait until another has gone. */
+static void many_hosts(void) {
+    static struct host hosts[MOST_HOSTS];
+    struct host more = new_host();
+    for (int i = 0; i < MOST_HOSTS; i++) {
+        hosts[i] = new_host();
+        for (int ms = 0; ms < 1000 && i == 0; ms += 100) usleep(100000); /* hosts of other tests are gone then */
+        CHECK(host_begin(&hosts[i], 0, 0));
+    }
+    CHECK(host_open(&more, 0, 32) && host_connect(&more, 0) == STATUS_CONNECT_BUSY);
+    host_end(&more);
+    for (int i = 0; i < MOST_HOSTS; i++) {
+        host_command(hosts[i].queues[0], 0, ADMIN_KEEP_ALIVE, 0);
+        CHECK(host_do(hosts[i].queues[0], 0) == 0);
+    }
+    host_end(&hosts[0]);
+    usleep(100000);
+    CHECK(host_begin(&more, 1, HOST_DEPTH));
+    host_end(&more);
+    for (int i = 1; i < MOST_HOSTS; i++) host_end(&hosts[i]);
+}
+
+/* A host that keeps silent is given up, another is not. */
+static void keeps_alive(void) {
+    struct host silent = new_host(), alive = new_host();
+    silent.keep_alive = alive.keep_alive = 2000;
+    CHECK(host_begin(&silent, 1, HOST_DEPTH) && host_begin(&alive, 1, HOST_DEPTH));
+    for (int i = 0; i < 40; i++) {
+        host_command(alive.queues[0], 0, ADMIN_KEEP_ALIVE, 0);
+        CHECK(host_do(alive.queues[0], 0) == 0);
+        usleep(100000);
+    }
+    CHECK(!host_step(silent.queues[0], 100) && !host_step(silent.queues[1], 100));
+    CHECK(host_step(alive.queues[1], 0));
+    host_end(&silent);
+    host_end(&alive);
+}
+
+static int plain_connection(void) {
+    struct sockaddr_in address = {.sin_family = AF_INET, .sin_port = htons((unsigned short)port)};
+    address.sin_addr.s_addr = htonl(0x7f000001);
+    int fd = socket(AF_INET, SOCK_STREAM, 0);
+    CHECK(fd >= 0 && connect(fd, (struct sockaddr *)&address, sizeof address) == 0);
+    return fd;
+}
+
+/* Connections that say nothing, or nonsense, hold up nobody, and are closed after a while. */
+static void silent_ones(void) {
+    static const char begun[] = "MPA ID Req Fra", other[] = "GET / HTTP/1.1\r\nHost: a.disk\r\n\r\n";
+    static int fds[SILENT];
+    static uint8_t in[4096];
+    struct host host = new_host();
+    for (int i = 0; i < SILENT; i++) {
+        fds[i] = plain_connection();
+        if (i % 3 == 0) (void)!write(fds[i], begun, sizeof begun - 1);
+        if (i % 3 == 1) (void)!write(fds[i], other, sizeof other - 1);
+    }
+    CHECK(host_begin(&host, 1, HOST_DEPTH));
+    CHECK(read_blocks(host.queues[1], 0, in, sizeof in, SGL_KEYED_INVALIDATE) == 0);
+    for (int i = 0; i < SILENT; i++) {
+        struct pollfd polled = {fds[i], POLLIN, 0};
+        CHECK(poll(&polled, 1, 6000) == 1); /* it is closed */
+        close(fds[i]);
+    }
+    host_end(&host);
+}
+
+/* A host that takes nothing of what it asks for holds up nobody, and is closed after a while. */
+static void slow_one(void) {
+    static uint8_t in[4096];
+    struct host slow = new_host(), host = new_host();
+    CHECK(host_begin(&slow, 1, HOST_DEPTH) && host_begin(&host, 1, HOST_DEPTH));
+    struct host_queue *queue = slow.queues[1];
+    for (uint16_t slot = 0; slot < HOST_DEPTH; slot++) {
+        map_blocks(queue, slot, IO_READ, 0, LONGEST, SGL_KEYED);
+        host_submit(queue, slot);
+    }
+    uint8_t *at;
+    size_t n;
+    CHECK(endpoint_due(&queue->endpoint, &at, &n) == IWARP_OK && send(queue->fd, at, n, MSG_NOSIGNAL) == (ssize_t)n);
+    CHECK(endpoint_wrote(&queue->endpoint, n) == IWARP_OK);
+    for (int i = 0; i < 30; i++) {
+        CHECK(read_blocks(host.queues[1], (uint64_t)i, in, sizeof in, SGL_KEYED_INVALIDATE) == 0);
+        usleep(100000);
+    }
+    int open = 1;
+    for (int i = 0; open && i < 100000; i++) open = host_step(queue, 10);
+    CHECK(!open);
+    host_end(&slow);
+    host_end(&host);
+}
+
+/* ---- a store that fails: the first block is there, the last is not; no file grows */
+
+static void cut_short(void) {
+    static uint8_t in[HOST_LBA];
+    struct host host = new_host();
+    CHECK(host_begin(&host, 1, HOST_DEPTH));
+    CHECK(read_blocks(host.queues[1], 0, in, sizeof in, SGL_KEYED) == 0);
+    CHECK(read_blocks(host.queues[1], host.blocks - 1, in, sizeof in, SGL_KEYED) == STATUS_UNRECOVERED_READ);
+    CHECK(write_blocks(host.queues[1], host.blocks - 1, in, sizeof in, SGL_KEYED) == STATUS_WRITE_FAULT);
+    CHECK(read_blocks(host.queues[1], 0, in, sizeof in, SGL_KEYED) == 0);
+    host_end(&host);
+}
+
+static const struct {
+    const char *name;
+    void (*run)(void);
+} tests[] = {
+    {"compares", compares},       {"fills", fills},
+    {"stands", stands},           {"four-at-once", four_at_once},
+    {"full-depth", full_depth},   {"clears", clears},
+    {"administers", administers}, {"discovers", discovers},
+    {"refuses", refuses},         {"refuses-connects", refuses_connects},
+    {"connects", connects},       {"many-hosts", many_hosts},
+    {"keeps-alive", keeps_alive}, {"silent-ones", silent_ones},
+    {"slow-one", slow_one},       {"cut-short", cut_short},
+    {"deallocates", deallocates},
+};
+
+int main(int n, char **words) {
+    if (n < 4) return 2;
+    struct rlimit files = {4096, 4096};
+    setrlimit(RLIMIT_NOFILE, &files);
+    port = (unsigned)strtoull(words[1], 0, 10);
+    options = (uint32_t)strtoull(words[2], 0, 10);
+    for (int i = 3; i < n; i++) {
+        unsigned at = 0;
+        while (at < sizeof tests / sizeof *tests && strcmp(tests[at].name, words[i]) != 0) at++;
+        if (at == sizeof tests / sizeof *tests) return 2;
+        test_name = words[i];
+        tests[at].run();
+        printf("%s: ok\n", test_name);
+    }
+    return 0;
+}

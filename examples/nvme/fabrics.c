@@ -1,0 +1,201 @@
+/* Fabrics commands: Connect, Property Get, Property Set; and controllers, which begin and end with them. */
+#include "target.h"
+
+/* ---- controllers */
+
+static struct controller *find_controller(struct target *target, uint16_t id) {
+    for (struct controller *it = target->controllers; it < target->controllers + MOST_CONTROLLERS; it++)
+        if (it->id == id) return it;
+    return 0;
+}
+
+/* A controller with an identifier that none has. Returns null if there are MOST_CONTROLLERS. */
+static struct controller *new_controller(struct target *target) {
+    struct controller *controller = find_controller(target, 0);
+    if (!controller) return 0;
+    do target->last_id = target->last_id == CNTLID_MOST ? 1 : (uint16_t)(target->last_id + 1);
+    while (find_controller(target, target->last_id));
+    memset(controller, 0, sizeof *controller);
+    controller->id = target->last_id;
+    controller->io_queues = MOST_IO_QUEUES;
+    controller->heard = target->now;
+    return controller;
+}
+
+static void close_io_queues(struct controller *controller) {
+    for (int i = 1; i <= MOST_IO_QUEUES; i++)
+        if (controller->io[i]) queue_close(controller->io[i]);
+}
+
+void controller_close(struct controller *controller) {
+    struct queue *admin = controller->admin;
+    controller->admin = 0;
+    close_io_queues(controller);
+    if (admin) {
+        admin->controller = 0;
+        if (admin->target->options.verbose) printf("controller %d: gone\n", controller->id);
+        queue_close(admin);
+    }
+    controller->id = 0;
+}
+
+/* ---- Connect */
+
+static uint16_t check_connect(struct command *command) {
+    command->direction = FROM_HOST;
+    command->length = CONNECT_OCTETS;
+    return field(command->sqe + CONNECT_RECFMT, 2) == 0 ? STATUS_SUCCESS : invalid(STATUS_CONNECT_FORMAT);
+}
+
+/* Connect Invalid Parameters: the result names the field, `at` in the command or in the data. */
+static void refuse(struct command *command, uint32_t at) {
+    command->result = at;
+    command_complete(command, invalid(STATUS_CONNECT_INVALID));
+}
+
+/* Whether 256 octets are this text, with a zero behind it. */
+static int is_text(const uint8_t *at, const char *text) {
+    size_t n = strlen(text);
+    return n < NQN_OCTETS && memcmp(at, text, n + 1) == 0;
+}
+
+/* Rounds up to the unit that Identify tells (KAS). */
+void controller_keep_alive(struct controller *controller, uint32_t ms) {
+    uint32_t units = ms / KEEP_ALIVE_UNIT + (ms % KEEP_ALIVE_UNIT != 0);
+    controller->keep_alive = units > UINT32_MAX / KEEP_ALIVE_UNIT ? UINT32_MAX : units * KEEP_ALIVE_UNIT;
+}
+
+static void connect_admin(struct command *command, int discovery) {
+    struct queue *queue = command->queue;
+    if (field(command->data + CONNECT_CNTLID, 2) != CNTLID_DYNAMIC) {
+        refuse(command, INVALID_IN_DATA | CONNECT_CNTLID);
+        return;
+    }
+    struct controller *controller = new_controller(queue->target);
+    if (!controller) {
+        command_complete(command, STATUS_CONNECT_BUSY);
+        return;
+    }
+    controller->discovery = discovery;
+    controller->admin = queue;
+    controller_keep_alive(controller, (uint32_t)field(command->sqe + CONNECT_KATO, 4));
+    memcpy(controller->host_id, command->data + CONNECT_HOST_ID, HOST_ID_OCTETS);
+    memcpy(controller->host_nqn, command->data + CONNECT_HOSTNQN, NQN_OCTETS);
+    queue->controller = controller;
+    if (!queue->target->options.verbose) return;
+    printf("controller %d: %s of %s\n", controller->id, discovery ? "discovery" : "host", (const char *)controller->host_nqn);
+}
+
+static void connect_io(struct command *command, uint16_t id) {
+    struct queue *queue = command->queue;
+    uint16_t of = (uint16_t)field(command->data + CONNECT_CNTLID, 2);
+    struct controller *controller = of == 0 ? 0 : find_controller(queue->target, of);
+    if (!controller || controller->discovery)
+        refuse(command, INVALID_IN_DATA | CONNECT_CNTLID);
+    else if (memcmp(controller->host_id, command->data + CONNECT_HOST_ID, HOST_ID_OCTETS) != 0)
+        refuse(command, INVALID_IN_DATA | CONNECT_HOST_ID);
+    else if (!is_text(command->data + CONNECT_HOSTNQN, (const char *)controller->host_nqn))
+        refuse(command, INVALID_IN_DATA | CONNECT_HOSTNQN);
+    else if (id > controller->io_queues || controller->io[id])
+        refuse(command, CONNECT_QID);
+    else if (!(controller->state & CSTS_READY))
+        command_complete(command, invalid(STATUS_COMMAND_SEQUENCE_ERROR));
+    else {
+        queue->controller = controller;
+        controller->io[id] = queue;
+    }
+}
+
+/* The data of a Connect is there. */
+static void run_connect(struct command *command) {
+    struct queue *queue = command->queue;
+    const struct options *options = &queue->target->options;
+    uint16_t id = (uint16_t)field(command->sqe + CONNECT_QID, 2);
+    uint32_t depth = (uint32_t)field(command->sqe + CONNECT_SQSIZE, 2) + 1;
+    int discovery = is_text(command->data + CONNECT_SUBNQN, DISCOVERY_NQN);
+    if (queue->controller) {
+        command_complete(command, invalid(STATUS_COMMAND_SEQUENCE_ERROR));
+    } else if (id != queue->told_id) {
+        refuse(command, CONNECT_QID);
+    } else if (depth < 2 || depth > queue->depth) {
+        refuse(command, CONNECT_SQSIZE);
+    } else if (!discovery && !is_text(command->data + CONNECT_SUBNQN, options->nqn)) {
+        refuse(command, INVALID_IN_DATA | CONNECT_SUBNQN);
+    } else if (command->data[CONNECT_HOSTNQN] == 0 || !memchr(command->data + CONNECT_HOSTNQN, 0, NQN_OCTETS)) {
+        refuse(command, INVALID_IN_DATA | CONNECT_HOSTNQN);
+    } else {
+        if (id == 0)
+            connect_admin(command, discovery);
+        else
+            connect_io(command, id);
+        if (!queue->controller) return;
+        queue->id = id;
+        queue->depth = (uint16_t)depth;
+        queue->no_flow = (command->sqe[CONNECT_CATTR] & CATTR_NO_SQ_FLOW) != 0;
+        queue_enter(queue, CONNECTED);
+        command->result = queue->controller->id;
+        command_complete(command, STATUS_SUCCESS);
+    }
+}
+
+/* ---- properties */
+
+static uint16_t check_property(struct command *command) {
+    return command->queue->id == 0 ? STATUS_SUCCESS : invalid(STATUS_INVALID_OPCODE);
+}
+
+static void run_get(struct command *command) {
+    const struct controller *controller = command->queue->controller;
+    int size = command->sqe[PROPERTY_ATTRIB] & ATTRIB_SIZE;
+    uint32_t offset = (uint32_t)field(command->sqe + PROPERTY_OFFSET, 4);
+    uint16_t status = STATUS_SUCCESS;
+    enum { READY_TIMEOUT = 30 }; /* 15 s */
+    if (size == ATTRIB_EIGHT && offset == PROPERTY_CAP)
+        command->result = (QUEUE_DEPTH - 1) | CAP_CQR | (uint64_t)READY_TIMEOUT << CAP_TO | 1ull << CAP_CSS_NVM;
+    else if (size == ATTRIB_FOUR && offset == PROPERTY_VS)
+        command->result = VERSION_1_3;
+    else if (size == ATTRIB_FOUR && offset == PROPERTY_CC)
+        command->result = controller->configuration;
+    else if (size == ATTRIB_FOUR && offset == PROPERTY_CSTS)
+        command->result = controller->state;
+    else
+        status = invalid(STATUS_INVALID_FIELD);
+    command_complete(command, status);
+}
+
+/* Whether a configuration is one that the controller can be enabled with. */
+static int is_possible(uint32_t configuration) {
+    return !(configuration & (CC_CSS | CC_MPS | CC_AMS)) && (configuration >> CC_IOSQES & CC_ENTRY) == SQES_64 &&
+           (configuration >> CC_IOCQES & CC_ENTRY) == CQES_16;
+}
+
+static void set_configuration(struct controller *controller, uint32_t configuration) {
+    uint32_t was = controller->configuration;
+    controller->configuration = configuration;
+    if (configuration & CC_ENABLE && !(was & CC_ENABLE))
+        controller->state = controller->discovery || is_possible(configuration) ? CSTS_READY : CSTS_FATAL;
+    if (!(configuration & CC_ENABLE) && was & CC_ENABLE) {
+        close_io_queues(controller);
+        controller->state = 0;
+        controller->events = 0;
+    }
+    if (configuration & CC_SHN && !(was & CC_SHN)) controller->state |= CSTS_SHUTDOWN_DONE;
+    if (!(configuration & CC_SHN)) controller->state &= ~(uint32_t)CSTS_SHUTDOWN_DONE;
+}
+
+static void run_set(struct command *command) {
+    int size = command->sqe[PROPERTY_ATTRIB] & ATTRIB_SIZE;
+    if (size == ATTRIB_FOUR && field(command->sqe + PROPERTY_OFFSET, 4) == PROPERTY_CC) {
+        set_configuration(command->queue->controller, (uint32_t)field(command->sqe + PROPERTY_VALUE, 4));
+        command_complete(command, STATUS_SUCCESS);
+    } else {
+        command_complete(command, invalid(STATUS_INVALID_FIELD));
+    }
+}
+
+const struct operation fabrics_operations[] = {
+    {FABRICS_PROPERTY_SET, check_property, run_set},
+    {FABRICS_CONNECT, check_connect, run_connect},
+    {FABRICS_PROPERTY_GET, check_property, run_get},
+    {0, 0, 0},
+};

@@ -1,0 +1,251 @@
+/* A queue: one connection, from its MPA Request to its end. */
+#include "target.h"
+
+void queue_enter(struct queue *queue, enum queue_state state) {
+    int was_starting = queue->state == AWAITS_REQUEST || queue->state == AWAITS_CONNECT;
+    int is_starting = state == AWAITS_REQUEST || state == AWAITS_CONNECT;
+    if (was_starting && !is_starting) queue->target->starting--;
+    queue->state = state;
+    queue->since = queue->target->now;
+}
+
+/* Takes the queue's commands, for as many receive buffers, and posts these. Returns whether there was memory. */
+static int make_commands(struct queue *queue, uint32_t count) {
+    queue->commands = calloc(count, sizeof *queue->commands);
+    if (!queue->commands) return 0;
+    queue->commands_made = count;
+    for (uint32_t i = 0; i < count; i++) {
+        struct command *command = &queue->commands[i];
+        command->queue = queue;
+        command->next = queue->idle;
+        queue->idle = command;
+        if (iwarp_buffer_new(CAPSULE_OCTETS, &command->capsule) != IWARP_OK) return 0;
+        if (endpoint_receive(&queue->endpoint, &command->capsule) != IWARP_OK) return 0;
+    }
+    return 1;
+}
+
+/* Frames have no more octets than a segment of TCP, as far as the library goes (RFC 5044 4.4 and 5.1). */
+static uint32_t mulpdu_of(const struct target *target, int fd) {
+    enum { FRAMING = 2 + 4 + 3 }; /* length, CRC and padding */
+    int segment = 0;
+    socklen_t n = sizeof segment;
+    if (target->options.mulpdu) return target->options.mulpdu;
+    if (getsockopt(fd, IPPROTO_TCP, TCP_MAXSEG, &segment, &n) != 0 || segment < LEAST_MULPDU + FRAMING) return LEAST_MULPDU;
+    return segment - FRAMING > MOST_MULPDU ? MOST_MULPDU : (uint32_t)(segment - FRAMING);
+}
+
+struct queue *queue_open(struct target *target, int fd) {
+    uint8_t none = 0;
+    struct queue *queue = calloc(1, sizeof *queue);
+    if (!queue) return 0;
+    if (endpoint_open(&queue->endpoint, IWARP_RESPONDER, target->options.options, mulpdu_of(target, fd), &none, 0) != IWARP_OK) {
+        endpoint_close(&queue->endpoint);
+        free(queue);
+        return 0;
+    }
+    queue->target = target;
+    queue->fd = fd;
+    queue->state = AWAITS_REQUEST;
+    queue->since = queue->moved = target->now;
+    queue->starting.last = &queue->starting.first;
+    queue->answering.last = &queue->answering.first;
+    queue->next = target->queues;
+    queue->link = &target->queues;
+    if (queue->next) queue->next->link = &queue->next;
+    target->queues = queue;
+    target->queues_made++;
+    target->starting++;
+    return queue;
+}
+
+void queue_close(struct queue *queue) {
+    struct controller *controller = queue->controller;
+    if (queue->state == CLOSED) return;
+    if (queue->target->options.verbose) printf("queue %d of controller %d: closed\n", queue->id, controller ? controller->id : 0);
+    queue_enter(queue, CLOSED);
+    close(queue->fd);
+    queue->target->sweep = 1;
+    queue->controller = 0;
+    if (controller && queue->id > 0)
+        controller->io[queue->id] = 0;
+    else if (controller)
+        controller_close(controller);
+}
+
+void queue_free(struct queue *queue) {
+    for (uint32_t i = 0; i < queue->commands_made; i++) {
+        iwarp_buffer_free(&queue->commands[i].capsule);
+        iwarp_buffer_free(&queue->commands[i].buffer);
+    }
+    *queue->link = queue->next;
+    if (queue->next) queue->next->link = queue->link;
+    queue->target->queues_made--;
+    endpoint_close(&queue->endpoint);
+    free(queue->commands);
+    free(queue);
+}
+
+/* ---- what the library tells */
+
+static void reject(struct queue *queue, uint16_t why) {
+    uint8_t answer[REJECT_OCTETS] = {0};
+    set_field(answer + REJECT_STATUS, 2, why);
+    if (endpoint_reject(&queue->endpoint, answer, sizeof answer) != IWARP_OK) queue_close(queue);
+}
+
+/* The MPA Request came: its private data tells how many commands the host sends at once. */
+static void answer_request(struct queue *queue) {
+    uint8_t asked[MOST_PRIVATE + 4], answer[PRIVATE_OCTETS] = {0};
+    size_t n;
+    if (endpoint_private(&queue->endpoint, asked, sizeof asked, &n) != IWARP_OK ||
+        endpoint_reads(&queue->endpoint, &queue->most_reads) != IWARP_OK) {
+        queue_close(queue);
+        return;
+    }
+    if (n != PRIVATE_OCTETS) {
+        reject(queue, REJECT_LENGTH);
+        return;
+    }
+    uint32_t depth = (uint32_t)field(asked + PRIVATE_HSQSIZE, 2) + 1, receives = (uint32_t)field(asked + PRIVATE_HRQSIZE, 2);
+    if (field(asked + PRIVATE_RECFMT, 2) != 0) {
+        reject(queue, REJECT_RECFMT);
+    } else if (depth < 2 || depth > QUEUE_DEPTH) {
+        reject(queue, REJECT_HSQSIZE);
+    } else if (receives == 0) {
+        reject(queue, REJECT_HRQSIZE);
+    } else {
+        queue->told_id = (uint16_t)field(asked + PRIVATE_QID, 2);
+        queue->depth = (uint16_t)depth;
+        set_field(answer + PRIVATE_CRQSIZE, 2, depth);
+        if (make_commands(queue, depth + SPARE_COMMANDS) && endpoint_accept(&queue->endpoint, answer, sizeof answer) == IWARP_OK)
+            queue_enter(queue, AWAITS_CONNECT);
+        else
+            queue_close(queue);
+    }
+}
+
+/* A capsule came. There is an idle command, since there was a receive buffer. */
+static void take_capsule(struct queue *queue) {
+    struct command *command = queue->idle;
+    size_t n;
+    if (!command || endpoint_fetch(&queue->endpoint, &command->capsule, &n) != IWARP_OK) {
+        queue_close(queue);
+        return;
+    }
+    queue->idle = command->next;
+    command_begin(command, n);
+}
+
+/* The oldest posted message is done. */
+static void take_done(struct queue *queue) {
+    struct posted posted = queue->posted[queue->first];
+    queue->first = (queue->first + 1) % MOST_POSTED;
+    queue->count--;
+    queue->written -= posted.n;
+    if (!posted.command) return;
+    queue->reads--;
+    command_fetched(posted.command);
+}
+
+static void act(struct queue *queue, const struct iwarp_event *event) {
+    unsigned verbose = queue->target->options.verbose;
+    switch (event->kind) {
+    case IWARP_ASKED:
+        answer_request(queue);
+        break;
+    case IWARP_RECEIVED:
+        take_capsule(queue);
+        break;
+    case IWARP_DONE:
+        take_done(queue);
+        break;
+    case IWARP_FAULT:
+    case IWARP_TERMINATED:
+        if (!verbose) break;
+        printf("queue %d: %s %d %d %d\n", queue->id, event->kind == IWARP_FAULT ? "fault" : "terminated", (int)event->layer,
+               (int)event->error, (int)event->code);
+        break;
+    case IWARP_CLOSED_BY_PEER:
+        if (verbose) printf("start-up frame at fault: %d\n", (int)event->code);
+        break;
+    default: /* what is handed back goes with the queue */
+        break;
+    }
+}
+
+/* Does what there is to do until octets come or go. */
+static void work(struct queue *queue) {
+    struct iwarp_event event = {.kind = IWARP_IDLE};
+    do {
+        if (endpoint_work(&queue->endpoint, &event) != IWARP_OK) {
+            queue_close(queue);
+            return;
+        }
+        act(queue, &event);
+    } while (event.kind != IWARP_IDLE && queue->state != CLOSED);
+}
+
+/* ---- the socket */
+
+static void set_blocked(struct queue *queue, int blocked) {
+    struct epoll_event event = {.events = blocked ? EPOLLIN | EPOLLOUT : EPOLLIN, .data.ptr = queue};
+    if (!blocked) queue->moved = queue->target->now;
+    if (queue->blocked == blocked) return;
+    queue->blocked = blocked;
+    epoll_ctl(queue->target->epoll, EPOLL_CTL_MOD, queue->fd, &event);
+}
+
+/* Writes out what is due, as far as the socket takes it. Returns whether it took all, and there was something. */
+static int write_out(struct queue *queue) {
+    uint8_t *at;
+    size_t n;
+    for (int any = 0;; any = 1) {
+        if (endpoint_due(&queue->endpoint, &at, &n) != IWARP_OK) {
+            queue_close(queue);
+            return 0;
+        }
+        if (n == 0) {
+            set_blocked(queue, 0);
+            return any;
+        }
+        ssize_t went = send(queue->fd, at, n, MSG_NOSIGNAL);
+        if (went > 0) {
+            queue->moved = queue->target->now;
+            endpoint_wrote(&queue->endpoint, (size_t)went);
+        } else if (went < 0 && errno == EAGAIN) {
+            set_blocked(queue, 1);
+            return 0;
+        } else if (went == 0 || errno != EINTR) {
+            queue_close(queue);
+            return 0;
+        }
+    }
+}
+
+/* The stream has ended, and its last frame is written: ends the output, and waits for the peer to close, so that it gets that. */
+static void drain(struct queue *queue) {
+    if (queue->state == DRAINS) return;
+    shutdown(queue->fd, SHUT_WR);
+    queue_enter(queue, DRAINS);
+}
+
+void queue_run(struct queue *queue) {
+    int went = 1;
+    while (went && queue->state != CLOSED) {
+        work(queue);
+        commands_go_on(queue);
+        went = queue->state != CLOSED && write_out(queue);
+    }
+    if (queue->state != CLOSED && queue->endpoint.ended && !queue->blocked) drain(queue);
+}
+
+void queue_readable(struct queue *queue) {
+    uint8_t octets[MOST_DELIVERED];
+    ssize_t n = read(queue->fd, octets, sizeof octets);
+    if (n < 0 && (errno == EAGAIN || errno == EINTR)) return;
+    if (n <= 0 || endpoint_deliver(&queue->endpoint, octets, (size_t)n) != IWARP_OK)
+        queue_close(queue);
+    else
+        queue_run(queue);
+}

@@ -1,0 +1,108 @@
+/* The target's options. `target --help` tells them. */
+#include "target.h"
+
+enum { MOST_RAM_MIB = 1 << 20, MOST_WORKERS = 64, MOST_SECONDS = 86400, OTHER_FILES = 64, FILES = MOST_QUEUES + OTHER_FILES };
+
+static const char help[] =
+    "A disk for NVMe over RDMA hosts: target [OPTION VALUE].. [FLAG]..\n"
+    "\n"
+    "  --file PATH      the disk: a file or block device, of which whole blocks of 512 octets are used\n"
+    "  --ram MIB        the disk: memory (the default, 64)\n"
+    "  --address A      the IPv4 address to listen at (127.0.0.1)\n"
+    "  --port N         the port; 0: any that is free, which the first line tells (4420)\n"
+    "  --nqn NAME       the subsystem's name (nqn.2026-11.example:iwarp)\n"
+    "  --serial TEXT    its serial number (1)\n"
+    "  --tell A         the address that discovery tells (the one that the host has reached)\n"
+    "  --mulpdu N       octets of an FPDU's payload, 128 to 64512 (as TCP's segments have)\n"
+    "  --workers N      threads that read and write the file (4)\n"
+    "  --start SECONDS  a connection has this long to get as far as Connect (10)\n"
+    "  --stall SECONDS  a host has this long to take what is sent to it (30)\n"
+    "  --crc            use CRCs\n"
+    "  --verbose        a line for each host and queue, and for what ends them\n"
+    "\n"
+    "It takes 255 hosts at once, each with at most 7 I/O queues of depth 128. A connection takes at most 10 MiB: 4 for buffers of\n"
+    "its commands, 4 for data under way to the host, 1 for capsules, and 1 for the library.\n";
+
+static int fail(const char *word) {
+    fprintf(stderr, "target: %s\n%s", word, help);
+    return 2;
+}
+
+/* A number of at most `most`. */
+static int read_number(const char *text, uint64_t most, uint64_t *number) {
+    char *end;
+    if (!text || *text < '0' || *text > '9') return 0;
+    *number = strtoull(text, &end, 10);
+    return *end == 0 && *number <= most;
+}
+
+static int read_unsigned(const char *text, unsigned most, unsigned *number) {
+    uint64_t read;
+    if (!read_number(text, most, &read)) return 0;
+    *number = (unsigned)read;
+    return 1;
+}
+
+static int read_seconds(const char *text, uint64_t *ms) {
+    if (!read_number(text, MOST_SECONDS, ms) || *ms == 0) return 0;
+    *ms *= 1000;
+    return 1;
+}
+
+static int read_text(const char *text, const char **to) {
+    *to = text;
+    return text && *text;
+}
+
+/* Takes an option and its value. Returns whether both are right. */
+static int take(struct options *options, const char *word, const char *value) {
+    if (strcmp(word, "--file") == 0) return read_text(value, &options->file);
+    if (strcmp(word, "--ram") == 0) return read_number(value, MOST_RAM_MIB, &options->ram_mib) && options->ram_mib > 0;
+    if (strcmp(word, "--address") == 0) return read_text(value, &options->address);
+    if (strcmp(word, "--port") == 0) return read_unsigned(value, 65535, &options->port);
+    if (strcmp(word, "--nqn") == 0) return read_text(value, &options->nqn) && strlen(value) < NQN_OCTETS;
+    if (strcmp(word, "--serial") == 0) return read_text(value, &options->serial);
+    if (strcmp(word, "--tell") == 0) return read_text(value, &options->told_address);
+    if (strcmp(word, "--mulpdu") == 0) return read_unsigned(value, MOST_MULPDU, &options->mulpdu) && options->mulpdu >= LEAST_MULPDU;
+    if (strcmp(word, "--workers") == 0) return read_unsigned(value, MOST_WORKERS, &options->workers) && options->workers > 0;
+    if (strcmp(word, "--start") == 0) return read_seconds(value, &options->start_ms);
+    if (strcmp(word, "--stall") == 0) return read_seconds(value, &options->stall_ms);
+    return 0;
+}
+
+/* A connection is an open file, and there may be more of them than a process has by default. */
+static void allow_files(void) {
+    struct rlimit files;
+    if (getrlimit(RLIMIT_NOFILE, &files) != 0 || files.rlim_cur >= FILES) return;
+    files.rlim_cur = files.rlim_max < FILES ? files.rlim_max : FILES;
+    setrlimit(RLIMIT_NOFILE, &files);
+}
+
+int main(int n, char **words) {
+    static struct target target;
+    struct options options = {.address = "127.0.0.1", .nqn = "nqn.2026-11.example:iwarp", .serial = "1", .ram_mib = 64, .port = 4420,
+        .workers = 4, .start_ms = 10000, .stall_ms = 30000};
+    for (int i = 1; i < n; i++) {
+        if (strcmp(words[i], "--help") == 0) {
+            fputs(help, stdout);
+            return 0;
+        }
+        if (strcmp(words[i], "--crc") == 0)
+            options.options |= IWARP_CRC;
+        else if (strcmp(words[i], "--verbose") == 0)
+            options.verbose = 1;
+        else if (!take(&options, words[i], i + 1 < n ? words[i + 1] : 0))
+            return fail(words[i]);
+        else
+            i++;
+    }
+    keep_memory();
+    signal(SIGPIPE, SIG_IGN);
+    signal(SIGXFSZ, SIG_IGN); /* a file that cannot grow fails the command */
+    allow_files();
+    if (!target_open(&target, &options)) return 1;
+    printf("port %u\n%llu blocks of %d octets, %s\n", target.port, (unsigned long long)target.store.blocks, LBA_OCTETS, options.nqn);
+    fflush(stdout);
+    while (target_turn(&target, -1)) fflush(stdout);
+    return 1;
+}

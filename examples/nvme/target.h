@@ -1,0 +1,211 @@
+/* What the files of the target share: a target has a store, controllers (one for each host that has connected) and queues (one
+ * for each connection); a queue has its commands. */
+#ifndef TARGET_H
+#define TARGET_H
+
+#include "endpoint.h"
+#include "nvme.h"
+
+enum {
+    LBA_OCTETS = 512,
+    LBA_SHIFT = 9,
+    QUEUE_DEPTH = 128, /* commands that an I/O queue takes, and the host's default */
+    SPARE_COMMANDS = 2, /* a host's next command may come while the response to an earlier one is under way */
+    MOST_COMMANDS = QUEUE_DEPTH + SPARE_COMMANDS,
+    IN_CAPSULE_OCTETS = 4096,
+    CAPSULE_OCTETS = SQE_OCTETS + IN_CAPSULE_OCTETS,
+    PAGE_OCTETS = 4096,
+    MDTS = 8, /* the longest transfer is 2 to that many pages */
+    MOST_TRANSFER = PAGE_OCTETS << MDTS,
+    MOST_DATA = 4 * MOST_TRANSFER, /* of a queue: buffers for its commands' data */
+    MOST_WRITTEN = 4 * MOST_TRANSFER, /* of a queue: Writes that are posted and not yet done */
+    MOST_CONTROLLERS = 255,
+    MOST_IO_QUEUES = 7, /* of a controller: a queue registers a region for each command, and a domain has 1,024 */
+    MOST_STARTING = 256, /* connections that have not got as far as Connect: of more, the oldest is closed */
+    MOST_QUEUES = MOST_CONTROLLERS * (1 + MOST_IO_QUEUES) + MOST_STARTING,
+    MOST_ASYNC_EVENTS = 4,
+    KEEP_ALIVE_UNIT = 1000 /* ms */
+};
+
+/* ---- the store */
+
+enum job_kind { JOB_READ, JOB_WRITE, JOB_FLUSH, JOB_ZERO, JOB_DEALLOCATE };
+
+/* What the store is to do: at most one thing at a time for a command. */
+struct job {
+    struct job *next;
+    enum job_kind kind;
+    uint64_t at, n; /* octets of the store; JOB_DEALLOCATE: n octets of `octets` are ranges */
+    uint8_t *octets; /* JOB_READ fills them, JOB_WRITE writes them */
+    int durable; /* JOB_WRITE, JOB_ZERO: done once it is on the medium (FUA) */
+    uint16_t status;
+};
+
+struct store {
+    uint64_t blocks;
+    uint8_t *ram; /* the octets, or null if there is a file */
+    int fd, read_only;
+    int told; /* an eventfd: jobs are done */
+    pthread_mutex_t mutex; /* of the two lists */
+    pthread_cond_t more;
+    struct job *first, **last; /* to be done, by a worker */
+    struct job *done;
+};
+
+/* Opens a file or block device, or takes memory if the path is null, and starts workers. Returns whether it could. */
+int store_open(struct store *store, const char *path, uint64_t ram_octets, int workers);
+
+/* The address of the store's octets, if they are in memory; else null. */
+uint8_t *store_address(const struct store *store, uint64_t at);
+
+/* Begins a job. Returns 1 if it is done; else a worker does it, and store_done gives it back. */
+int store_begin(struct store *store, struct job *job);
+
+/* The jobs that workers have done since, as a list. */
+struct job *store_done(struct store *store);
+
+/* ---- commands and queues */
+
+struct command;
+
+/* What a command does. `check` tells whether its fields are valid, and sets direction and length; `run` is called once its data is
+ * there, if the host sends any, and comes to command_complete. */
+struct operation {
+    uint8_t opcode;
+    uint16_t (*check)(struct command *command);
+    void (*run)(struct command *command);
+};
+
+enum direction { NO_DATA, TO_HOST, FROM_HOST };
+
+struct command {
+    struct job job;
+    struct command *next; /* in one of the queue's lists */
+    struct queue *queue;
+    const struct operation *operation;
+    struct iwarp_buffer capsule; /* the receive buffer that it came in, which goes back before the response */
+    uint8_t *sqe;
+    size_t inside; /* octets of data in the capsule */
+    enum direction direction;
+    uint32_t length; /* of its data */
+    uint8_t *data; /* in `buffer`, in the capsule or in the store */
+    struct iwarp_buffer buffer; /* kept for the next command */
+    size_t size; /* of the buffer */
+    uint32_t sink; /* the buffer's STag, while the host's data is read */
+    uint16_t status;
+    uint64_t result;
+};
+
+/* The oldest first. */
+struct list {
+    struct command *first, **last;
+};
+
+/* What was posted, in order, until the library has handed it back. */
+struct posted {
+    uint32_t message; /* IWARP_MESSAGE_SEND and so on */
+    uint32_t n; /* octets of a Write */
+    struct command *command; /* of a Read */
+};
+
+enum queue_state { AWAITS_REQUEST, AWAITS_CONNECT, CONNECTED, DRAINS, CLOSED };
+
+struct queue {
+    struct target *target;
+    struct queue *next, **link; /* among the target's */
+    struct controller *controller; /* of a connected one */
+    struct endpoint endpoint;
+    int fd;
+    enum queue_state state;
+    uint64_t since; /* when the state began, in ms */
+    uint64_t moved; /* when octets were last written, or nothing was due */
+    int blocked; /* octets are due, and the socket takes none */
+    uint16_t id, told_id; /* by Connect; by the MPA Request */
+    uint16_t depth, head; /* entries of the submission queue; where its head is */
+    int no_flow; /* the host does not want to know the head */
+    uint32_t most_reads; /* the peer's IRD */
+    uint32_t commands_made;
+    struct command *commands;
+    struct command *idle;
+    struct list starting; /* wait for memory, or for a Read's place */
+    struct list answering; /* wait for the places of their messages */
+    struct posted posted[MOST_POSTED];
+    uint32_t first, count; /* of those */
+    uint32_t reads, jobs; /* Reads that are posted; commands that workers have */
+    size_t held, written; /* octets of the commands' buffers; of posted Writes */
+};
+
+/* ---- controllers */
+
+struct controller {
+    uint16_t id; /* 0: not in use */
+    int discovery;
+    uint32_t configuration, state; /* CC, CSTS */
+    uint32_t keep_alive; /* ms; 0: the host need not tell that it is there */
+    uint64_t heard; /* when its last command came */
+    uint32_t io_queues; /* granted */
+    uint32_t events; /* Async Event Requests in hand */
+    uint32_t event_mask;
+    uint8_t host_nqn[NQN_OCTETS], host_id[HOST_ID_OCTETS];
+    struct queue *admin, *io[MOST_IO_QUEUES + 1]; /* by queue number, from 1 */
+};
+
+/* ---- the target */
+
+struct options {
+    const char *file, *address, *told_address, *nqn, *serial;
+    uint64_t ram_mib;
+    unsigned port, options, mulpdu, workers, verbose;
+    uint64_t start_ms, stall_ms;
+};
+
+struct target {
+    struct options options;
+    struct store store;
+    int epoll, listener;
+    unsigned port;
+    uint64_t now; /* ms */
+    struct queue *queues; /* the newest first */
+    uint32_t queues_made, starting; /* queues; those that have not got as far as Connect */
+    int sweep; /* a queue was closed, and is to be freed */
+    uint64_t looked; /* when times were last looked at */
+    uint16_t last_id;
+    struct controller controllers[MOST_CONTROLLERS];
+};
+
+/* Listens. Returns whether it could, and has said why not. */
+int target_open(struct target *target, const struct options *options);
+
+/* Waits for what happens next, at most `most_ms` (-1: for as long as it takes), and does what there is to do. Returns 0 if it
+ * cannot go on. */
+int target_turn(struct target *target, int most_ms);
+
+/* Ends all connections. */
+void target_close(struct target *target);
+
+/* queue.c */
+struct queue *queue_open(struct target *target, int fd);
+void queue_readable(struct queue *queue);
+void queue_run(struct queue *queue); /* does all that can be done now */
+void queue_enter(struct queue *queue, enum queue_state state);
+void queue_close(struct queue *queue); /* its memory stays until queue_free */
+void queue_free(struct queue *queue);
+
+/* command.c */
+void command_begin(struct command *command, size_t n); /* its capsule came: n octets */
+void command_complete(struct command *command, uint16_t status);
+void command_store(struct command *command, enum job_kind kind, uint64_t at, uint64_t n); /* has the store work on its data */
+void command_stored(struct job *job); /* the store has */
+void command_fetched(struct command *command); /* its Read is done */
+void command_forget(struct command *command); /* it is never answered */
+void commands_go_on(struct queue *queue); /* starts and answers those that can be */
+struct queue *queue_of_job(struct job *job);
+
+/* fabrics.c, admin.c, io.c */
+extern const struct operation fabrics_operations[], admin_operations[], discovery_operations[], io_operations[];
+uint16_t no_data(struct command *command);
+uint16_t invalid(uint16_t status);
+void controller_close(struct controller *controller);
+void controller_keep_alive(struct controller *controller, uint32_t ms);
+
+#endif
