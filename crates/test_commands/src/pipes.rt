@@ -84,6 +84,7 @@ const REQUEST: Request<'_> = Request {
     options: Options {
         markers: false,
         crc: false,
+        enhanced: false,
     },
 };
 

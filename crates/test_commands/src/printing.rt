@@ -13,6 +13,7 @@ const LINE: &str = "stream 0 received 6869\n";
 const OPTIONS: Options = Options {
     markers: false,
     crc: false,
+    enhanced: false,
 };
 
 // Serves one caller; the output takes eight octets a write, and its call with this number fails with this error.

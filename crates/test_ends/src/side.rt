@@ -4,7 +4,7 @@ use crate::meter::{Call, Heap, MOST_TRIES, Meter, Stopped};
 use crate::wire::Wire;
 use bytes::Bytes;
 use iw_endpoint::{
-    Agreed, CallRefusal, Config, Delivery, Emission, Endpoint, Establishment, MAX_PLACE,
+    Agreed, CallRefusal, Config, Delivery, Emission, Endpoint, EnhancedData, MAX_PLACE,
     NoSuchStream, Octets, OpenRefusal, OpenSharedRefusal, PoolRefusal, PostRefusal, RecvRefusal,
     RegisterRefusal, Request, Right, Rights, Role, STREAM_NUMBERS, ShareRefusal, Stag, Step,
 };
@@ -65,7 +65,7 @@ fn config_for(options: Options, private: &[u8]) -> Config {
     Config {
         markers: options.markers,
         crc: options.crc,
-        establishment: Establishment::Plain,
+        establishment: options.establishment,
         private: private_data(private),
     }
 }
@@ -610,12 +610,18 @@ impl<'h> Side<'h> {
 
     fn see_asked(&self, meter: &mut Meter<'h>, number: u8) -> SeenStep<'h> {
         let private = self.private(meter, number)?;
-        Ok(Seen::Asked { private })
+        let told = there(self.endpoint.told(number))?;
+        Ok(Seen::Asked { told, private })
     }
 
     fn see_opened(&self, meter: &mut Meter<'h>, number: u8, agreed: Agreed) -> SeenStep<'h> {
         let private = self.private(meter, number)?;
-        Ok(Seen::Opened { agreed, private })
+        let told = there(self.endpoint.told(number))?;
+        Ok(Seen::Opened {
+            agreed,
+            told,
+            private,
+        })
     }
 
     fn see_placed(

@@ -1,12 +1,13 @@
 use crate::halts::{Halts, Outcome, add_count, add_line, asking, serving};
-use crate::rows::{CRC, EMPTY, MARKERS, PLAIN, Row, WRITTEN};
-use iw_links::{Counted, MOST_READS, Terms, listener, serve};
+use crate::rows::{CRC, EMPTY, ENHANCED, MARKERS, PLAIN, Row, WRITTEN};
+use iw_links::{Counted, Ended, MOST_READS, Report, Terms, listener, serve};
+use iw_startup::StartupFault;
 use std::alloc::Global;
-use std::io::ErrorKind;
+use std::io::{ErrorKind, Read};
 use std::test::Fail;
 use test_support::{Endless, Halting};
 
-const ROWS: [Row; 4] = [MARKERS, CRC, EMPTY, PLAIN];
+const ROWS: [Row; 5] = [MARKERS, CRC, EMPTY, PLAIN, ENHANCED];
 
 pub(crate) const WHOLE: Halts = Halts {
     most: 128,
@@ -126,30 +127,107 @@ fn a_failed_call_breaks_the_link(rt: HostRuntime) -> Result<(), Fail> {
     Ok(())
 }
 
-// A peer that sends the same octet for ever, one a read: it is no start-up frame, and the most reads are made.
-#[test]
-fn an_input_without_end_is_broken(rt: HostRuntime) -> Result<(), Fail> {
-    let (mut endpoint, region) = listener(rt.alloc())?;
+// Serves a peer that sends these octets, and then zeros for ever, one a read. Returns the report, and how many reads
+// there were.
+fn endless(alloc: Global, row: Row, octets: &[u8]) -> Result<(Report, u32), Fail> {
+    let (mut endpoint, region) = listener(alloc)?;
     let terms = Terms {
         number: 0,
         markers: false,
         crc: false,
+        establishment: row.establishment,
     };
-    let mut input = Counted::new(Halting::new(Endless::new(0), 1));
+    let mut input = Counted::new(Halting::new(octets.chain(Endless::new(0)), 1));
     let mut buffer = [0u8; 128];
     let report = serve(
-        rt.alloc(),
+        alloc,
         &mut endpoint,
         terms,
         region,
         &mut input,
-        &mut Vec::new(rt.alloc()),
+        &mut Vec::new(alloc),
         &mut buffer,
     );
-    let Ok(report) = report else {
-        return Err("not opened".into());
+    match report {
+        Ok(report) => Ok((report, input.reads)),
+        Err(_) => Err("not opened".into()),
+    }
+}
+
+// The zeros are no frame, but they are read until the most reads were made.
+#[test]
+fn an_input_without_end_is_broken(rt: HostRuntime) -> Result<(), Fail> {
+    let (report, reads) = endless(rt.alloc(), PLAIN, &PLAIN.asked[..20])?;
+    assert!(rt; report.broken && report.received.is_none() && report.ended.is_some());
+    assert_eq!(rt; reads, MOST_READS);
+    Ok(())
+}
+
+// Whether these octets, and zeros behind them, are a Request of this fault, past whose 20 octets nothing is read.
+fn closes(alloc: Global, row: Row, octets: &[u8], fault: StartupFault) -> Result<bool, Fail> {
+    let (report, reads) = endless(alloc, row, octets)?;
+    Ok(report.ended == Some(Ended::Closed(fault)) && !report.broken && reads == 20)
+}
+
+// The peer goes on for ever, but the next one can be served.
+#[test]
+fn a_start_up_frame_at_fault_closes(rt: HostRuntime) -> Result<(), Fail> {
+    let revision_3 = b"MPA ID Req Frame\x10\x03";
+    let no_word = b"MPA ID Req Frame\x10\x02\x00\x03";
+    assert!(rt; closes(rt.alloc(), PLAIN, b"", StartupFault::BadKey)?);
+    assert!(rt; closes(rt.alloc(), PLAIN, ENHANCED.asked, StartupFault::BadRev)?);
+    assert!(rt; closes(rt.alloc(), ENHANCED, b"", StartupFault::BadKey)?);
+    assert!(rt; closes(rt.alloc(), ENHANCED, revision_3, StartupFault::BadRev)?);
+    assert!(rt; closes(rt.alloc(), ENHANCED, no_word, StartupFault::BadLength)?);
+    Ok(())
+}
+
+// A Reply with the key of a Request, in reads of four octets: the output is not ended.
+#[test]
+fn a_reply_at_fault_closes(rt: HostRuntime) -> Result<(), Fail> {
+    let halts = Halts { most: 4, ..WHOLE };
+    let asked = asking(rt.alloc(), PLAIN, PLAIN.asked, halts)?;
+    let closed = Some(Ended::Closed(StartupFault::BadKey));
+    assert!(rt; asked.report.ended == closed && !asked.report.broken && !asked.is_ended);
+    assert_eq!(rt; asked.written.as_slice(), &PLAIN.asked[..20]);
+    assert_eq!(rt; asked.reads, 5);
+    Ok(())
+}
+
+// The first read gives all that the peer sends, and the second fails. Returns what was written.
+fn written_at_once(alloc: Global, row: Row) -> Result<Vec<u8>, Fail> {
+    let halts = Halts { read: 2, ..WHOLE };
+    let served = serving(alloc, row, row.asked, halts)?;
+    if served.report.received.is_some() && served.report.broken {
+        return Ok(served.written);
+    }
+    Err("no Send, or no break".into())
+}
+
+#[test]
+fn the_answer_follows_the_send_at_once_by_revision_2(rt: HostRuntime) -> Result<(), Fail> {
+    let written = written_at_once(rt.alloc(), ENHANCED)?;
+    assert_eq!(rt; written.as_slice(), ENHANCED.served);
+    let written = written_at_once(rt.alloc(), PLAIN)?;
+    assert_eq!(rt; written.as_slice(), &PLAIN.served[..24]);
+    Ok(())
+}
+
+// The Reply comes, then the answer, then the end; this read fails. Returns whether the output was ended before.
+fn ends_before(alloc: Global, row: Row, most: usize, read: u64) -> Result<bool, Fail> {
+    let halts = Halts {
+        most,
+        read,
+        ..WHOLE
     };
-    assert!(rt; report.broken && report.received.is_none());
-    assert_eq!(rt; input.reads, MOST_READS);
+    let asked = asking(alloc, row, row.served, halts)?;
+    Ok(asked.is_ended)
+}
+
+#[test]
+fn the_output_ends_after_the_answer_by_revision_2(rt: HostRuntime) -> Result<(), Fail> {
+    assert!(rt; !ends_before(rt.alloc(), ENHANCED, 28, 2)?);
+    assert!(rt; ends_before(rt.alloc(), ENHANCED, 28, 3)?);
+    assert!(rt; ends_before(rt.alloc(), PLAIN, 24, 2)?);
     Ok(())
 }

@@ -75,6 +75,7 @@ fn terms(row: Row) -> Terms {
         number: 0,
         markers: row.markers,
         crc: row.crc,
+        establishment: row.establishment,
     }
 }
 

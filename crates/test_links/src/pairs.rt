@@ -1,8 +1,9 @@
-//! Both ends with every pair of options: cut after each octet, and failing at each call.
+//! Both ends with every pair of options, and by revision 2 of MPA: cut after each octet, and failing at each call.
 
 use crate::exchange::{WHOLE, has_received};
 use crate::halts::{Halts, Outcome, asking, serving};
-use crate::rows::{CRC, MARKERS, PLAIN, Row};
+use crate::rows::{CRC, ENHANCED, MARKERS, PLAIN, Row};
+use iw_startup::Establishment;
 use std::alloc::Global;
 use std::io::ErrorKind;
 use std::process::Abort;
@@ -13,12 +14,23 @@ const TEXT: &[u8] = b"hi";
 /// The most octets of a read and of a write.
 const MOST: usize = 16;
 
-/// The lengths of the Request and of the Reply, which names a region.
-const REQUEST: usize = 20;
+// The length of the Request.
+fn request_length(row: Row) -> usize {
+    match row.establishment {
+        Establishment::Plain => 20,
+        _ => 24,
+    }
+}
 
-const REPLY: usize = 24;
+// The length of the Reply, which names a region.
+fn reply_length(row: Row) -> usize {
+    match row.establishment {
+        Establishment::Plain => 24,
+        _ => 28,
+    }
+}
 
-// The four sets of options that an end may ask for.
+// The four sets of markers and CRC that an end may ask for.
 const OPTIONS: [(bool, bool); 4] = [(false, false), (false, true), (true, false), (true, true)];
 
 /// What the ends ask for, and what each of them then writes.
@@ -34,6 +46,7 @@ fn end(options: (bool, bool), text: &'static [u8]) -> Row {
     Row {
         markers: options.0,
         crc: options.1,
+        establishment: Establishment::Plain,
         text,
         asked: b"",
         served: b"",
@@ -56,6 +69,9 @@ fn exchanged(alloc: Global, asks: Row, serves: Row) -> Result<Pair, Fail> {
 
 // What an end asks for, as letters.
 fn letters(row: Row) -> &'static str {
+    if row.establishment != Establishment::Plain {
+        return "revision 2";
+    }
     match (row.markers, row.crc) {
         (false, false) => "-",
         (false, true) => "c",
@@ -71,14 +87,14 @@ fn pairs(alloc: Global) -> Result<Vec<Pair>, Fail> {
             pairs.push(exchanged(alloc, end(asks, TEXT), end(serves, TEXT))?)?;
         }
     }
+    pairs.push(exchanged(alloc, ENHANCED, ENHANCED)?)?;
     Ok(pairs)
 }
 
 #[test]
 fn worked_rows_are_among_them(rt: HostRuntime) -> Result<(), Fail> {
-    for row in [MARKERS, CRC, PLAIN] {
-        let options = end((row.markers, row.crc), row.text);
-        let pair = exchanged(rt.alloc(), options, options)?;
+    for row in [MARKERS, CRC, PLAIN, ENHANCED] {
+        let pair = exchanged(rt.alloc(), row, row)?;
         assert_eq!(rt; pair.asked.as_slice(), row.asked);
         assert_eq!(rt; pair.served.as_slice(), row.served);
     }
@@ -102,14 +118,16 @@ fn written_before(came: usize, start: usize, before: usize, after: usize) -> usi
 fn is_cut_everywhere(alloc: Global, pair: &Pair) -> Result<bool, Fail> {
     for count in 0..pair.asked.len() {
         let outcome = serving(alloc, pair.serves, &pair.asked[..count], WHOLE)?;
-        let written = written_before(count, REQUEST, 0, REPLY).min(pair.served.len());
+        let (request, reply) = (request_length(pair.asks), reply_length(pair.serves));
+        let written = written_before(count, request, 0, reply).min(pair.served.len());
         if !is_cut(&outcome, &pair.served[..written]) {
             return Ok(false);
         }
     }
     for count in 0..pair.served.len() {
         let outcome = asking(alloc, pair.asks, &pair.served[..count], WHOLE)?;
-        let written = written_before(count, REPLY, REQUEST, pair.asked.len()).min(pair.asked.len());
+        let (request, reply) = (request_length(pair.asks), reply_length(pair.serves));
+        let written = written_before(count, reply, request, pair.asked.len()).min(pair.asked.len());
         if !is_cut(&outcome, &pair.asked[..written]) {
             return Ok(false);
         }

@@ -1,8 +1,11 @@
+use iw_startup::Establishment;
+
 /// A worked exchange.
 #[derive(Clone, Copy)]
 pub(crate) struct Row {
     pub(crate) markers: bool,
     pub(crate) crc: bool,
+    pub(crate) establishment: Establishment,
     pub(crate) text: &'static [u8],
     /// What the asking end writes.
     pub(crate) asked: &'static [u8],
@@ -13,6 +16,7 @@ pub(crate) struct Row {
 pub(crate) const MARKERS: Row = Row {
     markers: true,
     crc: false,
+    establishment: Establishment::Plain,
     text: b"hi",
     asked: b"MPA ID Req Frame\x80\x01\x00\x00\x00\x00\x00\x00\
     \x00\x10\xc1@\x01\x00\x00\x00\x00\x00\x00\x00\x00\x00\x00\x00hi\x00\x00\x00\x00\x00\x00\
@@ -26,6 +30,7 @@ pub(crate) const MARKERS: Row = Row {
 pub(crate) const CRC: Row = Row {
     markers: false,
     crc: true,
+    establishment: Establishment::Plain,
     text: b"abcd",
     asked: b"MPA ID Req Frame@\x01\x00\x00\x00\x12\xc1@\
     \x01\x00\x00\x00\x00\x00\x00\x00\x00\x00\x00\x00abcdJis\x99\x00\x16AC\
@@ -38,6 +43,7 @@ pub(crate) const CRC: Row = Row {
 pub(crate) const EMPTY: Row = Row {
     markers: false,
     crc: false,
+    establishment: Establishment::Plain,
     text: b"",
     asked: b"MPA ID Req Frame\x00\x01\x00\x00\x00\x0e\xc1@\
     \x01\x00\x00\x00\x00\x00\x00\x00\x00\x00\x00\x00\x00\x00\x00\x00\x00\x12AC\x00\x00\x00\x00\
@@ -49,6 +55,7 @@ pub(crate) const EMPTY: Row = Row {
 pub(crate) const PLAIN: Row = Row {
     markers: false,
     crc: false,
+    establishment: Establishment::Plain,
     text: b"hi",
     asked: b"MPA ID Req Frame\x00\x01\x00\x00\x00\x10\xc1@\
     \x01\x00\x00\x00\x00\x00\x00\x00\x00\x00\x00\x00hi\x00\x00\x00\x00\x00\x00\x00\x14AC\
@@ -58,10 +65,25 @@ pub(crate) const PLAIN: Row = Row {
     \x00\x00\x00\x00",
 };
 
+/// By revision 2 of MPA: each end tells that it takes 16 Reads, and wants to have 16 outstanding.
+pub(crate) const ENHANCED: Row = Row {
+    markers: false,
+    crc: false,
+    establishment: Establishment::Enhanced,
+    text: b"hi",
+    asked: b"MPA ID Req Frame\x10\x02\x00\x04\x00\x10\x00\x10\x00\x10\xc1@\
+    \x01\x00\x00\x00\x00\x00\x00\x00\x00\x00\x00\x00hi\x00\x00\x00\x00\x00\x00\x00\x14AC\
+    \x00\x00\x00\x00\x00\x00\x00\x00\x00\x00\x00\x01\x00\x00\x00\x00hi\x00\x00\x00\x00\x00\x00",
+    served: b"MPA ID Rep Frame\x10\x02\x00\x08\x00\x10\x00\x10\x01\x00\x00\x00\
+    \x00\x14AC\x00\x00\x00\x00\x00\x00\x00\x00\x00\x00\x00\x01\x00\x00\x00\x00hi\x00\x00\
+    \x00\x00\x00\x00",
+};
+
 /// The peer writes one text and sends another: what comes back is what was written.
 pub(crate) const WRITTEN: Row = Row {
     markers: false,
     crc: false,
+    establishment: Establishment::Plain,
     text: b"bb",
     asked: b"MPA ID Req Frame\x00\x01\x00\x00\x00\x10\xc1@\
     \x01\x00\x00\x00\x00\x00\x00\x00\x00\x00\x00\x00aa\x00\x00\x00\x00\x00\x00\x00\x14AC\

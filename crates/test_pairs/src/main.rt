@@ -9,9 +9,11 @@ use std::rt::Runtime;
 const SELF: &str = "/proc/self/exe";
 
 /// The arguments of a row, separated by blanks; `SELF` stands for this program.
-const ROWS: [&str; 20] = [
+const ROWS: [&str; 22] = [
     "pair --program SELF --count 2 --markers",
     "pair --program SELF --text abcd --crc",
+    "pair --program SELF --enhanced",
+    "pair --program SELF --text abcd --count 2 --markers --crc --enhanced",
     "pair --program SELF --text=",
     "pair --program SELF --text é --markers --crc",
     "pair --program SELF --text -hi --count 3",
@@ -50,10 +52,16 @@ const SCRIPTS: [&str; 10] = [
 const LISTENING: &str =
     "lines=$(mktemp); $0 listen > $lines & until [ -s $lines ]; do sleep 0.1; done; read word port < $lines; ";
 
-/// The listener exits after its connection; it is killed before it has one; it is bound to 127.0.0.1; its port is
-/// taken; and another listener binds that port after it.
-const LISTENED: [&str; 5] = [
+/// The listener exits after its connection; it takes no connection by revision 2 without the option; a peer that stays
+/// after a start-up frame at fault does not keep it from the next; it is killed before it has a connection; it is bound
+/// to 127.0.0.1; its port is taken; and another listener binds that port after it.
+const LISTENED: [&str; 7] = [
     "timeout 20 $0 connect --port $port --count 3; echo $?; wait $!; echo $?; sed 1d $lines; rm $lines",
+    "timeout 20 $0 connect --port $port --enhanced; echo $?; wait $!; echo $?; sed 1d $lines; rm $lines",
+    "kill $!; wait $!; : > $lines; timeout 40 $0 listen --port $port --count 2 --enhanced > $lines & \
+    until [ -s $lines ]; do sleep 0.1; done; \
+    timeout 20 bash -c \"exec 3<>/dev/tcp/127.0.0.1/$port; printf 'not a start-up frame' >&3; cat <&3\"; echo $?; \
+    timeout 20 $0 connect --port $port --enhanced; wait $!; echo $?; sed 1d $lines; rm $lines",
     "kill -9 $!; wait $!; echo $?; rm $lines; timeout 20 $0 connect --port $port",
     "grep -c \" 0100007F:$(printf %04X $port) 00000000:0000 0A \" /proc/net/tcp; kill $!; rm $lines",
     "timeout 20 $0 listen --port $port 2>&1; echo $?; kill $!; rm $lines",

@@ -32,7 +32,7 @@ enum Ending {
 }
 
 /// The schedules, by the names of their files, `NAME.schedule`. The trace of one that has a trace is in `NAME.trace`.
-const ROWS: [(&str, Ending); 90] = [
+const ROWS: [(&str, Ending); 94] = [
     ("first", Ending::Completed),
     ("one-write", Ending::Completed),
     ("empty-messages", Ending::Completed),
@@ -60,6 +60,10 @@ const ROWS: [(&str, Ending); 90] = [
     ("answers-that-were-not-asked-for", Ending::Completed),
     ("start-up-octet-by-octet", Ending::Completed),
     ("start-up", Ending::Completed),
+    ("an-enhanced-start-up", Ending::Faulted),
+    ("an-enhanced-start-up-cut-at-each-octet", Ending::Completed),
+    ("hostile-enhanced-start-up", Ending::Faulted),
+    ("an-ord-of-one", Ending::Completed),
     ("many-segments", Ending::Completed),
     ("a-frame-placed-before-its-turn", Ending::Completed),
     ("a-placed-frame-is-not-checked-again", Ending::Faulted),
@@ -144,7 +148,7 @@ enum Difference {
     Line(usize),
     /// It ended in another way.
     Ended(Result<Status, ReplayFault>),
-    /// A replay that was refused memory did not end out of memory, or wrote something.
+    /// A replay that was refused memory neither ended out of memory nor wrote the trace.
     Refused,
     /// The trace differs if calls that were refused memory are made again.
     MadeAgain,
@@ -222,7 +226,7 @@ fn compare_refused<R: Runtime + AllocGlobal>(
     trace: &[u8],
     counts: &mut Counts,
 ) -> anyhow::Result<Option<Difference>> {
-    let Some(requests) = each_refused(rt.alloc(), schedule)? else {
+    let Some(requests) = each_refused(rt.alloc(), schedule, trace)? else {
         return Ok(Some(Difference::Refused));
     };
     eprintln!(rt; "{name}: requests for memory 1 to {requests}")?;
@@ -268,22 +272,34 @@ fn print_calls<R: Runtime + AllocGlobal>(rt: &R, counts: &Counts) -> anyhow::Res
     Ok(is_whole)
 }
 
-fn replay_rows<R: Runtime + AllocGlobal>(rt: &R) -> anyhow::Result<ExitCode> {
-    let mut code = ExitCode::SUCCESS;
-    let mut counts = Counts::new();
-    for (name, ending) in &ROWS {
-        match compare_row(rt, name, *ending, &mut counts)? {
+// Whether each of these rows is as written; prints a line for each.
+fn replay_each<R: Runtime + AllocGlobal>(
+    rt: &R,
+    rows: &[(&str, Ending)],
+    counts: &mut Counts,
+) -> anyhow::Result<bool> {
+    let mut is_whole = true;
+    for (name, ending) in rows {
+        match compare_row(rt, name, *ending, counts)? {
             None => println!(rt; "{name}: as written")?,
             Some(difference) => {
                 println!(rt; "{name}: not as written, {difference:?}")?;
-                code = ExitCode::FAILURE;
+                is_whole = false;
             }
         }
     }
-    if !print_calls(rt, &counts)? {
-        code = ExitCode::FAILURE;
+    Ok(is_whole)
+}
+
+fn replay_rows<R: Runtime + AllocGlobal>(rt: &R) -> anyhow::Result<ExitCode> {
+    let mut counts = Counts::new();
+    let is_written = replay_each(rt, &ROWS, &mut counts)?;
+    let is_called = print_calls(rt, &counts)?;
+    if is_written && is_called {
+        Ok(ExitCode::SUCCESS)
+    } else {
+        Ok(ExitCode::FAILURE)
     }
-    Ok(code)
 }
 
 fn main(rt: HostRuntime) -> anyhow::Result<ExitCode> {
