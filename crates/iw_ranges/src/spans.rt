@@ -11,6 +11,9 @@ use std::collections::VecDeque;
 /// How many islands there may be.
 const MAX_ISLANDS: usize = 1_024;
 
+/// The most islands that memory is kept for once all but the first are given up: 2,048 octets.
+const MAX_KEPT: usize = 128;
+
 /// The places from `from` up to `to`.
 #[derive(Clone, Copy)]
 pub(crate) struct Span {
@@ -158,13 +161,15 @@ pub(crate) fn forget<A: Allocator>(gone: &mut VecDeque<Span, A>, to: u64)
     }
 }
 
-/// Leaves one span, of the places before `to`, and gives back the memory of the others.
+/// Leaves one span, of the places before `to`. Memory for more than 128 spans is given back.
 pub(crate) fn keep_before<A: Allocator>(spans: &mut VecDeque<Span, A>, to: u64)
     requires { IsFromStart spans.old.items }
     ensures { spans.new.items ≡ record { from = 0; to = to } ∷ [] }
 {
     spans.truncate(1);
-    spans.shrink_to_fit();
+    if spans.capacity() > MAX_KEPT {
+        spans.shrink_to_fit();
+    }
     spans[0] = Span { from: 0, to };
 }
 
