@@ -1,5 +1,5 @@
 ghost use Rattle.std.specs.Prelude.{◌≡◌, ◌≤◌, ◌↔◌, [], ◌∷◌, ◌++◌, drop, length, slice_get};
-ghost use Rattle.std.specs.Prelude.{IsTrue, IfSome, IfNone, IsOkAnd, IfErr, IsErr, OnOk, OnErr};
+ghost use Rattle.std.specs.Prelude.{IsTrue, IfSome, IfNone, IfOk, IfErr, IsErr, OnOk, OnErr};
 ghost use Rattle.std.specs.Option.{option_map};
 
 use crate::queue::BufferRefusal;
@@ -15,7 +15,8 @@ const MAX_POOL: usize = 1024;
 /// bound to a message.
 #[derive(Drop)]
 pub struct SharedQueue<A: Allocator = Global> {
-    buffers: VecDeque<Octets<A>, A>,
+    // In a box, so that lending a pool moves one pointer.
+    buffers: Box<VecDeque<Octets<A>, A>, A>,
 }
 
 impl<A: Allocator> Model for SharedQueue<A> {
@@ -23,21 +24,22 @@ impl<A: Allocator> Model for SharedQueue<A> {
 
     ghost Value = { List (List ℕ) };
 
-    ghost view = { λ pool. pool.buffers.items };
+    ghost view = { λ pool. pool.buffers.value.items };
 
-    ghost invariant = { λ pool. length pool.buffers.items ≤ 1024 };
+    ghost invariant = { λ pool. length pool.buffers.value.items ≤ 1024 };
 }
 
 impl<A: Allocator> SharedQueue<A> {
     ghost use Rattle.iw_untagged.specs.Receiving.{pool_refusal};
 
-    /// A pool with no buffer.
+    /// A pool with no buffer. An `Err` means out of memory.
     pub fn new(alloc: A) -> Result<SharedQueue<A>, AllocError>
-        ensures { IsOkAnd result (λ pool. pool ≡ []) }
+    where
+        A: Copy,
+        ensures { IfOk result (λ pool. pool ≡ []) }
     {
-        Ok(SharedQueue {
-            buffers: VecDeque::new(alloc),
-        })
+        let buffers = Box::new(alloc, VecDeque::new(alloc))?;
+        Ok(SharedQueue { buffers })
     }
 
     /// Posts a buffer, after the others; a pool holds at most 1,024. An `Err` changes nothing and gives the buffer
