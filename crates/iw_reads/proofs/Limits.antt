@@ -1,5 +1,5 @@
 -- What is kept of outstanding Reads, and of requests.
-use Rattle.std.proofs.Common.{◌≡◌, ℕ, ◌+◌, ◌<◌, ◌≤◌, ◌^◌, List, [], ◌∷◌, ◌++◌, length, drop, Some, refl, subst, arith, length-append}
+use Rattle.std.proofs.Common.{◌≡◌, ℕ, ◌+◌, ◌<◌, ◌≤◌, ◌^◌, List, [], ◌∷◌, ◌++◌, length, drop, Option, Some, refl, subst, arith, length-append}
 use Rattle.std.specs.Prelude.{slice_get}
 use Rattle.std.specs.List.{All}
 use Rattle.std.proofs.lemmas.List.Elements.{All-head, All-nil, All-push, All-tail}
@@ -17,7 +17,7 @@ Within read = read.turned ≤ read.request.size
 abbrev IsFresh : Outstanding → Type 0
 IsFresh read = read.turned ≡ 0
 
-pub limits-asked : (reads : List Outstanding) (ticket : ℕ) (request : ReadRequest) → length reads < most_reads → HoldsLimits reads → HoldsLimits (asked_for reads ticket request)
+pub limits-asked : (reads : List Outstanding) (ticket : Option ℕ) (request : ReadRequest) → length reads < most_reads → HoldsLimits reads → HoldsLimits (asked_for reads ticket request)
 limits-asked reads ticket request room holds = record {
   few = omega (arith, length-append reads (read ∷ []));
   within = All-push Within reads read holds.within (omega arith);

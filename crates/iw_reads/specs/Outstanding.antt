@@ -16,7 +16,7 @@ abbrev pub most_reads : ℕ
 most_reads = MAX_UNANSWERED
 
 -- the Read is outstanding after the others, and nothing of its response had its turn
-abbrev pub asked_for : List Outstanding → ℕ → ReadRequest → List Outstanding
+abbrev pub asked_for : List Outstanding → Option ℕ → ReadRequest → List Outstanding
 asked_for reads ticket request = reads ++ record { ticket = ticket; request = request; turned = 0 } ∷ []
 
 -- ---- a segment of a response is to be placed
@@ -68,10 +68,10 @@ abbrev pub reads_turned : List Outstanding → TaggedHead → ℕ → List Outst
 reads_turned [] head n = []
 reads_turned (read ∷ reads) head n = if head.last then reads else record read { turned = read.turned + n } ∷ reads
 
--- the ticket of the Read that the segment ends, if it ends one
+-- the ticket of the Read that the segment ends, if it ends one that has a ticket
 abbrev pub finished_read : List Outstanding → TaggedHead → Option ℕ
 finished_read [] head = None
-finished_read (read ∷ reads) head = if head.last then Some read.ticket else None
+finished_read (read ∷ reads) head = if head.last then read.ticket else None
 
 -- ---- limits
 

@@ -13,8 +13,8 @@ use std::marker::Model;
 /// A Read whose request was sent, and whose response has not ended: its last segment had no turn yet.
 #[derive(Clone, Copy, Debug, PartialEq, Eq)]
 pub struct Outstanding {
-    /// The number that it was given when it was posted.
-    pub ticket: u64,
+    /// The number that it was given when it was posted. `None` if it was not posted.
+    pub ticket: Option<u64>,
     pub request: ReadRequest,
     /// How many octets of its response had their turn.
     pub turned: u32,
@@ -23,7 +23,7 @@ pub struct Outstanding {
 // An outstanding Read as it is kept. The numbers of 64 bits come first, so that there is no padding between fields.
 #[derive(Drop)]
 struct Kept {
-    ticket: u64,
+    ticket: Option<u64>,
     sink_to: u64,
     source_to: u64,
     size: u32,
@@ -101,11 +101,12 @@ impl<A: Allocator> Reads<A> {
         self.reads.len() >= MAX_UNANSWERED
     }
 
-    /// Says that the request of the Read with this ticket was sent. There must be room for it.
+    /// Says that the request of the Read with this ticket was sent. There must be room for it. A Read that was not posted
+    /// has no ticket.
     ///
     /// The first Read takes the memory for all [`MAX_UNANSWERED`]. So an `Err`, which means out of memory, comes only if no
     /// Read is outstanding. It changes nothing.
-    pub fn add(&mut self, ticket: u64, request: ReadRequest) -> Result<(), AllocError>
+    pub fn add(&mut self, ticket: Option<u64>, request: ReadRequest) -> Result<(), AllocError>
         requires { length self.old < most_reads }
         ensures ok { OnOk result (self.new ≡ asked_for self.old ticket request) }
         ensures err { OnErr result (self.new ≡ self.old) }
@@ -138,7 +139,8 @@ impl<A: Allocator> Reads<A> {
     }
 
     /// Gives a segment of a Read Response with this header and `n` octets of payload, which was placed, its turn. The
-    /// answer is the ticket of the Read that the segment ends, if the segment is the last of its response.
+    /// answer is the ticket of the Read that the segment ends, if the segment is the last of its response and the Read has
+    /// a ticket.
     ///
     /// Responses come in the order of the requests (RFC 5040 5.2.2): the segment must go on with the response of the
     /// oldest Read, at the tagged offset past the octets that had their turn. It may not run past the Read's size, and may
@@ -161,7 +163,7 @@ impl<A: Allocator> Reads<A> {
         if head.last {
             let ticket = read.ticket;
             let _ = self.reads.remove(0);
-            return Ok(Some(ticket));
+            return Ok(ticket);
         }
         self.reads[0] = turned_by(read, n);
         Ok(None)

@@ -261,6 +261,7 @@ keeps_record s table frame o a r running none landed floor left k =
         unopened = λ e. absurd (true≢false (sym running ∙ e));
         unsent = k.started.unsent;
         alone = k.started.alone;
+        unread = k.started.unread;
         beyond = omega (arith, floor, k.started.beyond);
       };
       between = subst (λ f. IsBetween (expecting s.start).markers (f - first_place_in s.start)) (sym floor) k.between;

@@ -15,10 +15,11 @@ use Rattle.iw_ranges.specs.Arrived.{Arrived, delivered, taken_in, advanced, cell
 use Rattle.iw_ranges.proofs.ByPlace.{cell_at-taken_in}
 use Rattle.iw_ranges.proofs.InOrder.{floor_moves, floor_takes}
 use Rattle.iw_fpdu.specs.declared.layout.Layout.{Layout}
-use Rattle.iw_fpdu.specs.Frame.{frame_end, frame_octets}
+use Rattle.iw_fpdu.specs.Frame.{frame_end, frame_octets, frame_size}
 use Rattle.iw_fpdu.specs.Places.{frame_start}
 use Rattle.iw_fpdu.specs.Found.{Found, ulpdu, ulpdu_len}
 use Rattle.iw_fpdu.specs.Laws.{IsBetween}
+use Rattle.iw_fpdu.proofs.Counted.{after_high, aligned_edge, past_edge}
 use Rattle.iw_fpdu.proofs.Follows.{ends, frames_follow, starts}
 use Rattle.iw_fpdu.proofs.Sequences.{length_written}
 use Rattle.iw_rdmap.specs.Terminate.{header_len}
@@ -72,6 +73,7 @@ keeps_taken s place octets k =
         unopened = λ e. (floor ∙ (k.started.unopened e).0, (k.started.unopened e).1, (k.started.unopened e).2);
         unsent = k.started.unsent;
         alone = k.started.alone;
+        unread = k.started.unread;
         beyond = omega (arith, floor, k.started.beyond);
       };
       between = subst (λ f. IsBetween (expecting s.start).markers (f - first_place_in s.start)) (sym floor) k.between;
@@ -112,6 +114,7 @@ keeps_told s first answered k = record {
     unopened = k.started.unopened;
     unsent = k.started.unsent;
     alone = k.started.alone;
+    unread = k.started.unread;
     beyond = k.started.beyond;
   };
   between = k.between;
@@ -157,9 +160,9 @@ keeps_delivered s place octets (Ok d) after ok err k = go (is_dropped s.arrived 
 -- its end is the in-order point, whatever else it changes
 pub keeps_past : (s : StreamState) (frame : PlacedFrame) (place : ℕ) (after : Arrived) (r : Receiving) (queue : Queue) (reads : List Outstanding) (asked : Requested) (left : List EarlyRecord) (base : ℕ) → is_open s.start ≡ true → Stands s frame
     → place ≡ place_past s frame → after ≡ advanced s.arrived place → left ≡ kept_from (place - base) s.early
-    → StaysSo s.receiving r (point_of (scene s)) (frame_end (expecting s.start).markers frame.start frame.len) s.early → queue.sent.first < 2 ^ 64 → AreAwaited queue.sent reads → Keeps s
+    → StaysSo s.receiving r (point_of (scene s)) (frame_end (expecting s.start).markers frame.start frame.len) s.early → queue.sent.first < 2 ^ 64 → AreAwaited queue.sent reads → (s.reads ≡ [] → reads ≡ []) → Keeps s
     → Keeps (record s { receiving = r; arrived = after; front = None; early = left; queue = queue; reads = reads; asked = asked })
-keeps_past s frame place after r queue reads asked left base running p there moved fewer so first awaited k =
+keeps_past s frame place after r queue reads asked left base running p there moved fewer so first awaited none k =
     let floor : after.floor ≡ max s.arrived.floor place = ap (λ a. a.floor) moved ∙ floor_moves s.arrived place in
     let end : after.floor - first_place_in s.start ≡ frame_end (expecting s.start).markers frame.start frame.len = omega (arith, floor, there, p.on) in
     record {
@@ -167,6 +170,7 @@ keeps_past s frame place after r queue reads asked left base running p there mov
         unopened = λ e. absurd (true≢false (sym running ∙ e));
         unsent = k.started.unsent;
         alone = λ e. absurd (true≢false (sym running ∙ e));
+        unread = λ e. none (k.started.unread e);
         beyond = omega (arith, floor, k.started.beyond);
       };
       between = subst (IsBetween (expecting s.start).markers) (sym end) p.next;
@@ -215,6 +219,7 @@ keeps_ended s ending over silent k = record {
     unopened = λ e. ((k.started.unopened e).0, (k.started.unopened e).1, silent e);
     unsent = k.started.unsent;
     alone = k.started.alone;
+    unread = k.started.unread;
     beyond = k.started.beyond;
   };
   between = k.between;
@@ -249,6 +254,7 @@ keeps_quits s ending over silent k = record {
     unopened = λ e. ((k.started.unopened e).0, refl, silent e);
     unsent = k.started.unsent;
     alone = k.started.alone;
+    unread = k.started.unread;
     beyond = k.started.beyond;
   };
   between = k.between;
@@ -295,6 +301,7 @@ keeps_queue s queue first awaited k = record {
     unopened = k.started.unopened;
     unsent = k.started.unsent;
     alone = k.started.alone;
+    unread = k.started.unread;
     beyond = k.started.beyond;
   };
   between = k.between;
@@ -325,6 +332,7 @@ keeps_flushed s r over k = record {
     unopened = k.started.unopened;
     unsent = k.started.unsent;
     alone = k.started.alone;
+    unread = k.started.unread;
     beyond = k.started.beyond;
   };
   between = k.between;
@@ -351,6 +359,7 @@ keeps_buffers s r w k = record {
     unopened = k.started.unopened;
     unsent = k.started.unsent;
     alone = k.started.alone;
+    unread = k.started.unread;
     beyond = k.started.beyond;
   };
   between = k.between;
@@ -387,6 +396,12 @@ aligned_past layout at u aligned =
     let there : end % 4 ≡ 0 = ap (λ n. n % 4) (sym same) ∙ next.aligned in
     omega (arith, there, aligned, length_written layout at u)
 
+-- a frame has octets
+pub some_written : (layout : Layout) (at : ℕ) (u : List ℕ) → at % 4 ≡ 0 → 0 < length (frame_octets layout at u)
+some_written layout at u aligned =
+    let m : Bool = layout.markers in
+    omega (arith, length_written layout at u, past_edge m at (aligned_edge m at aligned), after_high m at (frame_size (length u)) (omega arith))
+
 -- whatever is due but a start-up frame is sent behind that
 pub sent_first : (s : StreamState) → owes_frame s ≡ false → is_broken s.ending ≡ false → first_place_out s.start ≤ s.sent
 sent_first s owes whole = go (nat_lt s.sent (first_place_out s.start)) refl (ap (λ b. not b && nat_lt s.sent (first_place_out s.start)) (sym whole) ∙ owes)
@@ -402,13 +417,14 @@ runs_whole (Over terminate) e = absurd (true≢false e)
 runs_whole Broken e = absurd (true≢false e)
 
 pub keeps_sent : (s : StreamState) (queue : Queue) (numbers : Numbers) (n : ℕ) (reads : List Outstanding) (asked : Requested) → is_open s.start ≡ true → first_place_out s.start ≤ s.sent → (s.sent - first_place_out s.start + n) % 4 ≡ 0
-    → queue.sent.first < 2 ^ 64 → (ended s ≡ false → AreAwaited queue.sent reads) → Keeps s
+    → queue.sent.first < 2 ^ 64 → (ended s ≡ false → AreAwaited queue.sent reads) → (s.sent + n ≤ first_place_out s.start → reads ≡ []) → Keeps s
     → Keeps (record s { queue = queue; numbers = numbers; sent = s.sent + n; reads = reads; asked = asked })
-keeps_sent s queue numbers n reads asked running low aligned first awaited k = record {
+keeps_sent s queue numbers n reads asked running low aligned first awaited unread k = record {
   started = record {
     unopened = k.started.unopened;
     unsent = λ lt. absurd (omega (arith, low, lt));
     alone = λ e. absurd (true≢false (sym running ∙ e));
+    unread = unread;
     beyond = k.started.beyond;
   };
   between = k.between;
@@ -527,6 +543,7 @@ keeps_judged s table found after x running n ok placing there over k =
         unopened = λ e. absurd (true≢false (sym running ∙ e));
         unsent = k.started.unsent;
         alone = k.started.alone;
+        unread = k.started.unread;
         beyond = k.started.beyond;
       };
       between = k.between;

@@ -1,5 +1,5 @@
 -- How long frames are.
-use Rattle.std.proofs.Common.{◌≡◌, ℕ, ◌+◌, ◌-◌, ◌≤◌, Bool, List, length, take, drop, ap, ◌∙◌, arith}
+use Rattle.std.proofs.Common.{◌≡◌, ℕ, ◌+◌, ◌-◌, ◌≤◌, Bool, List, [], length, take, drop, ap, ◌∙◌, arith}
 use Rattle.std.proofs.lemmas.List.{length-take, length-drop}
 use Rattle.iw_octets.specs.declared.message.Message.TheVariants.{Write, Send}
 use Rattle.iw_octets.specs.declared.segment.Segment.{Segment}
@@ -13,6 +13,9 @@ use Rattle.iw_queues.specs.declared.request.Request.{Request}
 use Rattle.iw_queues.specs.declared.request.Request.TheVariants.{Message, Read}
 use Rattle.iw_queues.specs.Request.{payload}
 use Rattle.iw_queues.specs.Segments.{Numbers, segment_with}
+use Rattle.iw_startup.specs.declared.enhanced.Rtr.{Rtr}
+use Rattle.iw_startup.specs.declared.enhanced.Rtr.TheVariants as rtrs
+use Rattle.iw_stream.specs.Rtr.{rtr_message, rtr_request, rtr_segment}
 use Rattle.iw_stream.specs.Starting.{sending, first_place_out}
 use Rattle.iw_stream.specs.Stream.{StreamState, frame_of}
 
@@ -36,3 +39,7 @@ length-carried numbers (Message (Write stag to octets)) offset n last within =
 length-carried numbers (Message (Send octets solicited invalidate)) offset n last within =
     length-segment_octets_untagged _ (take n (drop offset octets)) ∙ ap (λ k. 18 + k) (cut_long octets offset n within)
 length-carried numbers (Read request) offset n last within = length-segment_octets_untagged _ (request_octets request) ∙ ap (λ k. 18 + k) (length-request_octets request)
+
+pub length-rtr : (numbers : Numbers) (rtr : Rtr) → length (segment_octets (rtr_segment numbers rtr)) ≡ carried (rtr_message rtr) 0
+length-rtr numbers rtrs.Write = length-segment_octets_tagged _ []
+length-rtr numbers rtrs.Read = length-segment_octets_untagged _ (request_octets rtr_request) ∙ ap (λ k. 18 + k) (length-request_octets rtr_request)

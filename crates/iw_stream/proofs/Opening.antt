@@ -35,7 +35,7 @@ use Rattle.iw_stream.specs.declared.starting.Start.TheInside.{Inside}
 use Rattle.iw_stream.specs.Fields.{IsStart, start_of}
 use Rattle.iw_stream.specs.Frames.{EarlyRecord}
 use Rattle.iw_stream.specs.Kept.{IsPlaced, NoneReachesOver, Keeps}
-use Rattle.iw_stream.specs.Starting.{StartState, AtOnce, Unheard, Heard, IsFresh, start_by, start_at_first, is_open, expecting, most_reads_in, awaits_frame, heard, answered_with, agreed_in, agreement_in, first_place_in, first_place_out}
+use Rattle.iw_stream.specs.Starting.{StartState, AtOnce, Unheard, Heard, IsFresh, start_by, start_at_first, is_open, expecting, most_reads_in, rtr_in, awaits_frame, heard, answered_with, agreed_in, agreement_in, first_place_in, first_place_out}
 use Rattle.iw_stream.specs.Starting as starting
 use Rattle.iw_stream.specs.declared.ending.Ending.TheVariants.{Runs}
 use Rattle.iw_stream.specs.Stream.{StreamState}
@@ -91,6 +91,7 @@ keeps_nothing role config domain numbers receiving asked =
         unopened = λ e. (sym (none_read role config), refl, refl);
         unsent = λ lt. refl;
         alone = λ e. omega arith;
+        unread = λ e. refl;
         beyond = omega (arith, none_read role config);
       };
       between = subst (IsBetween (expecting start).markers) (let at : 0 ≡ 0 - first_place_in start = omega arith in at) (frames_follow.first (expecting start).markers);
@@ -131,6 +132,7 @@ answers s u reply is asked k =
         unopened = λ e. (rest.0 ∙ place, rest.1, rest.2);
         unsent = λ lt. none;
         alone = λ e. omega (arith, none);
+        unread = λ e. k.started.unread (omega (arith, none));
         beyond = omega (arith, rest.0, place);
       };
       between = subst (IsBetween (expecting (Heard (answered u reply))).markers) (let at : 0 ≡ s.arrived.floor - length u.octets = omega (arith, rest.0, place) in at) (frames_follow.first (expecting (Heard (answered u reply))).markers);
@@ -174,6 +176,7 @@ hears s u octets is out k =
         unopened = λ e. (omega (arith, floor, begin), rest.1, rest.2);
         unsent = λ lt. k.started.unsent (omega (arith, own, lt));
         alone = λ e. omega (arith, own, k.started.alone closed);
+        unread = λ e. k.started.unread (omega (arith, own, e));
         beyond = omega (arith, floor, begin);
       };
       between = subst (IsBetween (expecting (Heard (pushed u octets))).markers) (let at : 0 ≡ (advanced s.arrived n).floor - n = omega (arith, floor, begin) in at) (frames_follow.first (expecting (Heard (pushed u octets))).markers);
@@ -244,6 +247,7 @@ start_rejected s u v private was is asked now k =
       sending_is = k.sending_is ∙ ap starting.sending before ∙ ap (λ o. option_map_or starting.layout_out o starting.plain) (sym gone) ∙ ap starting.sending (sym after);
       expecting_is = k.expecting_is ∙ ap expecting before ∙ ap (λ o. option_map_or starting.layout_in o starting.plain) (sym gone) ∙ ap expecting (sym after);
       most_reads_is = k.most_reads_is ∙ ap most_reads_in before ∙ ap (λ (o : Option Agreed). option_map_or (λ agreed. agreed.ord) o most_reads) (sym gone) ∙ ap most_reads_in (sym after);
+      rtr_is = k.rtr_is ∙ ap rtr_in before ∙ ap (λ (o : Option Agreed). option_map_or (λ agreed. agreed.rtr) o None) (sym gone) ∙ ap rtr_in (sym after);
     }
 
 -- what an initiator learns is what was agreed on

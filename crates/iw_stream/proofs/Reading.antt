@@ -1,9 +1,10 @@
 -- The Reads of this end, and the requests of the peer.
-use Rattle.std.proofs.Common.{◌≡◌, ◌≢◌, ℕ, zero, suc, ◌+◌, ◌<◌, ◌≤◌, ◌^◌, Bool, true, false, not, nat_lt, if◌then◌else◌, List, [], ◌∷◌, ◌++◌, length, Option, Some, None, Ok, refl, sym, ap, subst, arith}
+use Rattle.std.proofs.Common.{◌≡◌, ◌≢◌, ℕ, zero, suc, ◌+◌, ◌<◌, ◌≤◌, ◌^◌, Bool, true, false, not, nat_lt, if◌then◌else◌, List, [], ◌∷◌, ◌++◌, length, Option, Some, None, Ok, refl, sym, ap, ◌∙◌, subst, arith}
 use Rattle.std.specs.Prelude.{◌==◌}
 use Rattle.std.specs.Option.{option_map, option_map_or}
 use Rattle.std.specs.List.{slice_get}
 use Rattle.std.proofs.lemmas.Bool.Decides.{nat_tests}
+use Rattle.std.proofs.lemmas.Option.{none-some, same_Some}
 use Rattle.iw_octets.specs.declared.fault.Fault.{Fault}
 use Rattle.iw_octets.specs.declared.head.TaggedHead.{TaggedHead}
 use Rattle.iw_octets.specs.declared.segment.Segment.{Segment}
@@ -28,19 +29,26 @@ use Rattle.iw_queues.specs.Request.{kind_of}
 use Rattle.iw_queues.specs.Queue.{Queue, next_part, part_sent, done_in, handed_from, IsWithinLimits}
 use Rattle.iw_queues.proofs.Awaited.{awaits}
 use Rattle.iw_reads.specs.declared.reads.Outstanding.{Outstanding}
-use Rattle.iw_reads.specs.Outstanding.{response_turn_fault, reads_turned, finished_read}
+use Rattle.iw_reads.specs.Outstanding.{asked_for, response_turn_fault, reads_turned, finished_read}
 use Rattle.iw_reads.specs.Source.{IsInRange, denial_fault, source_fault}
+use Rattle.iw_startup.specs.declared.enhanced.Rtr.{Rtr}
+use Rattle.iw_startup.specs.declared.enhanced.Rtr.TheVariants.{Write, Read}
 use Rattle.iw_untagged.specs.Receiving.{Receiving, turn_fault}
 use Rattle.iw_stream.specs.declared.judging.Turning.TheVariants as turnings
 use Rattle.iw_stream.specs.Judging.{or_else, fault_or, answering_by, is_response, is_solicited, stag_to_invalidate, send_turning, invalidation_fault, segment_turn, left_by_turn}
-use Rattle.iw_stream.specs.Kept.{AreOthers, AreAwaited}
+use Rattle.iw_stream.specs.Kept.{AreOthers, IsPosting, AreAwaited}
+use Rattle.iw_stream.specs.Rtr.{rtr_message, rtr_request}
 use Rattle.iw_stream.specs.Stream.{reads_with}
 
 -- ---- Reads that are awaited
 -- they stay so if each does
+posting_still : (c d : completions.Outstanding) (o : Option ℕ) (later : List Outstanding) → ((ticket : ℕ) → ticket < 2 ^ 64 → IsAwaited c ticket → IsAwaited d ticket) → IsPosting c o later → IsPosting d o later
+posting_still c d None later still p = tt
+posting_still c d (Some ticket) later still p = (p.0, still ticket p.0 p.1, p.2)
+
 each_still : (c d : completions.Outstanding) (reads : List Outstanding) → ((ticket : ℕ) → ticket < 2 ^ 64 → IsAwaited c ticket → IsAwaited d ticket) → AreAwaited c reads → AreAwaited d reads
 each_still c d [] still a = tt
-each_still c d (read ∷ reads) still a = (a.0, still read.ticket a.0 a.1, a.2, each_still c d reads still a.3)
+each_still c d (read ∷ reads) still a = (posting_still c d read.ticket reads still a.0, each_still c d reads still a.1)
 
 -- if one message is handed out
 pub awaited_handed : (q : Queue) (reads : List Outstanding) → q.sent.first < 2 ^ 64 → AreAwaited q.sent reads → AreAwaited (handed_from q (done_in q)).sent reads
@@ -70,21 +78,32 @@ taken_place (y ∷ ys) zero x e = omega arith
 taken_place (y ∷ ys) (suc i) x e = let less = taken_place ys i x e in omega (arith, less)
 
 -- the next ticket is none of theirs
+other_ticket : (c : completions.Outstanding) (o : Option ℕ) (later : List Outstanding) → c.first < 2 ^ 64 → length c.messages ≤ 256 → IsPosting c o later → o ≢ Some (next_ticket c)
+other_ticket c None later first few p = λ same. none-some (next_ticket c) same
+other_ticket c (Some ticket) later first few p = λ same.
+    let less : place_of c ticket < length c.messages = taken_place c.messages (place_of c ticket) _ p.1 in
+    let is : ticket ≡ next_ticket c = same_Some ticket (next_ticket c) same in
+    omega (arith, less, is)
+
 new_ticket : (c : completions.Outstanding) (reads : List Outstanding) → c.first < 2 ^ 64 → length c.messages ≤ 256 → AreAwaited c reads → AreOthers (next_ticket c) reads
 new_ticket c [] first few a = tt
-new_ticket c (read ∷ reads) first few a =
-    let less : place_of c read.ticket < length c.messages = taken_place c.messages (place_of c read.ticket) _ a.1 in
-    ((λ same. omega (arith, less, same)), new_ticket c reads first few a.3)
+new_ticket c (read ∷ reads) first few a = (other_ticket c read.ticket reads first few a.0, new_ticket c reads first few a.1)
 
-others_and : (ticket : ℕ) (reads : List Outstanding) (read : Outstanding) → AreOthers ticket reads → read.ticket ≢ ticket → AreOthers ticket (reads ++ read ∷ [])
+others_and : (ticket : ℕ) (reads : List Outstanding) (read : Outstanding) → AreOthers ticket reads → read.ticket ≢ Some ticket → AreOthers ticket (reads ++ read ∷ [])
 others_and ticket [] read o apart = (apart, tt)
 others_and ticket (r ∷ reads) read o apart = (o.0, others_and ticket reads read o.1 apart)
 
 -- one more, with a ticket of its own
-awaited_and : (c : completions.Outstanding) (reads : List Outstanding) (read : Outstanding) → AreAwaited c reads → read.ticket < 2 ^ 64 → IsAwaited c read.ticket → AreOthers read.ticket reads → AreAwaited c (reads ++ read ∷ [])
-awaited_and c [] read a small h o = (small, h, tt, tt)
-awaited_and c (r ∷ reads) read a small h o =
-    (a.0, a.1, others_and r.ticket reads read a.2 (λ same. o.0 (sym same)), awaited_and c reads read a.3 small h o.1)
+posting_and : (c : completions.Outstanding) (o : Option ℕ) (later : List Outstanding) (ticket : ℕ) (request : ReadRequest) → IsPosting c o later → o ≢ Some ticket → IsPosting c o (asked_for later (Some ticket) request)
+posting_and c None later ticket request p apart = tt
+posting_and c (Some other) later ticket request p apart =
+    (p.0, p.1, others_and other later (record { ticket = Some ticket; request = request; turned = 0 }) p.2 (λ same. apart (sym same)))
+
+awaited_and : (c : completions.Outstanding) (reads : List Outstanding) (ticket : ℕ) (request : ReadRequest) → AreAwaited c reads → ticket < 2 ^ 64 → IsAwaited c ticket → AreOthers ticket reads
+    → AreAwaited c (asked_for reads (Some ticket) request)
+awaited_and c [] ticket request a small h o = ((small, h, tt), tt)
+awaited_and c (r ∷ reads) ticket request a small h o =
+    (posting_and c r.ticket reads ticket request a.0 o.0, awaited_and c reads ticket request a.1 small h o.1)
 
 part_ticket : (q : Queue) (max : ℕ) (part : Part (Request (List ℕ))) → next_part q max ≡ Some part → next_ticket q.sent ≡ part.ticket
 part_ticket q max part e = go q.unsent e
@@ -94,42 +113,62 @@ part_ticket q max part e = go q.unsent e
     go (m ∷ ms) e = cc
 
 pub awaited_sent : (q : Queue) (max : ℕ) (part : Part (Request (List ℕ))) (reads : List Outstanding) → IsWithinLimits q → q.sent.first < 2 ^ 64 → next_part q max ≡ Some part → AreAwaited q.sent reads
-    → AreAwaited (part_sent q (Some part)).sent (reads_with reads part.ticket part.message)
+    → AreAwaited (part_sent q (Some part)).sent (reads_with reads (Some part.ticket) part.message)
 awaited_sent q max part reads limits first e a = go part.message refl
   where
     still : AreAwaited (part_sent q (Some part)).sent reads
     still = each_still q.sent (part_sent q (Some part)).sent reads (λ ticket small h. subst (λ o. IsAwaited (part_sent q o).sent ticket) e (awaits.others_sent q max ticket h)) a
 
-    go : (m : Request (List ℕ)) → part.message ≡ m → AreAwaited (part_sent q (Some part)).sent (reads_with reads part.ticket m)
+    go : (m : Request (List ℕ)) → part.message ≡ m → AreAwaited (part_sent q (Some part)).sent (reads_with reads (Some part.ticket) m)
     go (requests.Message m) is = still
     go (requests.Read request) is =
         let same : next_ticket q.sent ≡ part.ticket = part_ticket q max part e in
-        awaited_and (part_sent q (Some part)).sent reads (record { ticket = part.ticket; request = request; turned = 0 }) still
+        awaited_and (part_sent q (Some part)).sent reads part.ticket request still
         (subst (λ t. t < 2 ^ 64) same (omega arith))
         (awaits.sent q max part limits first e (ap kind_of is))
         (subst (λ t. AreOthers t reads) same (new_ticket q.sent reads first (omega (arith, limits.posted)) a))
 
+-- the RTR is awaited by nobody
+posting_untold : (c : completions.Outstanding) (o : Option ℕ) (later : List Outstanding) (request : ReadRequest) → IsPosting c o later → IsPosting c o (asked_for later None request)
+posting_untold c None later request p = tt
+posting_untold c (Some ticket) later request p = (p.0, p.1, others_and ticket later (record { ticket = None; request = request; turned = 0 }) p.2 (λ same. none-some ticket same))
+
+awaited_untold : (c : completions.Outstanding) (reads : List Outstanding) (request : ReadRequest) → AreAwaited c reads → AreAwaited c (asked_for reads None request)
+awaited_untold c [] request a = (tt, tt)
+awaited_untold c (r ∷ reads) request a = (posting_untold c r.ticket reads request a.0, awaited_untold c reads request a.1)
+
+pub awaited_rtr : (c : completions.Outstanding) (reads : List Outstanding) (rtr : Rtr) → AreAwaited c reads → AreAwaited c (reads_with reads None (rtr_message rtr))
+awaited_rtr c reads Write a = a
+awaited_rtr c reads Read a = awaited_untold c reads rtr_request a
+
 -- if the oldest is finished, and is no more
+posting_finished : (c : completions.Outstanding) (o : Option ℕ) (ticket : ℕ) (later : List Outstanding) → c.first < 2 ^ 64 → ticket < 2 ^ 64 → o ≢ Some ticket → IsPosting c o later
+    → IsPosting (completions.finished c ticket) o later
+posting_finished c None ticket later first small apart p = tt
+posting_finished c (Some other) ticket later first small apart p =
+    (p.0, awaits.others_finished c other ticket first p.0 small (λ same. apart (ap Some same)) p.1, p.2)
+
+others_finished : (c : completions.Outstanding) (ticket : ℕ) (reads : List Outstanding) → c.first < 2 ^ 64 → ticket < 2 ^ 64 → AreOthers ticket reads → AreAwaited c reads → AreAwaited (completions.finished c ticket) reads
+others_finished c ticket [] first small o a = tt
+others_finished c ticket (read ∷ reads) first small o a =
+    (posting_finished c read.ticket ticket reads first small o.0 a.0, others_finished c ticket reads first small o.1 a.1)
+
 pub awaited_finished : (c : completions.Outstanding) (reads : List Outstanding) (head : TaggedHead) (n ticket : ℕ) → c.first < 2 ^ 64 → AreAwaited c reads → finished_read reads head ≡ Some ticket
     → AreAwaited (completions.finished c ticket) (reads_turned reads head n)
 awaited_finished c [] head n ticket first a e = tt
 awaited_finished c (read ∷ reads) head n ticket first a e = go head.last refl e
   where
-    others : (rs : List Outstanding) → AreOthers read.ticket rs → AreAwaited c rs → AreAwaited (completions.finished c read.ticket) rs
-    others [] o h = tt
-    others (r ∷ rs) o h = (h.0, awaits.others_finished c r.ticket read.ticket first h.0 a.0 o.0 h.1, h.2, others rs o.1 h.3)
-
-    go : (last : Bool) → head.last ≡ last → (if last then Some read.ticket else None) ≡ Some ticket
+    go : (last : Bool) → head.last ≡ last → (if last then read.ticket else None) ≡ Some ticket
         → AreAwaited (completions.finished c ticket) (if last then reads else record read { turned = read.turned + n } ∷ reads)
-    go true is h = let same : read.ticket ≡ ticket = cc in subst (λ t. AreAwaited (completions.finished c t) reads) same (others reads a.2 a.3)
+    go true is h = let p : IsPosting c (Some ticket) reads = subst (λ o. IsPosting c o reads) h a.0 in others_finished c ticket reads first p.0 p.2 a.1
     go false is h = absurd (let no : ⊥ = cc in no)
 
 pub awaits_oldest : (c : completions.Outstanding) (reads : List Outstanding) (head : TaggedHead) (ticket : ℕ) → AreAwaited c reads → finished_read reads head ≡ Some ticket → IsAwaited c ticket
 awaits_oldest c [] head ticket a e = absurd (let no : ⊥ = cc in no)
 awaits_oldest c (read ∷ reads) head ticket a e = go head.last e
   where
-    go : (last : Bool) → (if last then Some read.ticket else None) ≡ Some ticket → IsAwaited c ticket
-    go true h = subst (IsAwaited c) (let same : read.ticket ≡ ticket = cc in same) a.1
+    go : (last : Bool) → (if last then read.ticket else None) ≡ Some ticket → IsAwaited c ticket
+    go true h = let p : IsPosting c (Some ticket) reads = subst (λ o. IsPosting c o reads) h a.0 in p.1
     go false h = absurd (let no : ⊥ = cc in no)
 
 -- if a segment had its turn, and none is finished
@@ -138,8 +177,8 @@ awaited_turned c [] head n a = tt
 awaited_turned c (read ∷ reads) head n a = go head.last
   where
     go : (last : Bool) → AreAwaited c (if last then reads else record read { turned = read.turned + n } ∷ reads)
-    go true = a.3
-    go false = (a.0, a.1, a.2, a.3)
+    go true = a.1
+    go false = (a.0, a.1)
 
 -- ---- a frame's turn
 pub awaited_left : (c : completions.Outstanding) (reads : List Outstanding) (n : ℕ) (o : Option (Segment (List ℕ))) → AreAwaited c reads → AreAwaited c (left_by_turn reads n o)
@@ -150,6 +189,20 @@ awaited_left c reads n (Some (Tagged head payload)) a = go (is_response head)
     go : (b : Bool) → AreAwaited c (if b then reads_turned reads head n else reads)
     go true = awaited_turned c reads head n a
     go false = a
+
+-- where none is outstanding, none is after it
+none_turned : (reads : List Outstanding) (head : TaggedHead) (n : ℕ) → reads ≡ [] → reads_turned reads head n ≡ []
+none_turned [] head n none = refl
+none_turned (read ∷ reads) head n none = absurd (let no : ⊥ = cc in no)
+
+pub none_left : (reads : List Outstanding) (n : ℕ) (o : Option (Segment (List ℕ))) → reads ≡ [] → left_by_turn reads n o ≡ []
+none_left reads n None none = none
+none_left reads n (Some (Untagged head payload)) none = none
+none_left reads n (Some (Tagged head payload)) none = go (is_response head)
+  where
+    go : (b : Bool) → (if b then reads_turned reads head n else reads) ≡ []
+    go true = none_turned reads head n none
+    go false = none
 
 -- a Read that is finished by it is the oldest
 record IsAnswer (reads : List Outstanding) (n : ℕ) (o : Option (Segment (List ℕ))) (ticket : ℕ) : Type 0 where

@@ -15,7 +15,7 @@ use Rattle.iw_queues.specs.Queue.{done_in, oldest_in, oldest_among}
 use Rattle.iw_untagged.specs.Receiving.{Source, Posted, Pooled, count_in, first_buffer}
 use Rattle.iw_stream.specs.Ending.{last_word}
 use Rattle.iw_stream.specs.Starting.{is_open, awaits_frame}
-use Rattle.iw_stream.specs.Stream.{StreamState, StartUp, LastWord, Response, NextPart, NoneDue, ended, due, is_none_due, is_mute, keeps_silent, owes_frame, part_due, response_due}
+use Rattle.iw_stream.specs.Stream.{StreamState, StartUp, LastWord, Ready, NoneDue, ended, due, message_due, is_none_due, is_mute, keeps_silent, owes_frame, rtr_due}
 use Rattle.iw_stream.specs.Work.{Task, HandOut, GiveUp, GiveBack, Hear, Rest, task, frame_task, handing_back, is_rest}
 
 -- no message is posted
@@ -86,8 +86,8 @@ pub is_clear : (s : StreamState) → ended s ≡ true → is_none_due (due s) �
 is_clear s over = go (owes_frame s) (last_word s.ending)
   where
     go : (owes : Bool) (o : Option (List ℕ))
-        → is_none_due (if owes then StartUp else option_map_or LastWord o (if is_mute s then NoneDue else option_map_or Response (response_due s) (option_map_or NextPart (part_due s) NoneDue)))
+        → is_none_due (if owes then StartUp else option_map_or LastWord o (if is_mute s then NoneDue else option_map_or Ready (rtr_due s) (message_due s)))
         ≡ (not owes && not (is_some o))
     go true o = refl
     go false (Some payload) = refl
-    go false None = ap (λ b. is_none_due (if b || (not (is_open s.start) || keeps_silent s) then NoneDue else option_map_or Response (response_due s) (option_map_or NextPart (part_due s) NoneDue))) over
+    go false None = ap (λ b. is_none_due (if b || (not (is_open s.start) || keeps_silent s) then NoneDue else option_map_or Ready (rtr_due s) (message_due s))) over

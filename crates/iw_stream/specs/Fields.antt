@@ -4,7 +4,7 @@ use Rattle.iw_stream.specs.declared.starting.Start.TheInside as start
 use Rattle.iw_stream.specs.declared.stream.Stream.TheInside as stream
 use Rattle.iw_stream.specs.Emitting.{numbers_of}
 use Rattle.iw_stream.specs.Kept.{Keeps}
-use Rattle.iw_stream.specs.Starting.{StartState, IsFresh, start_by, is_open, sending, expecting, most_reads_in, first_place_in}
+use Rattle.iw_stream.specs.Starting.{StartState, IsFresh, start_by, is_open, sending, expecting, most_reads_in, rtr_in, first_place_in}
 use Rattle.iw_stream.specs.Stream.{StreamState}
 
 abbrev pub start_of : start.Inside → StartState
@@ -17,6 +17,7 @@ pub record IsStart (s : start.Inside) : Type 0 where
   pub sending_is : s.sending ≡ sending (start_of s)
   pub expecting_is : s.expecting ≡ expecting (start_of s)
   pub most_reads_is : s.most_reads ≡ most_reads_in (start_of s)
+  pub rtr_is : s.rtr ≡ rtr_in (start_of s)
 
 abbrev pub state_of : {A : Type 0} → stream.Inside A → StreamState
 state_of {A} s = record {

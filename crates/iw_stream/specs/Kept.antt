@@ -107,18 +107,25 @@ pub record IsStarted (s : StreamState) : Type 0 where
   -- this end's start-up frame is the first that it emits, whole, and the only one before the stream is open
   pub unsent : s.sent < first_place_out s.start → s.sent ≡ 0
   pub alone : is_open s.start ≡ false → s.sent ≤ first_place_out s.start
+  -- no Read is outstanding before a frame was sent
+  pub unread : s.sent ≤ first_place_out s.start → s.reads ≡ []
   -- the peer's frames stand past its start-up frame
   pub beyond : first_place_in s.start ≤ s.arrived.floor
 
 -- none of the Reads has this ticket
 abbrev pub AreOthers : ℕ → List Outstanding → Type 0
 AreOthers ticket [] = Unit {0}
-AreOthers ticket (read ∷ reads) = (read.ticket ≢ ticket) × AreOthers ticket reads
+AreOthers ticket (read ∷ reads) = (read.ticket ≢ Some ticket) × AreOthers ticket reads
+
+-- a Read that was posted has a ticket that none of the later ones has, and is awaited; nothing is asked of the RTR, which has none
+abbrev pub IsPosting : completions.Outstanding → Option ℕ → List Outstanding → Type 0
+IsPosting sent None later = Unit {0}
+IsPosting sent (Some ticket) later = (ticket < 2 ^ 64) × IsAwaited sent ticket × AreOthers ticket later
 
 -- the Reads were sent and are not finished, each with a ticket of its own
 abbrev pub AreAwaited : completions.Outstanding → List Outstanding → Type 0
 AreAwaited sent [] = Unit {0}
-AreAwaited sent (read ∷ reads) = (read.ticket < 2 ^ 64) × IsAwaited sent read.ticket × AreOthers read.ticket reads × AreAwaited sent reads
+AreAwaited sent (read ∷ reads) = IsPosting sent read.ticket reads × AreAwaited sent reads
 
 pub record Keeps (s : StreamState) : Type 0 where
   pub started : IsStarted s

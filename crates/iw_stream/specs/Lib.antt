@@ -4,6 +4,7 @@ pub mod Frames
 pub mod Incoming
 pub mod Judging
 pub mod Terminating
+pub mod Rtr
 pub mod Stream
 pub mod Work
 pub mod Kept

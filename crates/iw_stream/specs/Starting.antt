@@ -9,11 +9,12 @@ use Rattle.iw_startup.specs.declared.config.Config.{Config}
 use Rattle.iw_startup.specs.declared.enhanced.EnhancedData.{EnhancedData}
 use Rattle.iw_startup.specs.declared.enhanced.Mismatch.{Mismatch}
 use Rattle.iw_startup.specs.declared.enhanced.Mismatch.TheVariants.{InsufficientIrd, NoMatchingRtr}
+use Rattle.iw_startup.specs.declared.enhanced.Rtr.{Rtr}
 use Rattle.iw_startup.specs.declared.progress.Progress.{Progress}
 use Rattle.iw_startup.specs.declared.progress.Progress.TheVariants as progress
 use Rattle.iw_startup.specs.declared.side.Reply.{Reply}
 use Rattle.iw_startup.specs.declared.side.Side.TheVariants as sides
-use Rattle.iw_startup.specs.Enhanced.{at_responder, asked_revision}
+use Rattle.iw_startup.specs.Enhanced.{asked_revision}
 use Rattle.iw_startup.specs.Frame.{is_enhanced, has_word}
 use Rattle.iw_startup.specs.Peer.{progress_of}
 use Rattle.iw_startup.specs.State.{StartupState, begun, pushed, frame_of, told_of, agreed_of, agreement, mismatch_of, awaits_answer, answered}
@@ -29,14 +30,10 @@ pub data StartState : Type 0 where
   Unheard : StartupState → StartState  -- the peer's start-up frame was not read yet
   Heard : StartupState → StartState  -- it was read, and frames go both ways once both ends agree
 
--- no RTR is sent: the peer-to-peer model is not asked for
-abbrev pub without_rtr : Config → Config
-without_rtr config = record config { establishment = at_responder config.establishment }
-
 -- how a stream begins: open at once, with the layout that is asked for, or with start-up frames
 abbrev pub start_at_first : Role → Config → StartState
 start_at_first Preset config = AtOnce (record { markers = config.markers; crc = config.crc })
-start_at_first Initiator config = Unheard (begun sides.Initiator (without_rtr config))
+start_at_first Initiator config = Unheard (begun sides.Initiator config)
 start_at_first Responder config = Unheard (begun (sides.Responder None) config)
 
 -- an enhanced Request has no room for the private data (RFC 6581 9)
@@ -141,6 +138,12 @@ abbrev pub most_reads_in : StartState → ℕ
 most_reads_in (AtOnce layout) = most_reads
 most_reads_in (Unheard u) = most_reads
 most_reads_in (Heard u) = option_map_or (λ agreed. agreed.ord) (agreed_of u) most_reads
+
+-- the RTR that this end sends before any other message, if one is agreed on (RFC 6581 9.2)
+abbrev pub rtr_in : StartState → Option Rtr
+rtr_in (AtOnce layout) = None
+rtr_in (Unheard u) = None
+rtr_in (Heard u) = option_map_or (λ agreed. agreed.rtr) (agreed_of u) None
 
 -- what a Reply that accepts wants and this end does not have
 abbrev pub mismatch_in : StartState → Option Mismatch

@@ -23,7 +23,7 @@ use Rattle.iw_queues.specs.declared.request.Request.TheVariants as requests
 use Rattle.iw_queues.specs.declared.send_queue.Part.{Part}
 use Rattle.iw_queues.specs.Queue.{Queue, nothing_posted, posted, next_part, part_sent}
 use Rattle.iw_queues.specs.Queue as queues
-use Rattle.iw_queues.specs.Segments.{Numbers, first_numbers, segment_of, numbers_beyond}
+use Rattle.iw_queues.specs.Segments.{Numbers, first_numbers, segment_of, numbers_after, numbers_beyond}
 use Rattle.iw_rdmap.specs.Laws.{terminate_head}
 use Rattle.iw_reads.specs.declared.reads.Outstanding.{Outstanding}
 use Rattle.iw_reads.specs.declared.response.ResponsePart.{ResponsePart}
@@ -32,6 +32,7 @@ use Rattle.iw_reads.specs.Requests.{Requested, nothing_asked, response_part, par
 use Rattle.iw_reads.specs.Response.{fetch_fault, fetched_octets}
 use Rattle.arrayvec.specs.ArrayVec.{ArrayVec}
 use Rattle.iw_startup.specs.declared.config.Config.{Config}
+use Rattle.iw_startup.specs.declared.enhanced.Rtr.{Rtr}
 use Rattle.iw_startup.specs.declared.side.Reply.TheVariants.{Accept, Reject}
 use Rattle.iw_stream.specs.declared.answer.AnswerRefusal.{AnswerRefusal}
 use Rattle.iw_stream.specs.declared.answer.AnswerRefusal.TheVariants.{NotAsked}
@@ -52,8 +53,9 @@ use Rattle.iw_stream.specs.declared.ending.Ending.TheVariants.{Runs, Over, Broke
 use Rattle.iw_stream.specs.Ending.{has_ended, is_broken, last_word, with_last_word}
 use Rattle.iw_stream.specs.Frames.{EarlyRecord}
 use Rattle.iw_stream.specs.Judging.{fault_or}
+use Rattle.iw_stream.specs.Rtr.{rtr_message, rtr_segment}
 use Rattle.iw_stream.specs.Terminating.{terminate_fetched}
-use Rattle.iw_stream.specs.Starting.{StartState, start_at_first, is_open, sending, most_reads_in, own_frame, first_place_in, first_place_out, is_responder, is_asked, answered_with}
+use Rattle.iw_stream.specs.Starting.{StartState, start_at_first, is_open, sending, most_reads_in, rtr_in, own_frame, first_place_in, first_place_out, is_responder, is_asked, answered_with}
 use Rattle.iw_stream.specs.Starting as starting
 
 pub record StreamState : Type 0 where
@@ -166,6 +168,10 @@ abbrev pub is_read : Request (List ℕ) → Bool
 is_read (requests.Message m) = false
 is_read (requests.Read request) = true
 
+-- the RTR is to be sent: this end has sent no frame yet
+abbrev pub rtr_due : StreamState → Option Rtr
+rtr_due s = if s.sent == first_place_out s.start then rtr_in s.start else None
+
 -- a Read is not begun while as many are outstanding as may be, and all after it wait too
 abbrev pub may_go : ℕ → List Outstanding → Option (Part (Request (List ℕ))) → Option (Part (Request (List ℕ)))
 may_go most reads None = None
@@ -184,20 +190,25 @@ response_due s = if nat_lt 0 s.queue.offset then None else response_part s.asked
 pub data Due : Type 0 where
   StartUp : Due  -- this end's start-up frame
   LastWord : List ℕ → Due  -- the Terminate with this payload
+  Ready : Rtr → Due  -- the frame of the RTR
   Response : ResponsePart → Due  -- the frame of a part of a response, if its source is not denied
   NextPart : Part (Request (List ℕ)) → Due  -- the frame of a part of what was posted
   NoneDue : Due
+
+-- of responses and messages
+abbrev pub message_due : StreamState → Due
+message_due s = option_map_or Response (response_due s) (option_map_or NextPart (part_due s) NoneDue)
 
 abbrev pub due : StreamState → Due
 due s =
     if owes_frame s then StartUp
     else option_map_or LastWord (last_word s.ending)
-    (if is_mute s then NoneDue
-    else option_map_or Response (response_due s) (option_map_or NextPart (part_due s) NoneDue))
+    (if is_mute s then NoneDue else option_map_or Ready (rtr_due s) (message_due s))
 
 abbrev pub is_none_due : Due → Bool
 is_none_due StartUp = false
 is_none_due (LastWord payload) = false
+is_none_due (Ready rtr) = false
 is_none_due (Response part) = false
 is_none_due (NextPart part) = false
 is_none_due NoneDue = true
@@ -209,6 +220,9 @@ frame_of s segment = frame_octets (sending s.start) (s.sent - first_place_out s.
 -- a Terminate: its queue's first message, in one segment (RFC 5040 5.4)
 abbrev pub frame_of_terminate : StreamState → List ℕ → List ℕ
 frame_of_terminate s payload = frame_of s (Untagged terminate_head payload)
+
+abbrev pub frame_of_rtr : StreamState → Rtr → List ℕ
+frame_of_rtr s rtr = frame_of s (rtr_segment s.numbers rtr)
 
 abbrev pub frame_of_part : StreamState → Part (Request (List ℕ)) → List ℕ
 frame_of_part s part = frame_of s (segment_of s.numbers part)
@@ -225,6 +239,7 @@ octets_fetched (Err fault) = []
 abbrev pub octets_due : Table → StreamState → Due → List ℕ
 octets_due table s StartUp = own_frame s.start
 octets_due table s (LastWord payload) = frame_of_terminate s payload
+octets_due table s (Ready rtr) = frame_of_rtr s rtr
 octets_due table s (Response part) = octets_fetched (frame_fetched table s part)
 octets_due table s (NextPart part) = frame_of_part s part
 octets_due table s NoneDue = []
@@ -236,12 +251,13 @@ emission_fetched s part (Err fault) = emissions.Fault fault
 abbrev pub emission_due : Table → StreamState → Due → Emission
 emission_due table s StartUp = emissions.Frame s.sent (length (own_frame s.start))
 emission_due table s (LastWord payload) = emissions.Frame s.sent (length (frame_of_terminate s payload))
+emission_due table s (Ready rtr) = emissions.Frame s.sent (length (frame_of_rtr s rtr))
 emission_due table s (Response part) = emission_fetched s part (frame_fetched table s part)
 emission_due table s (NextPart part) = emissions.Frame s.sent (length (frame_of_part s part))
 emission_due table s NoneDue = emissions.Nothing
 
 -- a Read is outstanding once its request was sent
-abbrev pub reads_with : List Outstanding → ℕ → Request (List ℕ) → List Outstanding
+abbrev pub reads_with : List Outstanding → Option ℕ → Request (List ℕ) → List Outstanding
 reads_with reads ticket (requests.Message m) = reads
 reads_with reads ticket (requests.Read request) = asked_for reads ticket request
 
@@ -252,12 +268,17 @@ left_fetched s part (Err fault) = ends_by s (terminate_fetched s.asked fault)
 abbrev pub left_due : Table → StreamState → Due → StreamState
 left_due table s StartUp = record s { sent = s.sent + length (own_frame s.start) }
 left_due table s (LastWord payload) = record s { sent = s.sent + length (frame_of_terminate s payload); ending = Over None }
+left_due table s (Ready rtr) = record s {
+  numbers = numbers_after s.numbers (rtr_message rtr);
+  sent = s.sent + length (frame_of_rtr s rtr);
+  reads = reads_with s.reads None (rtr_message rtr);
+}
 left_due table s (Response part) = left_fetched s part (frame_fetched table s part)
 left_due table s (NextPart part) = record s {
   queue = part_sent s.queue (Some part);
   numbers = numbers_beyond s.numbers part;
   sent = s.sent + length (frame_of_part s part);
-  reads = reads_with s.reads part.ticket part.message;
+  reads = reads_with s.reads (Some part.ticket) part.message;
 }
 left_due table s NoneDue = s
 
@@ -265,6 +286,7 @@ left_due table s NoneDue = s
 abbrev pub BeginsReads : StreamState → Due → Type 0
 BeginsReads s StartUp = ⊥
 BeginsReads s (LastWord payload) = ⊥
+BeginsReads s (Ready rtr) = (is_read (rtr_message rtr) ≡ true) × (s.reads ≡ [])
 BeginsReads s (Response part) = ⊥
 BeginsReads s (NextPart part) = (is_read part.message ≡ true) × (s.reads ≡ [])
 BeginsReads s NoneDue = ⊥

@@ -4,19 +4,22 @@ ghost use Rattle.iw_octets.specs.declared.segment.Segment.TheVariants.{Tagged, U
 ghost use Rattle.iw_octets.specs.Segment.{segment_octets};
 ghost use Rattle.iw_fpdu.specs.Frame.{frame_octets, max_sent};
 ghost use Rattle.iw_queues.specs.Request.{payload, header_len};
-ghost use Rattle.iw_queues.specs.Segments.{first_numbers, segment_of, numbers_beyond};
+ghost use Rattle.iw_queues.specs.Segments.{first_numbers, segment_of, numbers_after, numbers_beyond};
 ghost use Rattle.iw_queues.specs.Segments.{write_head, send_head, request_head};
 ghost use Rattle.iw_queues.specs.Shown.{shown_part};
 ghost use Rattle.iw_rdmap.specs.Laws.{terminate_head};
 ghost use Rattle.iw_stream.specs.Emitting.{numbers_of};
+ghost use Rattle.iw_stream.specs.Rtr.{rtr_stag, rtr_request, rtr_message, rtr_segment};
 
 use bytes::Bytes;
 use iw_fpdu::{Layout, write_segment};
 use iw_octets::{
-    DDP_VERSION, Message, Stag, TAGGED_HEADER, TaggedHead, UNTAGGED_HEADER, UntaggedHead,
+    DDP_VERSION, Message, ReadRequest, Stag, TAGGED_HEADER, TaggedHead, UNTAGGED_HEADER,
+    UntaggedHead,
 };
 use iw_queues::{Part, Request};
 use iw_rdmap::{MAX_TERMINATE, TaggedOperation, UntaggedOperation};
+use iw_startup::Rtr;
 use std::alloc::{AllocError, Allocator};
 
 /// The message sequence numbers of the next Send and of the next Read: each queue counts its own (RFC 5041 4.3).
@@ -49,6 +52,20 @@ impl Numbers {
                 read,
             },
             Request::Read(_) => Numbers {
+                send,
+                read: read.wrapping_add(1),
+            },
+        }
+    }
+
+    /// Those after the RTR.
+    pub(crate) fn beyond_rtr(self, rtr: Rtr) -> Numbers
+        ensures { numbers_of result ≡ numbers_after (numbers_of self) (rtr_message rtr) }
+    {
+        let Numbers { send, read } = self;
+        match rtr {
+            Rtr::Write => self,
+            Rtr::Read => Numbers {
                 send,
                 read: read.wrapping_add(1),
             },
@@ -200,6 +217,58 @@ pub(crate) fn write_part<A: Allocator, B: Allocator>(
         }
         Request::Read(request) => {
             let octets = request.write();
+            write_untagged(
+                layout,
+                at,
+                request_head(numbers.read),
+                octets.as_slice(),
+                out,
+            )
+        }
+    }
+}
+
+// The STag that the RTR names.
+fn rtr_stag() -> Stag
+    ensures { result ≡ rtr_stag }
+{
+    Stag::new(0, 0, 1)
+}
+
+/// The RTR, if it is a Read: one of no octets (RFC 6581 9.2).
+pub(crate) fn rtr_request() -> ReadRequest
+    ensures { result ≡ rtr_request }
+{
+    ReadRequest {
+        sink: rtr_stag(),
+        sink_to: 0,
+        size: 0,
+        source: rtr_stag(),
+        source_to: 0,
+    }
+}
+
+/// Appends the frame of the RTR, to stand at frame place `at`, if the next messages have these numbers.
+///
+/// An `Err` means out of memory, comes only if `out` has no room for the frame, and leaves `out` as it was.
+pub(crate) fn write_rtr<A: Allocator>(
+    layout: Layout,
+    at: u64,
+    numbers: Numbers,
+    rtr: Rtr,
+    out: &mut Vec<u8, A>,
+) -> Result<(), AllocError>
+    requires place { at < 2 ^ 63 }
+    requires aligned { at % 4 ≡ 0 }
+    ensures ok { OnOk result (out.new.items ≡ out.old.items ++ frame_octets layout at (segment_octets (rtr_segment (numbers_of numbers) rtr))) }
+    ensures err { OnErr result (out.new.items ≡ out.old.items) }
+    ensures memory { vec_len out.old + length (frame_octets layout at (segment_octets (rtr_segment (numbers_of numbers) rtr))) ≤ vec_capacity out.old
+        → IsOk result }
+{
+    match rtr {
+        Rtr::Write => write_tagged(layout, at, write_head(rtr_stag(), 0, 0, true), &[], out),
+        Rtr::Read => {
+            let octets = rtr_request().write();
             write_untagged(
                 layout,
                 at,

@@ -8,7 +8,7 @@ ghost use Rattle.iw_rdmap.specs.Terminate.{FitsFault, has_segment};
 ghost use Rattle.iw_reads.specs.Outstanding.{most_reads};
 ghost use Rattle.iw_startup.specs.declared.side.Side.TheVariants as sides;
 ghost use Rattle.iw_startup.specs.State.{agreed_of, begun, is_answered};
-ghost use Rattle.iw_stream.specs.Starting.{Heard, plain, layout_out, layout_in, without_rtr, exceeds_request, answer_refusal, negotiation_fault};
+ghost use Rattle.iw_stream.specs.Starting.{Heard, plain, layout_out, layout_in, exceeds_request, answer_refusal, negotiation_fault};
 
 use crate::answer::{AnswerRefusal, INSUFFICIENT_IRD, NO_MATCHING_RTR, Role};
 use crate::incoming::Incoming;
@@ -16,7 +16,7 @@ use iw_fpdu::Layout;
 use iw_octets::{Fault, MAX_UNANSWERED};
 use iw_startup::{
     Agreed, Config, EnhancedData, Establishment, MAX_ENHANCED_PRIVATE, MAX_FRAME, Mismatch,
-    PrivateData, Progress, Startup,
+    PrivateData, Progress, Rtr, Startup,
 };
 use std::alloc::{AllocError, Allocator};
 use std::marker::Model;
@@ -34,6 +34,8 @@ pub(crate) struct Start {
     // How this end's frames are laid out, and the peer's: plain before both ends agree.
     sending: Layout,
     expecting: Layout,
+    // The RTR that this end sends first.
+    rtr: Option<Rtr>,
     // How many Reads of this end are outstanding at most.
     most_reads: usize,
     // The peer's start-up frame was read.
@@ -84,28 +86,13 @@ fn layout_agreed(startup: &Startup) -> Layout
     }
 }
 
-fn without_rtr(config: Config) -> Config
-    ensures { result ≡ without_rtr config }
-{
-    let establishment = match config.establishment {
-        Establishment::Plain => Establishment::Plain,
-        Establishment::Enhanced | Establishment::PeerToPeer => Establishment::Enhanced,
-    };
-    Config {
-        markers: config.markers,
-        crc: config.crc,
-        establishment,
-        private: config.private,
-    }
-}
-
-// An initiator's start-up frames. No RTR is sent: the peer-to-peer model is not asked for.
+// An initiator's start-up frames.
 fn asking(config: Config) -> Startup
     requires { exceeds_request Role.Initiator config ≡ false }
-    ensures { result ≡ begun sides.Initiator (without_rtr config) }
+    ensures { result ≡ begun sides.Initiator config }
 {
     let _room = config.private.len();
-    Startup::initiator(without_rtr(config))
+    Startup::initiator(config)
 }
 
 /// Whether an initiator has too much private data for its Request: an enhanced one has room for 508 octets (RFC 6581 9).
@@ -146,7 +133,7 @@ pub(crate) fn negotiation_fault(mismatch: Mismatch) -> Fault
 }
 
 impl Start {
-    ghost use Rattle.iw_stream.specs.Starting.{Unheard, start_at_first, is_open, sending, expecting, most_reads_in};
+    ghost use Rattle.iw_stream.specs.Starting.{Unheard, start_at_first, is_open, sending, expecting, most_reads_in, rtr_in};
     ghost use Rattle.iw_stream.specs.Starting.{own_frame, first_place_in, first_place_out, is_responder};
     ghost use Rattle.iw_stream.specs.Starting.{awaits_frame, progress_in, heard, private_in, told_in};
     ghost use Rattle.iw_stream.specs.Starting.{agreed_in, agreement_in, mismatch_in, answered_with};
@@ -167,6 +154,7 @@ impl Start {
                     running: true,
                     sending: layout,
                     expecting: layout,
+                    rtr: None,
                     most_reads: MAX_UNANSWERED,
                     heard: false,
                     frames: None,
@@ -187,6 +175,7 @@ impl Start {
             running: false,
             sending: PLAIN,
             expecting: PLAIN,
+            rtr: None,
             most_reads: MAX_UNANSWERED,
             heard: false,
             frames: Some(startup),
@@ -224,6 +213,14 @@ impl Start {
         ensures fits { result ≤ most_reads }
     {
         self.most_reads
+    }
+
+    /// The RTR that this end sends before any other message, if one is agreed on.
+    #[inline(always)]
+    pub(crate) fn rtr(&self) -> Option<Rtr>
+        ensures { result ≡ rtr_in self.now }
+    {
+        self.rtr
     }
 
     /// How many octets this end's start-up frame has: its frames begin past it.
@@ -338,6 +335,7 @@ impl Start {
         self.running = true;
         self.sending = layout_out(agreed);
         self.expecting = layout_in(agreed);
+        self.rtr = agreed.rtr;
         self.most_reads = agreed.ord;
         Ok(agreed)
     }
@@ -397,6 +395,7 @@ impl Start {
             self.running = true;
             self.sending = layout_out(agreed);
             self.expecting = layout_in(agreed);
+            self.rtr = agreed.rtr;
             self.most_reads = agreed.ord;
         }
     }

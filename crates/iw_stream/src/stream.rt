@@ -104,7 +104,6 @@ impl<A: Allocator> Stream<A> {
     /// markers and CRCs that `config` asks for in both directions, or with start-up frames, which agree on them.
     ///
     /// An initiator that asks for revision 2 has at most 508 octets of private data ([`exceeds_request`](crate::exceeds_request)).
-    /// It sends no RTR: one that is `PeerToPeer` begins as if it were `Enhanced`.
     ///
     /// An `Err` means out of memory.
     pub fn new(alloc: A, domain: u8, role: Role, config: Config) -> Result<Stream<A>, AllocError>

@@ -6,14 +6,15 @@ ghost use Rattle.iw_octets.specs.declared.segment.Segment.TheVariants.{Tagged};
 ghost use Rattle.iw_memory.specs.Table.{Table};
 ghost use Rattle.iw_stream.specs.Starting.{is_open, first_place_out};
 ghost use Rattle.iw_reads.specs.Outstanding.{most_reads};
-ghost use Rattle.iw_queues.specs.Segments.{numbers_beyond};
+ghost use Rattle.iw_queues.specs.Segments.{numbers_after, numbers_beyond};
 ghost use Rattle.iw_queues.specs.Shown.{shown_part};
 ghost use Rattle.iw_stream.specs.Emitting.{numbers_of};
+ghost use Rattle.iw_stream.specs.Rtr.{rtr_message};
 ghost use Rattle.iw_stream.specs.Stream.{is_read, reads_with};
 
 use super::Stream;
 use crate::answer::Emission;
-use crate::emitting::{Numbers, write_part, write_tagged, write_terminate};
+use crate::emitting::{Numbers, rtr_request, write_part, write_rtr, write_tagged, write_terminate};
 use crate::ending::Ending;
 use crate::terminating::terminate_fetched;
 use bytes::Bytes;
@@ -21,6 +22,7 @@ use iw_memory::Memory;
 use iw_octets::Message;
 use iw_queues::{Part, Request};
 use iw_reads::{Reads, ResponsePart, fetch};
+use iw_startup::Rtr;
 use std::alloc::{AllocError, Allocator};
 
 pub(super) fn is_read<A: Allocator>(request: &Request<Bytes<A>>) -> bool
@@ -49,13 +51,13 @@ fn read_sent<A: Allocator>(
     request: &Request<Bytes<A>>,
 ) -> Result<(), AllocError>
     requires { (is_read request.now && nat_le most_reads (length reads.old)) ≡ false }
-    ensures ok { OnOk result (reads.new ≡ reads_with reads.old ticket request.now) }
+    ensures ok { OnOk result (reads.new ≡ reads_with reads.old (Some ticket) request.now) }
     ensures err { OnErr result (reads.new ≡ reads.old) }
     ensures memory { OnErr result ((is_read request.now ≡ true) × (reads.old ≡ [])) }
 {
     match request {
         Request::Message(_) => Ok(()),
-        Request::Read(request) => reads.add(ticket, *request),
+        Request::Read(request) => reads.add(Some(ticket), *request),
     }
 }
 
@@ -69,7 +71,7 @@ fn count_part<A: Allocator>(
 ) -> Result<(), AllocError>
     requires { (is_read part.now.message.now && nat_le most_reads (length reads.old)) ≡ false }
     ensures numbers { OnOk result (numbers_of numbers.new ≡ numbers_beyond (numbers_of numbers.old) (shown_part part.now)) }
-    ensures reads { OnOk result (reads.new ≡ reads_with reads.old part.now.ticket part.now.message.now) }
+    ensures reads { OnOk result (reads.new ≡ reads_with reads.old (Some part.now.ticket) part.now.message.now) }
     ensures err { OnErr result ((numbers.new ≡ numbers.old) × (reads.new ≡ reads.old)) }
     ensures memory { OnErr result ((is_read part.now.message.now ≡ true) × (reads.old ≡ [])) }
 {
@@ -81,10 +83,29 @@ fn count_part<A: Allocator>(
     Ok(())
 }
 
+// Counts the RTR, which was sent: one that is a Read is outstanding. An `Err` means out of memory, and changes nothing.
+fn count_rtr<A: Allocator>(
+    numbers: &mut Numbers,
+    reads: &mut Reads<A>,
+    rtr: Rtr,
+) -> Result<(), AllocError>
+    requires { reads.old ≡ [] }
+    ensures numbers { OnOk result (numbers_of numbers.new ≡ numbers_after (numbers_of numbers.old) (rtr_message rtr)) }
+    ensures reads { OnOk result (reads.new ≡ reads_with reads.old None (rtr_message rtr)) }
+    ensures err { OnErr result ((numbers.new ≡ numbers.old) × (reads.new ≡ reads.old)) }
+    ensures memory { OnErr result (is_read (rtr_message rtr) ≡ true) }
+{
+    if let Rtr::Read = rtr {
+        reads.add(None, rtr_request())?;
+    }
+    *numbers = numbers.beyond_rtr(rtr);
+    Ok(())
+}
+
 impl<A: Allocator> Stream<A> {
     ghost use Rattle.iw_stream.specs.Ending.{last_word};
-    ghost use Rattle.iw_stream.specs.Stream.{owes_frame, is_mute, keeps_silent, part_due, response_due, frame_of};
-    ghost use Rattle.iw_stream.specs.Stream.{StartUp, LastWord, Response, NextPart, NoneDue};
+    ghost use Rattle.iw_stream.specs.Stream.{owes_frame, is_mute, keeps_silent, rtr_due, part_due, response_due, message_due, frame_of};
+    ghost use Rattle.iw_stream.specs.Stream.{StartUp, LastWord, Ready, Response, NextPart, NoneDue};
     ghost use Rattle.iw_stream.specs.Stream.{octets_due, emission_due, left_due, emission_fetched, left_fetched};
     ghost use Rattle.iw_stream.specs.Stream.{due, emission_of, emitted, after_emit, BeginsReads};
 
@@ -110,9 +131,11 @@ impl<A: Allocator> Stream<A> {
     }
 
     /// Appends to `out` what is to be emitted next: this end's start-up frame; or else, if the stream has ended by a fault, its
-    /// Terminate, after which there is nothing more; or else, if frames may be sent, the frame of the next part of a message
-    /// that is begun, of the response to the peer's oldest Read Request, or of the next message, in this order. A Read is not
-    /// begun while as many are outstanding as the peer takes, 16 at most, and what was posted after it waits too.
+    /// Terminate, after which there is nothing more; or else, if frames may be sent, the frame of the RTR, if one is agreed on
+    /// and none went out before (RFC 6581 9.2), of the next part of a message that is begun, of the response to the peer's
+    /// oldest Read Request, or of the next message, in this order. A Read is not begun while as many are outstanding as the
+    /// peer takes, 16 at most, and what was posted after it waits too. An RTR that is a Read is outstanding as they are, but
+    /// is no posted one: [`Stream::work`] does not hand it out.
     ///
     /// The octets of a response are fetched as they are sent; if the peer may not read them, nothing is appended and the
     /// stream has ended. An `Err` means out of memory, and changes nothing. It comes only if something is to be appended, and
@@ -136,6 +159,30 @@ impl<A: Allocator> Stream<A> {
         if self.is_mute() {
             return Ok(Emission::Nothing);
         }
+        match self.rtr_due() {
+            Some(rtr) => self.emit_rtr(rtr, out),
+            None => self.emit_message(memory, out),
+        }
+    }
+
+    // Appends the frame of a response or a message that is due, if one is.
+    #[inline(always)]
+    fn emit_message(
+        &mut self,
+        memory: &Memory<A>,
+        out: &mut Vec<u8, A>,
+    ) -> Result<Emission, AllocError>
+        requires place { self.old.sent ≤ 2 ^ 62 }
+        requires open { is_open self.old.start ≡ true }
+        requires owed { first_place_out self.old.start ≤ self.old.sent }
+        ensures emission { IfOk result (λ emission. emission ≡ emission_due memory.now self.old (message_due self.old)) }
+        ensures out { OnOk result (out.new.items ≡ out.old.items ++ octets_due memory.now self.old (message_due self.old)) }
+        ensures after { OnOk result (self.new ≡ left_due memory.now self.old (message_due self.old)) }
+        ensures err { OnErr result ((self.new ≡ self.old) × (out.new.items ≡ out.old.items)) }
+        ensures memory { emission_due memory.now self.old (message_due self.old) ≡ Emission.Nothing → is_ok result ≡ true }
+        ensures denied { (fault : Fault) → emission_due memory.now self.old (message_due self.old) ≡ Emission.Fault fault → is_ok result ≡ true }
+        ensures room { vec_len out.old + length (octets_due memory.now self.old (message_due self.old)) ≤ vec_capacity out.old → OnErr result (BeginsReads self.old (message_due self.old)) }
+    {
         match self.response_due() {
             Some(part) => self.emit_response(part, memory, out),
             None => self.emit_part(out),
@@ -179,6 +226,43 @@ impl<A: Allocator> Stream<A> {
         let len = out.len() - before;
         let from = self.sent;
         self.ending = Ending::Over(None);
+        self.sent += len as u64;
+        Ok(Emission::Frame { from, len })
+    }
+
+    // The RTR, if it is to be sent: this end has sent no frame yet.
+    #[inline(always)]
+    pub(super) fn rtr_due(&self) -> Option<Rtr>
+        ensures { result ≡ rtr_due self.now }
+    {
+        let rtr = self.start.rtr()?;
+        if self.sent == self.start.first_place_out() {
+            return Some(rtr);
+        }
+        None
+    }
+
+    // Appends the frame of the RTR.
+    #[inline(never)]
+    fn emit_rtr(&mut self, rtr: Rtr, out: &mut Vec<u8, A>) -> Result<Emission, AllocError>
+        requires place { self.old.sent ≤ 2 ^ 62 }
+        requires open { is_open self.old.start ≡ true }
+        requires due { rtr_due self.old ≡ Some rtr }
+        ensures emission { (table : Table) → IfOk result (λ emission. emission ≡ emission_due table self.old (Ready rtr)) }
+        ensures out { (table : Table) → OnOk result (out.new.items ≡ out.old.items ++ octets_due table self.old (Ready rtr)) }
+        ensures after { (table : Table) → OnOk result (self.new ≡ left_due table self.old (Ready rtr)) }
+        ensures err { OnErr result ((self.new ≡ self.old) × (out.new.items ≡ out.old.items)) }
+        ensures room { (table : Table) → vec_len out.old + length (octets_due table self.old (Ready rtr)) ≤ vec_capacity out.old → OnErr result (BeginsReads self.old (Ready rtr)) }
+    {
+        let place = self.sent - self.start.first_place_out();
+        let end = out.len();
+        write_rtr(self.start.sending(), place, self.numbers, rtr, out)?;
+        if let Err(refused) = count_rtr(&mut self.numbers, &mut self.reads, rtr) {
+            out.truncate(end);
+            return Err(refused);
+        }
+        let len = out.len() - end;
+        let from = self.sent;
         self.sent += len as u64;
         Ok(Emission::Frame { from, len })
     }

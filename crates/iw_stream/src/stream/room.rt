@@ -7,6 +7,7 @@ ghost use Rattle.iw_fpdu.specs.Frame.{max_sent};
 ghost use Rattle.iw_queues.specs.Request.{payload, header_len};
 ghost use Rattle.iw_queues.specs.Segments.{Numbers, segment_of};
 ghost use Rattle.iw_queues.specs.Shown.{shown_part};
+ghost use Rattle.iw_stream.specs.Rtr.{rtr_segment};
 
 use super::Stream;
 use super::emission::must_wait;
@@ -16,6 +17,7 @@ use iw_memory::Memory;
 use iw_octets::{Message, READ_REQUEST_HEADER, TAGGED_HEADER, UNTAGGED_HEADER};
 use iw_queues::{Part, Request};
 use iw_reads::{ResponsePart, fetch};
+use iw_startup::Rtr;
 use std::alloc::Allocator;
 
 // The length of the ULPDU that carries a part.
@@ -32,8 +34,19 @@ fn ulpdu_len<A: Allocator>(part: &Part<&Request<Bytes<A>>>) -> usize
     }
 }
 
+// The length of the RTR's ULPDU.
+fn rtr_len(rtr: Rtr) -> usize
+    ensures len { (numbers : Numbers) → result ≡ length (segment_octets (rtr_segment numbers rtr)) }
+    ensures short { result ≤ max_sent }
+{
+    match rtr {
+        Rtr::Write => TAGGED_HEADER,
+        Rtr::Read => UNTAGGED_HEADER + READ_REQUEST_HEADER,
+    }
+}
+
 impl<A: Allocator> Stream<A> {
-    ghost use Rattle.iw_stream.specs.Stream.{part_due, response_due, frame_of, octets_due, emitted};
+    ghost use Rattle.iw_stream.specs.Stream.{part_due, response_due, message_due, frame_of, octets_due, emitted};
     ghost use Rattle.iw_stream.specs.Stream.{NextPart, Response, NoneDue};
 
     /// How many octets the next call of [`Stream::emit`] appends, unless it is out of memory: none if nothing is due, or if
@@ -51,6 +64,17 @@ impl<A: Allocator> Stream<A> {
         if self.is_mute() {
             return 0;
         }
+        match self.rtr_due() {
+            Some(rtr) => self.frame_len(rtr_len(rtr)),
+            None => self.message_len(memory),
+        }
+    }
+
+    // The length of the frame of a response or a message that is due.
+    fn message_len(&self, memory: &Memory<A>) -> usize
+        requires { self.now.sent ≤ 2 ^ 62 }
+        ensures { result ≡ length (octets_due memory.now self.now (message_due self.now)) }
+    {
         match self.response_due() {
             Some(part) => self.response_len(&part, memory),
             None => self.part_len(),

@@ -22,7 +22,7 @@ invariant_of-self g c = record {
       let all : s.sent - first_place_out (state_of c.self.inside).start + (c.len.result - c.len-before.result) ≡ s.sent - first + length frame = omega (arith, long, c.len.ensures, c.len-before.ensures, at) in
       keeps_sent (state_of s) s.queue (state_of s).numbers (c.len.result - c.len-before.result) s.reads c.part_fetched.new.self running low
       (ap (λ n. n % 4) all ∙ aligned_past c.sending.result (s.sent - first) u (ap (λ n. (s.sent - n) % 4) at ∙ c.self.invariant.keeps.aligned))
-      c.self.invariant.keeps.first c.self.invariant.keeps.awaited c.self.invariant.keeps;
+      c.self.invariant.keeps.first c.self.invariant.keeps.awaited (λ le. c.self.invariant.keeps.started.unread (omega (arith, le))) c.self.invariant.keeps;
   layout = c.self.invariant.layout;
   base = c.self.invariant.base;
 }

@@ -27,7 +27,7 @@ invariant_of-self g c = record {
       keeps_over (record s { sent = s.sent + (c.len.result - c.len-before.result) }) (Over None) running refl
       (keeps_sent s s.queue s.numbers (c.len.result - c.len-before.result) s.reads s.asked running low
       (ap (λ n. n % 4) all ∙ aligned_past c.sending.result (s.sent - first) u (ap (λ n. (s.sent - n) % 4) at ∙ c.self.invariant.keeps.aligned))
-      c.self.invariant.keeps.first c.self.invariant.keeps.awaited c.self.invariant.keeps);
+      c.self.invariant.keeps.first c.self.invariant.keeps.awaited (λ le. c.self.invariant.keeps.started.unread (omega (arith, le))) c.self.invariant.keeps);
   layout = c.self.invariant.layout;
   base = c.self.invariant.base;
 }

@@ -10,7 +10,7 @@ use Rattle.iw_stream.specs.Kept.{AreAwaited, Keeps}
 use Rattle.iw_stream.specs.Starting.{is_open, first_place_out}
 use Rattle.iw_stream.specs.Stream.{StreamState, NextPart, NoneDue, may_go, part_due, frame_of_part, left_due}
 use Rattle.std.specs.Option.{option_map_or}
-use Rattle.iw_stream.proofs.Keeping.{aligned_past, keeps_sent}
+use Rattle.iw_stream.proofs.Keeping.{aligned_past, keeps_sent, some_written}
 use Rattle.iw_stream.proofs.Reading.{awaited_sent, first_sent}
 use Rattle.iw_stream.proofs.stream.Stream.emit_part.Goals as goal
 
@@ -72,6 +72,7 @@ invariant_of-self-2 g c = record {
       (subst (λ (q : Queue). q.sent.first < 2 ^ 64) (sym after) (first_sent s.queue (Some part) c.self.invariant.keeps.first))
       (λ runs. subst (λ (q : Queue). AreAwaited q.sent c.count_part.new.reads) (sym after)
       (subst (AreAwaited (part_sent c.self.inside.queue (Some (shown_part c.in-Some.part))).sent) (sym c.in_default-count_part.ensures.reads) (awaited_sent s.queue _ part s.reads c.limits.ensures c.self.invariant.keeps.first (sym c.in-Some.ensures.part) (c.self.invariant.keeps.awaited runs))))
+      (λ le. absurd (omega (arith, le, low, all, at, some_written c.sending.result (s.sent - first) u (ap (λ n. (s.sent - n) % 4) at ∙ c.self.invariant.keeps.aligned))))
       c.self.invariant.keeps;
   layout = c.self.invariant.layout;
   base = c.self.invariant.base;

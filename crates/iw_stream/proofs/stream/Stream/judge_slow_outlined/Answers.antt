@@ -173,3 +173,8 @@ hear_out-requires-clause-over g c =
     (λ i. frame_at (sym layout i) s.arrived (sym base i) (sym start i)) ∙ sym c.held_at.ensures.frame ∙ ap (option_map frame_by) c.in-Some.is in
     let over = clear_over s c.self.invariant.keeps (kept_scene s c.self.inside.arrived.layout c.self.inside.arrived.base c.self.invariant.layout c.self.invariant.base c.limits.ensures.tracked.keeps) c.limits.ensures.apart c.limits.ensures.arrived (placed (frame_by c.in-Some.fpdu)) (begins_at s c.in-Some.fpdu c.expecting-layout.result c.first_place_in-base.result c.start_of-start.result c.floor.result c.expecting-layout.ensures c.first_place_in-base.ensures.place c.in-Some.ensures.next) (ap (λ (t : StreamState). clashes t (frame_by c.in-Some.fpdu)) c.self.view_is ∙ c.requires.clear (frame_by c.in-Some.fpdu) (ap next_frame (sym c.self.view_is) ∙ next_)) in
     subst (NoneReachesOver (record s { receiving = c.land_frame.new.receiving })) (sym c.placed_frame-frame-in-Ok-Terminate.ensures) over
+
+pub take_up-requires-clause-room : goal.take_up-requires-clause-room
+take_up-requires-clause-room g c =
+    let m = may_take (standing c.args.memory.now (state_of c.self.inside)) c.in-Some.fpdu c.in-Ok-Request.request (sym c.land_frame.ensures.landed ∙ c.in-Ok-Request.is ∙ ap Ok c.in-Ok-Request.field-0-is) in
+    m.room

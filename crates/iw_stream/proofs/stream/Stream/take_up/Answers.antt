@@ -24,7 +24,7 @@ invariant_of-self g c = record {
       ∙ ap (λ (l : Layout). first_place_in c.self.inside.start + frame_end l.markers c.args.frame.start c.args.frame.len) c.expecting.ensures in
       keeps_past s frame (c.first_place_in.result + c.end_of-end.result) c.advance.new.self.arrived s.receiving s.queue s.reads c.take.new.self c.advance.new.self.early c.self.inside.arrived.base running stands there c.advance.ensures.arrived c.advance.ensures.early
       (turn_stays s frame s.receiving (stays_same s.receiving s.receiving refl) c.self.invariant.keeps stands)
-      c.self.invariant.keeps.first (c.self.invariant.keeps.awaited runs) c.self.invariant.keeps;
+      c.self.invariant.keeps.first (c.self.invariant.keeps.awaited runs) (λ e. e) c.self.invariant.keeps;
   layout = c.advance.ensures.same.layout ∙ c.self.invariant.layout;
   base = c.advance.ensures.same.base ∙ c.self.invariant.base;
 }

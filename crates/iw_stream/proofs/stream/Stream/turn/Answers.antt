@@ -23,7 +23,7 @@ invariant_of-self g c = record {
       ∙ ap (λ (l : Layout). first_place_in c.self.inside.start + frame_end l.markers c.in-Some.frame.start c.in-Some.frame.len) c.expecting.ensures in
       keeps_past s c.in-Some.frame (c.first_place_in.result + c.end_of-end.result) c.advance.new.self.arrived s.receiving s.queue s.reads s.asked c.advance.new.self.early c.self.inside.arrived.base
       running (placed_front s c.in-Some.frame runs c.in-Some.is c.self.invariant.keeps).stands there c.advance.ensures.arrived c.advance.ensures.early
-      (turn_stays s c.in-Some.frame s.receiving (stays_same s.receiving s.receiving refl) c.self.invariant.keeps (placed_front s c.in-Some.frame runs c.in-Some.is c.self.invariant.keeps).stands) c.self.invariant.keeps.first (c.self.invariant.keeps.awaited runs) c.self.invariant.keeps;
+      (turn_stays s c.in-Some.frame s.receiving (stays_same s.receiving s.receiving refl) c.self.invariant.keeps (placed_front s c.in-Some.frame runs c.in-Some.is c.self.invariant.keeps).stands) c.self.invariant.keeps.first (c.self.invariant.keeps.awaited runs) (λ e. e) c.self.invariant.keeps;
   layout = c.advance.ensures.same.layout ∙ c.self.invariant.layout;
   base = c.advance.ensures.same.base ∙ c.self.invariant.base;
 }

@@ -9,7 +9,7 @@ use Rattle.iw_stream.specs.Kept.{AreAwaited}
 use Rattle.iw_queues.specs.Completions as completions
 use Rattle.iw_queues.specs.Queue.{Queue}
 use Rattle.iw_stream.specs.Frames.{head_in, payload_len}
-use Rattle.iw_stream.proofs.Reading.{awaited_answered, awaited_left, awaits_answered}
+use Rattle.iw_stream.proofs.Reading.{awaited_answered, awaited_left, awaits_answered, none_left}
 use Rattle.iw_stream.specs.Judging.{turn_of}
 use Rattle.iw_stream.specs.Stream.{ends_by}
 use Rattle.iw_stream.specs.Work.{Turn, standing, waiting, after_turn, left_by}
@@ -28,7 +28,8 @@ invariant_of-self-in-Passed g c = record {
       keeps_past (state_of c.self.inside) c.args.frame (c.first_place_in.result + c.end_of-end.result) c.advance.new.self.arrived c.turn_frame.new.receiving c.self.inside.queue c.turn_frame.new.reads c.self.inside.asked c.advance.new.self.early c.self.inside.arrived.base
       running (waiting_stands (state_of c.self.inside) c.self.invariant.keeps runs (kept_scene (state_of c.self.inside) c.self.inside.arrived.layout c.self.inside.arrived.base c.self.invariant.layout c.self.invariant.base c.limits.ensures.tracked.keeps) c.limits.ensures.apart c.limits.ensures.arrived c.args.frame (ap waiting c.self.view_is ∙ c.requires.waiting)).0.stands there c.advance.ensures.arrived c.advance.ensures.early
       (turn_stays (state_of c.self.inside) c.args.frame c.turn_frame.new.receiving (frame_stays (state_of c.self.inside).receiving c.turn_frame.new.receiving c.args.frame c.in-Ok.ensures.receiving) c.self.invariant.keeps (waiting_stands (state_of c.self.inside) c.self.invariant.keeps runs (kept_scene (state_of c.self.inside) c.self.inside.arrived.layout c.self.inside.arrived.base c.self.invariant.layout c.self.invariant.base c.limits.ensures.tracked.keeps) c.limits.ensures.apart c.limits.ensures.arrived c.args.frame (ap waiting c.self.view_is ∙ c.requires.waiting)).0.stands) c.self.invariant.keeps.first
-      (subst (AreAwaited c.self.inside.queue.sent) (sym c.in-Ok.ensures.reads) (awaited_left c.self.inside.queue.sent c.self.inside.reads (payload_len c.args.frame) (head_in c.args.frame) (c.self.invariant.keeps.awaited runs))) c.self.invariant.keeps;
+      (subst (AreAwaited c.self.inside.queue.sent) (sym c.in-Ok.ensures.reads) (awaited_left c.self.inside.queue.sent c.self.inside.reads (payload_len c.args.frame) (head_in c.args.frame) (c.self.invariant.keeps.awaited runs)))
+      (λ e. c.in-Ok.ensures.reads ∙ none_left c.self.inside.reads (payload_len c.args.frame) (head_in c.args.frame) e) c.self.invariant.keeps;
   layout = c.advance.ensures.same.layout ∙ c.self.invariant.layout;
   base = c.advance.ensures.same.base ∙ c.self.invariant.base;
 }
@@ -45,7 +46,8 @@ invariant_of-self-in-Completed g c = record {
       running (waiting_stands (state_of c.self.inside) c.self.invariant.keeps runs (kept_scene (state_of c.self.inside) c.self.inside.arrived.layout c.self.inside.arrived.base c.self.invariant.layout c.self.invariant.base c.limits.ensures.tracked.keeps) c.limits.ensures.apart c.limits.ensures.arrived c.args.frame (ap waiting c.self.view_is ∙ c.requires.waiting)).0.stands there c.advance.ensures.arrived c.advance.ensures.early
       (turn_finishes (state_of c.self.inside) c.args.frame c.turn_frame.new.receiving c.finish-buffer.new.self (frame_stays (state_of c.self.inside).receiving c.turn_frame.new.receiving c.args.frame c.in-Ok.ensures.receiving) c.finish-buffer.ensures.after c.limits-2.ensures.due
       (records_near (state_of c.self.inside) c.self.invariant.keeps (kept_scene (state_of c.self.inside) c.self.inside.arrived.layout c.self.inside.arrived.base c.self.invariant.layout c.self.invariant.base c.limits.ensures.tracked.keeps) c.limits.ensures.apart c.limits.ensures.arrived) c.self.invariant.keeps (waiting_stands (state_of c.self.inside) c.self.invariant.keeps runs (kept_scene (state_of c.self.inside) c.self.inside.arrived.layout c.self.inside.arrived.base c.self.invariant.layout c.self.invariant.base c.limits.ensures.tracked.keeps) c.limits.ensures.apart c.limits.ensures.arrived c.args.frame (ap waiting c.self.view_is ∙ c.requires.waiting)).0.stands) c.self.invariant.keeps.first
-      (subst (AreAwaited c.self.inside.queue.sent) (sym c.in-Ok.ensures.reads) (awaited_left c.self.inside.queue.sent c.self.inside.reads (payload_len c.args.frame) (head_in c.args.frame) (c.self.invariant.keeps.awaited runs))) c.self.invariant.keeps;
+      (subst (AreAwaited c.self.inside.queue.sent) (sym c.in-Ok.ensures.reads) (awaited_left c.self.inside.queue.sent c.self.inside.reads (payload_len c.args.frame) (head_in c.args.frame) (c.self.invariant.keeps.awaited runs)))
+      (λ e. c.in-Ok.ensures.reads ∙ none_left c.self.inside.reads (payload_len c.args.frame) (head_in c.args.frame) e) c.self.invariant.keeps;
   layout = c.advance.ensures.same.layout ∙ c.self.invariant.layout;
   base = c.advance.ensures.same.base ∙ c.self.invariant.base;
 }
@@ -91,7 +93,8 @@ invariant_of-self-in-Answered g c = record {
       (subst (λ (q : Queue). AreAwaited q.sent c.turn_frame.new.reads) (sym c.finish.ensures)
       (subst (AreAwaited (completions.finished c.self.inside.queue.sent c.in-Answered.ticket)) (sym c.in-Ok.ensures.reads)
       (awaited_answered c.self.inside.queue.sent c.args.memory.now c.self.inside.domain c.self.inside.receiving c.self.inside.reads (payload_len c.args.frame) (head_in c.args.frame) c.in-Answered.ticket c.self.invariant.keeps.first (c.self.invariant.keeps.awaited runs)
-      (sym c.turn_frame.ensures.turn ∙ c.in-Ok.is ∙ ap Ok c.in-Answered.is)))) c.self.invariant.keeps;
+      (sym c.turn_frame.ensures.turn ∙ c.in-Ok.is ∙ ap Ok c.in-Answered.is))))
+      (λ e. c.in-Ok.ensures.reads ∙ none_left c.self.inside.reads (payload_len c.args.frame) (head_in c.args.frame) e) c.self.invariant.keeps;
   layout = c.advance.ensures.same.layout ∙ c.self.invariant.layout;
   base = c.advance.ensures.same.base ∙ c.self.invariant.base;
 }

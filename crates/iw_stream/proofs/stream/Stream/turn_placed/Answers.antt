@@ -84,7 +84,7 @@ invariant_of-self g c =
           (keeps_past s frame (c.first_place_in-base.result + c.end_of.result) c.advance.new.self.arrived s.receiving s.queue s.reads s.asked c.advance.new.self.early c.self.inside.arrived.base
           running w.placed.stands there c.advance.ensures.arrived c.advance.ensures.early
           (turn_stays s frame s.receiving (stays_same s.receiving s.receiving refl) c.self.invariant.keeps w.placed.stands) c.self.invariant.keeps.first
-          (c.self.invariant.keeps.awaited (ap ended c.self.view_is ∙ c.requires.runs)) c.self.invariant.keeps);
+          (c.self.invariant.keeps.awaited (ap ended c.self.view_is ∙ c.requires.runs)) (λ e. e) c.self.invariant.keeps);
       layout = c.advance.ensures.same.layout ∙ c.self.invariant.layout;
       base = c.advance.ensures.same.base ∙ c.self.invariant.base;
     }

@@ -14,7 +14,7 @@ use Rattle.iw_stream.proofs.Keeping.{keeps_past, placed_front, reaches, turn_sta
 use Rattle.iw_stream.proofs.Buffers.{stays_same}
 use Rattle.std.specs.Prelude.{IfSome}
 use Rattle.iw_stream.proofs.Waiting.{passed}
-use Rattle.iw_stream.proofs.Reading.{awaited_answered, awaited_left}
+use Rattle.iw_stream.proofs.Reading.{awaited_answered, awaited_left, none_left}
 use Rattle.iw_stream.proofs.stream.Stream.turn_slow_outlined.Goals as goal
 
 pub invariant_of-self-in-Ok-None : goal.invariant_of-self-in-Ok-None
@@ -30,7 +30,7 @@ invariant_of-self-in-Ok-None g c = record {
       keeps_past s c.in-Some.frame (c.first_place_in.result + c.end_of-end.result) c.advance.new.self.arrived s.receiving s.queue c.turn_reads.new.reads s.asked c.advance.new.self.early c.self.inside.arrived.base
       running (placed_front s c.in-Some.frame runs c.in-Some.is c.self.invariant.keeps).stands there c.advance.ensures.arrived c.advance.ensures.early
       (turn_stays s c.in-Some.frame s.receiving (stays_same s.receiving s.receiving refl) c.self.invariant.keeps (placed_front s c.in-Some.frame runs c.in-Some.is c.self.invariant.keeps).stands) c.self.invariant.keeps.first
-      (subst (AreAwaited s.queue.sent) (sym c.in-Ok-None.ensures.ok) (awaited_left s.queue.sent s.reads c.payload_len.result (Some (Tagged head [])) (c.self.invariant.keeps.awaited runs))) c.self.invariant.keeps;
+      (subst (AreAwaited s.queue.sent) (sym c.in-Ok-None.ensures.ok) (awaited_left s.queue.sent s.reads c.payload_len.result (Some (Tagged head [])) (c.self.invariant.keeps.awaited runs))) (λ e. c.in-Ok-None.ensures.ok ∙ none_left s.reads c.payload_len.result (Some (Tagged head [])) e) c.self.invariant.keeps;
   layout = c.advance.ensures.same.layout ∙ c.self.invariant.layout;
   base = c.advance.ensures.same.base ∙ c.self.invariant.base;
 }
@@ -52,7 +52,8 @@ invariant_of-self-in-Ok-Some g c = record {
       (subst (λ (q : Queue). AreAwaited q.sent c.turn_reads.new.reads) (sym c.finish.ensures)
       (subst (AreAwaited (completions.finished s.queue.sent c.in-Ok-Some.ticket)) (sym c.in-Ok-Some.ensures.ok)
       (awaited_answered s.queue.sent c.args.memory.now s.domain s.receiving s.reads c.payload_len.result (Some (Tagged head [])) c.in-Ok-Some.ticket c.self.invariant.keeps.first (c.self.invariant.keeps.awaited runs)
-      (sym c.turn_reads.ensures.turn ∙ ap answered (c.in-Ok-Some.is ∙ ap Ok c.in-Ok-Some.field-0-is))))) c.self.invariant.keeps;
+      (sym c.turn_reads.ensures.turn ∙ ap answered (c.in-Ok-Some.is ∙ ap Ok c.in-Ok-Some.field-0-is)))))
+      (λ e. c.in-Ok-Some.ensures.ok ∙ none_left s.reads c.payload_len.result (Some (Tagged head [])) e) c.self.invariant.keeps;
   layout = c.advance-in-Ok-Some.ensures.same.layout ∙ c.self.invariant.layout;
   base = c.advance-in-Ok-Some.ensures.same.base ∙ c.self.invariant.base;
 }
