@@ -4,14 +4,19 @@ use Rattle.std.specs.Prelude.{IfSome}
 use Rattle.std.specs.Option.{option_map}
 use Rattle.std.proofs.lemmas.Bool.Decides.{eqb_tells}
 use Rattle.iw_stream.specs.Stream.{StreamState}
-use Rattle.iw_endpoint.specs.Endpoint.{EndpointState, fresh, no_streams, stream_of}
-use Rattle.iw_endpoint.specs.Isolation.{Call, AddDomain, Register, Deregister, Invalidate, Store, Facts, Local, LocalMut, Open, Share, PostShared, TakeShared, OpenShared, AtStream, HasDomains, IsOwn, Concerns, Opens, OwnStep, OpensOwn, DomainsAreAlone, part_of, answer, after, owner, concerned, only, view, after_all, own_answer, own_answers, own_after_all}
+use Rattle.iw_endpoint.specs.Endpoint.{EndpointState, fresh, no_streams, no_closed, stream_of, closed_at}
+use Rattle.iw_endpoint.specs.Isolation.{Call, AddDomain, Register, Deregister, Invalidate, Store, Facts, Local, LocalMut, Open, Share, PostShared, TakeShared, OpenShared, OpenNext, OpenSharedNext, AtStream, HasDomains, IsOwn, IsOwnNumber, Concerns, Opens, OwnStep, OpensOwn, DomainsAreAlone, part_of, answer, after, owner, concerned, only, view, after_all, own_answer, own_answers, own_after_all}
 use Rattle.iw_endpoint.proofs.Parts.{fresh_domains}
 use Rattle.iw_endpoint.proofs.Steps.{concerns_one}
 
 -- each stream is in the domain whose its number is
 abbrev pub AreOwned : (ℕ → ℕ) → EndpointState → Type 0
-AreOwned whose e = (n : ℕ) → IsOwn (whose n) (stream_of e n)
+AreOwned whose e = (n : ℕ) → IsOwnNumber (whose n) e n
+
+-- the number that is given, if one is, is the domain's
+given : (whose : ℕ → ℕ) (e : EndpointState) (n : Option ℕ) (pd : ℕ) → AreOwned whose e → ((m : ℕ) → n ≡ Some m → whose m ≡ pd) → IfSome n (IsOwnNumber pd e)
+given whose e None pd owned opens = tt
+given whose e (Some m) pd owned opens = subst (λ d. IsOwnNumber d e m) (opens m refl) (owned m)
 
 pub concerns : (whose : ℕ → ℕ) (e : EndpointState) (call : Call) → AreOwned whose e → ((n d : ℕ) → Opens n d call → whose n ≡ d) → Concerns (concerned whose call) e call
 concerns whose e (AddDomain pd) owned opens = refl
@@ -22,11 +27,13 @@ concerns whose e (Store stag to octets) owned opens = refl
 concerns whose e (Facts stag) owned opens = refl
 concerns whose e (Local stag) owned opens = refl
 concerns whose e (LocalMut stag octets) owned opens = refl
-concerns whose e (Open n pd role config) owned opens = (refl, subst (λ d. IsOwn d (stream_of e n)) (opens n pd (refl, refl)) (owned n))
+concerns whose e (Open n pd role config) owned opens = (refl, subst (λ d. IsOwnNumber d e n) (opens n pd (refl, refl)) (owned n))
 concerns whose e (Share pd) owned opens = refl
 concerns whose e (PostShared pd buffer) owned opens = refl
 concerns whose e (TakeShared pd) owned opens = refl
-concerns whose e (OpenShared n pd role config) owned opens = (refl, subst (λ d. IsOwn d (stream_of e n)) (opens n pd (refl, refl)) (owned n))
+concerns whose e (OpenShared n pd role config) owned opens = (refl, subst (λ d. IsOwnNumber d e n) (opens n pd (refl, refl)) (owned n))
+concerns whose e (OpenNext n pd role config) owned opens = (refl, given whose e n pd owned (λ m is. opens m pd (is, refl)))
+concerns whose e (OpenSharedNext n pd role config) owned opens = (refl, given whose e n pd owned (λ m is. opens m pd (is, refl)))
 concerns whose e (AtStream n call) owned opens = owned n
 
 owned_by : (d x : ℕ) (o : Option StreamState) → option_map (λ s. s.domain) o ≡ Some x → IsOwn d o → x ≡ d
@@ -34,14 +41,24 @@ owned_by d x None e own = absurd (let no : ⊥ = cc in no)
 owned_by d x (Some s) e own = let same : s.domain ≡ x = cc in sym same ∙ own
 
 pub stay_owned : (whose : ℕ → ℕ) (e : EndpointState) (call : Call) (d : ℕ) → AreOwned whose e → ((n d : ℕ) → Opens n d call → whose n ≡ d) → OwnStep d e call → AreOwned whose (after e call)
-stay_owned whose e call d owned opens step n = go (stream_of (after e call) n) (step.owners n)
+stay_owned whose e call d owned opens step n = (go (stream_of (after e call) n) (step.owners n), ended (closed_at (after e call) n) (step.closed n))
   where
     told : (s : StreamState) → (owner e n ≡ Some s.domain) ⊎ Opens n s.domain call → s.domain ≡ whose n
-    told s h = elim h [ inl was ↦ owned_by (whose n) s.domain (stream_of e n) was (owned n) | inr opened ↦ sym (opens n s.domain opened) ]
+    told s h = elim h [ inl was ↦ owned_by (whose n) s.domain (stream_of e n) was (owned n).0 | inr opened ↦ sym (opens n s.domain opened) ]
 
     go : (o : Option StreamState) → IfSome o (λ s. (owner e n ≡ Some s.domain) ⊎ Opens n s.domain call) → IsOwn (whose n) o
     go None h = tt
     go (Some s) h = told s h
+
+    last : (x : ℕ) → (closed_at e n ≡ Some x) ⊎ (owner e n ≡ Some x) → x ≡ whose n
+    last x h = elim h [
+      | inl was ↦ subst (λ o. IfSome o (λ y. y ≡ whose n)) was (owned n).1
+      | inr now ↦ owned_by (whose n) x (stream_of e n) now (owned n).0
+    ]
+
+    ended : (o : Option ℕ) → IfSome o (λ x. (closed_at e n ≡ Some x) ⊎ (owner e n ≡ Some x)) → IfSome o (λ x. x ≡ whose n)
+    ended None h = tt
+    ended (Some x) h = last x h
 
 record Runs (whose : ℕ → ℕ) (d : ℕ) (e : EndpointState) (calls : List Call) : Type 0 where
   answers : view whose d e calls ≡ own_answers d (part_of d e) (only whose d calls)
@@ -84,15 +101,15 @@ runs whose (call ∷ calls) e all owned opens d =
     let step = concerns_one c e call all (concerns whose e call owned opens.0) in
     one_more whose d e call calls step (runs whose calls (after e call) step.domains (stay_owned whose e call c owned opens.0 step) opens.1 d)
 
-nothing_in : (k n : ℕ) → get_or (replicate {A = Option StreamState} k None) n None ≡ None
+nothing_in : {A : Type 0} (k n : ℕ) → get_or (replicate {A = Option A} k None) n None ≡ None
 nothing_in zero zero = refl
 nothing_in zero (suc n) = refl
 nothing_in (suc k) zero = refl
-nothing_in (suc k) (suc n) = nothing_in k n
+nothing_in {A} (suc k) (suc n) = nothing_in {A = A} k n
 
 pub nothing_owned : (whose : ℕ → ℕ) → AreOwned whose fresh
-unfolding no_streams
-nothing_owned whose n = subst (λ o. IsOwn (whose n) o) (sym (nothing_in 64 n)) tt
+unfolding no_streams no_closed
+nothing_owned whose n = (subst (λ o. IsOwn (whose n) o) (sym (nothing_in {A = StreamState} 64 n)) tt, subst (λ o. IfSome o (λ x. x ≡ whose n)) (sym (nothing_in {A = ℕ} 64 n)) tt)
 
 pub alone_all : DomainsAreAlone
 alone_all whose calls opens d = let run = runs whose calls fresh fresh_domains (nothing_owned whose) opens d in record { answers = run.answers; part = run.part }

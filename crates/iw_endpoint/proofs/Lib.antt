@@ -1,7 +1,9 @@
 pub mod Lists
 pub mod Numbers
+pub mod Filled
 pub mod Tables
 pub mod Parts
 pub mod Steps
 pub mod Alone
 pub mod TakenIn
+pub mod Used

@@ -1,15 +1,17 @@
 -- Streams by number, each in a place of its own.
 use Rattle.std.proofs.Common.{◌≡◌, ◌≢◌, ℕ, zero, suc, ◌+◌, ◌<◌, ◌≤◌, ◌^◌, ◌⊎◌, List, [], ◌∷◌, ◌++◌, length, map, set, get_or, replicate, Option, Some, None, refl, sym, ap, subst, ◌∙◌, inl, inr, arith, Result, Ok, Err}
-use Rattle.std.specs.Prelude.{IsSome, OnOk, OnErr, is_some}
+use Rattle.std.specs.Prelude.{IsSome, OnOk, OnErr, is_some, nat_lt, if◌then◌else◌}
 use Rattle.slab.specs.Slab as slab
 use Rattle.slab.specs.Slab.{Slab}
 use Rattle.std.specs.List.{range_with_len}
 use Rattle.std.specs.Option.{option_and_then}
-use Rattle.std.proofs.lemmas.Bool.{cases_lt, cases_eq, false≢true}
+use Rattle.std.proofs.lemmas.Bool.{cases_lt, cases_eq, cond_below, cond_above, false≢true}
 use Rattle.std.proofs.lemmas.Option.{option_and_then_some, none-some, same_Some}
 use Rattle.std.proofs.lemmas.List.{get_or_past, get_or-set_same, get_or-set_other, length-replicate, length-set, set-get_or}
-use Rattle.std.proofs.lemmas.List.FromFn.{length-map-range_with_len, get_or-map-range_with_len, fill_by_all}
+use Rattle.std.proofs.lemmas.List.FromFn.{length-map-range_with_len, get_or-map-range_with_len, map-range_with_len_more, fill_by_all}
 use Rattle.iw_endpoint.specs.Inside.{found, listed, Keeps, Changes, Stays, IsLaid}
+use Rattle.iw_endpoint.specs.Numbers.{put_at}
+use Rattle.iw_endpoint.proofs.Filled.{put_last}
 
 module _ {X : Type 0} where
   abbrev numbers : (ℕ → Option X) → ℕ → List (Option X)
@@ -39,6 +41,13 @@ module _ {X : Type 0} where
           ∙ sym here ∙ ap g (sym same)
       go j below (inr ne) = get_or-set_other (numbers f n) k j o None ne ∙ get_or-map-range_with_len f 0 n j j None below (omega arith) ∙ sym (others j ne)
 
+  push_number : (f g : ℕ → Option X) (n : ℕ) (o : Option X) → g n ≡ o → ((m : ℕ) → m ≢ n → g m ≡ f m) → numbers g (n + 1) ≡ numbers f n ++ o ∷ []
+  push_number f g n o here others = map-range_with_len_more g 0 n n (omega arith) ∙ (λ i. same i ++ here i ∷ [])
+    where
+      same : numbers g n ≡ numbers f n
+      same = sym (fill_by_all g (numbers f n) n None (size f n) (λ j below.
+          get_or-map-range_with_len f 0 n j j None below (omega arith) ∙ sym (others j (λ e. let no : ⊥ = omega arith in no))))
+
   -- ---- where they lie
 
   pub found_below : (keys : ℕ → Option ℕ) (places : ℕ → Option X) (next : ℕ) → Keeps keys places next → (n : ℕ) (y : X) → found keys places n ≡ Some y → n < next
@@ -67,6 +76,7 @@ module _ {X : Type 0} where
 
   pub keeps_stays : (keys new_keys : ℕ → Option ℕ) (places new_places : ℕ → Option X) (next : ℕ) → Stays keys new_keys → Stays places new_places → Keeps keys places next → Keeps new_keys new_places next
   keeps_stays keys new_keys places new_places next ks ps keeps = record {
+    least = keeps.least;
     most = keeps.most;
     below = λ n k is. keeps.below n k (sym (ks n) ∙ is);
     there = λ n k is. subst (λ o. IsSome o) (sym (ps k)) (keeps.there n k (sym (ks n) ∙ is));
@@ -92,8 +102,12 @@ module _ {X : Type 0} where
     pub listed_put : n < next → listed new_keys new_places next ≡ set (listed keys places next) n (Some x)
     listed_put within = set_number (found keys places) (found new_keys new_places) next n (Some x) within put_here put_others
 
+    pub listed_push : n ≡ next → listed new_keys new_places (next + 1) ≡ listed keys places next ++ Some x ∷ []
+    listed_push is = push_number (found keys places) (found new_keys new_places) next (Some x) (ap (found new_keys new_places) (sym is) ∙ put_here) (λ m ne. put_others m (λ e. ne (e ∙ is)))
+
     pub keeps_put : (later : ℕ) → n < later → next ≤ later → later ≤ 2 ^ 32 → Keeps new_keys new_places later
     keeps_put later within more most = record {
+      least = (let a = keeps.least in omega (arith, a, more));
       most = most;
       below = λ m j is. below m j is (cases_eq m n);
       there = λ m j is. there m j is (cases_eq m n);
@@ -130,6 +144,7 @@ module _ {X : Type 0} where
 
     pub keeps_written : Keeps keys new_places next
     keeps_written = record {
+      least = keeps.least;
       most = keeps.most;
       below = keeps.below;
       there = λ m j at. there m j at (cases_eq j k);
@@ -153,6 +168,7 @@ module _ {X : Type 0} where
 
     pub keeps_removed : Keeps new_keys new_places next
     keeps_removed = record {
+      least = keeps.least;
       most = keeps.most;
       below = λ m j at. below m j at (cases_eq m n);
       there = λ m j at. there m j at (cases_eq m n);
@@ -185,6 +201,12 @@ module _ {X : Type 0} where
 
   -- ---- what the calls need
 
+  pub next_within : (xs : List (Option X)) (n : ℕ) → length xs ≡ n → n < 2 ^ 32 → Some n ≡ (if nat_lt (length xs) (2 ^ 32) then Some (length xs) else None)
+  next_within xs n size below = ap Some (sym size) ∙ cond_below (length xs) (2 ^ 32) (Some (length xs)) None (subst (λ m. m < 2 ^ 32) (sym size) below)
+
+  pub next_past : (xs : List (Option X)) (n : ℕ) → length xs ≡ n → 2 ^ 32 ≤ n → None ≡ (if nat_lt (length xs) (2 ^ 32) then Some (length xs) else None)
+  next_past xs n size past = cond_above (length xs) (2 ^ 32) (Some (length xs)) None None (subst (λ m. 2 ^ 32 ≤ m) (sym size) past) refl
+
   pub size_listed : (keys : ℕ → Option ℕ) (places : ℕ → Option X) (next : ℕ) (xs : List (Option X)) → listed keys places next ≡ xs → length xs ≡ next
   size_listed keys places next xs is = ap length (sym is) ∙ size (found keys places) next
 
@@ -209,6 +231,21 @@ module _ {X : Type 0} where
     laid_nothing (Ok u) stays = stays
     laid_nothing (Err e) stays = listed_stays keys new_keys places new_places next stays.0 stays.1 ∙ is
 
+  module _ (keys new_keys : ℕ → Option ℕ) (places new_places : ℕ → Option X) (next n : ℕ) (x : X) (xs : List (Option X)) (keeps : Keeps keys places next) (is : listed keys places next ≡ xs) where
+    pub keeps_pushed : n ≡ length xs → n < 2 ^ 32 → IsLaid keys new_keys places new_places n x → Keeps new_keys new_places (n + 1)
+    keeps_pushed at below laid =
+        let same : n ≡ next = at ∙ size_listed keys places next xs is in
+        keeps_put keys new_keys places new_places next n laid.place x keeps laid.kept laid.put laid.vacant (n + 1) (omega arith) (omega arith) (omega arith)
+
+    pub laid_last : n ≡ length xs → IsLaid keys new_keys places new_places n x → listed new_keys new_places (n + 1) ≡ put_at xs n x
+    laid_last at laid =
+        let same : n ≡ next = at ∙ size_listed keys places next xs is in
+        ap (λ m. listed new_keys new_places (m + 1)) same
+        ∙ listed_push keys new_keys places new_places next n laid.place x keeps laid.kept laid.put laid.vacant same
+        ∙ ap (λ ys. ys ++ Some x ∷ []) is
+        ∙ sym (put_last xs x)
+        ∙ ap (λ m. put_at xs m x) (sym at)
+
   -- ---- a new one, and one that lends
 
   nothing_in : (k n : ℕ) → get_or (replicate {A = Option X} k None) n None ≡ None
@@ -221,8 +258,9 @@ module _ {X : Type 0} where
   listed_new keys places next none =
       sym (fill_by_all (found keys places) (replicate next None) next None (length-replicate next None) (λ k below. nothing_in next k ∙ sym (found_none keys places k (none k))))
 
-  pub keeps_new : (keys : ℕ → Option ℕ) (places : ℕ → Option X) (next : ℕ) → ((n : ℕ) → keys n ≡ None) → next ≤ 2 ^ 32 → Keeps keys places next
-  keeps_new keys places next none most = record {
+  pub keeps_new : (keys : ℕ → Option ℕ) (places : ℕ → Option X) (next : ℕ) → ((n : ℕ) → keys n ≡ None) → 64 ≤ next → next ≤ 2 ^ 32 → Keeps keys places next
+  keeps_new keys places next none least most = record {
+    least = least;
     most = most;
     below = λ n k is. absurd (none-some k (sym (none n) ∙ is));
     there = λ n k is. absurd (none-some k (sym (none n) ∙ is));

@@ -1,29 +1,35 @@
 -- Each call is one step on the part of the domain that it concerns.
-use Rattle.std.proofs.Common.{◌≡◌, ℕ, List, [], ◌∷◌, ◌++◌, length, drop, Option, Some, None, Ok, refl, sym, ap, subst, ◌∙◌, inr}
-use Rattle.std.specs.Prelude.{unwrap_or, is_some, nat_le, not, if◌then◌else◌}
+use Rattle.std.proofs.Common.{◌≡◌, ℕ, ◌<◌, Bool, true, false, cond, set, arith, List, [], ◌∷◌, ◌++◌, length, drop, Option, Some, None, Ok, refl, sym, ap, subst, ◌∙◌, inr}
+use Rattle.std.proofs.lemmas.Option.{none-some}
+use Rattle.std.proofs.lemmas.Bool.Decides.{nat_tests}
+use Rattle.std.specs.Prelude.{IfSome, ◌||◌, is_none, unwrap_or, is_some, nat_le, not, if◌then◌else◌}
 use Rattle.std.specs.Option.{option_map, option_or}
 use Rattle.std.proofs.lemmas.List.{length-set}
 use Rattle.iw_memory.specs.declared.refusal.NoRegion.{NoRegion}
 use Rattle.iw_memory.specs.Part as regions
 use Rattle.iw_memory.specs.Region.{facts_of, new_region, overlay}
 use Rattle.iw_memory.specs.Table as tables
-use Rattle.iw_memory.specs.Table.{Table}
+use Rattle.iw_memory.specs.Table.{Table, is_added}
+use Rattle.iw_stream.specs.declared.answer.OpenRefusal.{OpenRefusal}
 use Rattle.iw_stream.specs.declared.answer.OpenRefusal.TheVariants.{NumberTaken, BadNumber, NoDomain}
 use Rattle.iw_ranges.specs.declared.Delivery.{Delivery}
 use Rattle.iw_ranges.specs.declared.Delivery.TheVariants.{Kept, Dropped}
 use Rattle.iw_startup.specs.declared.config.Config.{Config}
 use Rattle.iw_stream.specs.declared.answer.Role.{Role}
-use Rattle.iw_stream.specs.Starting.{private_in, told_in, agreement_in}
+use Rattle.iw_stream.specs.Starting.{exceeds_request, private_in, told_in, agreement_in}
 use Rattle.iw_stream.specs.Stream as stream
 use Rattle.iw_untagged.specs.Receiving.{exchanged}
 use Rattle.iw_stream.specs.Stream.{StreamState, sees, emission_of, emitted, delivery_of}
 use Rattle.iw_stream.specs.Work.{work_step, table_worked}
-use Rattle.iw_endpoint.specs.Endpoint.{EndpointState, Pool, pool_of, with_pool, share_fault, share_refusal, pool_fault, pool_refusal, take_fault, take_refusal, taken, lent_to, left_of, pool_left, with_worked, stream_of, unopened, with_stream, with_table, answer_at, refusal_at, number_refusal, request_refusal, open_refusal, open_shared_refusal, open_shared_refusal_of, unshared, stream_numbers}
-use Rattle.iw_endpoint.specs.Isolation.{StreamCall, Accept, Reject, Post, PostRecv, Deliver, Work, Emit, BreakLink, SetMulpdu, Private, Told, Sent, DueLen, InOrderPoint, Limits, AddDomain, Register, Deregister, Invalidate, Store, Facts, Local, LocalMut, Open, Share, PostShared, TakeShared, OpenShared, AtStream, FirstNumber, PeerFirst}
-use Rattle.iw_endpoint.specs.Isolation.{Accepted, Rejected, Posted, Buffered, Delivered, Worked, Emitted, Broke, Sized, Shown, Declared, Counted, Limited, Added, Registered, Octets, Invalidated, Found, Stored, Opened, Shared, Pooled, Taken, OpenedShared, OfStream, Numbered}
-use Rattle.iw_endpoint.specs.Isolation.{IsOwn, OwnStep, CallsConcernOneDomain, part_of, alone, stream_answer, after_stream, answer_or, unless}
+use Rattle.iw_endpoint.specs.declared.refusal.OpenNextRefusal.TheVariants as next_refusals
+use Rattle.iw_endpoint.specs.Numbers.{put_at}
+use Rattle.iw_endpoint.specs.Endpoint.{EndpointState, Pool, HasNumbers, closed_at, is_taken, rest_refusal, with_next, next_refusal, next_shared_refusal, pool_of, with_pool, share_fault, share_refusal, pool_fault, pool_refusal, take_fault, take_refusal, taken, lent_to, left_of, pool_left, with_worked, stream_of, unopened, with_stream, with_table, answer_at, refusal_at, number_refusal, request_refusal, open_refusal, open_shared_refusal, open_shared_refusal_of, unshared, stream_numbers}
+use Rattle.iw_endpoint.specs.Isolation.{StreamCall, Accept, Reject, Post, PostRecv, Deliver, Work, Emit, BreakLink, Close, OpenNext, OpenSharedNext, SetMulpdu, Private, Told, Sent, DueLen, InOrderPoint, Limits, AddDomain, Register, Deregister, Invalidate, Store, Facts, Local, LocalMut, Open, Share, PostShared, TakeShared, OpenShared, AtStream, FirstNumber, PeerFirst}
+use Rattle.iw_endpoint.specs.Isolation.{Accepted, Rejected, Posted, Buffered, Delivered, Worked, Emitted, Broke, Closed, Sized, Shown, Declared, Counted, Limited, Added, Registered, Octets, Invalidated, Found, Stored, Opened, Shared, Pooled, Taken, OpenedShared, OpenedNext, OfStream, Numbered}
+use Rattle.iw_endpoint.specs.Isolation.{HasDomains, IsOwn, IsOwnNumber, OwnStep, CallsConcernOneDomain, part_of, alone, stream_answer, after_stream, answer_or, unless}
 use Rattle.iw_endpoint.proofs.Tables.{AreAlike, KeepsOthers, step-alike, worked-alike, table_worked-alike, keeps-worked, emission-alike, emitted-alike, after_emit-alike, worked_domain, emit_domain}
-use Rattle.iw_endpoint.proofs.Parts.{AreSeenAlike, seen_alone, stream_alike, alone_own, with_alike, with_tables_alike, with_pool_alike, pool_alike, pool_other, pool_leaves, unless_alike, refusing_alike, changing_alike, region_alike, Leaves, leaves-all, leaves-with, leaves-changed, refusing_leaves, changing_leaves, region_leaves, one_step}
+use Rattle.iw_endpoint.proofs.Filled.{set_is, put_is, within}
+use Rattle.iw_endpoint.proofs.Parts.{AreSeenAlike, seen_alone, stream_alike, alone_own, with_alike, with_tables_alike, with_pool_alike, pool_alike, pool_other, pool_leaves, unless_alike, refusing_alike, changing_alike, region_alike, Leaves, leaves-all, leaves-put, leaves-closed, leaves-changed, changed_alike, put_alike, closes_alike, closed_alike, alone_number, with_streams, refusing_leaves, changing_leaves, region_leaves, one_step}
 
 -- ---- calls at a stream
 
@@ -43,8 +49,8 @@ step_seen e f s h = go (pool_of e s.domain) ∙ ap (λ o. work_step f.table (len
     go None = step-alike s e.table f.table h.table
     go (Some pool) = step-alike (sees s pool) e.table f.table h.table
 
-worked_alike : (e f : EndpointState) (n : ℕ) (s : StreamState) → AreSeenAlike s.domain e f → AreSeenAlike s.domain (with_worked e n s) (with_worked f n s)
-worked_alike e f n s h = subst (λ o. AreSeenAlike s.domain (with_worked e n s) (made f o)) h.pool (go (pool_of e s.domain))
+worked_alike : (e f : EndpointState) (n : ℕ) (s : StreamState) → n < length e.streams → n < length f.streams → AreSeenAlike s.domain e f → AreSeenAlike s.domain (with_worked e n s) (with_worked f n s)
+worked_alike e f n s at_e at_f h = subst (λ o. AreSeenAlike s.domain (with_worked e n s) (made f o)) h.pool (go (pool_of e s.domain))
   where
     made : EndpointState → Option Pool → EndpointState
     made x o = with_table (with_pool (with_stream x n (left_of x.table o s)) s.domain (pool_left x.table o s)) (table_worked x.table (lent_to o s))
@@ -65,7 +71,7 @@ worked_alike e f n s h = subst (λ o. AreSeenAlike s.domain (with_worked e n s) 
     go o =
         with_tables_alike s.domain (with_pool (with_stream e n (left_of e.table o s)) s.domain (pool_left e.table o s)) (with_pool (with_stream f n (left_of f.table o s)) s.domain (pool_left f.table o s)) (table_worked e.table (lent_to o s)) (table_worked f.table (lent_to o s)) (tables o)
         (with_pool_alike s.domain (with_stream e n (left_of e.table o s)) (with_stream f n (left_of f.table o s)) (pool_left e.table o s) (pool_left f.table o s) (pools o)
-        (with_alike s.domain e f n (left_of e.table o s) (left_of f.table o s) (left o) h))
+        (with_alike s.domain e f n (left_of e.table o s) (left_of f.table o s) at_e at_f (left o) h))
 
 -- what is told of a stream that is the same at both
 told_at : {A : Type 0} (d : ℕ) (e f : EndpointState) (o : Option StreamState) (at_e at_f : StreamState → A) → IsOwn d o → ((s : StreamState) → IsOwn d (Some s) → at_e s ≡ at_f s) → answer_at o (λ s. at_e (unwrap_or o unopened)) ≡ answer_at o (λ s. at_f (unwrap_or o unopened))
@@ -88,6 +94,7 @@ stream_answers d e f n Emit own same h =
     (λ i. Emitted (told_at d e f (stream_of e n) (emission_of e.table) (emission_of f.table) own (λ s own. emission-alike s e.table f.table (at_own d e f s own h)) i) (told_at d e f (stream_of e n) (emitted e.table) (emitted f.table) own (λ s own. emitted-alike s e.table f.table (at_own d e f s own h)) i))
     ∙ ap (λ o. Emitted (answer_at o (λ s. emission_of f.table (unwrap_or o unopened))) (answer_at o (λ s. emitted f.table (unwrap_or o unopened)))) same
 stream_answers d e f n BreakLink own same h = ap (λ o. Broke (answer_at o (λ s. tt))) same
+stream_answers d e f n Close own same h = ap (λ o. Closed (refusal_at o rest_refusal)) same
 stream_answers d e f n (SetMulpdu size) own same h = ap (λ o. Sized (refusal_at o (λ s. stream.size_refusal size))) same
 stream_answers d e f n Private own same h = ap (λ o. Shown (answer_at o (λ s. private_in (unwrap_or o unopened).start))) same
 stream_answers d e f n Told own same h = ap (λ o. Declared (answer_at o (λ s. told_in (unwrap_or o unopened).start))) same
@@ -100,24 +107,36 @@ stream_answers d e f n InOrderPoint own same h = ap (λ o. Counted (answer_at o 
 stream_answers d e f n Limits own same h = ap (λ o. Limited (answer_at o (λ s. tt))) same
 
 -- what each call makes of its stream, and of the endpoint
-abbrev delivered : ℕ → List ℕ → StreamState → StreamState
+abbrev pub closes : EndpointState → ℕ → StreamState → EndpointState
+closes e n s = record e { streams = set e.streams n None; closed = set e.closed n (Some s.domain) }
+
+abbrev pub delivered : ℕ → List ℕ → StreamState → StreamState
 delivered from octets s = stream.after_deliver s from octets (delivery_of s from (length octets))
 
 stream_alikes : (d : ℕ) (e f : EndpointState) (n : ℕ) (call : StreamCall) → IsOwn d (stream_of e n) → stream_of e n ≡ stream_of f n → AreSeenAlike d e f → AreSeenAlike d (after_stream e n call) (after_stream f n call)
-stream_alikes d e f n (Accept private) own same h = refusing_alike (λ s. stream.answer_refusal s private.items) (λ s. stream.accepted s private) d e f n same h
-stream_alikes d e f n (Reject private) own same h = refusing_alike (λ s. stream.answer_refusal s private.items) (λ s. stream.rejected s private) d e f n same h
-stream_alikes d e f n (Post request) own same h = refusing_alike (λ s. stream.post_refusal s request) (λ s. stream.with_request s request) d e f n same h
-stream_alikes d e f n (PostRecv buffer) own same h = refusing_alike stream.recv_refusal (λ s. stream.with_buffer s buffer) d e f n same h
-stream_alikes d e f n (FirstNumber first) own same h = refusing_alike stream.first_refusal (λ s. stream.with_first s first) d e f n same h
+stream_alikes d e f n (Accept private) own same h =
+    refusing_alike (λ s. stream.answer_refusal s private.items) (λ s e. with_stream e n (stream.accepted s private)) d e f n same h (λ s at_e at_f. changed_alike d e f n s (stream.accepted s private) (stream.accepted s private) at_e at_f refl h)
+stream_alikes d e f n (Reject private) own same h =
+    refusing_alike (λ s. stream.answer_refusal s private.items) (λ s e. with_stream e n (stream.rejected s private)) d e f n same h (λ s at_e at_f. changed_alike d e f n s (stream.rejected s private) (stream.rejected s private) at_e at_f refl h)
+stream_alikes d e f n (Post request) own same h =
+    refusing_alike (λ s. stream.post_refusal s request) (λ s e. with_stream e n (stream.with_request s request)) d e f n same h (λ s at_e at_f. changed_alike d e f n s (stream.with_request s request) (stream.with_request s request) at_e at_f refl h)
+stream_alikes d e f n (PostRecv buffer) own same h =
+    refusing_alike (stream.recv_refusal) (λ s e. with_stream e n (stream.with_buffer s buffer)) d e f n same h (λ s at_e at_f. changed_alike d e f n s (stream.with_buffer s buffer) (stream.with_buffer s buffer) at_e at_f refl h)
+stream_alikes d e f n (FirstNumber first) own same h =
+    refusing_alike (stream.first_refusal) (λ s e. with_stream e n (stream.with_first s first)) d e f n same h (λ s at_e at_f. changed_alike d e f n s (stream.with_first s first) (stream.with_first s first) at_e at_f refl h)
 stream_alikes d e f n (Deliver from octets) own same h =
-    changing_alike (λ s e. with_stream e n (delivered from octets s)) d e f n same h (λ s is. with_alike d e f n (delivered from octets s) (delivered from octets s) refl h)
-stream_alikes d e f n Work own same h = changing_alike (λ s e. with_worked e n s) d e f n same h (λ s is.
-    let here : s.domain ≡ d = subst (λ o. IsOwn d o) is own in
-    subst (λ x. AreSeenAlike x e f → AreSeenAlike x (with_worked e n s) (with_worked f n s)) here (worked_alike e f n s) h)
-stream_alikes d e f n Emit own same h = changing_alike (λ s e. with_stream e n (stream.after_emit e.table s)) d e f n same h (λ s is.
-    with_alike d e f n (stream.after_emit e.table s) (stream.after_emit f.table s) (after_emit-alike s e.table f.table (at_own d e f s (subst (λ o. IsOwn d o) is own) h)) h)
-stream_alikes d e f n BreakLink own same h = changing_alike (λ s e. with_stream e n (stream.breaks s)) d e f n same h (λ s is. with_alike d e f n (stream.breaks s) (stream.breaks s) refl h)
-stream_alikes d e f n (SetMulpdu size) own same h = refusing_alike (λ s. stream.size_refusal size) (λ s. stream.with_mulpdu s size) d e f n same h
+    changing_alike (λ s e. with_stream e n (delivered from octets s)) d e f n same h (λ s at_e at_f. changed_alike d e f n s (delivered from octets s) (delivered from octets s) at_e at_f refl h)
+stream_alikes d e f n Work own same h = changing_alike (λ s e. with_worked e n s) d e f n same h (λ s at_e at_f.
+    let here : s.domain ≡ d = subst (λ o. IsOwn d o) at_e own in
+    subst (λ x. AreSeenAlike x e f → AreSeenAlike x (with_worked e n s) (with_worked f n s)) here (worked_alike e f n s (within e.streams n s at_e) (within f.streams n s at_f)) h)
+stream_alikes d e f n Emit own same h = changing_alike (λ s e. with_stream e n (stream.after_emit e.table s)) d e f n same h (λ s at_e at_f.
+    changed_alike d e f n s (stream.after_emit e.table s) (stream.after_emit f.table s) at_e at_f (after_emit-alike s e.table f.table (at_own d e f s (subst (λ o. IsOwn d o) at_e own) h)) h)
+stream_alikes d e f n BreakLink own same h = changing_alike (λ s e. with_stream e n (stream.breaks s)) d e f n same h (λ s at_e at_f. changed_alike d e f n s (stream.breaks s) (stream.breaks s) at_e at_f refl h)
+stream_alikes d e f n Close own same h = refusing_alike rest_refusal (λ s e. closes e n s) d e f n same h (λ s at_e at_f.
+    closes_alike d (with_streams e (set e.streams n None)) (with_streams f (set f.streams n None)) n s.domain
+    (put_alike d e f (set e.streams n None) (set f.streams n None) n None None (set_is e.streams n None (within e.streams n s at_e)) (set_is f.streams n None (within f.streams n s at_f)) refl h))
+stream_alikes d e f n (SetMulpdu size) own same h =
+    refusing_alike (λ s. stream.size_refusal size) (λ s e. with_stream e n (stream.with_mulpdu s size)) d e f n same h (λ s at_e at_f. changed_alike d e f n s (stream.with_mulpdu s size) (stream.with_mulpdu s size) at_e at_f refl h)
 stream_alikes d e f n Private own same h = h
 stream_alikes d e f n Told own same h = h
 stream_alikes d e f n PeerFirst own same h = h
@@ -146,23 +165,33 @@ worked_leaves d e n IsNew s is own =
       places = length-set e.pools s.domain (pool_left e.table o s);
       pools = λ other ne. pool_other s.domain other e (pool_left e.table o s) (λ same. ne (same ∙ own));
       streams = put.streams;
+      closed = put.closed;
+      given = put.given;
       owners = put.owners;
+      ended = put.ended;
     }
 
-stream_leaves : (d : ℕ) (e : EndpointState) (n : ℕ) (call : StreamCall) (IsNew : ℕ → ℕ → Type 0) → IsOwn d (stream_of e n) → Leaves d e (after_stream e n call) IsNew
-stream_leaves d e n (Accept private) IsNew own = refusing_leaves (λ s. stream.answer_refusal s private.items) (λ s. stream.accepted s private) d e n IsNew own (λ s. refl)
-stream_leaves d e n (Reject private) IsNew own = refusing_leaves (λ s. stream.answer_refusal s private.items) (λ s. stream.rejected s private) d e n IsNew own (λ s. refl)
-stream_leaves d e n (Post request) IsNew own = refusing_leaves (λ s. stream.post_refusal s request) (λ s. stream.with_request s request) d e n IsNew own (λ s. refl)
-stream_leaves d e n (PostRecv buffer) IsNew own = refusing_leaves stream.recv_refusal (λ s. stream.with_buffer s buffer) d e n IsNew own (λ s. refl)
-stream_leaves d e n (FirstNumber first) IsNew own = refusing_leaves stream.first_refusal (λ s. stream.with_first s first) d e n IsNew own (λ s. refl)
+stream_leaves : (d : ℕ) (e : EndpointState) (n : ℕ) (call : StreamCall) (IsNew : ℕ → ℕ → Type 0) → IsOwnNumber d e n → Leaves d e (after_stream e n call) IsNew
+stream_leaves d e n (Accept private) IsNew own =
+    refusing_leaves (λ s. stream.answer_refusal s private.items) (λ s. with_stream e n (stream.accepted s private)) d e n IsNew own.0 (λ s is own. leaves-changed d e n s (stream.accepted s private) IsNew is own refl)
+stream_leaves d e n (Reject private) IsNew own =
+    refusing_leaves (λ s. stream.answer_refusal s private.items) (λ s. with_stream e n (stream.rejected s private)) d e n IsNew own.0 (λ s is own. leaves-changed d e n s (stream.rejected s private) IsNew is own refl)
+stream_leaves d e n (Post request) IsNew own =
+    refusing_leaves (λ s. stream.post_refusal s request) (λ s. with_stream e n (stream.with_request s request)) d e n IsNew own.0 (λ s is own. leaves-changed d e n s (stream.with_request s request) IsNew is own refl)
+stream_leaves d e n (PostRecv buffer) IsNew own =
+    refusing_leaves (stream.recv_refusal) (λ s. with_stream e n (stream.with_buffer s buffer)) d e n IsNew own.0 (λ s is own. leaves-changed d e n s (stream.with_buffer s buffer) IsNew is own refl)
+stream_leaves d e n (FirstNumber first) IsNew own =
+    refusing_leaves (stream.first_refusal) (λ s. with_stream e n (stream.with_first s first)) d e n IsNew own.0 (λ s is own. leaves-changed d e n s (stream.with_first s first) IsNew is own refl)
 stream_leaves d e n (Deliver from octets) IsNew own =
-    changing_leaves (λ s. with_stream e n (delivered from octets s)) d e n IsNew own (λ s is own. leaves-changed d e n s (delivered from octets s) IsNew is own (delivered_domain s from octets (delivery_of s from (length octets))))
-stream_leaves d e n Work IsNew own = changing_leaves (λ s. with_worked e n s) d e n IsNew own (worked_leaves d e n IsNew)
+    changing_leaves (λ s. with_stream e n (delivered from octets s)) d e n IsNew own.0 (λ s is own. leaves-changed d e n s (delivered from octets s) IsNew is own (delivered_domain s from octets (delivery_of s from (length octets))))
+stream_leaves d e n Work IsNew own = changing_leaves (λ s. with_worked e n s) d e n IsNew own.0 (worked_leaves d e n IsNew)
 stream_leaves d e n Emit IsNew own =
-    changing_leaves (λ s. with_stream e n (stream.after_emit e.table s)) d e n IsNew own (λ s is own. leaves-changed d e n s (stream.after_emit e.table s) IsNew is own (emit_domain e.table s))
+    changing_leaves (λ s. with_stream e n (stream.after_emit e.table s)) d e n IsNew own.0 (λ s is own. leaves-changed d e n s (stream.after_emit e.table s) IsNew is own (emit_domain e.table s))
 stream_leaves d e n BreakLink IsNew own =
-    changing_leaves (λ s. with_stream e n (stream.breaks s)) d e n IsNew own (λ s is own. leaves-changed d e n s (stream.breaks s) IsNew is own refl)
-stream_leaves d e n (SetMulpdu size) IsNew own = refusing_leaves (λ s. stream.size_refusal size) (λ s. stream.with_mulpdu s size) d e n IsNew own (λ s. refl)
+    changing_leaves (λ s. with_stream e n (stream.breaks s)) d e n IsNew own.0 (λ s is own. leaves-changed d e n s (stream.breaks s) IsNew is own refl)
+stream_leaves d e n (SetMulpdu size) IsNew own =
+    refusing_leaves (λ s. stream.size_refusal size) (λ s. with_stream e n (stream.with_mulpdu s size)) d e n IsNew own.0 (λ s is own. leaves-changed d e n s (stream.with_mulpdu s size) IsNew is own refl)
+stream_leaves d e n Close IsNew own = refusing_leaves rest_refusal (closes e n) d e n IsNew own.0 (λ s is here. leaves-closed d e n s IsNew is own)
 stream_leaves d e n Private IsNew own = leaves-all d e IsNew
 stream_leaves d e n Told IsNew own = leaves-all d e IsNew
 stream_leaves d e n PeerFirst IsNew own = leaves-all d e IsNew
@@ -173,20 +202,113 @@ stream_leaves d e n Limits IsNew own = leaves-all d e IsNew
 
 -- ---- openings
 
-number_alike : (d : ℕ) (e f : EndpointState) (n : ℕ) → stream_of e n ≡ stream_of f n → AreSeenAlike d e f → number_refusal e n d ≡ number_refusal f n d
-number_alike d e f n same h =
-    (λ i. if is_some (same i) then Some NumberTaken else if nat_le stream_numbers n then Some BadNumber else if not (is_some (h.table.part i)) then Some NoDomain else None)
+number_alike : (d : ℕ) (e f : EndpointState) (n : ℕ) → stream_of e n ≡ stream_of f n → closed_at e n ≡ closed_at f n → AreSeenAlike d e f → number_refusal e n d ≡ number_refusal f n d
+number_alike d e f n same closed h =
+    (λ i. if nat_le stream_numbers n then Some BadNumber else if is_some (same i) || is_some (closed i) then Some NumberTaken else if not (is_some (h.table.part i)) then Some NoDomain else None)
 
-pub open_alike : (d : ℕ) (e f : EndpointState) (n : ℕ) (role : Role) (config : Config) → stream_of e n ≡ stream_of f n → AreSeenAlike d e f → open_refusal e n d role config ≡ open_refusal f n d role config
-open_alike d e f n role config same h = λ i. option_or (number_alike d e f n same h i) (request_refusal role config)
+pub open_alike : (d : ℕ) (e f : EndpointState) (n : ℕ) (role : Role) (config : Config) → stream_of e n ≡ stream_of f n → closed_at e n ≡ closed_at f n → AreSeenAlike d e f → open_refusal e n d role config ≡ open_refusal f n d role config
+open_alike d e f n role config same closed h = λ i. option_or (number_alike d e f n same closed h i) (request_refusal role config)
 
-open_shared_alike : (d : ℕ) (e f : EndpointState) (n : ℕ) (role : Role) (config : Config) → stream_of e n ≡ stream_of f n → AreSeenAlike d e f → open_shared_refusal e n d role config ≡ open_shared_refusal f n d role config
-open_shared_alike d e f n role config same h =
-    λ i. option_or (option_map open_shared_refusal_of (number_alike d e f n same h i)) (option_or (unshared (h.pool i)) (option_map open_shared_refusal_of (request_refusal role config)))
+open_shared_alike : (d : ℕ) (e f : EndpointState) (n : ℕ) (role : Role) (config : Config) → stream_of e n ≡ stream_of f n → closed_at e n ≡ closed_at f n → AreSeenAlike d e f
+    → open_shared_refusal e n d role config ≡ open_shared_refusal f n d role config
+open_shared_alike d e f n role config same closed h =
+    λ i. option_or (option_map open_shared_refusal_of (number_alike d e f n same closed h i)) (option_or (unshared (h.pool i)) (option_map open_shared_refusal_of (request_refusal role config)))
 
-open_leaves : {R : Type 0} (q : Option R) (d : ℕ) (e : EndpointState) (n : ℕ) (x : StreamState) (IsNew : ℕ → ℕ → Type 0) → x.domain ≡ d → IsOwn d (stream_of e n) → IsNew n x.domain → Leaves d e (unless q e (with_stream e n x)) IsNew
-open_leaves None d e n x IsNew here own is_new = leaves-with d e n x IsNew here own (inr is_new)
-open_leaves (Some refusal) d e n x IsNew here own is_new = leaves-all d e IsNew
+-- a number under which a stream is opened has its place
+pub numbered : (e : EndpointState) (n pd : ℕ) → number_refusal e n pd ≡ None → n < 64
+numbered e n pd = go (nat_le stream_numbers n) refl
+  where
+    rest : Option OpenRefusal
+    rest = if is_taken e n then Some NumberTaken else if not (is_added e.table pd) then Some NoDomain else None
+
+    go : (beyond : Bool) → nat_le stream_numbers n ≡ beyond → cond beyond (Some BadNumber) rest ≡ None → n < 64
+    go true z none = absurd (none-some _ (sym none))
+    go false z none = grind (arith, nat_tests)
+
+pub first_none : {R : Type 0} (o p : Option R) → option_or o p ≡ None → o ≡ None
+first_none None p none = refl
+first_none (Some r) p none = none
+
+pub mapped_none : {R S : Type 0} (f : R → S) (o : Option R) → option_map f o ≡ None → o ≡ None
+mapped_none f None none = refl
+mapped_none f (Some r) none = absurd (none-some _ (sym none))
+
+opens_alike : {R : Type 0} (q : Option R) (d : ℕ) (e f : EndpointState) (n : ℕ) (x : StreamState) → (q ≡ None → n < 64) → AreSeenAlike d e f → AreSeenAlike d (unless q e (with_stream e n x)) (unless q f (with_stream f n x))
+opens_alike None d e f n x place h =
+    let below : n < 64 = place refl in let a = h.room.0 in let b = h.room.1 in
+    with_alike d e f n x x (omega (arith, below, a)) (omega (arith, below, b)) refl h
+opens_alike (Some refusal) d e f n x place h = h
+
+open_leaves : {R : Type 0} (q : Option R) (d : ℕ) (e : EndpointState) (n : ℕ) (x : StreamState) (IsNew : ℕ → ℕ → Type 0) → (q ≡ None → n < 64) → HasNumbers e → x.domain ≡ d → IsOwn d (stream_of e n) → IsNew n x.domain
+    → Leaves d e (unless q e (with_stream e n x)) IsNew
+open_leaves None d e n x IsNew place all here own is_new =
+    let below : n < 64 = place refl in
+    leaves-put d e (set e.streams n (Some x)) n (Some x) IsNew (set_is e.streams n (Some x) (omega (arith, below, all))) here own (inr is_new)
+open_leaves (Some refusal) d e n x IsNew place all here own is_new = leaves-all d e IsNew
+
+-- ---- openings without a number
+
+next_alike : (d : ℕ) (e f : EndpointState) (n : Option ℕ) (role : Role) (config : Config) → AreSeenAlike d e f → next_refusal e n d role config ≡ next_refusal f n d role config
+next_alike d e f n role config h =
+    λ i. if not (is_some (h.table.part i)) then Some next_refusals.NoDomain else if is_none n then Some next_refusals.NumbersSpent else if exceeds_request role config then Some next_refusals.PrivateTooLong else None
+
+next_shared_alike : (d : ℕ) (e f : EndpointState) (n : Option ℕ) (role : Role) (config : Config) → AreSeenAlike d e f → next_shared_refusal e n d role config ≡ next_shared_refusal f n d role config
+next_shared_alike d e f n role config h =
+    λ i. if not (is_some (h.table.part i)) then Some next_refusals.NoDomain else if is_none (h.pool i) then Some next_refusals.NotShared else next_alike d e f n role config h i
+
+-- with no number left, none is opened
+pub never : (e : EndpointState) (d : ℕ) (role : Role) (config : Config) → next_refusal e None d role config ≡ None → ⊥
+never e d role config = go (is_added e.table d)
+  where
+    go : (added : Bool) → cond (not added) (Some next_refusals.NoDomain) (Some next_refusals.NumbersSpent) ≡ None → ⊥
+    go true none = none-some _ (sym none)
+    go false none = none-some _ (sym none)
+
+pub never_shared : (e : EndpointState) (d : ℕ) (role : Role) (config : Config) → next_shared_refusal e None d role config ≡ None → ⊥
+never_shared e d role config = go (is_added e.table d) (is_none (pool_of e d))
+  where
+    go : (added unshared : Bool) → cond (not added) (Some next_refusals.NoDomain) (cond unshared (Some next_refusals.NotShared) (next_refusal e None d role config)) ≡ None → ⊥
+    go false u none = none-some _ (sym none)
+    go true true none = none-some _ (sym none)
+    go true false none = never e d role config none
+
+nexts_alike : {R : Type 0} (q : Option R) (d : ℕ) (e f : EndpointState) (n : ℕ) (x : StreamState) → AreSeenAlike d e f → AreSeenAlike d (unless q e (with_next e n x)) (unless q f (with_next f n x))
+nexts_alike q d e f n x h =
+    unless_alike d e f (with_next e n x) (with_next f n x) q h (put_alike d e f (put_at e.streams n x) (put_at f.streams n x) n (Some x) (Some x) (put_is e.streams n x) (put_is f.streams n x) refl h)
+
+next_leaves : {R : Type 0} (q : Option R) (d : ℕ) (e : EndpointState) (n : ℕ) (x : StreamState) (IsNew : ℕ → ℕ → Type 0) → x.domain ≡ d → IsOwn d (stream_of e n) → IsNew n x.domain → Leaves d e (unless q e (with_next e n x)) IsNew
+next_leaves None d e n x IsNew here own is_new = leaves-put d e (put_at e.streams n x) n (Some x) IsNew (put_is e.streams n x) here own (inr is_new)
+next_leaves (Some refusal) d e n x IsNew here own is_new = leaves-all d e IsNew
+
+refused_leaves : {R : Type 0} (q : Option R) (d : ℕ) (e new : EndpointState) (IsNew : ℕ → ℕ → Type 0) → (q ≡ None → ⊥) → Leaves d e (unless q e new) IsNew
+refused_leaves None d e new IsNew never = absurd (never refl)
+refused_leaves (Some refusal) d e new IsNew never = leaves-all d e IsNew
+
+next_one : (d : ℕ) (e : EndpointState) (n : Option ℕ) (role : Role) (config : Config) → HasDomains e → IfSome n (IsOwnNumber d e) → OwnStep d e (OpenNext n d role config)
+next_one d e n role config all own =
+    let h = seen_alone d e all in let f = alone d (part_of d e) in
+    let x = stream.opened d role config in
+    let m = unwrap_or n 0 in
+    one_step d e (OpenNext n d role config) all (ap OpenedNext (next_alike d e f n role config h))
+    (subst (λ q. AreSeenAlike d (unless (next_refusal e n d role config) e (with_next e m x)) (unless q f (with_next f m x))) (next_alike d e f n role config h) (nexts_alike (next_refusal e n d role config) d e f m x h))
+    (go n own)
+  where
+    go : (n : Option ℕ) → IfSome n (IsOwnNumber d e) → Leaves d e (unless (next_refusal e n d role config) e (with_next e (unwrap_or n 0) (stream.opened d role config))) (λ k pd. (n ≡ Some k) × (d ≡ pd))
+    go None own = refused_leaves (next_refusal e None d role config) d e _ _ (never e d role config)
+    go (Some m) own = next_leaves (next_refusal e (Some m) d role config) d e m (stream.opened d role config) _ refl own.0 (refl, refl)
+
+next_shared_one : (d : ℕ) (e : EndpointState) (n : Option ℕ) (role : Role) (config : Config) → HasDomains e → IfSome n (IsOwnNumber d e) → OwnStep d e (OpenSharedNext n d role config)
+next_shared_one d e n role config all own =
+    let h = seen_alone d e all in let f = alone d (part_of d e) in
+    let x = stream.opened_shared d role config in
+    let m = unwrap_or n 0 in
+    one_step d e (OpenSharedNext n d role config) all (ap OpenedNext (next_shared_alike d e f n role config h))
+    (subst (λ q. AreSeenAlike d (unless (next_shared_refusal e n d role config) e (with_next e m x)) (unless q f (with_next f m x))) (next_shared_alike d e f n role config h) (nexts_alike (next_shared_refusal e n d role config) d e f m x h))
+    (go n own)
+  where
+    go : (n : Option ℕ) → IfSome n (IsOwnNumber d e) → Leaves d e (unless (next_shared_refusal e n d role config) e (with_next e (unwrap_or n 0) (stream.opened_shared d role config))) (λ k pd. (n ≡ Some k) × (d ≡ pd))
+    go None own = refused_leaves (next_shared_refusal e None d role config) d e _ _ (never_shared e d role config)
+    go (Some m) own = next_leaves (next_shared_refusal e (Some m) d role config) d e m (stream.opened_shared d role config) _ refl own.0 (refl, refl)
 
 -- ---- any call
 
@@ -227,15 +349,16 @@ concerns_one d e (LocalMut stag octets) all here = subst (λ x. OwnStep x e (Loc
     one_step stag.domain e (LocalMut stag octets) all (ap (λ part. Octets (option_map (λ r. r.octets) (regions.own_region part stag))) h.table.part)
     (region_alike {R = NoRegion} (λ part. None) (λ part. regions.own_changed part stag (λ r. record r { octets = overlay r.octets 0 octets })) stag.domain e f h)
     (region_leaves {R = NoRegion} None stag.domain e _ _))
-concerns_one d e (Open n pd role config) all here = subst (λ x. IsOwn x (stream_of e n) → OwnStep x e (Open n pd role config)) here.0
+concerns_one d e (Open n pd role config) all here = subst (λ x. IsOwnNumber x e n → OwnStep x e (Open n pd role config)) here.0
     (λ own.
     let h = seen_alone pd e all in let f = alone pd (part_of pd e) in
-    let same = stream_alike pd e f n own (alone_own pd e n) h in
+    let there = alone_number pd e n in
+    let same = open_alike pd e f n role config (stream_alike pd e f n own.0 there.0 h) (closed_alike pd e f n own.1 there.1 h) h in
     let x = stream.opened pd role config in
-    one_step pd e (Open n pd role config) all (ap Opened (open_alike pd e f n role config same h))
-    (subst (λ q. AreSeenAlike pd (unless (open_refusal e n pd role config) e (with_stream e n x)) (unless q f (with_stream f n x))) (open_alike pd e f n role config same h)
-    (unless_alike pd e f (with_stream e n x) (with_stream f n x) (open_refusal e n pd role config) h (with_alike pd e f n x x refl h)))
-    (open_leaves (open_refusal e n pd role config) pd e n x _ refl own (refl, refl))) here.1
+    let place : open_refusal e n pd role config ≡ None → n < 64 = λ none. numbered e n pd (first_none (number_refusal e n pd) (request_refusal role config) none) in
+    one_step pd e (Open n pd role config) all (ap Opened same)
+    (subst (λ q. AreSeenAlike pd (unless (open_refusal e n pd role config) e (with_stream e n x)) (unless q f (with_stream f n x))) same (opens_alike (open_refusal e n pd role config) pd e f n x place h))
+    (open_leaves (open_refusal e n pd role config) pd e n x _ place all.2 refl own.0 (refl, refl))) here.1
 concerns_one d e (Share pd) all here = subst (λ x. OwnStep x e (Share pd)) here
     (let h = seen_alone pd e all in let f = alone pd (part_of pd e) in
     one_step pd e (Share pd) all (λ i. Shared (share_fault (is_some (h.table.part i)) (h.pool i)))
@@ -251,16 +374,19 @@ concerns_one d e (TakeShared pd) all here = subst (λ x. OwnStep x e (TakeShared
     one_step pd e (TakeShared pd) all (λ i. Taken (answer_or (take_fault (is_some (h.table.part i)) (h.pool i)) (taken (h.pool i))))
     (pool_alike take_fault (option_map (drop 1)) pd e f h)
     (pool_leaves (take_refusal e pd) pd e _ _))
-concerns_one d e (OpenShared n pd role config) all here = subst (λ x. IsOwn x (stream_of e n) → OwnStep x e (OpenShared n pd role config)) here.0
+concerns_one d e (OpenShared n pd role config) all here = subst (λ x. IsOwnNumber x e n → OwnStep x e (OpenShared n pd role config)) here.0
     (λ own.
     let h = seen_alone pd e all in let f = alone pd (part_of pd e) in
-    let same = stream_alike pd e f n own (alone_own pd e n) h in
+    let there = alone_number pd e n in
+    let same = open_shared_alike pd e f n role config (stream_alike pd e f n own.0 there.0 h) (closed_alike pd e f n own.1 there.1 h) h in
     let x = stream.opened_shared pd role config in
-    one_step pd e (OpenShared n pd role config) all (ap OpenedShared (open_shared_alike pd e f n role config same h))
-    (subst (λ q. AreSeenAlike pd (unless (open_shared_refusal e n pd role config) e (with_stream e n x)) (unless q f (with_stream f n x))) (open_shared_alike pd e f n role config same h)
-    (unless_alike pd e f (with_stream e n x) (with_stream f n x) (open_shared_refusal e n pd role config) h (with_alike pd e f n x x refl h)))
-    (open_leaves (open_shared_refusal e n pd role config) pd e n x _ refl own (refl, refl))) here.1
+    let place : open_shared_refusal e n pd role config ≡ None → n < 64 = λ none. numbered e n pd (mapped_none open_shared_refusal_of (number_refusal e n pd) (first_none (option_map open_shared_refusal_of (number_refusal e n pd)) _ none)) in
+    one_step pd e (OpenShared n pd role config) all (ap OpenedShared same)
+    (subst (λ q. AreSeenAlike pd (unless (open_shared_refusal e n pd role config) e (with_stream e n x)) (unless q f (with_stream f n x))) same (opens_alike (open_shared_refusal e n pd role config) pd e f n x place h))
+    (open_leaves (open_shared_refusal e n pd role config) pd e n x _ place all.2 refl own.0 (refl, refl))) here.1
+concerns_one d e (OpenNext n pd role config) all here = subst (λ x. IfSome n (IsOwnNumber x e) → OwnStep x e (OpenNext n pd role config)) here.0 (next_one pd e n role config all) here.1
+concerns_one d e (OpenSharedNext n pd role config) all here = subst (λ x. IfSome n (IsOwnNumber x e) → OwnStep x e (OpenSharedNext n pd role config)) here.0 (next_shared_one pd e n role config all) here.1
 concerns_one d e (AtStream n call) all own =
     let h = seen_alone d e all in let f = alone d (part_of d e) in
-    let same = stream_alike d e f n own (alone_own d e n) h in
-    one_step d e (AtStream n call) all (ap OfStream (stream_answers d e f n call own same h)) (stream_alikes d e f n call own same h) (stream_leaves d e n call _ own)
+    let same = stream_alike d e f n own.0 (alone_own d e n) h in
+    one_step d e (AtStream n call) all (ap OfStream (stream_answers d e f n call own.0 same h)) (stream_alikes d e f n call own.0 same h) (stream_leaves d e n call _ own)

@@ -43,7 +43,7 @@ use Rattle.iw_stream.specs.Frames.{Frame, payload_of, segment_in, head_in, paylo
 use Rattle.iw_stream.specs.Judging.{or_else, fault_or, fault_told, place_in, place_verdict, head_verdict, judged_head, mismatch_fault, verdict, table_landed, send_turning, invalidate_fault, invalidation_fault, answering_by, is_response, segment_turn, turn_of, table_turned, early_verdict, landing_in, may_be_early, table_tried}
 use Rattle.iw_stream.specs.Starting.{first_place_in, heard, mismatch_in, progress_in}
 use Rattle.iw_stream.specs.Stream.{StreamState, Due, frame_fetched, frame_of, octets_fetched, emission_fetched, left_fetched, octets_due, emission_due, left_due, due, emission_of, emitted, after_emit}
-use Rattle.iw_stream.specs.Stream.{StartUp, LastWord, NextPart, NoneDue, Response as ResponseDue}
+use Rattle.iw_stream.specs.Stream.{StartUp, LastWord, Ready, NextPart, NoneDue, Response as ResponseDue}
 use Rattle.iw_stream.specs.Work.{Task, HandOut, GiveUp, GiveBack, Hear, Turn, Clash, Judge, Try, Rest, task, standing, step_of, left_by, table_left, table_judged, table_passed, judged_step, tried_step, turned_step, after_judging, after_trying, after_turn, after_opening, after_hearing, hears, inbox, work_step, worked, table_worked}
 
 -- ---- two tables that are alike in one domain's part
@@ -359,6 +359,7 @@ emission-alike s t u h = go (due s)
     go : (k : Due) → emission_due t s k ≡ emission_due u s k
     go StartUp = refl
     go (LastWord payload) = refl
+    go (Ready rtr) = refl
     go (ResponseDue part) = ap (emission_fetched s part) (fetched-alike s t u part h)
     go (NextPart part) = refl
     go NoneDue = refl
@@ -369,6 +370,7 @@ emitted-alike s t u h = go (due s)
     go : (k : Due) → octets_due t s k ≡ octets_due u s k
     go StartUp = refl
     go (LastWord payload) = refl
+    go (Ready rtr) = refl
     go (ResponseDue part) = ap octets_fetched (fetched-alike s t u part h)
     go (NextPart part) = refl
     go NoneDue = refl
@@ -379,6 +381,7 @@ after_emit-alike s t u h = go (due s)
     go : (k : Due) → left_due t s k ≡ left_due u s k
     go StartUp = refl
     go (LastWord payload) = refl
+    go (Ready rtr) = refl
     go (ResponseDue part) = ap (left_fetched s part) (fetched-alike s t u part h)
     go (NextPart part) = refl
     go NoneDue = refl
@@ -433,6 +436,7 @@ emit_domain t s = go (due s)
     go : (k : Due) → (left_due t s k).domain ≡ s.domain
     go StartUp = refl
     go (LastWord payload) = refl
+    go (Ready rtr) = refl
     go (ResponseDue part) = fetched_domain s part (frame_fetched t s part)
     go (NextPart part) = refl
     go NoneDue = refl

@@ -1,5 +1,5 @@
 -- The state of an endpoint, and what each call answers and makes of that state.
-use Rattle.std.specs.Prelude.{◌≡◌, ℕ, List, [], ◌∷◌, ◌++◌, length, drop, replicate, slice_get, slice_index_or, slice_set, Bool, false, not, nat_le, is_some, unwrap_or, if◌then◌else◌, Option, Some, None, Result, Ok, Err}
+use Rattle.std.specs.Prelude.{◌≤◌, ◌^◌, ℕ, List, [], ◌∷◌, ◌++◌, length, drop, replicate, slice_get, slice_index_or, slice_set, Bool, false, not, ◌||◌, nat_le, is_some, is_none, nat_lt, unwrap_or, if◌then◌else◌, Option, Some, None, Result, Ok, Err}
 use Rattle.std.specs.Option.{option_map, option_map_or, option_or}
 use Rattle.arrayvec.specs.ArrayVec.{ArrayVec}
 use Rattle.iw_octets.specs.declared.stag.Stag.{Stag}
@@ -35,10 +35,14 @@ use Rattle.iw_stream.specs.Starting.{exceeds_request, private_in, told_in, agree
 use Rattle.iw_stream.specs.Stream as stream
 use Rattle.iw_stream.specs.Stream.{StreamState, sees, emission_of, emitted, delivery_of}
 use Rattle.iw_stream.specs.Work as work
-use Rattle.iw_stream.specs.Work.{work_step, worked, worked_with, table_worked}
+use Rattle.iw_stream.specs.Work.{is_at_rest, work_step, worked, worked_with, table_worked}
+use Rattle.iw_endpoint.specs.Numbers.{put_at}
 use Rattle.iw_endpoint.specs.declared.refusal.CallRefusal.{CallRefusal}
 use Rattle.iw_endpoint.specs.declared.refusal.CallRefusal.TheVariants.{NoSuchStream as NoStream, Refused}
 use Rattle.iw_endpoint.specs.declared.refusal.NoSuchStream.{NoSuchStream}
+use Rattle.iw_endpoint.specs.declared.refusal.NotAtRest.{NotAtRest}
+use Rattle.iw_endpoint.specs.declared.refusal.OpenNextRefusal.{OpenNextRefusal}
+use Rattle.iw_endpoint.specs.declared.refusal.OpenNextRefusal.TheVariants as next_refusals
 use Rattle.iw_endpoint.specs.declared.refusal.OpenSharedRefusal.{OpenSharedRefusal}
 use Rattle.iw_endpoint.specs.declared.refusal.OpenSharedRefusal.TheVariants as open_shared_refusals
 use Rattle.iw_endpoint.specs.declared.refusal.PoolRefusal.{PoolRefusal}
@@ -48,9 +52,13 @@ use Rattle.iw_endpoint.specs.declared.refusal.ShareRefusal.TheVariants as share_
 use Rattle.iw_endpoint.specs.declared.refusal.TakeRefusal.{TakeRefusal}
 use Rattle.iw_endpoint.specs.declared.refusal.TakeRefusal.TheVariants as take_refusals
 
--- stream numbers are 0 to 63
+-- an application picks stream numbers from 0 to 63
 abbrev pub stream_numbers : ℕ
 stream_numbers = 64
+
+-- those from 64 on are given by the endpoint: all are below this
+abbrev pub all_numbers : ℕ
+all_numbers = 2 ^ 32
 
 -- the buffers that were posted to a pool and neither taken nor bound to a message, oldest first
 abbrev pub Pool : Type 0
@@ -63,11 +71,16 @@ domain_numbers = 256
 pub record EndpointState : Type 0 where
   pub table : Table  -- its regions, by domain
   pub pools : List (Option Pool)  -- the pool that streams of a domain share, by domain
-  pub streams : List (Option StreamState)  -- its streams, by number
+  pub streams : List (Option StreamState)  -- its streams, by number: 0 to 63, and each number that it gave
+  pub closed : List (Option ℕ)  -- by number, 0 to 63: the domain of the stream that was closed under it
 
 -- no stream was opened
 unfoldable pub no_streams : List (Option StreamState)
 no_streams = replicate stream_numbers None
+
+-- none was closed
+unfoldable pub no_closed : List (Option ℕ)
+no_closed = replicate stream_numbers None
 
 -- no domain has a pool
 unfoldable pub no_pools : List (Option Pool)
@@ -75,7 +88,7 @@ no_pools = replicate domain_numbers None
 
 -- a new endpoint
 abbrev pub fresh : EndpointState
-fresh = record { table = empty; pools = no_pools; streams = no_streams }
+fresh = record { table = empty; pools = no_pools; streams = no_streams; closed = no_closed }
 
 -- ---- the stream of a number
 
@@ -96,6 +109,21 @@ stream_at e number = unwrap_or (stream_of e number) unopened
 
 abbrev pub with_stream : EndpointState → ℕ → StreamState → EndpointState
 with_stream e number s = record e { streams = slice_set e.streams number (Some s) }
+
+-- the domain of the stream that was closed under this number, which the application picked
+abbrev pub closed_at : EndpointState → ℕ → Option ℕ
+closed_at e number = slice_index_or e.closed number None
+
+-- a stream was opened under this number
+abbrev pub is_taken : EndpointState → ℕ → Bool
+is_taken e number = has_stream e number || is_some (closed_at e number)
+
+-- the number of the next stream that is opened without one: one past the last that was given
+abbrev pub next_in : List (Option StreamState) → Option ℕ
+next_in streams = if nat_lt (length streams) all_numbers then Some (length streams) else None
+
+abbrev pub next_number : EndpointState → Option ℕ
+next_number e = next_in e.streams
 
 -- the answer of a stream, or that there is none
 abbrev pub answer_at : {R : Type 0} → Option StreamState → (StreamState → R) → Result R NoSuchStream
@@ -202,8 +230,8 @@ after_take e pd = with_pool e pd (option_map (drop 1) (pool_of e pd))
 -- why no stream is opened under this number in this domain
 abbrev pub number_refusal : EndpointState → ℕ → ℕ → Option OpenRefusal
 number_refusal e number pd =
-    if has_stream e number then Some NumberTaken
-    else if nat_le stream_numbers number then Some BadNumber
+    if nat_le stream_numbers number then Some BadNumber
+    else if is_taken e number then Some NumberTaken
     else if not (is_added e.table pd) then Some NoDomain
     else None
 
@@ -237,6 +265,31 @@ open_shared_refusal e number pd role config =
 
 abbrev pub opened_shared : EndpointState → ℕ → ℕ → Role → Config → EndpointState
 opened_shared e number pd role config = with_stream e number (stream.opened_shared pd role config)
+
+-- ---- openings without a number
+
+-- why no stream is opened under the number that is given, if one is left; a stream that shares a pool also needs that
+abbrev pub next_refusal : EndpointState → Option ℕ → ℕ → Role → Config → Option OpenNextRefusal
+next_refusal e number pd role config =
+    if not (is_added e.table pd) then Some next_refusals.NoDomain
+    else if is_none number then Some next_refusals.NumbersSpent
+    else if exceeds_request role config then Some next_refusals.PrivateTooLong
+    else None
+
+abbrev pub next_shared_refusal : EndpointState → Option ℕ → ℕ → Role → Config → Option OpenNextRefusal
+next_shared_refusal e number pd role config =
+    if not (is_added e.table pd) then Some next_refusals.NoDomain
+    else if is_none (pool_of e pd) then Some next_refusals.NotShared
+    else next_refusal e number pd role config
+
+abbrev pub with_next : EndpointState → ℕ → StreamState → EndpointState
+with_next e number s = record e { streams = put_at e.streams number s }
+
+abbrev pub opened_next : EndpointState → Option ℕ → ℕ → Role → Config → EndpointState
+opened_next e number pd role config = with_next e (unwrap_or number 0) (stream.opened pd role config)
+
+abbrev pub opened_shared_next : EndpointState → Option ℕ → ℕ → Role → Config → EndpointState
+opened_shared_next e number pd role config = with_next e (unwrap_or number 0) (stream.opened_shared pd role config)
 
 -- ---- start-up
 
@@ -319,6 +372,7 @@ with_worked e number s = record {
   table = table_worked e.table (lent_to (pool_of e s.domain) s);
   pools = slice_set e.pools s.domain (pool_left e.table (pool_of e s.domain) s);
   streams = slice_set e.streams number (Some (left_of e.table (pool_of e s.domain) s));
+  closed = e.closed;
 }
 
 abbrev pub after_work : EndpointState → ℕ → EndpointState
@@ -329,6 +383,20 @@ after_work e number = with_worked e number (stream_at e number)
 -- its link broke
 abbrev pub broken : EndpointState → ℕ → EndpointState
 broken e number = with_stream e number (stream.breaks (stream_at e number))
+
+-- why a stream is not closed
+abbrev pub rest_refusal : StreamState → Option NotAtRest
+rest_refusal s = if is_at_rest s then None else Some (record {})
+
+abbrev pub close_refusal : EndpointState → ℕ → Option (CallRefusal NotAtRest)
+close_refusal e number = refusal_at (stream_of e number) rest_refusal
+
+-- its stream is forgotten; of a number that the application picked, the domain is kept
+abbrev pub after_close : EndpointState → ℕ → EndpointState
+after_close e number = record e {
+  streams = slice_set e.streams number None;
+  closed = slice_set e.closed number (Some (stream_at e number).domain);
+}
 
 -- ---- sizes
 
@@ -361,6 +429,6 @@ point_at e number = (stream_at e number).arrived.floor
 
 -- ---- what an endpoint keeps
 
--- there is a place for each number
+-- there is a place for each number that an application picks
 abbrev pub HasNumbers : EndpointState → Type 0
-HasNumbers e = length e.streams ≡ stream_numbers
+HasNumbers e = stream_numbers ≤ length e.streams

@@ -13,6 +13,7 @@ module _ {X : Type 0} where
   listed keys places next = map (found keys places) (range_with_len 0 next)
 
   pub record Keeps (keys : ℕ → Option ℕ) (places : ℕ → Option X) (next : ℕ) : Type 0 where
+    pub least : 64 ≤ next
     pub most : next ≤ 2 ^ 32
     pub below : (n k : ℕ) → keys n ≡ Some k → n < next
     pub there : (n k : ℕ) → keys n ≡ Some k → IsSome (places k)

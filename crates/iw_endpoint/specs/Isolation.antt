@@ -1,5 +1,5 @@
 -- One domain's part of an endpoint, and that no call lets a domain see or change another's.
-use Rattle.std.specs.Prelude.{◌≡◌, ◌≢◌, ◌⊎◌, ℕ, ◌==◌, List, [], ◌∷◌, length, map, filter, slice_set, if◌then◌else◌, Bool, is_some, Option, Some, None, IfSome, Result, Ok, Err}
+use Rattle.std.specs.Prelude.{◌≡◌, ◌≢◌, ◌≤◌, ◌⊎◌, ℕ, ◌==◌, List, [], ◌∷◌, length, map, filter, slice_set, if◌then◌else◌, Bool, is_some, Option, Some, None, IfSome, Result, Ok, Err}
 use Rattle.std.specs.Option.{option_map}
 use Rattle.arrayvec.specs.ArrayVec.{ArrayVec}
 use Rattle.iw_octets.specs.declared.stag.Stag.{Stag}
@@ -28,11 +28,14 @@ use Rattle.iw_stream.specs.declared.answer.Step.{Step}
 use Rattle.iw_stream.specs.Stream.{StreamState}
 use Rattle.iw_endpoint.specs.declared.refusal.CallRefusal.{CallRefusal}
 use Rattle.iw_endpoint.specs.declared.refusal.NoSuchStream.{NoSuchStream}
+use Rattle.iw_endpoint.specs.declared.refusal.NotAtRest.{NotAtRest}
+use Rattle.iw_endpoint.specs.declared.refusal.OpenNextRefusal.{OpenNextRefusal}
 use Rattle.iw_endpoint.specs.declared.refusal.OpenSharedRefusal.{OpenSharedRefusal}
 use Rattle.iw_endpoint.specs.declared.refusal.PoolRefusal.{PoolRefusal}
 use Rattle.iw_endpoint.specs.declared.refusal.ShareRefusal.{ShareRefusal}
 use Rattle.iw_endpoint.specs.declared.refusal.TakeRefusal.{TakeRefusal}
-use Rattle.iw_endpoint.specs.Endpoint.{EndpointState, Pool, domain_numbers, no_pools, fresh, pool_of, share_refusal, shared, pool_refusal, pooled, take_refusal, taken_at, after_take, open_shared_refusal, opened_shared, stream_of, answer_at, domain_refusal, added, registered, octets_of, deregistered, invalidated, facts_at, store_refusal, stored, rewritten, open_refusal, opened, answer_refusal, agreement, accepted, rejected, post_refusal, with_request, recv_refusal, with_buffer, delivery_at, after_deliver, emission_at, emitted_at, after_emit, step_at, after_work, broken, size_refusal, with_mulpdu, private_at, told_at, sent_at, point_at, first_refusal, with_first, first_at}
+use Rattle.iw_endpoint.specs.Numbers.{filled, trimmed}
+use Rattle.iw_endpoint.specs.Endpoint.{EndpointState, HasNumbers, Pool, closed_at, next_refusal, next_shared_refusal, opened_next, opened_shared_next, close_refusal, after_close, stream_numbers, domain_numbers, no_pools, fresh, pool_of, share_refusal, shared, pool_refusal, pooled, take_refusal, taken_at, after_take, open_shared_refusal, opened_shared, stream_of, answer_at, domain_refusal, added, registered, octets_of, deregistered, invalidated, facts_at, store_refusal, stored, rewritten, open_refusal, opened, answer_refusal, agreement, accepted, rejected, post_refusal, with_request, recv_refusal, with_buffer, delivery_at, after_deliver, emission_at, emitted_at, after_emit, step_at, after_work, broken, size_refusal, with_mulpdu, private_at, told_at, sent_at, point_at, first_refusal, with_first, first_at}
 
 -- ---- calls, as values
 
@@ -47,6 +50,7 @@ pub data StreamCall : Type 0 where
   Work : StreamCall
   Emit : StreamCall
   BreakLink : StreamCall
+  Close : StreamCall
   SetMulpdu : ℕ → StreamCall
   Private : StreamCall
   Told : StreamCall
@@ -70,6 +74,8 @@ pub data Call : Type 0 where
   PostShared : ℕ → List ℕ → Call
   TakeShared : ℕ → Call
   OpenShared : ℕ → ℕ → Role → Config → Call
+  OpenNext : Option ℕ → ℕ → Role → Config → Call  -- with the number that is given, if one is left
+  OpenSharedNext : Option ℕ → ℕ → Role → Config → Call
   AtStream : ℕ → StreamCall → Call
 
 -- ---- what is answered, unless memory runs out
@@ -84,6 +90,7 @@ pub data StreamAnswer : Type 0 where
   Worked : Result (Step (List ℕ)) NoSuchStream → StreamAnswer
   Emitted : Result Emission NoSuchStream → Result (List ℕ) NoSuchStream → StreamAnswer  -- with the octets that were appended
   Broke : Result (Unit {0}) NoSuchStream → StreamAnswer
+  Closed : Option (CallRefusal NotAtRest) → StreamAnswer
   Sized : Option (CallRefusal SizeRefusal) → StreamAnswer
   Shown : Result (List ℕ) NoSuchStream → StreamAnswer
   Declared : Result (Option EnhancedData) NoSuchStream → StreamAnswer
@@ -102,6 +109,7 @@ pub data Answer : Type 0 where
   Pooled : Option PoolRefusal → Answer
   Taken : Result (Option (List ℕ)) TakeRefusal → Answer
   OpenedShared : Option OpenSharedRefusal → Answer
+  OpenedNext : Option OpenNextRefusal → Answer
   OfStream : StreamAnswer → Answer
 
 abbrev pub answer_or : {A R : Type 0} → Option R → A → Result A R
@@ -128,6 +136,7 @@ stream_answer e n (Deliver from octets) = Delivered (answer_at (stream_of e n) (
 stream_answer e n Work = Worked (step_at e n)
 stream_answer e n Emit = Emitted (answer_at (stream_of e n) (λ s. emission_at e n)) (answer_at (stream_of e n) (λ s. emitted_at e n))
 stream_answer e n BreakLink = Broke (answer_at (stream_of e n) (λ s. tt))
+stream_answer e n Close = Closed (close_refusal e n)
 stream_answer e n (SetMulpdu size) = Sized (size_refusal e n size)
 stream_answer e n Private = Shown (answer_at (stream_of e n) (λ s. private_at e n))
 stream_answer e n Told = Declared (answer_at (stream_of e n) (λ s. told_at e n))
@@ -151,6 +160,8 @@ answer e (Share pd) = Shared (share_refusal e pd)
 answer e (PostShared pd buffer) = Pooled (pool_refusal e pd)
 answer e (TakeShared pd) = Taken (answer_or (take_refusal e pd) (taken_at e pd))
 answer e (OpenShared n pd role config) = OpenedShared (open_shared_refusal e n pd role config)
+answer e (OpenNext n pd role config) = OpenedNext (next_refusal e n pd role config)
+answer e (OpenSharedNext n pd role config) = OpenedNext (next_shared_refusal e n pd role config)
 answer e (AtStream n call) = OfStream (stream_answer e n call)
 
 -- ---- what is left
@@ -165,6 +176,7 @@ after_stream e n (Deliver from octets) = if_there (stream_of e n) e (after_deliv
 after_stream e n Work = if_there (stream_of e n) e (after_work e n)
 after_stream e n Emit = if_there (stream_of e n) e (after_emit e n)
 after_stream e n BreakLink = if_there (stream_of e n) e (broken e n)
+after_stream e n Close = unless (close_refusal e n) e (after_close e n)
 after_stream e n (SetMulpdu size) = unless (size_refusal e n size) e (with_mulpdu e n size)
 after_stream e n Private = e
 after_stream e n Told = e
@@ -188,27 +200,46 @@ after e (Share pd) = unless (share_refusal e pd) e (shared e pd)
 after e (PostShared pd buffer) = unless (pool_refusal e pd) e (pooled e pd buffer)
 after e (TakeShared pd) = unless (take_refusal e pd) e (after_take e pd)
 after e (OpenShared n pd role config) = unless (open_shared_refusal e n pd role config) e (opened_shared e n pd role config)
+after e (OpenNext n pd role config) = unless (next_refusal e n pd role config) e (opened_next e n pd role config)
+after e (OpenSharedNext n pd role config) = unless (next_shared_refusal e n pd role config) e (opened_shared_next e n pd role config)
 after e (AtStream n call) = after_stream e n call
 
 -- ---- one domain's part
 
--- a domain's part of an endpoint: its slots, if it was added; its pool, if it has one; its streams, by number
+-- a domain's part of an endpoint: its slots, if it was added; its pool, if it has one; its streams, by number, up to its
+-- last; the numbers under which streams of its were closed. How many numbers were given in all is no part of it.
 pub record Part : Type 0 where
   pub slots : slots.Part
   pub pool : Option Pool
   pub streams : List (Option StreamState)
+  pub closed : List (Option ℕ)
 
 -- a stream, if it is the domain's
 abbrev pub own_stream : ℕ → Option StreamState → Option StreamState
 own_stream d None = None
 own_stream d (Some s) = if s.domain == d then Some s else None
 
+-- the domain of a closed stream, if it is this one
+abbrev pub own_number : ℕ → Option ℕ → Option ℕ
+own_number d None = None
+own_number d (Some x) = if x == d then Some x else None
+
 abbrev pub part_of : ℕ → EndpointState → Part
-part_of d e = record { slots = tables.part_of e.table d; pool = pool_of e d; streams = map (own_stream d) e.streams }
+part_of d e = record {
+  slots = tables.part_of e.table d;
+  pool = pool_of e d;
+  streams = trimmed (map (own_stream d) e.streams);
+  closed = map (own_number d) e.closed;
+}
 
 -- an endpoint with this part of the domain, and no other domain
 abbrev pub alone : ℕ → Part → EndpointState
-alone d part = record { table = with_part empty d part.slots; pools = slice_set no_pools d part.pool; streams = part.streams }
+alone d part = record {
+  table = with_part empty d part.slots;
+  pools = slice_set no_pools d part.pool;
+  streams = filled stream_numbers part.streams;
+  closed = part.closed;
+}
 
 -- one call on one domain's part: its answer, and the part after it
 abbrev pub own_answer : ℕ → Part → Call → Answer
@@ -223,6 +254,10 @@ own_after d part call = part_of d (after (alone d part) call)
 abbrev pub IsOwn : ℕ → Option StreamState → Type 0
 IsOwn d stream = IfSome stream (λ s. s.domain ≡ d)
 
+-- the stream that was opened under the number, if one was, closed or not, is the domain's
+abbrev pub IsOwnNumber : ℕ → EndpointState → ℕ → Type 0
+IsOwnNumber d e n = IsOwn d (stream_of e n) × IfSome (closed_at e n) (λ x. x ≡ d)
+
 -- a call concerns the domain that it names, or that of its STag, or that of the stream of its number
 abbrev pub Concerns : ℕ → EndpointState → Call → Type 0
 Concerns d e (AddDomain pd) = pd ≡ d
@@ -233,21 +268,25 @@ Concerns d e (Store stag to octets) = stag.domain ≡ d
 Concerns d e (Facts stag) = stag.domain ≡ d
 Concerns d e (Local stag) = stag.domain ≡ d
 Concerns d e (LocalMut stag octets) = stag.domain ≡ d
-Concerns d e (Open n pd role config) = (pd ≡ d) × IsOwn d (stream_of e n)
+Concerns d e (Open n pd role config) = (pd ≡ d) × IsOwnNumber d e n
 Concerns d e (Share pd) = pd ≡ d
 Concerns d e (PostShared pd buffer) = pd ≡ d
 Concerns d e (TakeShared pd) = pd ≡ d
-Concerns d e (OpenShared n pd role config) = (pd ≡ d) × IsOwn d (stream_of e n)
-Concerns d e (AtStream n call) = IsOwn d (stream_of e n)
+Concerns d e (OpenShared n pd role config) = (pd ≡ d) × IsOwnNumber d e n
+Concerns d e (OpenNext n pd role config) = (pd ≡ d) × IfSome n (IsOwnNumber d e)
+Concerns d e (OpenSharedNext n pd role config) = (pd ≡ d) × IfSome n (IsOwnNumber d e)
+Concerns d e (AtStream n call) = IsOwnNumber d e n
 
--- there is a place for each domain
+-- there is a place for each domain, and for each number that an application picks
 abbrev pub HasDomains : EndpointState → Type 0
-HasDomains e = (length e.table ≡ domain_numbers) × (length e.pools ≡ domain_numbers)
+HasDomains e = (length e.table ≡ domain_numbers) × (length e.pools ≡ domain_numbers) × HasNumbers e
 
 -- the call opens a stream of this number in this domain
 abbrev pub Opens : ℕ → ℕ → Call → Type 0
 Opens n d (Open m pd role config) = (m ≡ n) × (pd ≡ d)
 Opens n d (OpenShared m pd role config) = (m ≡ n) × (pd ≡ d)
+Opens n d (OpenNext m pd role config) = (m ≡ Some n) × (pd ≡ d)
+Opens n d (OpenSharedNext m pd role config) = (m ≡ Some n) × (pd ≡ d)
 Opens n d (AddDomain pd) = ⊥
 Opens n d (Register pd base octets rights) = ⊥
 Opens n d (Deregister stag) = ⊥
@@ -272,6 +311,9 @@ pub record OwnStep (d : ℕ) (e : EndpointState) (call : Call) : Type 0 where
   pub others : (other : ℕ) → other ≢ d → part_of other (after e call) ≡ part_of other e
   -- a stream is in the domain in which it was opened
   pub owners : (n : ℕ) → IfSome (stream_of (after e call) n) (λ s. (owner e n ≡ Some s.domain) ⊎ Opens n s.domain call)
+  pub closed : (n : ℕ) → IfSome (closed_at (after e call) n) (λ x. (closed_at e n ≡ Some x) ⊎ (owner e n ≡ Some x))
+  -- a number that was given is not given again
+  pub given : length e.streams ≤ length (after e call).streams
   pub domains : HasDomains (after e call)
 
 abbrev pub CallsConcernOneDomain : Type 0
@@ -294,6 +336,8 @@ concerned whose (Share pd) = pd
 concerned whose (PostShared pd buffer) = pd
 concerned whose (TakeShared pd) = pd
 concerned whose (OpenShared n pd role config) = pd
+concerned whose (OpenNext n pd role config) = pd
+concerned whose (OpenSharedNext n pd role config) = pd
 concerned whose (AtStream n call) = whose n
 
 -- the domain's calls among these

@@ -12,22 +12,24 @@ ghost use Rattle.iw_octets.specs.declared.fault.Fault.{Fault};
 ghost use Rattle.iw_stream.specs.Kept.{IsWithin, IsWithinBuffer};
 ghost use Rattle.iw_stream.specs.Stream.{BeginsReads, due, ended, place_of, left_out};
 ghost use Rattle.iw_stream.specs.Work.{IsTry, task};
-ghost use Rattle.iw_endpoint.specs.Endpoint.{stream_numbers, pool_refusal_of, open_shared_refusal_of};
+ghost use Rattle.iw_endpoint.specs.Endpoint.{pool_refusal_of};
 
+mod closing;
+mod next;
+mod opening;
+
+use crate::closed::Closed;
 use crate::pools::Pools;
-use crate::refusal::{
-    CallRefusal, NoSuchStream, OpenSharedRefusal, PoolRefusal, ShareRefusal, TakeRefusal,
-};
-use crate::streams::{STREAM_NUMBERS, Streams};
+use crate::refusal::{CallRefusal, NoSuchStream, PoolRefusal, ShareRefusal, TakeRefusal};
+use crate::streams::Streams;
 use bytes::Bytes;
 use iw_memory::{
     DomainRefusal, Facts, Memory, NoRegion, RegisterRefusal, Rights, Stag, StoreRefusal,
 };
 use iw_octets::Octets;
 use iw_stream::{
-    Agreed, AnswerRefusal, Config, Delivery, Emission, EnhancedData, FirstRefusal, Intake,
-    OpenRefusal, PostRefusal, PrivateData, RecvRefusal, Request, Role, SizeRefusal, Step, Stream,
-    exceeds_request,
+    Agreed, AnswerRefusal, Delivery, Emission, EnhancedData, FirstRefusal, Intake, PostRefusal,
+    PrivateData, RecvRefusal, Request, SizeRefusal, Step,
 };
 use iw_untagged::{BufferRefusal, SharedQueue};
 use std::alloc::{AllocError, Allocator, Global};
@@ -41,6 +43,7 @@ pub struct Endpoint<A: Allocator = Global> {
     memory: Memory<A>,
     pools: Pools<A>,
     streams: Streams<A>,
+    closed: Closed,
 }
 
 impl<A: Allocator> Model for Endpoint<A> {
@@ -48,7 +51,7 @@ impl<A: Allocator> Model for Endpoint<A> {
 
     ghost Value = { EndpointState };
 
-    ghost view = { λ e. record { table = e.memory; pools = e.pools; streams = e.streams } };
+    ghost view = { λ e. record { table = e.memory; pools = e.pools; streams = e.streams; closed = e.closed.domains } };
 }
 
 fn pool_refusal_of(refusal: BufferRefusal) -> PoolRefusal
@@ -60,26 +63,13 @@ fn pool_refusal_of(refusal: BufferRefusal) -> PoolRefusal
     }
 }
 
-fn open_shared_refusal_of(refusal: OpenRefusal) -> OpenSharedRefusal
-    ensures { result ≡ open_shared_refusal_of refusal }
-{
-    match refusal {
-        OpenRefusal::NumberTaken => OpenSharedRefusal::NumberTaken,
-        OpenRefusal::BadNumber => OpenSharedRefusal::BadNumber,
-        OpenRefusal::NoDomain => OpenSharedRefusal::NoDomain,
-        OpenRefusal::PrivateTooLong => OpenSharedRefusal::PrivateTooLong,
-        OpenRefusal::NoMemory => OpenSharedRefusal::NoMemory,
-    }
-}
-
 impl<A: Allocator> Endpoint<A> {
     ghost use Rattle.iw_endpoint.specs.Endpoint.{fresh, HasNumbers, has_stream, stream_at};
     ghost use Rattle.iw_endpoint.specs.Endpoint.{domain_refusal, added, registered, octets_of, deregistered};
     ghost use Rattle.iw_endpoint.specs.Endpoint.{invalidated, facts_at, store_refusal, stored};
     ghost use Rattle.iw_endpoint.specs.Endpoint.{share_refusal, shared, pool_refusal, pooled, take_refusal, taken_at, after_take};
-    ghost use Rattle.iw_endpoint.specs.Endpoint.{pool_of, lent_to, open_shared_refusal, opened_shared};
-    ghost use Rattle.iw_endpoint.specs.Endpoint.{number_refusal, open_refusal, opened, answer_refusal, agreement, accepted};
-    ghost use Rattle.iw_endpoint.specs.Endpoint.{rejected, private_at, told_at, broken, size_refusal, with_mulpdu};
+    ghost use Rattle.iw_endpoint.specs.Endpoint.{pool_of, lent_to, answer_refusal, agreement, accepted};
+    ghost use Rattle.iw_endpoint.specs.Endpoint.{rejected, private_at, told_at, size_refusal, with_mulpdu};
     ghost use Rattle.iw_endpoint.specs.Endpoint.{post_refusal, with_request, recv_refusal, with_buffer};
     ghost use Rattle.iw_endpoint.specs.Endpoint.{first_refusal, with_first, first_at};
     ghost use Rattle.iw_endpoint.specs.Endpoint.{delivery_at, after_deliver, step_at, after_work, point_at};
@@ -97,6 +87,7 @@ impl<A: Allocator> Endpoint<A> {
             memory: Memory::new(alloc)?,
             pools: Pools::new(alloc)?,
             streams: Streams::new(alloc),
+            closed: Closed::new(),
         })
     }
 
@@ -193,56 +184,6 @@ impl<A: Allocator> Endpoint<A> {
         self.memory.store(stag, to, octets)
     }
 
-    // Why no stream is opened under this number in this domain, whether or not it shares a pool.
-    fn refusal_to_open(&self, number: u8, pd: u8) -> Option<OpenRefusal>
-        ensures refused { result ≡ number_refusal self.now number pd }
-        ensures within { IfNone result (number < stream_numbers) }
-    {
-        if self.streams.get(number).is_some() {
-            Some(OpenRefusal::NumberTaken)
-        } else if number as usize >= STREAM_NUMBERS {
-            Some(OpenRefusal::BadNumber)
-        } else if !self.memory.has_domain(pd) {
-            Some(OpenRefusal::NoDomain)
-        } else {
-            None
-        }
-    }
-
-    /// Opens a stream in a domain under a number from 0 to 63 ([`iw_stream::Stream::new`]). The number stays taken,
-    /// even after the stream has ended. An `Err` opens nothing; `NoMemory` comes only if no other refusal applies.
-    ///
-    /// `PrivateTooLong` comes only at an initiator whose `config` asks for revision 2, with over 508 octets of private data.
-    pub fn open(
-        &mut self,
-        number: u8,
-        pd: u8,
-        role: Role,
-        config: Config,
-    ) -> Result<(), OpenRefusal>
-    where
-        A: Copy,
-        // The first refusal that applies; if none does, only `NoMemory`.
-        ensures refused { IfSome (open_refusal self.old number pd role config) (λ refusal. result ≡ Err refusal) }
-        ensures memory { IfNone (open_refusal self.old number pd role config) (IfErr result (λ e. e ≡ OpenRefusal.NoMemory)) }
-        ensures ok { OnOk result (self.new ≡ opened self.old number pd role config) }
-        ensures err { OnErr result (self.new ≡ self.old) }
-    {
-        if let Some(refusal) = self.refusal_to_open(number, pd) {
-            return Err(refusal);
-        }
-        if exceeds_request(role, &config) {
-            return Err(OpenRefusal::PrivateTooLong);
-        }
-        match Stream::new(self.streams.allocator(), pd, role, config) {
-            Ok(stream) => match self.streams.put(number, stream) {
-                Ok(()) => Ok(()),
-                Err(_) => Err(OpenRefusal::NoMemory),
-            },
-            Err(_) => Err(OpenRefusal::NoMemory),
-        }
-    }
-
     /// Gives the domain an empty pool of receive buffers, which its streams may share ([`Endpoint::open_shared`]). An
     /// `Err` changes nothing; `NoMemory` comes only if no other refusal applies.
     pub fn share(&mut self, pd: u8) -> Result<(), ShareRefusal>
@@ -313,41 +254,6 @@ impl<A: Allocator> Endpoint<A> {
         }
     }
 
-    /// As [`Endpoint::open`], but the stream shares the domain's pool ([`iw_stream::Stream::new_shared`]):
-    /// [`Endpoint::post_recv`] is refused. An `Err` opens nothing; `NoMemory` comes only if no other refusal applies.
-    pub fn open_shared(
-        &mut self,
-        number: u8,
-        pd: u8,
-        role: Role,
-        config: Config,
-    ) -> Result<(), OpenSharedRefusal>
-    where
-        A: Copy,
-        // The first refusal that applies; if none does, only `NoMemory`.
-        ensures refused { IfSome (open_shared_refusal self.old number pd role config) (λ refusal. result ≡ Err refusal) }
-        ensures memory { IfNone (open_shared_refusal self.old number pd role config) (IfErr result (λ e. e ≡ OpenSharedRefusal.NoMemory)) }
-        ensures ok { OnOk result (self.new ≡ opened_shared self.old number pd role config) }
-        ensures err { OnErr result (self.new ≡ self.old) }
-    {
-        if let Some(refusal) = self.refusal_to_open(number, pd) {
-            return Err(open_shared_refusal_of(refusal));
-        }
-        if self.pools.get(pd).is_none() {
-            return Err(OpenSharedRefusal::NotShared);
-        }
-        if exceeds_request(role, &config) {
-            return Err(OpenSharedRefusal::PrivateTooLong);
-        }
-        match Stream::new_shared(self.streams.allocator(), pd, role, config) {
-            Ok(stream) => match self.streams.put(number, stream) {
-                Ok(()) => Ok(()),
-                Err(_) => Err(OpenSharedRefusal::NoMemory),
-            },
-            Err(_) => Err(OpenSharedRefusal::NoMemory),
-        }
-    }
-
     /// Accepts the pending MPA Request, after [`Step::Asked`]. The MPA Reply is emitted next and carries this private
     /// data. The stream is open from then on, and emits frames once a frame of the peer's had its turn (RFC 5044
     /// 7.1.2).
@@ -356,7 +262,7 @@ impl<A: Allocator> Endpoint<A> {
     /// stream has ended; then `PrivateTooLong` if an answer to an enhanced Request has over 508 octets of private data.
     pub fn accept(
         &mut self,
-        number: u8,
+        number: u32,
         private: PrivateData,
     ) -> Result<Agreed, CallRefusal<AnswerRefusal>>
         ensures refused { result_err result ≡ answer_refusal self.old number private.items }
@@ -377,7 +283,7 @@ impl<A: Allocator> Endpoint<A> {
     /// emitted. An `Err` changes nothing, and comes when that of [`Endpoint::accept`] does.
     pub fn reject(
         &mut self,
-        number: u8,
+        number: u32,
         private: PrivateData,
     ) -> Result<(), CallRefusal<AnswerRefusal>>
         ensures refused { result_err result ≡ answer_refusal self.old number private.items }
@@ -398,7 +304,7 @@ impl<A: Allocator> Endpoint<A> {
     /// refusal applies.
     pub fn post(
         &mut self,
-        number: u8,
+        number: u32,
         request: Request<Bytes<A>>,
     ) -> Result<(), (CallRefusal<PostRefusal>, Request<Bytes<A>>)>
         // The first refusal that applies; if none does, only `NoMemory`.
@@ -421,7 +327,7 @@ impl<A: Allocator> Endpoint<A> {
     /// back. An `Err` changes nothing and gives the buffer back; `NoMemory` comes only if no other refusal applies.
     pub fn post_recv(
         &mut self,
-        number: u8,
+        number: u32,
         buffer: Vec<u8, A>,
     ) -> Result<(), (CallRefusal<RecvRefusal>, Vec<u8, A>)>
         // The first refusal that applies; if none does, only `NoMemory`.
@@ -444,7 +350,7 @@ impl<A: Allocator> Endpoint<A> {
     /// sequence numbers of their own, such as TCP's (RFC 9293 3.4). Of several calls the last counts.
     ///
     /// `Late`: octets were delivered to the stream before, whether kept or dropped. An `Err` changes nothing.
-    pub fn first_number(&mut self, number: u8, first: u32) -> Result<(), CallRefusal<FirstRefusal>>
+    pub fn first_number(&mut self, number: u32, first: u32) -> Result<(), CallRefusal<FirstRefusal>>
         ensures refused { result_err result ≡ first_refusal self.old number }
         ensures ok { OnOk result (self.new ≡ with_first self.old number first) }
         ensures err { OnErr result (self.new ≡ self.old) }
@@ -456,7 +362,7 @@ impl<A: Allocator> Endpoint<A> {
     }
 
     /// The sequence number of the peer's first octet at a stream: the last that was set, 0 if none was.
-    pub fn peer_first(&self, number: u8) -> Result<u32, NoSuchStream>
+    pub fn peer_first(&self, number: u32) -> Result<u32, NoSuchStream>
         ensures stream { is_ok result ≡ has_stream self.now number }
         ensures first { IfOk result (λ first. first ≡ first_at self.now number) }
     {
@@ -480,7 +386,7 @@ impl<A: Allocator> Endpoint<A> {
     /// means out of memory; it comes only if the octets would be kept and one of them is new. An `Err` changes nothing.
     pub fn deliver(
         &mut self,
-        number: u8,
+        number: u32,
         from: u32,
         octets: &[u8],
     ) -> Result<Delivery, CallRefusal<AllocError>>
@@ -509,7 +415,7 @@ impl<A: Allocator> Endpoint<A> {
     /// `OutOfMemory`. Nothing was read then. An `Err` changes nothing.
     pub fn read_from<R: Read>(
         &mut self,
-        number: u8,
+        number: u32,
         from: &mut R,
     ) -> Result<Intake, CallRefusal<io::Error>>
         ensures stream { (result ≡ Err CallRefusal.NoSuchStream) ↔ (has_stream self.old number ≡ false) }
@@ -534,7 +440,7 @@ impl<A: Allocator> Endpoint<A> {
     /// The in-order point ([`Endpoint::in_order_point`]) must be at most 2^62; it never exceeds the number of octets
     /// that came. `Refused` means out of memory, and comes only when a frame is judged before its turn. An `Err`
     /// changes nothing.
-    pub fn work(&mut self, number: u8) -> Result<Step<Octets<A>>, CallRefusal<AllocError>>
+    pub fn work(&mut self, number: u32) -> Result<Step<Octets<A>>, CallRefusal<AllocError>>
         requires { point_at self.old number ≤ 2 ^ 62 }
         ensures stream { (result ≡ Err CallRefusal.NoSuchStream) ↔ (has_stream self.old number ≡ false) }
         ensures step { IfOk result (λ step. Ok step ≡ step_at self.old number) }
@@ -558,14 +464,15 @@ impl<A: Allocator> Endpoint<A> {
     /// [`Emission::Nothing`]. A Read Response is fetched from the region as it is emitted; if the peer may no longer
     /// read there, nothing is appended and the stream has ended ([`Emission::Fault`]). A stream that has ended by a
     /// fault emits one Terminate, after a start-up frame that is still due, and nothing more. A responder at which no
-    /// frame of the peer's had its turn emits no Terminate (RFC 5044 7.1.2).
+    /// frame of the peer's had its turn emits no Terminate (RFC 5044 7.1.2). In the peer-to-peer model an initiator's
+    /// first frame is its RTR, of which no [`Step::Done`] tells (RFC 6581 9.2).
     ///
     /// At most 2^62 octets may have been emitted before ([`Endpoint::sent`]). `Refused` means out of memory. It comes
     /// only if something would be appended: if `out` has no room for it, or if it begins a Read while none is
     /// outstanding (that takes memory for 16 of them). An `Err` changes nothing.
     pub fn emit(
         &mut self,
-        number: u8,
+        number: u32,
         out: &mut Vec<u8, A>,
     ) -> Result<Emission, CallRefusal<AllocError>>
         requires { sent_at self.old number ≤ 2 ^ 62 }
@@ -590,7 +497,7 @@ impl<A: Allocator> Endpoint<A> {
 
     /// How many octets the next call of [`Endpoint::emit`] appends unless it runs out of memory: 0 if nothing is due,
     /// or if the peer may not read what a Read asks for. As for `emit`, at most 2^62 octets may have been emitted.
-    pub fn due_len(&self, number: u8) -> Result<usize, NoSuchStream>
+    pub fn due_len(&self, number: u32) -> Result<usize, NoSuchStream>
         requires { sent_at self.now number ≤ 2 ^ 62 }
         ensures stream { is_ok result ≡ has_stream self.now number }
         ensures len { IfOk result (λ len. len ≡ length (emitted_at self.now number)) }
@@ -601,25 +508,9 @@ impl<A: Allocator> Endpoint<A> {
         }
     }
 
-    /// Reports that a stream's link broke, for example because its connection closed. The stream has ended, and nothing
-    /// more is emitted, not even a pending Terminate or start-up frame. [`Endpoint::work`] hands back what was posted.
-    pub fn break_link(&mut self, number: u8) -> Result<(), NoSuchStream>
-        ensures stream { is_ok result ≡ has_stream self.old number }
-        ensures ok { OnOk result (self.new ≡ broken self.old number) }
-        ensures err { OnErr result (self.new ≡ self.old) }
-    {
-        match self.streams.get_mut(number) {
-            Some(stream) => {
-                stream.break_link();
-                Ok(())
-            }
-            None => Err(NoSuchStream),
-        }
-    }
-
     /// Sets the maximum ULPDU of the frames that a stream emits from then on, 128 to 64,512 octets. It is 1,400 if
     /// never set. An `Err` changes nothing.
-    pub fn set_mulpdu(&mut self, number: u8, size: u32) -> Result<(), CallRefusal<SizeRefusal>>
+    pub fn set_mulpdu(&mut self, number: u32, size: u32) -> Result<(), CallRefusal<SizeRefusal>>
         ensures refused { result_err result ≡ size_refusal self.old number size }
         ensures ok { OnOk result (self.new ≡ with_mulpdu self.old number size) }
         ensures err { OnErr result (self.new ≡ self.old) }
@@ -634,7 +525,7 @@ impl<A: Allocator> Endpoint<A> {
     }
 
     /// The private data of the peer's start-up frame at a stream: empty if that frame has none or has not been read.
-    pub fn private(&self, number: u8) -> Result<&[u8], NoSuchStream>
+    pub fn private(&self, number: u32) -> Result<&[u8], NoSuchStream>
         ensures stream { is_ok result ≡ has_stream self.now number }
         ensures private { IfOk result (λ private. private.now ≡ private_at self.now number) }
     {
@@ -646,7 +537,7 @@ impl<A: Allocator> Endpoint<A> {
 
     /// What the peer told in its start-up frame by the word of IRD and ORD (RFC 6581 9), once that was read; `None` if it
     /// has no word.
-    pub fn told(&self, number: u8) -> Result<Option<EnhancedData>, NoSuchStream>
+    pub fn told(&self, number: u32) -> Result<Option<EnhancedData>, NoSuchStream>
         ensures stream { is_ok result ≡ has_stream self.now number }
         ensures told { IfOk result (λ told. told ≡ told_at self.now number) }
     {
@@ -657,7 +548,7 @@ impl<A: Allocator> Endpoint<A> {
     }
 
     /// How many octets a stream has emitted, which is the stream place of the next one.
-    pub fn sent(&self, number: u8) -> Result<u64, NoSuchStream>
+    pub fn sent(&self, number: u32) -> Result<u64, NoSuchStream>
         ensures stream { is_ok result ≡ has_stream self.now number }
         ensures sent { IfOk result (λ sent. sent ≡ sent_at self.now number) }
     {
@@ -669,7 +560,7 @@ impl<A: Allocator> Endpoint<A> {
 
     /// The in-order point: where the last frame that had its turn ends, or the peer's start-up frame if none had. It is
     /// at most the number of octets that came in order.
-    pub fn in_order_point(&self, number: u8) -> Result<u64, NoSuchStream>
+    pub fn in_order_point(&self, number: u32) -> Result<u64, NoSuchStream>
         ensures stream { is_ok result ≡ has_stream self.now number }
         ensures point { IfOk result (λ point. point ≡ point_at self.now number) }
     {
@@ -681,7 +572,7 @@ impl<A: Allocator> Endpoint<A> {
 
     /// Does nothing; its clauses state the limits that a stream keeps ([`iw_stream::Stream::limits`]), and that there
     /// is a place for each of the numbers 0 to 63.
-    pub fn limits(&self, number: u8) -> Result<(), NoSuchStream>
+    pub fn limits(&self, number: u32) -> Result<(), NoSuchStream>
         ensures stream { is_ok result ≡ has_stream self.now number }
         ensures within { OnOk result (IsWithin (stream_at self.now number)) }
         ensures numbers { HasNumbers self.now }

@@ -1,13 +1,23 @@
 ghost use Rattle.iw_endpoint.specs.Isolation.{CallsConcernOneDomain, DomainsAreAlone};
+ghost use Rattle.iw_endpoint.specs.Used.{NumbersAreUsedOnce};
 
 /// What a call answers, and how it changes the domain that it concerns, depend only on that domain's part of the
 /// endpoint. The parts of all other domains stay as they are.
+///
+/// The number that `open_next` or `open_shared_next` gives, if one is left, is an argument of such a call here. It alone
+/// depends on other domains: the calls' own clauses say that it is the next.
 pub fn calls_concern_one_domain()
     ensures { CallsConcernOneDomain }
 {}
 
 /// After any list of calls to a new endpoint, each domain has got the answers, and is left in the state, that it would
-/// have if there were no other domain. It holds if no two domains ask for the same stream number.
+/// have if there were no other domain. It holds if no two domains ask for, or are given, the same stream number.
 pub fn domains_are_alone()
     ensures { DomainsAreAlone }
+{}
+
+/// In any list of calls to a new endpoint, a number whose stream was closed never has a stream again, if each call of
+/// `open_next` or `open_shared_next` has the number that the endpoint gives.
+pub fn numbers_are_used_once()
+    ensures { NumbersAreUsedOnce }
 {}

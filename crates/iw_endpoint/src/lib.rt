@@ -4,9 +4,10 @@
 //! application owns. The application
 //!
 //! 1. adds a protection domain (`add_domain`), registers the octets that peers may use (`register`, which returns the
-//!    STag), and opens a stream in the domain under a number from 0 to 63 (`open`);
+//!    STag), and opens a stream in the domain, under a number from 0 to 63 that it picks (`open`), or under the next of
+//!    those from 64 on, which the endpoint gives (`open_next`). As many streams may be open as memory has room for;
 //! 2. posts receive buffers (`post_recv`) and, once the stream is open, messages and Reads (`post`). Streams opened
-//!    with `open_shared` take their receive buffers from their domain's pool instead (`share`, `post_shared`,
+//!    with `open_shared` or `open_shared_next` take their receive buffers from their domain's pool instead (`share`, `post_shared`,
 //!    `take_shared`);
 //! 3. when the socket is writable, calls `emit` until it answers [`Emission::Nothing`], and writes out what was
 //!    appended;
@@ -17,18 +18,21 @@
 //!
 //! A stream ends by a fault, by the peer's Terminate, in its start-up, or when the application reports a broken link
 //! (`break_link`), for example because the connection closed. `emit` still appends the Terminate that a fault makes
-//! due, and `work` hands back what was posted.
+//! due, and `work` hands back what was posted. When nothing is left to hand back or to emit, `close` forgets the stream
+//! and frees its memory.
 //!
 //! Frames are checked and placed when they come, some of them before earlier octets have come. A frame *has its turn*
 //! when all octets before it have been processed: messages complete only then, in order.
 //!
-//! If no stream was opened under a number, calls answer [`NoSuchStream`] before any other refusal. A number stays taken
-//! once it was opened. What a domain's calls answer and change does not depend on any other domain
+//! If a number has no stream, because none was opened under it or because that stream was closed, calls answer
+//! [`NoSuchStream`] before any other refusal. A number stays taken once a stream was opened under it, even when the stream is
+//! closed: no number is ever used for a second stream ([`numbers_are_used_once`]). What a domain's calls answer and change
+//! does not depend on any other domain, but for the number that `open_next` gives, or that none is left
 //! ([`domains_are_alone`]).
 //!
-//! `new`, `register`, `share`, `post_shared`, `open`, `open_shared`, `post`, `post_recv`, `deliver`, `read_from` and
-//! `emit` can run out of memory; so can `work`, when it judges a frame before its turn. Then nothing has changed, what
-//! was handed in is given back, and the call may be made again. No other call allocates.
+//! `new`, `register`, `share`, `post_shared`, `open`, `open_shared`, `open_next`, `open_shared_next`, `post`, `post_recv`,
+//! `deliver`, `read_from` and `emit` can run out of memory; so can `work`, when it judges a frame before its turn. Then
+//! nothing has changed, what was handed in is given back, and the call may be made again. No other call allocates.
 //!
 //! # Example
 //!
@@ -77,6 +81,7 @@
 //! `self.work` calls [`Endpoint::work`] until it answers [`Step::Idle`], and acts on each step.
 #![tactic(auto)]
 
+mod closed;
 mod endpoint;
 mod laws;
 mod pools;
@@ -93,8 +98,9 @@ pub use iw_stream::{
     INSUFFICIENT_IRD, Intake, Kind, MAX_ENHANCED_PRIVATE, MOST_READ, NO_MATCHING_RTR, OpenRefusal,
     PostRefusal, PrivateData, RecvRefusal, Request, Role, SizeRefusal, StartupFault, Step,
 };
-pub use laws::{calls_concern_one_domain, domains_are_alone};
+pub use laws::{calls_concern_one_domain, domains_are_alone, numbers_are_used_once};
 pub use refusal::{
-    CallRefusal, NoSuchStream, OpenSharedRefusal, PoolRefusal, ShareRefusal, TakeRefusal,
+    CallRefusal, NoSuchStream, NotAtRest, OpenNextRefusal, OpenSharedRefusal, PoolRefusal,
+    ShareRefusal, TakeRefusal,
 };
 pub use streams::STREAM_NUMBERS;

@@ -1,7 +1,7 @@
 use std::fmt::Display;
 use thiserror::Error;
 
-/// No stream was opened under this number.
+/// No stream was opened under this number, or it was closed.
 #[derive(Clone, Copy, Debug, PartialEq, Eq, Error)]
 #[error("no stream was opened under this number")]
 pub struct NoSuchStream;
@@ -10,13 +10,18 @@ pub struct NoSuchStream;
 #[derive(Clone, Copy, Debug, PartialEq, Eq, Error)]
 #[error_bound(R: Display)]
 pub enum CallRefusal<R> {
-    /// No stream was opened under this number.
+    /// No stream was opened under this number, or it was closed.
     #[error("no stream was opened under this number")]
     NoSuchStream,
     /// The stream refuses the call.
     #[error("{0}")]
     Refused(R),
 }
+
+/// The stream has not ended, or has something left to hand out or to emit.
+#[derive(Clone, Copy, Debug, PartialEq, Eq, Error)]
+#[error("the stream is not at rest")]
+pub struct NotAtRest;
 
 /// Why a domain is not given a pool: the first reason that holds.
 #[derive(Clone, Copy, Debug, PartialEq, Eq, Error)]
@@ -75,6 +80,26 @@ pub enum OpenSharedRefusal {
     /// The domain has no pool.
     #[error("the domain has no pool")]
     NotShared,
+    /// An initiator that asks for revision 2 has over 508 octets of private data (RFC 6581 9).
+    #[error("the private data has more than 508 octets")]
+    PrivateTooLong,
+    /// Out of memory.
+    #[error("no memory")]
+    NoMemory,
+}
+
+/// Why a stream is not opened under the next number: the first reason that holds.
+#[derive(Clone, Copy, Debug, PartialEq, Eq, Error)]
+pub enum OpenNextRefusal {
+    /// The domain was not added.
+    #[error("the domain was not added")]
+    NoDomain,
+    /// The stream was to share its domain's pool, and the domain has none.
+    #[error("the domain has no pool")]
+    NotShared,
+    /// All numbers up to 2^32 - 1 were given.
+    #[error("no number is left")]
+    NumbersSpent,
     /// An initiator that asks for revision 2 has over 508 octets of private data (RFC 6581 9).
     #[error("the private data has more than 508 octets")]
     PrivateTooLong,

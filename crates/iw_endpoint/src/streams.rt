@@ -1,9 +1,10 @@
-ghost use Rattle.std.specs.Prelude.{◌≡◌, ◌<◌, length, nat_eq, slice_index_or, slice_set, OnOk, OnErr, None, Some};
+ghost use Rattle.std.specs.Prelude.{◌≡◌, ◌<◌, ◌≤◌, length, nat_eq, slice_index_or, slice_set, OnOk, OnErr, None, Some};
 ghost use Rattle.std.specs.Option.{option_copied, option_copied_mut};
 ghost use Rattle.std.specs.Borrow.{sem};
 ghost use Rattle.std.specs.HashMap as hash;
 ghost use Rattle.slab.specs.Slab as slab;
 ghost use Rattle.iw_endpoint.specs.Inside.{Stays, IsLaid};
+ghost use Rattle.iw_endpoint.specs.Numbers.{put_at};
 
 use iw_stream::Stream;
 use slab::Slab;
@@ -12,7 +13,7 @@ use std::collections::HashMap;
 use std::hash::{BuildHasherDefault, FoldHasher};
 use std::marker::Model;
 
-/// How many numbers there are for streams, from 0 on.
+/// How many numbers an application picks from, from 0 on. [`Endpoint::open_next`](crate::Endpoint::open_next) gives those past them.
 pub const STREAM_NUMBERS: usize = 64;
 
 /// A stream, in memory of its own.
@@ -48,10 +49,10 @@ impl<A: Allocator> Place<A> {
 
 // Puts a stream into a place of its own, under a number that has none. An `Err` means out of memory and changes nothing.
 fn lay<A: Allocator>(
-    keys: &mut HashMap<u8, usize, BuildHasherDefault<FoldHasher>, A>,
+    keys: &mut HashMap<u32, usize, BuildHasherDefault<FoldHasher>, A>,
     places: &mut Slab<Place<A>, A>,
     alloc: A,
-    number: u8,
+    number: u32,
     stream: Stream<A>,
 ) -> Result<(), AllocError>
 where
@@ -72,8 +73,10 @@ where
 #[derive(Drop)]
 pub(crate) struct Streams<A: Allocator = Global> {
     // The place of the stream that was opened under a number.
-    keys: HashMap<u8, usize, BuildHasherDefault<FoldHasher>, A>,
+    keys: HashMap<u32, usize, BuildHasherDefault<FoldHasher>, A>,
     places: Slab<Place<A>, A>,
+    // The next number that is given.
+    next: u64,
     alloc: A,
 }
 
@@ -87,13 +90,13 @@ impl<A: Allocator> Model for Streams<A> {
 
     ghost use Rattle.iw_endpoint.specs.Inside.{listed, Keeps};
 
-    ghost view = { λ s. listed (hash.get nat_eq s.keys) (slab.get s.places) 64 };
+    ghost view = { λ s. listed (hash.get nat_eq s.keys) (slab.get s.places) s.next };
 
-    ghost invariant = { λ s. Keeps (hash.get nat_eq s.keys) (slab.get s.places) 64 };
+    ghost invariant = { λ s. Keeps (hash.get nat_eq s.keys) (slab.get s.places) s.next };
 }
 
 impl<A: Allocator> Streams<A> {
-    ghost use Rattle.iw_endpoint.specs.Endpoint.{no_streams, stream_numbers};
+    ghost use Rattle.iw_endpoint.specs.Endpoint.{no_streams, stream_numbers, next_in};
     ghost use Rattle.iw_endpoint.specs.Places.{LendsStream};
 
     /// No stream was opened.
@@ -105,15 +108,27 @@ impl<A: Allocator> Streams<A> {
         Streams {
             keys: HashMap::new(alloc),
             places: Slab::new(alloc),
+            next: STREAM_NUMBERS as u64,
             alloc,
         }
     }
 
-    /// Does nothing; its clause states that there is a place for each number.
+    /// Does nothing; its clause states that there is a place for each number that an application picks.
     pub(crate) fn limits(&self)
-        ensures { length self.now ≡ stream_numbers }
+        ensures { stream_numbers ≤ length self.now }
     {
         let _ = &self.places;
+    }
+
+    /// The next number, if one is left.
+    pub(crate) fn next_number(&self) -> Option<u32>
+        ensures { result ≡ next_in self.now }
+    {
+        if self.next < 1 << 32 {
+            Some(self.next as u32)
+        } else {
+            None
+        }
     }
 
     /// The allocator of all streams.
@@ -125,7 +140,7 @@ impl<A: Allocator> Streams<A> {
     }
 
     /// The stream that was opened under this number, if one was.
-    pub(crate) fn get(&self, number: u8) -> Option<&Stream<A>>
+    pub(crate) fn get(&self, number: u32) -> Option<&Stream<A>>
         ensures { option_copied result ≡ slice_index_or self.now number None }
     {
         let place = *self.keys.get(&number)?;
@@ -133,7 +148,7 @@ impl<A: Allocator> Streams<A> {
     }
 
     /// As `get`, for changing it.
-    pub(crate) fn get_mut(&mut self, number: u8) -> Option<&mut Stream<A>>
+    pub(crate) fn get_mut(&mut self, number: u32) -> Option<&mut Stream<A>>
         ensures* lends { sem 𝓛 (LendsStream A.row A.Allocator self.entry number result) }
         ensures found { option_copied_mut result ≡ slice_index_or self.old number None }
     {
@@ -142,7 +157,7 @@ impl<A: Allocator> Streams<A> {
     }
 
     /// Puts a stream under a number. An `Err` means out of memory and changes nothing.
-    pub(crate) fn put(&mut self, number: u8, stream: Stream<A>) -> Result<(), AllocError>
+    pub(crate) fn put(&mut self, number: u32, stream: Stream<A>) -> Result<(), AllocError>
     where
         A: Copy,
         requires { number < stream_numbers }
@@ -150,5 +165,27 @@ impl<A: Allocator> Streams<A> {
         ensures err { OnErr result (self.new ≡ self.old) }
     {
         lay(&mut self.keys, &mut self.places, self.alloc, number, stream)
+    }
+
+    /// Puts a stream under the next number. An `Err` means out of memory and changes nothing.
+    pub(crate) fn push(&mut self, number: u32, stream: Stream<A>) -> Result<(), AllocError>
+    where
+        A: Copy,
+        requires { number ≡ length self.old }
+        ensures ok { OnOk result (self.new ≡ put_at self.old number stream) }
+        ensures err { OnErr result (self.new ≡ self.old) }
+    {
+        lay(&mut self.keys, &mut self.places, self.alloc, number, stream)?;
+        self.next = number as u64 + 1;
+        Ok(())
+    }
+
+    /// Forgets the stream of a number, if it has one, and gives its memory back.
+    pub(crate) fn remove(&mut self, number: u32)
+        ensures { self.new ≡ slice_set self.old number None }
+    {
+        if let Some(place) = self.keys.remove(&number) {
+            self.places.remove(place);
+        }
     }
 }

@@ -8,13 +8,13 @@ pub returns-after-work-clause-err : goal.returns-after-work-clause-err
 returns-after-work-clause-err g c =
     let streams = c.self.inside.streams in
     let n = c.args.number in
-    let after : EndpointState = record { table = c.work.new.memory; pools = c.work.new.self; streams = slice_set streams n (Some c.work.new.stream) } in
+    let after : EndpointState = record { table = c.work.new.memory; pools = c.work.new.self; streams = slice_set streams n (Some c.work.new.stream); closed = c.self.inside.closed.domains } in
     elim c.match-work.branch [
       | in-Ok w ↦ subst (λ r. OnErr r (after ≡ c.args.self.now)) (sym w.result-is) tt
       | in-Err w ↦
           let same = w.in-Err.ensures.err in
           let put : slice_set streams n (Some c.work.new.stream) ≡ streams =
           ap (λ s. slice_set streams n (Some s)) same.1 ∙ ap (slice_set streams n) c.in-Some.ensures.found ∙ set-get_or streams n None in
-          let all : after ≡ c.args.self.now = (λ i. record { table = same.2 i; pools = same.0 i; streams = put i }) ∙ c.self.view_is in
+          let all : after ≡ c.args.self.now = (λ i. record { table = same.2 i; pools = same.0 i; streams = put i; closed = c.self.inside.closed.domains }) ∙ c.self.view_is in
           subst (λ r. OnErr r (after ≡ c.args.self.now)) (sym w.result-is) all
     ]
