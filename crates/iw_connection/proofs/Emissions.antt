@@ -7,17 +7,17 @@ use Rattle.iw_stream.specs.declared.answer.Emission.{Emission}
 use Rattle.iw_octets.specs.declared.fault.Fault.{Fault}
 use Rattle.iw_memory.specs.Table.{Table}
 use Rattle.iw_reads.specs.declared.response.ResponsePart.{ResponsePart}
-use Rattle.iw_stream.specs.Stream.{StreamState, Due, StartUp, LastWord, Response, NextPart, NoneDue, due, octets_due, emission_due, frame_fetched, octets_fetched, emission_fetched}
+use Rattle.iw_stream.specs.Stream.{StreamState, Due, StartUp, LastWord, Ready, Response, NextPart, NoneDue, due, octets_due, emission_due, frame_fetched, octets_fetched, emission_fetched}
 use Rattle.iw_endpoint.specs.Endpoint.{EndpointState, stream_at, emission_at, emitted_at, after_emit}
 use Rattle.iw_connection.specs.declared.filling.Filled.{Filled}
 use Rattle.iw_connection.specs.declared.filling.Filled.TheVariants as filled
 use Rattle.iw_connection.specs.Filling.{is_frame, after_emissions, octets_emitted, Emits, Stopped, Ends, Fills}
 
-emissions-more : (n : ℕ) (e : EndpointState) (number : ℕ) → after_emissions (n + 1) e number ≡ after_emit (after_emissions n e number) number
+pub emissions-more : (n : ℕ) (e : EndpointState) (number : ℕ) → after_emissions (n + 1) e number ≡ after_emit (after_emissions n e number) number
 unfolding after_emissions
 emissions-more n e number = ap (λ k. after_emissions k e number) (add-one n)
 
-octets-more : (n : ℕ) (e : EndpointState) (number : ℕ) → octets_emitted (n + 1) e number ≡ octets_emitted n e number ++ emitted_at (after_emissions n e number) number
+pub octets-more : (n : ℕ) (e : EndpointState) (number : ℕ) → octets_emitted (n + 1) e number ≡ octets_emitted n e number ++ emitted_at (after_emissions n e number) number
 unfolding octets_emitted
 octets-more n e number = ap (λ k. octets_emitted k e number) (add-one n)
 
@@ -47,11 +47,12 @@ none_fetched s part (Err fault) e = refl
 none_due : (table : Table) (s : StreamState) (d : Due) → is_frame (emission_due table s d) ≡ false → octets_due table s d ≡ []
 none_due table s StartUp e = absurd (true≢false e)
 none_due table s (LastWord payload) e = absurd (true≢false e)
+none_due table s (Ready rtr) e = absurd (true≢false e)
 none_due table s (Response part) e = none_fetched s part (frame_fetched table s part) e
 none_due table s (NextPart part) e = absurd (true≢false e)
 none_due table s NoneDue e = refl
 
-no_octets : (e : EndpointState) (number : ℕ) → is_frame (emission_at e number) ≡ false → emitted_at e number ≡ []
+pub no_octets : (e : EndpointState) (number : ℕ) → is_frame (emission_at e number) ≡ false → emitted_at e number ≡ []
 no_octets e number none = none_due e.table (stream_at e number) (due (stream_at e number)) none
 
 no_frame : (emission : Emission) (f : Filled) → Stopped emission (Some f) → is_frame emission ≡ false

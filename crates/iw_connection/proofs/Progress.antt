@@ -5,7 +5,7 @@ use Rattle.iw_stream.specs.declared.answer.Step.{Step}
 use Rattle.iw_endpoint.specs.Endpoint.{EndpointState, step_at, after_work}
 use Rattle.iw_connection.specs.Steps.{is_progress, progresses, after_steps, Stops}
 
-after_steps-more : (n : ℕ) (e : EndpointState) (number : ℕ) → after_steps (n + 1) e number ≡ after_work (after_steps n e number) number
+pub after_steps-more : (n : ℕ) (e : EndpointState) (number : ℕ) → after_steps (n + 1) e number ≡ after_work (after_steps n e number) number
 unfolding after_steps
 after_steps-more n e number = ap (λ k. after_steps k e number) (add-one n)
 

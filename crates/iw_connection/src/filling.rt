@@ -2,6 +2,7 @@ ghost use Rattle.std.specs.Prelude.{◌≡◌, ◌<◌, ◌≤◌, ◌+◌, ◌+
 ghost use Rattle.iw_endpoint.specs.Endpoint.{emission_at, emitted_at, after_emit};
 ghost use Rattle.iw_connection.specs.Filling.{Emits, Fills, Stopped};
 
+use crate::StreamNumber;
 use crate::working::Refusal;
 use iw_endpoint::{CallRefusal, Emission, Endpoint, Fault, MAX_PLACE};
 use std::alloc::Allocator;
@@ -19,7 +20,7 @@ pub enum Filled {
 }
 
 // How many octets the next emission has.
-fn due_len<A: Allocator>(endpoint: &Endpoint<A>, number: u8) -> Result<usize, Refusal>
+fn due_len<A: Allocator>(endpoint: &Endpoint<A>, number: StreamNumber) -> Result<usize, Refusal>
     ensures len { IfOk result (λ len. len ≡ length (emitted_at endpoint.now number)) }
 {
     match endpoint.sent(number) {
@@ -46,7 +47,7 @@ fn is_too_many(n: u64, filled: usize, due: usize, most: usize) -> bool
 // Emits what is due, and tells where it stops, unless that is a frame.
 fn emit<A: Allocator>(
     endpoint: &mut Endpoint<A>,
-    number: u8,
+    number: StreamNumber,
     out: &mut Vec<u8, A>,
 ) -> Result<Option<Filled>, Refusal>
     ensures stopped { IfOk result (λ stopped. Stopped (emission_at endpoint.old number) stopped) }
@@ -76,7 +77,7 @@ fn emit<A: Allocator>(
 /// 2^62 octets were emitted.
 pub fn fill<A: Allocator>(
     endpoint: &mut Endpoint<A>,
-    number: u8,
+    number: StreamNumber,
     out: &mut Vec<u8, A>,
     most: usize,
 ) -> Result<Filled, Refusal>

@@ -18,28 +18,59 @@
 //!
 //! # Example
 //!
+//! Parts of `crates/embedding`, which is the whole program: what it does when the socket is readable, when it is writable,
+//! and when it has closed.
+//!
 //! ```text
-//! fn is_readable(&mut self) -> Result<()> {
-//!     match take(&mut self.endpoint, STREAM, &mut self.socket) {
-//!         Ok(Intake::Came(_)) => {}
-//!         Ok(Intake::End) => close(&mut self.endpoint, STREAM)?,
-//!         Ok(Intake::Full | Intake::Gap) => {}
-//!         Err(CallRefusal::Refused(error)) if error.kind() == ErrorKind::WouldBlock => return Ok(()),
+//! /// Call it when the socket is readable.
+//! pub(crate) fn is_readable<R, S>(&mut self, rt: &R, socket: &mut S) -> Result<()>
+//! where
+//!     R: Runtime + AllocGlobal,
+//!     S: Read,
+//! {
+//!     match take(&mut self.endpoint, STREAM, socket) {
+//!         Ok(Intake::Came(_) | Intake::Full) => self.act(rt),
+//!         Ok(Intake::End) => self.closed(rt),
+//!         Ok(Intake::Gap) => bail!("take: octets were delivered past a gap"),
+//!         Err(CallRefusal::Refused(error)) if is_for_later(error.kind()) => Ok(()),
 //!         Err(refusal) => bail!("take: {refusal:?}"),
 //!     }
-//!     self.act()
+//! }
+//!
+//! /// Call it when the socket is writable. Returns whether there was anything to write.
+//! pub(crate) fn is_writable<R, S>(&mut self, rt: &R, socket: &mut S) -> Result<bool>
+//! where
+//!     R: Runtime + AllocGlobal,
+//!     S: Write,
+//! {
+//!     self.out.clear();
+//!     let filled = fill(&mut self.endpoint, STREAM, &mut self.out, MOST_WRITTEN)?;
+//!     socket.write_all(self.out.as_slice())?;
+//!     // What was posted may be done now.
+//!     self.act(rt)?;
+//!     Ok(filled != Filled::All || !self.out.is_empty())
+//! }
+//!
+//! /// Call it when the connection closed. All that was posted and is not done is handed back.
+//! pub(crate) fn closed<R: Runtime + AllocGlobal>(&mut self, rt: &R) -> Result<()> {
+//!     close(&mut self.endpoint, STREAM)?;
+//!     self.act(rt)
 //! }
 //!
 //! // Does what the steps ask for, until there is nothing to do.
-//! fn act(&mut self) -> Result<()> {
-//!     loop {
+//! fn act<R: Runtime + AllocGlobal>(&mut self, rt: &R) -> Result<()> {
+//!     for _ in 0..u64::MAX {
 //!         match next(&mut self.endpoint, STREAM)? {
-//!             Step::Idle => return Ok(()),
-//!             step => self.act_on(step)?,
+//!             Step::Idle => break,
+//!             step => self.act_on(rt, step)?,
 //!         }
 //!     }
+//!     Ok(())
 //! }
 //! ```
+//!
+//! `self.act_on` accepts the peer's Request ([`Step::Asked`]), uses a message that was received ([`Step::Received`]), and
+//! prints the other steps.
 #![tactic(auto)]
 
 mod filling;
@@ -47,6 +78,9 @@ mod taking;
 mod working;
 
 pub use filling::{Filled, fill};
-pub use iw_endpoint::{CallRefusal, Endpoint, Intake, Step};
+pub use iw_endpoint::{CallRefusal, Endpoint, Intake, Octets, Step};
 pub use taking::{close, take};
 pub use working::{Refusal, is_progress, next};
+
+/// The number of a stream of an endpoint.
+pub type StreamNumber = u32;

@@ -3,6 +3,7 @@ ghost use Rattle.std.specs.Io.KnownBytes.{Keeps};
 ghost use Rattle.iw_endpoint.specs.Endpoint.{has_stream, broken};
 ghost use Rattle.iw_endpoint.specs.Reading.{IsRead};
 
+use crate::StreamNumber;
 use iw_endpoint::{CallRefusal, Endpoint, Intake, NoSuchStream};
 use std::alloc::Allocator;
 use std::io::{self, Read};
@@ -14,7 +15,7 @@ use std::io::{self, Read};
 /// `OutOfMemory`: nothing was read. An `Err` changes nothing.
 pub fn take<A: Allocator, R: Read>(
     endpoint: &mut Endpoint<A>,
-    number: u8,
+    number: StreamNumber,
     from: &mut R,
 ) -> Result<Intake, CallRefusal<io::Error>>
     ensures stream { (result ≡ Err CallRefusal.NoSuchStream) ↔ (has_stream endpoint.old number ≡ false) }
@@ -26,7 +27,10 @@ pub fn take<A: Allocator, R: Read>(
 
 /// Says that a stream's connection has ended. [`next`](crate::next) hands back what was posted, and
 /// [`fill`](crate::fill) appends nothing more, not even a Terminate that is due.
-pub fn close<A: Allocator>(endpoint: &mut Endpoint<A>, number: u8) -> Result<(), NoSuchStream>
+pub fn close<A: Allocator>(
+    endpoint: &mut Endpoint<A>,
+    number: StreamNumber,
+) -> Result<(), NoSuchStream>
     ensures stream { is_ok result ≡ has_stream endpoint.old number }
     ensures ok { OnOk result (endpoint.new ≡ broken endpoint.old number) }
     ensures err { OnErr result (endpoint.new ≡ endpoint.old) }

@@ -3,6 +3,7 @@ ghost use Rattle.iw_stream.specs.Kept.{IsWithinBuffer};
 ghost use Rattle.iw_endpoint.specs.Endpoint.{has_stream, step_at, after_work};
 ghost use Rattle.iw_connection.specs.Steps.{is_progress, GoesTo, Stops};
 
+use crate::StreamNumber;
 use iw_endpoint::{CallRefusal, Endpoint, MAX_PLACE, Octets, Step};
 use std::alloc::Allocator;
 use thiserror::Error;
@@ -45,7 +46,10 @@ pub fn is_progress<A: Allocator>(step: &Step<Octets<A>>) -> bool
 }
 
 // Does one step.
-fn step<A: Allocator>(endpoint: &mut Endpoint<A>, number: u8) -> Result<Step<Octets<A>>, Refusal>
+fn step<A: Allocator>(
+    endpoint: &mut Endpoint<A>,
+    number: StreamNumber,
+) -> Result<Step<Octets<A>>, Refusal>
     ensures stream { (result ≡ Err Refusal.NoSuchStream) ↔ (has_stream endpoint.old number ≡ false) }
     ensures step { IfOk result (λ step. Ok step ≡ step_at endpoint.old number) }
     ensures ok { OnOk result (endpoint.new ≡ after_work endpoint.old number) }
@@ -73,7 +77,7 @@ fn step<A: Allocator>(endpoint: &mut Endpoint<A>, number: u8) -> Result<Step<Oct
 /// frame is judged before its turn; `TooFar` if the in-order point is past 2^62.
 pub fn next<A: Allocator>(
     endpoint: &mut Endpoint<A>,
-    number: u8,
+    number: StreamNumber,
 ) -> Result<Step<Octets<A>>, Refusal>
     ensures ok { IfOk result (λ step. GoesTo endpoint.old number step endpoint.new) }
     ensures within { IfOk result IsWithinBuffer }
